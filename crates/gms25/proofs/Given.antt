@@ -1,4 +1,4 @@
--- A run of the words that the process gives.
+-- A run of the arguments that the process gives.
 use Rattle.std.proofs.Common.{◌≡◌, ℕ, List, subst}
 use Rattle.std.specs.Prelude.{◌↔◌, ◌⊎◌, Result, Ok, Err, None, IfOk}
 use Rattle.std.specs.declared.alloc.AllocError.{AllocError}
@@ -13,12 +13,12 @@ use Rattle.gms_run.specs.declared.status.Status.{Status}
 use Rattle.gms_run.specs.declared.status.Status.TheVariants.{Done, Usage, Execution}
 use Rattle.gms25.specs.Program.{EndsGiven, HasWords, RunsWith, lent, given_words}
 
--- the words that a run has are those that are given
+-- the arguments of a run are those that are given
 pub are_given : (args : Result (IntoIter (String Global) Global) Error) (words : List (String Global)) → HasWords args words → words ≡ given_words args
 are_given (Ok args) words same = same
 are_given (Err error) words has = has.1
 
--- What a run of some words says of its end.
+-- What holds of the end of a run of some arguments.
 pub record Says (result : Result Status AllocError) (words : List (List ℕ)) (old new : Meaning) : Type 0 where
   pub run : IfOk result (λ status. RunsWith status words old new)
   pub counts : IfOk result (λ status. CountsSo status old.counts new.counts)
@@ -26,7 +26,7 @@ pub record Says (result : Result Status AllocError) (words : List (List ℕ)) (o
   pub usage : IfOk result (λ status. (status ≡ Usage) ↔ (request_of words ≡ None))
   pub complete : NamesProgram lent.names old.outside words → MeetsNoFault old.counts new.counts → IfOk result (λ status. (status ≡ Done) ⊎ (status ≡ Execution))
 
--- it ends so as a run of the words that are given
+-- it is the end of a run of the arguments that are given
 pub ends_given : (args : Result (IntoIter (String Global) Global) Error) (words : List (String Global)) (result : Result Status AllocError) (old new : Meaning) →
     HasWords args words → Says result (texts words) old new → IfOk result (λ status. EndsGiven status args old new)
 ends_given args words (Ok status) old new has says =

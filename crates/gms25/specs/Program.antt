@@ -1,4 +1,4 @@
--- What the program does with what the process gives it.
+-- What the program does with the arguments of its process.
 use Rattle.std.specs.Prelude.{◌≡◌, ◌↔◌, ◌⊎◌, ℕ, List, [], ◌∷◌, codes, drop, Result, Ok, Err, None, IfOk}
 use Rattle.std.specs.Vec.Iter.{into_iter_items}
 use Rattle.std.specs.IoError.{error_kind}
@@ -17,17 +17,18 @@ use Rattle.gms_run.specs.Statuses.{CountsSo, EndsByNoFault, IsReadyFor, IsRun, M
 use Rattle.gms_run.specs.declared.status.Status.{Status}
 use Rattle.gms_run.specs.declared.status.Status.TheVariants.{Done, Usage, Execution}
 
--- the words in what the process gives: all behind the program's name, and none where the process gives an error
+-- the arguments that the process gives: all after the program's name, or none if it gives an error
 abbrev pub given_words : Result (IntoIter (String Global) Global) Error → List (String Global)
 given_words (Ok args) = drop 1 (into_iter_items args)
 given_words (Err error) = []
 
--- the words that a run has of what the process gives: all behind the program's name, and none where one of them is no UTF-8
+-- the arguments of a run: all after the program's name, or none if one of them is not UTF-8
 abbrev pub HasWords : Result (IntoIter (String Global) Global) Error → List (String Global) → Type 0
 HasWords (Ok args) words = words ≡ drop 1 (into_iter_items args)
 HasWords (Err error) words = (error_kind error ≡ InvalidData) × (words ≡ [])
 
--- the solvers that a run is lent, which have given no answer: by Bland's rule, by the largest coefficient, by steepest edge, and by several rules in turn
+-- the solvers that a run is lent, which have given no answer: by Bland's rule, by the largest
+-- coefficient, by steepest edge, and by several rules in turn
 abbrev pub lent : Solvers
 lent =
     record {
@@ -36,15 +37,16 @@ lent =
       paths = [] ∷ [] ∷ [] ∷ [] ∷ [];
     }
 
--- the run of words with these solvers, which ends with this status
+-- the run of arguments with these solvers, which ends with this status
 abbrev pub RunsWith : Status → List (List ℕ) → Meaning → Meaning → Type 0
 RunsWith status words old new = (solving : Solving) × ((solving.before ≡ lent) × IsRun status solving words old new)
 
--- the run of the words that the process gives
+-- the run of the arguments that the process gives
 abbrev pub RunsGiven : Status → Result (IntoIter (String Global) Global) Error → Meaning → Meaning → Type 0
 RunsGiven status args old new = (words : List (String Global)) × (HasWords args words × RunsWith status (texts words) old new)
 
--- A run of the words that the process gives ends with this status, which has a cause in these words and in what the host counts.
+-- A run of the process's arguments ends with this status, which has a cause in the arguments and in
+-- what the host counts.
 pub record EndsGiven (status : Status) (args : Result (IntoIter (String Global) Global) Error) (old new : Meaning) : Type 0 where
   pub run : RunsGiven status args old new
   pub counts : CountsSo status old.counts new.counts
@@ -52,11 +54,11 @@ pub record EndsGiven (status : Status) (args : Result (IntoIter (String Global) 
   pub usage : (status ≡ Usage) ↔ (request_of (texts (given_words args)) ≡ None)
   pub complete : NamesProgram lent.names old.outside (texts (given_words args)) → MeetsNoFault old.counts new.counts → (status ≡ Done) ⊎ (status ≡ Execution)
 
--- the exit status: that of the run, or 6 where memory was wanting
+-- the exit status: that of the run, or 6 if it ran out of memory
 abbrev pub exit_of : Result Status AllocError → ℕ
 exit_of (Ok status) = status_code status
 exit_of (Err e) = 6
 
--- the process exits with the status of a run of the words that it gives, or with 6 where memory was wanting
+-- the process exits with the status of a run of its arguments, or with 6 if it ran out of memory
 abbrev pub ExitsSo : ℕ → Result (IntoIter (String Global) Global) Error → Meaning → Meaning → Type 0
 ExitsSo code args old new = (ended : Result Status AllocError) × ((code ≡ exit_of ended) × IfOk ended (λ status. EndsGiven status args old new))

@@ -1,4 +1,5 @@
-//! Floor 7, outside. The program `gams25`: its words, the real files and standard output, and the exit status.
+//! Layer 7, outside. The program `gams25`: its arguments, the real files and standard output, and
+//! the exit status.
 #![tactic(auto)]
 
 ghost use Rattle.std.specs.Prelude.{◌≡◌, ◌↔◌, ◌⊎◌, IfOk};
@@ -19,12 +20,13 @@ use std::env::{self, Args};
 use std::io::{self, ErrorKind};
 use std::process::ExitCode;
 
-/// The exit status where memory was wanting.
+/// The exit status where memory ran out.
 const OUT_OF_MEMORY: u8 = 6;
 
-/// The words of the command, of what the process gives: all behind the program's name.
+/// The arguments of a process: all after the program's name.
 ///
-/// Where one of them is not UTF-8 there are none, which a run refuses as it refuses that word. Any other error is want of memory.
+/// If one of them is not UTF-8 there are none, which a run refuses as it refuses that argument. Any
+/// other error means that memory ran out.
 fn words(alloc: Global, args: io::Result<Args>) -> Result<Vec<String>, AllocError>
     ensures { IfOk result (λ words. HasWords args words.items) }
 {
@@ -35,8 +37,9 @@ fn words(alloc: Global, args: io::Result<Args>) -> Result<Vec<String>, AllocErro
     }
 }
 
-/// Runs the words over a host, and tells how the run ends. It lends four solvers: by Bland's rule, by the largest coefficient, by
-/// steepest edge, and by several rules in turn. A source that chooses none has the first.
+/// Runs the arguments over a host, and answers how the run ends. It lends four solvers: by Bland's
+/// rule, by the largest coefficient, by steepest edge, and by several rules in turn. A source that
+/// chooses none has the first.
 fn run_with_solvers<H: Host>(
     alloc: Global,
     words: &[String],
@@ -58,7 +61,7 @@ fn run_with_solvers<H: Host>(
     Ok(ended.status)
 }
 
-/// Runs the words that the process gives over a host, and tells how the run ends.
+/// Runs the arguments that the process gives over a host, and answers how the run ends.
 fn run_given<H: Host>(
     alloc: Global,
     args: io::Result<Args>,
@@ -81,7 +84,8 @@ fn exit_code(ended: Result<Status, AllocError>) -> ExitCode
     }
 }
 
-/// Runs the words that the process gives over a host, and tells the exit status of the process.
+/// Runs the arguments that the process gives over a host, and answers the exit status of the
+/// process.
 fn run_process<H: Host>(alloc: Global, args: io::Result<Args>, host: &mut H) -> ExitCode
     ensures exits { ExitsSo (exit_status result) args (H.meaning host.old) (H.meaning host.new) }
     ensures steady { IsReadyFor (H.meaning host.old) (texts (given_words args)) → (H.meaning host.new).counts ≡ (H.meaning host.old).counts }

@@ -44,7 +44,7 @@ module _ (firsts names : List ℕ) (name : ℕ) (kept : (other : ℕ) → slice_
           get_or-set_other firsts name other 0 0 (λ s. eqb-false name other e (sym s)) ∙ kept other ∙ order-more names name other
           ∙ ap (λ b. new_order (order_of names other) b (length names)) e ∙ same_order (order_of names other) (length names)
 
-  -- the last stands before, too: its place stays
+  -- the last name occurs before, too: its place stays
   pub fewer-later : (slice_index_or firsts name 0 ≡ length names + 1 → ⊥) → (other : ℕ) → slice_index_or firsts other 0 ≡ order_of names other
   fewer-later before other = kept other ∙ order-more names name other ∙ by (name == other) refl
     where

@@ -1,4 +1,4 @@
--- What a statement without an error makes of a name, and what it leaves of every other.
+-- What a statement without an error does to a name, and that it changes no other.
 use Rattle.std.proofs.Common.{◌≡◌, ◌≢◌, ℕ, Bool, true, false, not, ◌&&◌, ◌||◌, List, [], ◌∷◌, length, refl, sym, ap, ◌∙◌, Option, Some, None, Result, if◌then◌else◌}
 use Rattle.std.specs.Prelude.{nat_lt}
 use Rattle.std.specs.FinMap as finite
@@ -126,7 +126,7 @@ module _ {F : Type 0} (value : F → Number) where
       ∙ ap (λ (s : State). symbol_at s n) (datum-put name state d own)
       ∙ put-other state name n (with_datum_in value (symbol_at state name) d) ne
 
-  -- and their own has them
+  -- the data of a name change its own symbol so
   own-given : (name : ℕ) (ds : Given F) (state : State) → base_of state name ≡ name → nat_lt name (length state.symbols) ≡ true → symbol_at (given_to value name state ds) name ≡ data_in value (symbol_at state name) ds
   own-given name [] state own within = refl
   own-given name (d ∷ ds) state own within =
@@ -172,14 +172,14 @@ module _ {F : Type 0} where
     own-name : base_of named item.named.name ≡ item.named.name
     own-name = own-declared kind (names_of item.domain) known.state item.named.name (clean-bare known kind item clean)
 
-    -- it leaves every other name
+    -- every other name is unchanged
     pub item-other : (n : ℕ) → n ≢ item.named.name → symbol_at (with_item known.value kind known.state item) n ≡ symbol_at known.state n
     item-other n ne =
         ap (λ (s : State). symbol_at s n) item-state
         ∙ other-given known.value item.named.name n given named ne own-name
         ∙ put-other known.state item.named.name n (declared_again kind (names_of item.domain) (symbol_at known.state item.named.name)) ne
 
-    -- its own is what its declaration makes it, with its data
+    -- the name itself is as its declaration makes it, with its data
     pub item-own : nat_lt item.named.name (length known.state.symbols) ≡ true → symbol_at (with_item known.value kind known.state item) item.named.name ≡ data_in known.value (declared_again kind (names_of item.domain) (symbol_at known.state item.named.name)) given
     item-own within =
         ap (λ (s : State). symbol_at s item.named.name) item-state
@@ -249,7 +249,7 @@ variable-quiet value ds s t is =
 
 -- ---- other declarations
 
--- a symbol that one more declaration as a set leaves
+-- declaring a set once more changes nothing
 set-again : (s : Symbol) → is_undeclared s.content ≡ false → declared_again declaring.Set [] s ≡ s
 set-again s old =
     ap (λ (b : Bool). if b then symbol_of_kind declaring.Set [] else with_content s (retyped s.content (set_of []))) old ∙ ap (with_content s) (by s.content)

@@ -1,4 +1,5 @@
--- The parts of an expression that are less deep than it, where more than one function looks at them.
+-- The parts of an expression that are less deep than it, where more than one function looks at
+-- them.
 use Rattle.std.proofs.Common.{◌≡◌, ℕ, ◌+◌, ◌*◌, ◌<◌, Vec, arith}
 use Rattle.std.proofs.lemmas.Grind.{common_steps}
 use denote.Param.Weighed.{most}

@@ -1,4 +1,4 @@
--- Data of a name that are taken out again: with which other changes that commutes, and what it leaves.
+-- Data of a name that are removed again: with which other changes that commutes, and the result.
 use Rattle.std.proofs.Common.{◌≡◌, ◌≢◌, ◌≤◌, ◌==◌, ◌++◌, ◌&&◌, ◌||◌, ℕ, Bool, true, false, List, [], ◌∷◌, length, Option, Some, None, refl, sym, ap, ◌∙◌, arith, cond, eq-eqb, if◌then◌else◌}
 use Rattle.std.specs.Prelude.{nat_lt, slice_index_or}
 use Rattle.std.proofs.Math.ListN.{set}
@@ -95,7 +95,7 @@ changed-over f g over state i = by (nat_lt i (length state.symbols)) refl
         ∙ ap (λ (symbols : List Symbol). record { symbols = symbols; settings = state.settings }) (set-set state.symbols i (g (symbol_at state i)) (f (g (symbol_at state i))) ∙ ap (set state.symbols i) (over (symbol_at state i)))
     by false l = ap (λ s. changed f s i) (put-past state i (g (symbol_at state i)) l)
 
--- a symbol that a change leaves
+-- a change that leaves a symbol as it is leaves the state as it is
 changed-still : (f : Symbol → Symbol) (state : State) (i : ℕ) → f (symbol_at state i) ≡ symbol_at state i → changed f state i ≡ state
 changed-still f state i still =
     ap (put_at state i) (still ∙ read-at state i) ∙ ap (λ (symbols : List Symbol). record { symbols = symbols; settings = state.settings }) (set-get_or state.symbols i no_symbol)
@@ -183,7 +183,7 @@ module _ (state : State) (name : ℕ) where
       ∙ ap (λ (domain : List (Option ℕ)). cond (is_index_set state n) (first_base (emptied state name) domain) None) (positions-emptied n)
       ∙ ap (λ (above : Option ℕ). cond (is_index_set state n) above None) (first-emptied (positions state n))
 
--- names are taken out in any order
+-- the data of names may be removed in any order
 emptied-comm : (state : State) (n m : ℕ) → emptied (emptied state n) m ≡ emptied (emptied state m) n
 emptied-comm state n m =
     ap (changed empty_symbol (emptied state n)) (base-emptied state n m)
@@ -280,7 +280,7 @@ module _ (kind : DeclKind) (domain : List (Option ℕ)) where
   base-declared state name n =
       read-kept (λ (x : Symbol). behind n x.content) state name (again (symbol_at state name)) (behind-again n (symbol_at state name)) n
 
-  -- a name is declared before others are taken out, or after
+  -- a name may be declared before or after the data of others are removed
   declared-emptied : (state : State) (m n : ℕ) → emptied (declare kind domain state m) n ≡ declare kind domain (emptied state n) m
   declared-emptied state m n =
       ap (changed empty_symbol (declare kind domain state m)) (base-declared state m n)
@@ -407,7 +407,7 @@ still-emptied state name bare = by (symbol_at state name).content refl bare
     by (equation_of entries) is b = absurd cc
     by (model_with model solver) is b = absurd cc
 
--- a name that is new is as its declaration makes it, once its data are taken out
+-- a new name is as its declaration makes it, once its data are removed
 pub emptied-declared : (kind : DeclKind) (domain : List (Option ℕ)) (state : State) (name : ℕ) → (is_unknown state name || is_free (symbol_at state name).content) ≡ true → emptied (declare kind domain state name) name ≡ declare kind domain state name
 emptied-declared kind domain state name bare =
     declared-emptied kind domain state name name ∙ ap (λ (t : State). declare kind domain t name) (still-emptied state name bare)

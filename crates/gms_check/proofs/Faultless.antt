@@ -31,7 +31,7 @@ use Rattle.gms_check.proofs.Noting.{errors-append, not-within}
 
 -- ---- errors that are none
 
--- where there is no first error there is none
+-- without a first error there is none
 pub none-first : (errors : List CompileError) → first_of errors ≡ None → errors ≡ []
 none-first [] e = refl
 none-first (error ∷ errors) e = absurd cc

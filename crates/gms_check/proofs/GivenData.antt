@@ -1,4 +1,4 @@
--- What data that are given one after another leave at a tuple, where no tuple is given twice.
+-- What a sequence of data gives at a tuple, where no tuple is given twice.
 use Rattle.std.proofs.Common.{◌≡◌, ℕ, zero, suc, ◌+◌, Bool, true, false, ◌||◌, ◌==◌, List, [], ◌∷◌, ◌++◌, length, map, refl, sym, ap, ◌∙◌, subst, Option, Some, None, Result, Ok, Err, if◌then◌else◌, eq-eqb, arith}
 use Rattle.std.specs.Prelude.{nat_lt, flat_map}
 use Rattle.std.specs.List.{AllByRecursion}
@@ -25,7 +25,7 @@ use Rattle.gms_set.specs.Expansion as expansion
 use Rattle.gms_check.specs.DeclaredData.{datum_at}
 use Rattle.gms_check.proofs.Soundness.{neither-first, neither-second}
 
--- ---- tuples that stand once
+-- ---- distinct tuples
 
 has-joined : (xs ys : List (List ℕ)) (t : List ℕ) → has (xs ++ ys) t ≡ (has xs t || has ys t)
 has-joined xs ys t = list_any-append (λ member. same_tuple member t) xs ys
@@ -44,10 +44,10 @@ apart-behind (x ∷ xs) ys t e there = by (same_tuple x t) refl (apart-behind xs
         subst (λ t. has ys t ≡ false) ((same_tuple-Decides x t).0 same) (neither-second (has xs x) (has ys x) (sym (has-joined xs ys x) ∙ neither-first (has (xs ++ ys) x) (has_repeat (xs ++ ys)) e))
     by false same later h = later h
 
--- ---- data of tuples one after another
+-- ---- data of tuples in sequence
 
 module _ {F Y : Type 0} (takes : Option (Ext F) → Y → Y) where
-  -- what is read at a tuple after data, by what each of them does to it
+  -- what is read at a tuple after data, where each datum changes what is read
   abbrev pub reads : Y → Given F → List ℕ → Y
   reads old [] t = old
   reads old (d ∷ ds) t = reads (if same_tuple d.0 t then takes d.1 old else old) ds t
@@ -72,7 +72,7 @@ module _ {F Y : Type 0} (takes : Option (Ext F) → Y → Y) where
   tuples-of_value x [] = refl
   tuples-of_value x (t ∷ ts) = ap (λ us. t ∷ us) (tuples-of_value x ts)
 
-  -- those that stand once do it once
+  -- each of some distinct tuples is changed once
   reads-once : (old : Y) (x : Option (Ext F)) (ts : List (List ℕ)) (t : List ℕ) → has_repeat ts ≡ false → has ts t ≡ true → reads old (expansion.with_value x ts) t ≡ takes x old
   reads-once old x [] t once there = absurd cc
   reads-once old x (u ∷ ts) t once there = by (same_tuple u t) refl (reads-once old x ts t (neither-second (has ts u) (has_repeat ts) once)) there
@@ -105,7 +105,7 @@ module _ {F Y : Type 0} (takes : Option (Ext F) → Y → Y) where
 
 -- ---- how long the tuples are
 
--- tuples of so many labels
+-- tuples of `k` labels
 abbrev AreLong : ℕ → List (List ℕ) → Type 0
 AreLong k [] = Unit {0}
 AreLong k (t ∷ ts) = (length t ≡ k) × AreLong k ts
@@ -149,7 +149,7 @@ module _ {F : Type 0} where
       by false false false true e = absurd cc
       by false false false false e = refl
 
-  -- what items without an error are: the first has none, and the others go on behind it
+  -- the first of some items without errors has none, and the others follow it
   first-item : (state : State) (domain : List (Option ℕ)) (ds given : Given F) (item : Item F) (items : List (Item F)) → with_items state domain ds (item ∷ items) ≡ Ok given → (error_of state domain (tuples_of ds) item ≡ None) × (with_items state domain (ds ++ expansion.with_value item.value (product item.parts)) items ≡ Ok given)
   first-item state domain ds given item items e = by (error_of state domain (tuples_of ds) item) refl e
     where
@@ -207,7 +207,7 @@ module _ {F : Type 0} (value : F → Number) where
   data_in s [] = s
   data_in s (d ∷ ds) = data_in (with_datum_in s d) ds
 
-  -- what a datum makes of a value, and of whether a tuple is a member
+  -- what a datum makes of a value, and of membership
   abbrev pub value_taken : Option (Ext F) → extended.Extended → extended.Extended
   value_taken None old = old
   value_taken (Some x) old = meaning value x
@@ -244,7 +244,7 @@ module _ {F : Type 0} (value : F → Number) where
     abbrev alone : Symbol → State
     alone s = record { symbols = s ∷ []; settings = first_settings }
 
-    -- what is read after one value was put
+    -- what is read after one value was written
     written-read : (entries : Entries extended.Extended) (u : List ℕ) (y : extended.Extended) (t : List ℕ) → length u ≡ length domain → value_in (parameter_of (after_write (is_given y) entries u y)) t ≡ (if same_tuple u t then y else value_in (parameter_of entries) t)
     written-read entries u y t fits = by (same_tuple u t) refl
       where

@@ -1,5 +1,5 @@
--- States that grow by declarations and data: what is declared keeps its domain, and the members of a set are in order and have a label for each of
--- its positions.
+-- States that are extended by declarations and data: what is declared keeps its domain, and the
+-- members of a set are in order and have a label for each of its positions.
 use Rattle.std.proofs.Common.{◌≡◌, ◌⊎◌, ℕ, zero, suc, Bool, true, false, ◌==◌, ◌&&◌, List, [], ◌∷◌, ◌++◌, length, set, filter, slice_get, refl, sym, ap, ◌∙◌, subst, cond, Option, Some, None, unwrap_or, Result, Ok, Err, inl, inr}
 use Rattle.std.specs.List.{All, fold}
 use Rattle.std.proofs.lemmas.Bool.{eqb-true}
@@ -40,7 +40,7 @@ put-read (x ∷ xs) (suc i) v (suc j) = elim (put-read xs i v j) [
   | inr new ↦ inr (ap suc new.0, new.1)
 ]
 
--- what stands at a number after a change of a name
+-- the symbol at a number, after a change of a name
 pub put-at : (state : State) (name : ℕ) (new : Symbol) (n : ℕ) → (symbol_at (put_at state name new) n ≡ symbol_at state n) ⊎ ((n ≡ name) × (symbol_at (put_at state name new) n ≡ new))
 put-at state name new n = elim (put-read state.symbols name new n) [
   | inl same ↦ inl (ap (λ s. unwrap_or s no_symbol) same)
@@ -51,20 +51,22 @@ put-at state name new n = elim (put-read state.symbols name new n) [
 abbrev pub HaveLength : ℕ → List (List ℕ) → Type 0
 HaveLength n tuples = All (λ (t : List ℕ). length t ≡ n) tuples
 
--- A symbol of which nothing is known before it is declared, and whose members are in order, each with a label for each of its positions.
+-- A symbol that has no domain before it is declared, and whose members are in order, each with a
+-- label for each of its positions.
 pub record IsFitting (symbol : Symbol) : Type 0 where
   pub blank : is_undeclared symbol.content ≡ true → symbol.domain ≡ []
   pub arity : HaveLength (length symbol.domain) (members_in symbol.content)
   pub ordered : IsOrdered (members_in symbol.content)
 
--- A symbol that is declared, after another: over the same domain, another name of the same set where that is one, and of the same kind.
+-- A symbol that is declared and changed: its domain and its kind stay, and an alias stays one of
+-- the same set.
 pub record IsAfter (old new : Symbol) : Type 0 where
   pub domain : new.domain ≡ old.domain
   pub alike : (n : ℕ) → behind n new.content ≡ behind n old.content
   pub declared : is_undeclared new.content ≡ false
   pub same_kind : kind_in new.content ≡ kind_in old.content
 
--- a symbol later: it was not declared, or it comes after
+-- a symbol is later than another: the other was not declared, or it comes after it
 abbrev pub IsLater : Symbol → Symbol → Type 0
 IsLater old new = (is_undeclared old.content ≡ true) ⊎ IsAfter old new
 
@@ -235,7 +237,7 @@ module _ {F : Type 0} where
   grows-each k state items =
       grows-fold (λ state (item : Decl F). declare k (names_of item.domain) state item.named.name) (λ state item. grows-declare k (names_of item.domain) state item.named.name) items state
 
-  -- what holds where an act is seen by its parts
+  -- what holds of each act made of its parts holds of each act
   pub by_parts : (P : Act F → Type 0) → ((layer : Act-F F (Act F) (Stmt F)) → P (roll-Act F layer)) → (act : Act F) → P act
   by_parts P each act = subst P (roll-out-Act F act) (each (out-Act F act))
 
@@ -260,7 +262,7 @@ module _ {F : Type 0} where
 
 -- ---- data
 
--- a symbol in which a content of its fitting tuples was put, or which stays
+-- a symbol after a content was put at a fitting tuple, or unchanged
 grows-fitted : (s : Symbol) (t : List ℕ) (new : Content) → (length t ≡ length s.domain → GrowsTo s (with_content s new)) → GrowsTo s (if_fits s t new)
 grows-fitted s t new grows = by (length t == length s.domain) refl
   where

@@ -1,4 +1,5 @@
--- Indices of the program, one after another: what is gathered from each, and how they stand against the positions of a name.
+-- Indices of the program in sequence: what is gathered from each, and how they fit the positions of
+-- a name.
 use Rattle.std.proofs.Common.{◌≡◌, ◌<◌, ◌≤◌, ◌+◌, ℕ, Bool, true, false, not, ◌||◌, ◌==◌, List, [], ◌∷◌, ◌++◌, map, length, get_or, take, drop, Option, Some, None, Box, inl, inr, refl, sym, ap, ◌∙◌, append_assoc, arith}
 use Rattle.std.specs.Prelude.{◌⊎◌, is_some}
 use Rattle.std.specs.List.{slice_get}
@@ -38,7 +39,7 @@ module _ {F : Type 0} where
 
 -- ---- what is gathered from each index
 
--- what is gathered is that of each index, one after another
+-- what is gathered is that of each index, in sequence
 abbrev pub IsGathered : {F X : Type 0} → (Indices F → List X) → Type 0
 IsGathered {F = F} f =
     (f no_index ≡ []) × ((index : Index F) (rest : Indices F) → f (index_tree index rest) ≡ f (index_tree index no_index) ++ f rest)
@@ -139,7 +140,7 @@ past xs i e = elim (slice_get_cases xs i).1 [
 ]
 
 module _ {F : Type 0} where
-  -- what is left of indices, at one that is there
+  -- the remaining indices, at one that exists
   here : (xs : List (Index F)) (i : ℕ) (x : Index F) → i < length xs → x ≡ get_or xs i x → index_list (drop i xs) ≡ index_tree x (index_list (drop (i + 1) xs))
   here xs i x l is = at_drop_more index_list xs i x l ∙ ap (λ y. index_tree y (index_list (drop (i + 1) xs))) (sym is)
 

@@ -1,4 +1,5 @@
--- An index set before a statement of a program is one in the state in which the program begins, with members of one label in their order.
+-- An index set before a statement of a program is one in the state in which the program begins,
+-- with members of one label in their order.
 use Rattle.std.proofs.Common.{◌≡◌, ℕ, zero, suc, Bool, true, false, ◌&&◌, List, [], ◌∷◌, length, slice_get, refl, sym, ap, ◌∙◌, subst, Option, unwrap_or, inl, inr}
 use Rattle.std.specs.Prelude.{replicate}
 use Rattle.std.specs.List.{fold}
@@ -137,7 +138,7 @@ module _ {F : Type 0} (value : F → Number) (program : Program F) where
   pub domain-loaded : (before : List (Stmt F)) (statement : Stmt F) → StandsAfter program before statement → (name : ℕ) → is_undeclared (symbol_at (before_state before) name).content ≡ false → (symbol_at (loaded value program) name).domain ≡ (symbol_at (before_state before) name).domain
   domain-loaded before statement stands name declared = (after-itself before statement stands name declared).domain
 
-  -- and a variable just where it is one when the program begins
+  -- and it is a variable exactly where it is one when the program begins
   pub variable-loaded : (before : List (Stmt F)) (statement : Stmt F) → StandsAfter program before statement → (name : ℕ) → is_undeclared (symbol_at (before_state before) name).content ≡ false → is_variable (symbol_at (loaded value program) name).content ≡ is_variable (symbol_at (before_state before) name).content
   variable-loaded before statement stands name declared =
       by-kind (symbol_at (loaded value program) name).content

@@ -24,7 +24,7 @@ use Rattle.gms_check.specs.Changes.{after_item, after_items, with_given, with_mo
 use Rattle.gms_check.proofs.Outlines.{base-drawn, base_above-drawn, drawn, drawn-declare_again, drawn-declare_new, drawn-given, drawn-put, drawn-same, kind-drawn, outline, read-at, set-drawn, shape, unknown-drawn}
 use Rattle.gms_check.proofs.KnownNames.{IsKnown, is_in, is_plain, known-again, known-new, new-above}
 
--- whether a name is in a table of so many
+-- whether a name is in a table of `count` names
 abbrev pub in_table : ℕ → ℕ → Bool
 in_table count name = nat_lt name count && true
 
@@ -330,7 +330,7 @@ module _ {F : Type 0} (value : F → Number) where
   items-keeps kind sound (item ∷ items) facts =
       keeps-then facts (after_item value kind sound facts item) (after_items value kind sound (after_item value kind sound facts item) items) (item-keeps kind sound facts item) (items-keeps kind sound items (after_item value kind sound facts item))
 
-  -- names that are declared one after another
+  -- names that are declared in sequence
   pub items-go : (count : ℕ) (kind : DeclKind) (sound : Bool) (items : List (Decl F)) (facts : Facts) → IsKnown count (drawn facts.state) facts.declared → length facts.defined ≡ count → FactsGo count facts (after_items value kind sound facts items) (item_names items) (equation_names kind (item_names items))
   items-go count kind sound [] facts known size =
       subst (λ (es : List ℕ). FactsGo count facts facts [] es) (sym (equation_names-none kind)) (goes-none count (drawn facts.state) facts.declared facts.equations known)
@@ -369,7 +369,7 @@ model_names-keeps [] facts = keeps-same facts
 model_names-keeps (model ∷ models) facts =
     keeps-then facts (with_model_name facts model.named.name) (with_model_names (with_model_name facts model.named.name) models) (record { dynamic = refl; unordered = refl; defined = refl; models = refl }) (model_names-keeps models (with_model_name facts model.named.name))
 
--- models that are declared one after another
+-- models that are declared in sequence
 pub models-go : (count : ℕ) (models : List ModelDecl) (facts : Facts) → IsKnown count (drawn facts.state) facts.declared → length facts.defined ≡ count → FactsGo count facts (with_model_names facts models) (map (λ (model : ModelDecl). model.named.name) models) []
 models-go count [] facts known size = goes-none count (drawn facts.state) facts.declared facts.equations known
 models-go count (model ∷ models) facts known size =

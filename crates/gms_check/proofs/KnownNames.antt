@@ -1,4 +1,4 @@
--- The names that are declared one after another, and what each is directly below.
+-- The names that are declared in sequence, and the set that each is directly below.
 use Rattle.std.proofs.Common.{◌≡◌, ◌<◌, ◌≤◌, ◌⊎◌, ◌+◌, ℕ, zero, suc, Bool, true, false, not, ◌==◌, ◌&&◌, ◌||◌, List, [], ◌∷◌, ◌++◌, length, get_or, map, set, refl, sym, ap, ◌∙◌, subst, Option, Some, None, unwrap_or, if◌then◌else◌, arith, inl, inr, eq-eqb}
 use Rattle.std.specs.Prelude.{nat_lt, slice_get}
 use Rattle.std.specs.List.{list_any}
@@ -139,7 +139,7 @@ abbrev pub is_plain : Content → Bool
 is_plain (set_of members) = true
 is_plain content = false
 
--- What holds of a state and the names that are declared in it, where there are so many names.
+-- What holds of a state with `count` names, and of the names that are declared in it.
 pub record IsKnown (count : ℕ) (state : State) (es : Entries) : Type 0 where
   pub size : length state.symbols ≡ count
   pub entered : (n : ℕ) → is_entered es n ≡ not (is_unknown state n)
@@ -203,7 +203,7 @@ module _ (count : ℕ) (state : State) (es : Entries) (known : IsKnown count sta
   pub unknown-in : (n : ℕ) → is_unknown state n ≡ true → is_in (names_of_entries es) n ≡ false
   unknown-in n e = entered-in es n ∙ known.entered n ∙ ap not e
 
-  -- the set behind a known name is known
+  -- the set that a known alias stands for is known
   pub base-known : (n : ℕ) → is_unknown state n ≡ false → is_unknown state (base_of state n) ≡ false
   base-known n e = elim (alias-or n (symbol_at state n).content) [
     | inl a ↦ ap (λ (c : Content). is_unknown state (behind n c)) a.1 ∙ known_plain (symbol_at state a.0).content (known.aliases n a.0 a.1)

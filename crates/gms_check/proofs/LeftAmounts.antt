@@ -1,4 +1,5 @@
--- The left sides of a program without errors: each set has one dimension, and each amount of a lag is a number or a scalar.
+-- The left sides of a program without errors: each set has one dimension, and each amount of a lag
+-- is a number or a scalar.
 use Rattle.std.proofs.Common.{◌≡◌, ℕ, zero, suc, Bool, true, false, not, ◌&&◌, List, [], ◌∷◌, ◌++◌, refl, sym, ap, ◌∙◌, subst, Option, option_map}
 use Rattle.std.specs.Prelude.{flat_map}
 use Rattle.gq_number.specs.Number.{Number}
@@ -93,7 +94,8 @@ module _ {F : Type 0} (known : Known F) where
   clean-one_of sets (first ∷ before) rest statement clean =
       clean-one_of sets before rest statement (clean-right known (statement_uses first known.state sets) (flat_map (λ (s : Stmt F). statement_uses s known.state sets) (before ++ statement ∷ rest)) clean)
 
-  -- a statement in the loops of another one uses what has no error, with the sets of the loops controlled
+  -- a statement in the loops of another one uses what has no error, with the sets of the loops
+  -- controlled
   inner-clean : (depth : ℕ) (outer inner : Stmt F) (controlled : List ℕ) → StandsIn depth inner outer → AreClean known (statement_uses outer known.state controlled) → (sets : List ℕ) × AreClean known (statement_uses inner known.state sets)
   inner-clean zero outer inner controlled same clean = (controlled, subst (λ (s : Stmt F). AreClean known (statement_uses s known.state controlled)) same clean)
   inner-clean (suc depth) outer inner controlled inside clean =

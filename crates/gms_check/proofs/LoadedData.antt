@@ -125,7 +125,7 @@ around xs i x l is =
     sym (take-append-drop i xs) ∙ ap (λ ys. take i xs ++ ys) (drop_more xs i x l ∙ ap (λ y. y ∷ drop (i + 1) xs) (sym is))
 
 module _ {F : Type 0} (value : F → Number) (program : Program F) where
-  -- the state after so many statements
+  -- the state after `i` statements
   abbrev pub state_at : ℕ → State
   state_at i = state_after value (length program.names) (sound (take i program.statements.items))
 
@@ -142,7 +142,7 @@ module _ {F : Type 0} (value : F → Number) (program : Program F) where
       sym (ap (λ (statements : List (Stmt F)). state_after value (length program.names) (sound statements)) (take_more program.statements.items i x l ∙ ap (λ y. take i program.statements.items ++ y ∷ []) (sym is)) ∙ ap (state_after value (length program.names)) (map-append {B = Stmt F × Bool} (λ (statement : Stmt F). (statement, true)) (take i program.statements.items) (x ∷ [])) ∙ fold-append (after_statement value) (blank_state (length program.names)) (sound (take i program.statements.items)) ((x, true) ∷ []))
 
 module _ {F : Type 0} (value : F → Number) where
-  -- the next name can be loaded, and those behind it after it
+  -- the next name can be loaded, and the later ones after it
   pub next-item : (kind : DeclKind) (state : State) (items : List (Decl F)) (i : ℕ) (x : Decl F) → i < length items → x ≡ get_or items i x → AreLoadable value kind state (drop i items) → AreLoadable value kind state (x ∷ drop (i + 1) items)
   next-item kind state items i x l is loadable =
       subst (AreLoadable value kind state) (drop_more items i x l ∙ ap (λ y. y ∷ drop (i + 1) items) (sym is)) loadable

@@ -44,9 +44,9 @@ use Rattle.gms_check.proofs.NoErrors.{AreClean, are-clean, nil-left, nil-right, 
 use Rattle.gms_check.proofs.Outlines.{read-at}
 use Rattle.gms_check.proofs.Soundness.{after-sound, neither-first, neither-second}
 
--- ---- names of a declaration one after another
+-- ---- names of a declaration in sequence
 
--- a declaration without errors: its first names have none, and those behind them have none after these
+-- a declaration without errors: its first names have none, and later names have none after these
 module _ {F : Type 0} (kind : DeclKind) where
   -- what is known after names that have no error
   abbrev known_behind : Known F → List (Decl F) → Known F
@@ -59,7 +59,7 @@ module _ {F : Type 0} (kind : DeclKind) where
       let next : known_after_item known kind item ≡ known_in known (with_item known.value kind known.state item) = ap (λ (es : List CompileError). known_in known (if is_faultless es then with_item known.value kind known.state item else with_name known.value kind known.state item)) none in
       (are-clean known (item_uses known kind item) none, sym (ap (λ (k : Known F). declaration_errors k kind items) next) ∙ nil-right errors (declaration_errors (known_after_item known kind item) kind items) e)
 
-  -- the names behind some
+  -- the names after some
   behind-items : (known : Known F) (first rest : List (Decl F)) → declaration_errors known kind (first ++ rest) ≡ [] → declaration_errors (known_behind known first) kind rest ≡ []
   behind-items known [] rest e = e
   behind-items known (item ∷ first) rest e =
@@ -264,7 +264,7 @@ module _ {F : Type 0} (value : F → Number) (program : Program F) (accepted : I
   walk n P step before (statement ∷ rest) is p =
       walk n P step (before ++ statement ∷ []) rest (is ∙ sym (append_assoc before (statement ∷ []) rest)) (subst (λ (state : State). P (symbol_at state n)) (sym (state-then before statement)) (step before statement (rest, is) (error-none before rest statement is) p))
 
-  -- so many names there are after each
+  -- each statement leaves the same number of names
   size-walk : (before done rest : List (Stmt F)) → program.statements.items ≡ before ++ rest → length (state_after value count (sound before)).symbols ≡ count → (front behind : List (Stmt F)) → rest ≡ front ++ behind → length (state_after value count (sound (before ++ front))).symbols ≡ count
   size-walk before done rest is size [] behind parts =
       ap (λ (statements : List (Stmt F)). length (state_after value count (sound statements)).symbols) (append-nil before) ∙ size
@@ -277,7 +277,7 @@ module _ {F : Type 0} (value : F → Number) (program : Program F) (accepted : I
   size-after before rest is =
       size-walk [] [] program.statements.items refl (length-replicate count no_symbol) before rest is
 
-  -- what holds of a name and is kept by what the program declares holds at its end
+  -- a property of a name that is kept by all that the program declares holds at its end
   module _ (n : ℕ) (P : Symbol → Type 0) (Of : DeclKind → Decl F → Type 0) (Named : ℕ → Type 0) (kept : IsKept F n P Of Named) (those : (kind : DeclKind) (item : Decl F) → Declares program kind item → Of kind item) (all : (before : List (Stmt F)) (statement : Stmt F) → StandsAfter program before statement → AllNamed Named (names_declared statement.act)) where
     step-keeps : (before : List (Stmt F)) (statement : Stmt F) → StandsAfter program before statement → statement_error (known_behind_all before) statement ≡ None → P (symbol_at (state_after value count (sound before)) n) → P (symbol_at (after_act value (state_after value count (sound before)) statement.act) n)
     step-keeps before statement stands none p =
@@ -326,7 +326,7 @@ module _ {F : Type 0} (value : F → Number) (program : Program F) (accepted : I
     data-fit =
         expanded-fit before_it.state (positions_of kind (names_of item.domain)) (length (positions_of kind (names_of item.domain))) item.items own_data (recursion_from_All (λ (i : Item F). length i.parts ≡ length (positions_of kind (names_of item.domain))) item.items (item-loadable before_it kind item is-clean).parts) data-given
 
-    -- what it is right behind its declaration
+    -- its symbol directly after its declaration
     abbrev made : Symbol
     made = data_in value (declared_again kind (names_of item.domain) (symbol_at before_it.state item.named.name)) own_data
 
@@ -360,7 +360,7 @@ module _ {F : Type 0} (value : F → Number) (program : Program F) (accepted : I
     as-equation is =
         settled-as (record { domain = positions_of kind (names_of item.domain); content = equation_of finite.empty }) (made-new (ap is_variable is) ∙ ap (λ (c : Content). data_in value (record { domain = positions_of kind (names_of item.domain); content = c }) own_data) is ∙ data-quiet value own_data (record { domain = positions_of kind (names_of item.domain); content = equation_of finite.empty }) (λ t on. refl) (λ t y. refl)) refl refl
 
-    -- a variable: of a type that is not free, and of one that is left free
+    -- a variable: of a type that is not free, and of a free one
     made-type : (t : VariableType) → type_of kind ≡ Some t → made.content ≡ variable_of t finite.empty
     made-type t is =
         let content = typed-content kind (names_of item.domain) (symbol_at before_it.state item.named.name) t is (clean-bare before_it kind item is-clean) in

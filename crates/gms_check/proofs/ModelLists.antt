@@ -1,4 +1,4 @@
--- Models that are checked and declared one after another.
+-- Models that are checked and declared in sequence.
 use Rattle.std.proofs.Common.{◌≡◌, List, [], ◌∷◌, ◌++◌, map, Bool, refl, sym, ap, ◌∙◌}
 use Rattle.gq_number.specs.Number.{Number}
 use Rattle.gms_ast.specs.declared.word.Named.{Named}

@@ -10,7 +10,7 @@ use Rattle.gms_check.specs.Errors.{first_of}
 use Rattle.gms_check.specs.Past.{Known}
 use Rattle.gms_check.specs.Uses.{Use, Uses}
 
--- where there is no first error there is none
+-- without a first error there is none
 pub none-first : (errors : List CompileError) → first_of errors ≡ None → errors ≡ []
 none-first [] e = refl
 none-first (error ∷ errors) e = absurd cc

@@ -1,4 +1,4 @@
--- A check that goes on: what it finds in parts, one after another.
+-- A check in progress: what it finds in parts, in sequence.
 use Rattle.std.proofs.Common.{◌≡◌, ◌<◌, ◌+◌, length, take, get_or, ℕ, Bool, true, false, not, ◌&&◌, ◌||◌, List, [], ◌∷◌, ◌++◌, map, Option, Some, None, refl, sym, ap, ◌∙◌, append_assoc, if◌then◌else◌, arith}
 use Rattle.std.specs.Prelude.{filter, flat_map, nat_le, nat_lt}
 use Rattle.std.proofs.lemmas.Bool.Decides.{nat_tests}
@@ -153,7 +153,7 @@ module _ {F : Type 0} (value : F → Number) where
   first-append : (known : Known F) (xs ys : Uses F) → first_of (errors_of known (xs ++ ys)) ≡ sooner (first_of (errors_of known xs)) (first_of (errors_of known ys))
   first-append known xs ys = ap first_of (errors-append known xs ys) ∙ first_of-append (errors_of known xs) (errors_of known ys)
 
-  -- parts and steps that are looked at by turns
+  -- parts and steps that are checked alternately
   pub noted-turned : (c s t u : Checking) (xs ss ys zs : Uses F) → s ≡ noted value c (xs ++ ss) → t ≡ noted value s ys → u ≡ noted value t zs → u ≡ noted value c ((xs ++ ys) ++ (ss ++ zs))
   noted-turned c s t u xs ss ys zs e f g =
       noted-then value c t u ((xs ++ ss) ++ ys) zs (noted-then value c s t (xs ++ ss) ys e f) g ∙ ap (λ first. with_first c (sooner c.first first)) (apart ∙ ap (λ m. sooner m z) (sooner-assoc x m y ∙ ap (sooner x) (sooner-comm m y) ∙ sym (sooner-assoc x y m)) ∙ sooner-assoc (sooner x y) m z ∙ sym together)

@@ -24,7 +24,7 @@ module _ {F : Type 0} {X : Type 0} (mark : X → Mark) (tree : X → Tree F) whe
   abbrev listed : List X → Parts F
   listed xs = parts_of (map (λ x. (mark x, tree x)) xs)
 
-  -- the parts of a node, one after another
+  -- the parts of a node, in sequence
   pub uses-parts : (standing : Standing) (around : Place) (controlled : List ℕ) (xs : List X) → part_uses standing around controlled (parts_of (map (λ x. (mark x, tree x)) xs)) ≡ flat_map (λ x. uses standing (place_of (mark x) around) controlled (tree x)) xs
   uses-parts standing around controlled [] = refl
   uses-parts standing around controlled (x ∷ xs) =
@@ -50,7 +50,7 @@ module _ {F : Type 0} {X : Type 0} (mark : X → Mark) (tree : X → Tree F) whe
   step-append standing around [] y some = absurd (omega arith)
   step-append standing around (x ∷ xs) y some = later-append standing around (tree x ∷ []) xs y
 
-  -- a part more, behind others: one step more
+  -- one more part after others: one more step
   pub steps-more : (standing : Standing) (around : Place) (xs : List X) (i : ℕ) (x : X) → 0 < i → i < length xs → x ≡ get_or xs i x → steps standing around (parts_of (map (λ x. (mark x, tree x)) (take (i + 1) xs))) ≡ steps standing around (parts_of (map (λ x. (mark x, tree x)) (take i xs))) ++ (place_of (mark x) around, stepping standing (operation_of (mark x)) (map tree (take i xs)) (tree x)) ∷ []
   steps-more standing around xs i x some l is =
       let counted = length-take-le i xs (omega arith) in
@@ -66,7 +66,7 @@ module _ {F : Type 0} {X : Type 0} (mark : X → Mark) (tree : X → Tree F) whe
       let counted = length-take-le i xs (omega arith) in
       ap (λ ys. steps standing around (listed ys)) (take_more xs i x l ∙ ap (λ y. take i xs ++ y ∷ []) (sym is)) ∙ alone standing around (take i xs) x (counted ∙ none)
 
-  -- parts that have their own places
+  -- parts that have places
   module _ (a b : Place) (same : (x : X) → place_of (mark x) a ≡ place_of (mark x) b) where
     pub uses-anywhere : (standing : Standing) (controlled : List ℕ) (xs : List X) → part_uses standing a controlled (parts_of (map (λ x. (mark x, tree x)) xs)) ≡ part_uses standing b controlled (parts_of (map (λ x. (mark x, tree x)) xs))
     uses-anywhere standing controlled [] = refl

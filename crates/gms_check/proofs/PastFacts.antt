@@ -97,7 +97,8 @@ default-replicate count n x = by (nat_lt n count) refl
 
 -- ---- models
 
--- models with those of their equations that are equations in a state, where the table has so many names
+-- models with those of their equations that are equations in a state, where the table has `count`
+-- names
 abbrev pub listed_in : ℕ → State → List (ℕ × List ℕ) → List (ℕ × List ℕ)
 listed_in count state models =
     map {B = ℕ × List ℕ} (λ (model : ℕ × List ℕ). (model.0, filter (is_equation_in state) model.1)) (filter (λ (model : ℕ × List ℕ). in_table count model.0) models)

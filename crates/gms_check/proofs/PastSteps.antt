@@ -69,7 +69,7 @@ unmarked m l = sym (ap (λ b. m || b) (no_right l) ∙ or_false m)
 -- ---- the order of labels
 
 module _ {F : Type 0} where
-  -- what is known after the order of the labels of sets was looked at
+  -- what is known after the order of the labels of sets was examined
   abbrev ordered : Facts → List (Decl F) → Facts
   ordered facts items =
       fold (λ facts (item : Decl F). if is_ascending (labels_of item.items) then facts else with_unordered facts item.named.name) facts items
@@ -266,7 +266,7 @@ module _ {F : Type 0} (value : F → Number) where
   same_state state false = refl
 
   module _ (program : Program F) where
-    -- What one act more makes of facts, after these statements.
+    -- What one more act changes in the facts, after these statements.
     pub record Step (facts after : Facts) (past : Past F) (act : Act F) (sound : Bool) : Type 0 where
       pub state : after.state ≡ state_by facts.state act sound
       pub go : FactsGo (length program.names) facts after (names_declared act) (equations_declared act)
@@ -388,7 +388,7 @@ module _ {F : Type 0} (value : F → Number) where
       step act sound listed =
           step-none act sound (sym (same_state facts.state sound)) refl refl (λ n. refl) (λ n. refl) refl
 
-      -- what stands after a statement
+      -- the invariant after a statement
       pub stands-after : (statement : Stmt F) (sound : Bool) → IsListed facts.state statement.act sound → Stands value program (facts_after value facts statement.act sound) (past ++ (statement, sound) ∷ [])
       stands-after statement sound listed =
           let s = step statement.act sound listed in

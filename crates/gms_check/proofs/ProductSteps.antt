@@ -1,4 +1,4 @@
--- The parts of a product or a power and its steps, which are looked at by turns.
+-- The parts of a product or a power and its steps, which are checked alternately.
 use Rattle.std.proofs.Common.{◌≡◌, ◌<◌, ◌≤◌, ◌+◌, arith, ℕ, Bool, true, false, not, ◌&&◌, ◌||◌, List, [], ◌∷◌, ◌++◌, map, take, length, get_or, refl, sym, ap, ◌∙◌, if◌then◌else◌}
 use Rattle.std.specs.Prelude.{flat_map}
 use Rattle.std.specs.List.{list_any}
@@ -84,7 +84,7 @@ module _ {F : Type 0} {X : Type 0} (value : F → Number) (mark : X → Mark) (t
     turn-first none step =
         turn [] step (steps-first mark tree standing in_no_place xs i x (no-less i none) l is ∙ sym (append-nil (steps_of (take i xs))))
 
-    -- a part behind others
+    -- a part after others
     pub turn-more : 0 < i → next ≡ noted value after ((place_of (mark x) in_no_place, stepping standing (operation_of (mark x)) (map tree (take i xs)) (tree x)) ∷ []) → next ≡ noted value s (flat_map (λ x. uses (as_part standing) (place_of (mark x) in_no_place) controlled (tree x)) (take (i + 1) xs) ++ steps standing in_no_place (parts_of (map (λ x. (mark x, tree x)) (take (i + 1) xs))))
     turn-more some step =
         turn ((place_of (mark x) in_no_place, stepping standing (operation_of (mark x)) (map tree (take i xs)) (tree x)) ∷ []) step (steps-more mark tree standing in_no_place xs i x some l is)

@@ -1,4 +1,4 @@
--- Wherever a reference stands in a program without errors, it has a meaning there.
+-- Each reference in a program without errors has a meaning at its place.
 use Rattle.std.proofs.Common.{◌≡◌, ℕ, zero, suc, List, [], ◌∷◌, ◌++◌, Some, option_map, sym, ap, ◌∙◌, subst}
 use Rattle.std.specs.Prelude.{flat_map}
 use Rattle.gq_number.specs.Number.{Number}

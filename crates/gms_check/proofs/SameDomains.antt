@@ -23,7 +23,7 @@ unequal state (x ∷ xs) [] ne = refl
 unequal state (x ∷ xs) (y ∷ ys) ne =
     ap (λ b. same_position state x y && b) (unequal state xs ys (λ e. ne (ap suc e))) ∙ and-nothing (same_position state x y)
 
--- what is left of two domains, at positions that are there
+-- the rest of two domains, at positions that exist
 pub same-at : (state : State) (written : List (Option Named)) (domain : List (Option ℕ)) (i : ℕ) → i < length written → i < length domain → same_domain state (names_of (drop i written)) (drop i domain) ≡ (same_position state (set_in (get_or written i None)) (get_or domain i None) && same_domain state (names_of (drop (i + 1) written)) (drop (i + 1) domain))
 same-at state written domain i l m =
     at_drop_more (λ ps. same_domain state (names_of ps) (drop i domain)) written i None l ∙ at_drop_more (same_domain state (set_in (get_or written i None) ∷ names_of (drop (i + 1) written))) domain i None m

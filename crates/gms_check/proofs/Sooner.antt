@@ -1,4 +1,4 @@
--- The earlier of errors: in which order they are looked at does not matter.
+-- The earlier of errors: the order in which they are compared has no effect.
 use Rattle.std.proofs.Common.{◌≡◌, ◌<◌, ◌≤◌, ℕ, Bool, true, false, ◌&&◌, ◌||◌, ◌==◌, List, [], ◌∷◌, ◌++◌, map, Option, Some, None, refl, sym, ap, ◌∙◌, arith, inl, inr, eq-eqb, if◌then◌else◌}
 use Rattle.std.specs.Prelude.{◌⊎◌, nat_lt, slice_index_or}
 use Rattle.std.proofs.lemmas.Bool.{ltb-true, lt-ltb, eqb-true}
@@ -37,7 +37,7 @@ code-back Function = refl
 code-back DataFault = refl
 code-back Restart = refl
 
--- three numbers, compared one after another
+-- three pairs of numbers, compared in sequence
 abbrev before : ℕ → ℕ → ℕ → ℕ → ℕ → ℕ → Bool
 before l c k m d j = (nat_lt l m || l == m && nat_lt c d) || (l == m && c == d) && nat_lt k j
 

@@ -123,7 +123,7 @@ no-option None e = refl
 no-option (Some x) e = absurd cc
 
 module _ {F : Type 0} (value : F → Number) (program : Program F) (solvers : List (List ℕ)) where
-  -- where there is no error, each statement has none, and those before it have none
+  -- if there is no error, each statement has none, and those before it have none
   pub after-sound : (before : List (Stmt F)) (past : Past F) (statement : Stmt F) (rest : List (Stmt F)) → errors_after value program solvers past (before ++ statement ∷ rest) ≡ [] → statement_error (known_after value program solvers (past ++ sound before)) statement ≡ None
   after-sound [] past statement rest e =
       ap (λ (p : Past F). statement_error (known_after value program solvers p) statement) (append-nil past) ∙ no-option (statement_error (known_after value program solvers past) statement) (nil-left (option_to_list (statement_error (known_after value program solvers past) statement)) (errors_after value program solvers (past ++ (statement, is_none (statement_error (known_after value program solvers past) statement)) ∷ []) rest) e)

@@ -1,4 +1,4 @@
--- A check of a statement: its parts one after another, under the sets that they control.
+-- A check of a statement: its parts in sequence, under the sets that they control.
 use Rattle.std.proofs.Common.{◌≡◌, ◌<◌, ◌+◌, ℕ, Bool, true, false, List, [], ◌∷◌, ◌++◌, length, take, get_or, refl, sym, ap, ◌∙◌, append_assoc, Option, Some, None}
 use Rattle.std.specs.Prelude.{flat_map, is_none}
 use Rattle.std.proofs.Math.Seq.{take-append_seam}
@@ -39,18 +39,18 @@ module _ {F : Type 0} (value : F → Number) where
       let there : s.controlled ≡ c.controlled ++ sets = ap (λ (s : Checking). s.controlled) e in
       noted-then value (with_controlled c sets) s t parts (more (c.controlled ++ sets)) e (f ∙ ap (λ (ns : List ℕ). noted value s (more ns)) there)
 
-  -- the sets are controlled no more
+  -- the sets are no longer controlled
   pub under-done : (c s t : Checking) (parts : Uses F) (sets : List ℕ) → s ≡ with_controlled (noted value c parts) sets → t ≡ with_sets s (take (length c.controlled) s.controlled) → t ≡ noted value c parts
   under-done c s t parts sets e f =
       f ∙ ap (λ (s : Checking). with_sets s (take (length c.controlled) s.controlled)) e ∙ ap (with_sets (noted value c parts)) (take-append_seam c.controlled sets)
 
-  -- the two sides of a definition, and then the sets are controlled no more
+  -- the two sides of a definition; after them the sets are no longer controlled
   pub sides-done : (c s t u : Checking) (n : ℕ) (left right : List ℕ → Uses F) → s ≡ noted value c (left c.controlled) → t ≡ noted value s (right s.controlled) → u ≡ with_sets t (take n t.controlled) → u ≡ noted value (with_sets c (take n c.controlled)) (left c.controlled ++ right c.controlled)
   sides-done c s t u n left right e f g =
       let there : s.controlled ≡ c.controlled = ap (λ (s : Checking). s.controlled) e in
       g ∙ ap (λ (t : Checking). with_sets t (take n t.controlled)) (noted-then value c s t (left c.controlled) (right c.controlled) e (f ∙ ap (λ (ns : List ℕ). noted value s (right ns)) there))
 
-  -- a left side and the two sides behind it
+  -- a left side, followed by the two sides
   pub definition-done : (c s t : Checking) (parts : Uses F) (sets : List ℕ) (sides : List ℕ → Uses F) → s ≡ with_controlled (noted value c parts) sets → t ≡ noted value (with_sets s (take (length c.controlled) s.controlled)) (sides s.controlled) → t ≡ noted value c (parts ++ sides (c.controlled ++ sets))
   definition-done c s t parts sets sides e f =
       let there : s.controlled ≡ c.controlled ++ sets = ap (λ (s : Checking). s.controlled) e in

@@ -1,4 +1,5 @@
--- Names of a declaration that are checked and declared one after another, until it is known whether all are sound.
+-- Names of a declaration that are checked and declared in sequence, until it is known whether all
+-- are sound.
 use Rattle.std.proofs.Common.{◌≡◌, ◌∙◌, ℕ, Bool, true, false, List, [], ◌∷◌, ◌++◌, Option, Some, None, Result, Ok, Err, refl, sym, ap, append_assoc, if◌then◌else◌}
 use Rattle.std.specs.Prelude.{flat_map, is_none, is_some, length, map, not, take_while}
 use Rattle.gq_number.specs.Number.{Number}
@@ -36,7 +37,7 @@ answer-none None false e = absurd cc
 answer-none (Some x) true e = absurd cc
 answer-none (Some x) false e = refl
 
--- where there is no error, there is none later
+-- if there is no error, there is none later
 pub none-later : (a b : Option CompileError) → sooner a b ≡ None → b ≡ None
 none-later None b e = e
 none-later (Some a) b e = absurd cc
@@ -131,7 +132,8 @@ module _ {F : Type 0} (value : F → Number) where
       ∙ ap (λ (dynamic : List Bool). declaration_errors (seen_by value (state_after_item known kind item) (marked dynamic)) kind items) (item-dynamic kind sound facts item)
       ∙ sym (core-declaration (known_after_item known kind item) kind items)
 
-  -- a check after names of a declaration were checked, and declared with the data of those that have no error
+  -- a check after names of a declaration were checked, and declared with the data of those that
+  -- have no error
   abbrev pub items_checked : DeclKind → Checking → List (Decl F) → Checking
   items_checked kind c items =
       record c { first = sooner c.first (first_of (declaration_errors (known_of value c) kind items)); facts = trial_facts value c.solvers kind c.facts items }
@@ -180,7 +182,7 @@ module _ {F : Type 0} (value : F → Number) where
       ap (λ (b : Bool). trial_facts value solvers kind (after_item value kind b facts item) items) sound
       ∙ sound-all solvers kind (after_item value kind true facts item) items rest
 
-  -- ---- the data of those that have no error are taken out again
+  -- ---- the data of those that have no error are removed again
 
   taken-without : (facts : Facts) (n : ℕ) (names : List ℕ) → taken_back (without_data facts n) names ≡ without_data (taken_back facts names) n
   taken-without facts n [] = refl
@@ -193,7 +195,7 @@ module _ {F : Type 0} (value : F → Number) where
       items-without kind (after_item value kind false facts item) n items
       ∙ ap (λ (facts : Facts). after_items value kind false facts items) (declared-without kind (names_of item.domain) facts item.named.name n)
 
-  -- a name that has no error is as its declaration makes it, once its data are taken out
+  -- a name without an error is as its declaration makes it, once its data are removed
   item-without : (solvers : List (List ℕ)) (kind : DeclKind) (facts : Facts) (item : Decl F) → is_sound value solvers kind facts item ≡ true → without_data (after_item value kind true facts item) item.named.name ≡ after_item value kind false facts item
   item-without solvers kind facts item sound = by (expanded facts.state (positions_of kind (names_of item.domain)) item.items)
     where
@@ -232,7 +234,7 @@ module _ {F : Type 0} (value : F → Number) where
         ∙ sooner-assoc c.first (first_of (errors_of (known_of value c) (kind_uses at kind))) (first_of (declaration_errors (known_of value c) kind items))
         ∙ ap (sooner c.first) (sym (first_of-append (errors_of (known_of value c) (kind_uses at kind)) (declaration_errors (known_of value c) kind items)))
 
-    -- where it has an error its data are taken out again
+    -- if it has an error its data are removed again
     pub declaration-refused : (given : List ℕ) → is_none u.first ≡ false → given ≡ trial_names value s.solvers kind s.facts items → u ≡ with_facts t (taken_back t.facts given) → u ≡ record c { first = u.first; facts = after_declaration value kind (is_none u.first) c.facts items }
     declaration-refused given some names e =
         let first = (items_checked kind (noted value c (kind_uses at kind)) items).first in

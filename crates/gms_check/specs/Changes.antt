@@ -1,5 +1,6 @@
--- What a statement adds to what is known.
--- GAMS User's Guide, "Set Definition", "Data Entry: Parameters, Scalars and Tables", "Equations", "Model and Solve Statements". That names of a statement with an error count as declared, and its data as not given, is this project's own rule.
+-- What a statement adds to what is known (GAMS User's Guide, "Set Definition", "Data Entry:
+-- Parameters, Scalars and Tables", "Equations", "Model and Solve Statements"). Names of a statement
+-- with an error count as declared, and its data as not given; this is the project's own rule.
 use Rattle.std.specs.Prelude.{ℕ, Bool, true, false, not, List, [], ◌∷◌, Option, Result, Ok, Err, if◌then◌else◌}
 use Rattle.std.specs.List.{fold}
 use Rattle.gq_number.specs.Number.{Number}
@@ -16,44 +17,44 @@ use Rattle.gms_known.specs.Data.{is_ascending, labels_of}
 use Rattle.gms_known.specs.Facts.{Facts, with_alias, with_data, with_declared, with_definition, with_model, with_model_name, with_unordered}
 use Rattle.gms_check.specs.Past.{equations_listed, numbers_of}
 
--- after models were declared, without their equations
+-- what is known after models were declared, without their equations
 abbrev pub with_model_names : Facts → List ModelDecl → Facts
 with_model_names facts models = fold (λ facts (model : ModelDecl). with_model_name facts model.named.name) facts models
 
--- after the equations of models were listed; none where their statement has an error
+-- what is known after the equations of models were listed; none if their statement has an error
 abbrev pub with_models : Bool → Facts → List ModelDecl → Facts
 with_models sound facts models =
     fold (λ facts (model : ModelDecl). with_model facts model.named.name (equations_listed facts.equations sound model)) facts models
 
 module _ {F : Type 0} where
-  -- after the order of the labels of sets was looked at
+  -- what is known after the order of the labels of sets was examined
   abbrev pub with_order : DeclKind → Facts → List (Decl F) → Facts
   with_order declaring.Set facts items =
       fold (λ facts (item : Decl F). if is_ascending (labels_of item.items) then facts else with_unordered facts item.named.name) facts items
   with_order kind facts items = facts
 
 module _ {F : Type 0} (value : F → Number) where
-  -- after the data of a name were given, where they have no error
+  -- what is known after the data of a name were given, if they have no error
   abbrev pub with_given : Facts → ℕ → Result (Given F) SetFault → Facts
   with_given facts name (Ok given) = with_data value facts name given
   with_given facts name (Err fault) = facts
 
-  -- after a name was declared, with its data where it has no error
+  -- what is known after a name was declared, with its data if it has no error
   abbrev pub after_item : DeclKind → Bool → Facts → Decl F → Facts
   after_item kind false facts item = with_declared kind (names_of item.domain) facts item.named.name
   after_item kind true facts item =
       with_given (with_declared kind (names_of item.domain) facts item.named.name) item.named.name (expanded facts.state (positions_of kind (names_of item.domain)) item.items)
 
-  -- after names were declared, all with their data or all without
+  -- what is known after names were declared, all with their data or all without
   abbrev pub after_items : DeclKind → Bool → Facts → List (Decl F) → Facts
   after_items kind sound facts items = fold (after_item kind sound) facts items
 
-  -- after a declaration
+  -- what is known after a declaration
   abbrev pub after_declaration : DeclKind → Bool → Facts → List (Decl F) → Facts
   after_declaration kind true facts items = with_order kind (after_items kind true facts items) items
   after_declaration kind false facts items = after_items kind false facts items
 
-  -- after an act with an error or without
+  -- what is known after an act, with an error or without
   abbrev pub facts_after : Facts → Act F → Bool → Facts
   facts_after facts (Declare kind items) sound = after_declaration kind sound facts items
   facts_after facts (Alias first second) sound = with_alias facts first.name second.name

@@ -1,5 +1,5 @@
--- What holds of a program without compile errors: its references name what is declared, have as many indices as declared, and
--- their index sets are controlled and, where they have a lag, ordered.
+-- What holds of a program without compile errors: its references name what is declared, with as
+-- many indices as declared; their index sets are controlled, and ordered where they have a lag.
 use Rattle.std.specs.Prelude.{ℕ, ◌≡◌, ◌≤◌, true, false, List, [], ◌∷◌, ◌++◌, length, map, Option, None, All}
 use Rattle.gq_number.specs.Number.{Number}
 use Rattle.gms_labels.specs.declared.place.Place.{Place}
@@ -20,7 +20,9 @@ use Rattle.gms_check.specs.CompileErrors.{compile_errors, has_error, known_after
 use Rattle.gms_check.specs.Loaded.{sound}
 
 module _ {F : Type 0} where
-  -- Indices that go with a name: they are as many as its positions, and at most 10; each set is one-dimensional and below its position's set, and each label is in it; a set with a lag is ordered.
+  -- Indices that fit a name: they are as many as its positions, and at most 10; each set is
+  -- one-dimensional and below its position's set, and each label is in it; a set with a lag is
+  -- ordered.
   pub record AreIndices (known : Known F) (name : ℕ) (indices : Indices F) : Type 0 where
     pub count : index_count indices ≡ length (positions known.state name)
     pub few : index_count indices ≤ 10
@@ -29,14 +31,16 @@ module _ {F : Type 0} where
     pub labels : has_unfit_label known name (positions known.state name) indices ≡ false
     pub ordered : All (λ index. is_ordered known index ≡ true) (lagged_sets indices)
 
-  -- A reference that has a meaning: its name is declared and may stand there, its indices go with it, and each index set is controlled.
+  -- A reference that has a meaning: its name is declared and may occur in this context, its indices
+  -- fit it, and each index set is controlled.
   pub record IsReading (known : Known F) (standing : Standing) (controlled : List ℕ) (name : ℕ) (suffix : Suffix) (indices : Indices F) : Type 0 where
     pub declared : is_unknown known.state name ≡ false
     pub stands : may_stand standing (kind_of known.state name) suffix ≡ true
     pub fitting : AreIndices known name indices
     pub controls : All (λ index. is_among controlled index ≡ true) (index_sets indices)
 
-  -- what holds of what is used in a program without errors: of references and controls this, and of the rest that no error's condition does
+  -- what holds of each use in a program without errors: of references and controls this, of any
+  -- other that no error's condition holds
   abbrev pub IsSound : Known F → Use F → Type 0
   IsSound known (reading standing controlled name suffix indices) = IsReading known standing controlled name suffix indices
   IsSound known (ordinal standing controlled name) =
@@ -50,15 +54,16 @@ module _ {F : Type 0} where
       (is_unknown known.state name ≡ false) × (is_equation (kind_of known.state name) ≡ true) × AreIndices known name indices
   IsSound known used = (kind : ErrorKind) → has_error known used kind ≡ false
 
-  -- the same of parts
+  -- each of these uses is sound
   abbrev pub AreSound : Known F → Uses F → Type 0
   AreSound known uses = All (λ u. IsSound known u.1) uses
 
-  -- a statement stands after these in a program
+  -- a statement follows these in a program
   abbrev pub StandsAfter : Program F → List (Stmt F) → Stmt F → Type 0
   StandsAfter program before statement = (rest : List (Stmt F)) × (program.statements.items ≡ before ++ statement ∷ rest)
 
-  -- a program without errors: every statement's parts are sound, by what the statements before it declare
+  -- a program without errors: every statement's parts are sound, by what the statements before it
+  -- declare
   abbrev pub IsChecked : (F → Number) → Program F → List (List ℕ) → Type 0
   IsChecked value program solvers =
       (before : List (Stmt F)) (statement : Stmt F) → StandsAfter program before statement → AreSound (known_after value program solvers (sound before)) (statement_uses statement (known_after value program solvers (sound before)).state [])

@@ -1,4 +1,4 @@
--- A check that is going on: what is known, the sets that are controlled, and the first error so far.
+-- A check in progress: what is known, the sets that are controlled, and the first error so far.
 use Rattle.std.specs.Prelude.{ℕ, Bool, true, false, List, [], ◌∷◌, ◌++◌, Option, Some, None}
 use Rattle.gq_number.specs.Number.{Number}
 use Rattle.gms_labels.specs.declared.place.Place.{Place}
@@ -12,7 +12,7 @@ use Rattle.gms_check.specs.Uses.{Uses}
 use Rattle.gms_check.specs.Past.{Known}
 use Rattle.gms_check.specs.CompileErrors.{errors_of}
 
--- A check that is going on.
+-- A check in progress.
 pub record Checking : Type 0 where
   -- what is known
   pub facts : Facts
@@ -23,17 +23,17 @@ pub record Checking : Type 0 where
   -- the first error of the statement so far
   pub first : Option CompileError
 
--- an error, where there is one
+-- an error, if there is one
 abbrev pub error_if : Bool → ErrorKind → Place → Option CompileError
 error_if true kind at = Some (record { kind = kind; at = at })
 error_if false kind at = None
 
--- the first of some errors at one place, each with whether it is there
+-- the first of some possible errors at one place, each with whether it occurs
 abbrev pub first_fault : Place → List (Bool × ErrorKind) → Option CompileError
 first_fault at [] = None
 first_fault at (fault ∷ faults) = sooner (error_if fault.0 fault.1 at) (first_fault at faults)
 
--- a check after it found one of some errors at a place, or none
+-- a check after it found the first of some possible errors at a place, or none
 abbrev pub faulted : Checking → Place → List (Bool × ErrorKind) → Checking
 faulted c at faults = record c { first = sooner c.first (first_fault at faults) }
 
@@ -41,16 +41,16 @@ faulted c at faults = record c { first = sooner c.first (first_fault at faults) 
 abbrev pub with_controlled : Checking → List ℕ → Checking
 with_controlled c sets = record c { controlled = c.controlled ++ sets }
 
--- a check with these sets controlled
+-- a check with exactly these sets controlled
 abbrev pub with_sets : Checking → List ℕ → Checking
 with_sets c sets = record c { controlled = sets }
 
--- a check that knows something else
+-- a check with other facts
 abbrev pub with_facts : Checking → Facts → Checking
 with_facts c facts = record c { facts = facts }
 
 module _ {F : Type 0} where
-  -- what a check shows
+  -- the view of a check
   abbrev pub seen : Checker F → Checking
   seen c = record { facts = c.known; solvers = c.solvers.now; controlled = c.controlled; first = c.first }
 
@@ -64,6 +64,6 @@ module _ {F : Type 0} (value : F → Number) where
   abbrev pub known_of : Checking → Known F
   known_of c = known_by c.solvers c.facts
 
-  -- a check after these parts
+  -- a check after these uses
   abbrev pub noted : Checking → Uses F → Checking
   noted c uses = record c { first = sooner c.first (first_of (errors_of (known_of c) uses)) }

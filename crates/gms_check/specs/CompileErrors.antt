@@ -1,5 +1,6 @@
--- The compile errors of a program: for each statement the first by place, then by number. A loop with its body is one statement.
--- Which conditions are errors stands in `Names`, `Kinds`, `Domains`, `Controls`, `Linearity` and `Solves`, each in a definition of the error's name.
+-- The compile errors of a program: for each statement the first by place, then by number. A loop
+-- with its body is one statement. `Names`, `Kinds`, `Domains`, `Controls`, `Linearity` and `Solves`
+-- define which conditions are errors, each in a definition of the error's name.
 use Rattle.std.specs.Prelude.{ℕ, nat_lt, Bool, true, false, ◌&&◌, List, [], ◌∷◌, ◌++◌, length, map, flat_map, filter, Option, is_none, option_to_list, if◌then◌else◌}
 use Rattle.gq_number.specs.Number.{Number}
 use Rattle.gms_labels.specs.declared.place.Place.{Place}
@@ -30,7 +31,7 @@ use Rattle.gms_check.specs.Controls.{uncontrolled, controlled_twice, not_ordered
 use Rattle.gms_check.specs.Linearity.{nonlinear, endogenous}
 use Rattle.gms_check.specs.Solves.{model_type, not_defined, defined_twice, objective, unknown_solver, option_range, data_fault}
 
--- the errors that a check gives, in the order of their numbers
+-- the errors that a check finds, in the order of their numbers
 abbrev pub checked_kinds : List ErrorKind
 checked_kinds =
     UnknownName ∷ Redeclared ∷ WrongKind ∷ WrongArity ∷ DomainOfSet ∷ DomainOfLabel ∷ Uncontrolled ∷ ControlledTwice ∷ NotOrdered ∷ DynamicDomain ∷ Nonlinear ∷ Discrete ∷ ModelType ∷ NotDefined ∷ DefinedTwice ∷ Objective ∷ UnknownSolver ∷ OptionRange ∷ Endogenous ∷ Function ∷ DataFault ∷ []
@@ -40,7 +41,7 @@ abbrev pub is_faultless : List CompileError → Bool
 is_faultless errors = is_none (first_of errors)
 
 module _ {F : Type 0} where
-  -- whether what is used has this error
+  -- whether a use has this error
   abbrev pub has_error : Known F → Use F → ErrorKind → Bool
   has_error known used UnknownName = unknown_name known used
   has_error known used Redeclared = redeclared known used
@@ -65,11 +66,11 @@ module _ {F : Type 0} where
   has_error known used DataFault = data_fault known used
   has_error known used Restart = false
 
-  -- the errors of what is used at a place
+  -- the errors of a use at a place
   abbrev pub errors_at : Known F → Place × Use F → List CompileError
   errors_at known (at, used) = map (λ kind. record { kind = kind; at = at }) (filter (has_error known used) checked_kinds)
 
-  -- the errors of parts
+  -- the errors of uses
   abbrev pub errors_of : Known F → Uses F → List CompileError
   errors_of known uses = flat_map (errors_at known) uses
 
@@ -77,7 +78,7 @@ module _ {F : Type 0} where
   abbrev pub known_in : Known F → State → Known F
   known_in known state = record known { state = state }
 
-  -- what is known after a name of a declaration: its data are given where it has no error
+  -- what is known after a name of a declaration: its data are given if it has no error
   abbrev pub known_after_item : Known F → DeclKind → Decl F → Known F
   known_after_item known kind item =
       known_in known (if is_faultless (errors_of known (item_uses known kind item)) then with_item known.value kind known.state item else with_name known.value kind known.state item)
@@ -100,7 +101,7 @@ module _ {F : Type 0} where
   act_errors known statement (Model models) = model_errors known models
   act_errors known statement act = errors_of known (statement_uses statement known.state [])
 
-  -- the error of a statement, where it has one
+  -- the error of a statement, if it has one
   abbrev pub statement_error : Known F → Stmt F → Option CompileError
   statement_error known statement = first_of (act_errors known statement statement.act)
 
@@ -112,7 +113,8 @@ module _ {F : Type 0} where
   abbrev pub names_before : Program F → Past F → List ℕ
   names_before program past = filter (of_program program (λ name. true)) (declared_names past)
 
-  -- the models that statements of a program declare, each with those of its equations that are equations
+  -- the models that statements of a program declare, each with those of its equations that are
+  -- equations
   abbrev pub models_before : State → Program F → Past F → List (ℕ × List ℕ)
   models_before state program past =
       map (λ (model : ℕ × List ℕ). (model.0, filter (λ equation. is_equation (kind_of state equation)) model.1)) (filter (λ (model : ℕ × List ℕ). of_program program (λ name. true) model.0) (models_after [] past))
@@ -122,7 +124,7 @@ module _ {F : Type 0} where
   known_after value program solvers past =
       record { value = value; state = state_after value (length program.names) past; declared = names_before program past; above = directly_above (state_after value (length program.names) past) (names_before program past); assigned = of_program program (is_among (dynamic_sets program)); unordered = of_program program (is_unordered past); defined = of_program program (is_defined past); models = models_before (state_after value (length program.names) past) program past; solvers = solvers }
 
-  -- the error of each of the statements that come after others, where it has one
+  -- the error of each of the statements that come after others, if it has one
   abbrev pub each_error : (F → Number) → Program F → List (List ℕ) → Past F → List (Stmt F) → List (Option CompileError)
   each_error value program solvers past [] = []
   each_error value program solvers past (statement ∷ rest) =
@@ -132,7 +134,7 @@ module _ {F : Type 0} where
   abbrev pub errors_after : (F → Number) → Program F → List (List ℕ) → Past F → List (Stmt F) → List CompileError
   errors_after value program solvers past statements = flat_map option_to_list (each_error value program solvers past statements)
 
-  -- the error of each statement of a program, where it has one, with solvers of these names
+  -- the error of each statement of a program, if it has one, with solvers of these names
   abbrev pub statement_errors : (F → Number) → Program F → List (List ℕ) → List (Option CompileError)
   statement_errors value program solvers = each_error value program solvers [] program.statements.items
 

@@ -1,5 +1,6 @@
--- Which sets are controlled, and which are ordered.
--- GAMS User's Guide, "Data Manipulation", indexed operations; "Sets as Sequences: Ordered Sets". That controls go by the name of a set, and not by the set behind it, is this project's own choice.
+-- Which sets are controlled, and which are ordered (GAMS User's Guide, "Data Manipulation", indexed
+-- operations; "Sets as Sequences: Ordered Sets"). A set is controlled by its name, and not by the
+-- set that an alias stands for; this is the project's own choice.
 use Rattle.std.specs.Prelude.{ℕ, Bool, true, false, not, ◌&&◌, ◌||◌, List, [], ◌∷◌, ◌++◌}
 use Rattle.std.specs.List.{list_any}
 use Rattle.gms_ast.specs.Trees.{Indices, no_index, label, set, lagged}
@@ -14,13 +15,13 @@ is_controlled_twice controlled [] = false
 is_controlled_twice controlled (name ∷ sets) = is_among controlled name || is_controlled_twice (controlled ++ name ∷ []) sets
 
 module _ {F : Type 0} where
-  -- Uncontrolled: nothing controls a set that is an index, or whose `ord` is taken
+  -- Uncontrolled: nothing controls a set that is an index, or of which `ord` is taken
   abbrev pub uncontrolled : Known F → Use F → Bool
   uncontrolled known (reading standing controlled name suffix indices) = list_any (λ index. not (is_among controlled index)) (index_sets indices)
   uncontrolled known (ordinal standing controlled name) = not (is_among controlled name)
   uncontrolled known used = false
 
-  -- ControlledTwice: a fold or a loop controls a set that is controlled there
+  -- ControlledTwice: a fold or a loop controls a set that is already controlled
   abbrev pub controlled_twice : Known F → Use F → Bool
   controlled_twice known (controlling controlled sets) = is_controlled_twice controlled sets
   controlled_twice known used = false
@@ -32,12 +33,13 @@ module _ {F : Type 0} where
   lagged_sets (set name rest) = lagged_sets rest
   lagged_sets (lagged name op at amount rest) = name ∷ lagged_sets rest
 
-  -- whether a set is ordered: one-dimensional and not dynamic, and its labels are given in the order of all labels
+  -- whether a set is ordered: one-dimensional, not dynamic, and its labels are given in the order
+  -- of all labels
   abbrev pub is_ordered : Known F → ℕ → Bool
   is_ordered known name =
       is_index_set known.state name && (not (is_dynamic known name) && not (known.unordered (base_of known.state name)))
 
-  -- NotOrdered: a set has a lag, or its `ord` is taken, and it is not ordered
+  -- NotOrdered: a set that is not ordered has a lag, or its `ord` is taken
   abbrev pub not_ordered : Known F → Use F → Bool
   not_ordered known (reading standing controlled name suffix indices) = list_any (λ index. not (is_ordered known index)) (lagged_sets indices)
   not_ordered known (assigning name suffix indices) = list_any (λ index. not (is_ordered known index)) (lagged_sets indices)

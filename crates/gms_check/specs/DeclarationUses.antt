@@ -1,5 +1,6 @@
--- What declarations of names and of models use: names, domain sets, items of data, equations.
--- GAMS User's Guide, "Set Definition"; "Data Entry: Parameters, Scalars and Tables"; "Variables"; "Model and Solve Statements".
+-- What declarations of names and of models use: names, domain sets, items of data, equations (GAMS
+-- User's Guide, "Set Definition"; "Data Entry: Parameters, Scalars and Tables"; "Variables"; "Model
+-- and Solve Statements").
 use Rattle.std.specs.Prelude.{ℕ, Bool, true, false, not, ◌&&◌, nat_le, List, [], ◌∷◌, ◌++◌, length, map, flat_map, take_while, Option, Some, None, Result, Ok, Err, if◌then◌else◌}
 use Rattle.std.specs.List.{list_all}
 use Rattle.gms_labels.specs.declared.place.Place.{Place}
@@ -23,7 +24,8 @@ abbrev pub is_usable_in : State → Option ℕ → Bool
 is_usable_in state None = true
 is_usable_in state (Some name) = is_index_set state name
 
--- whether data can be given at these positions: there are at most 10, and their sets can be in a domain
+-- whether data can be given at these positions: there are at most 10, and their sets can be in a
+-- domain
 abbrev pub are_usable_in : State → List (Option ℕ) → Bool
 are_usable_in state domain = nat_le (length domain) 10 && list_all (is_usable_in state) domain
 
@@ -33,12 +35,12 @@ is_continuous declaring.Discrete = false
 is_continuous kind = true
 
 module _ {F : Type 0} where
-  -- a position of a domain
+  -- the use of a set of a domain, at a position
   abbrev pub domain_use : Option Named → Uses F
   domain_use None = []
   domain_use (Some named) = (named.at, bounding named.name) ∷ []
 
-  -- the same by what is known
+  -- whether data can be given at these positions, by what is known
   abbrev pub are_usable : Known F → List (Option ℕ) → Bool
   are_usable known domain = are_usable_in known.state domain
 
@@ -46,32 +48,34 @@ module _ {F : Type 0} where
   abbrev pub has_all_parts : List (Option ℕ) → Item F → Bool
   has_all_parts domain item = not (is_wrong_count (length domain) (length item.parts))
 
-  -- the error of a list of data, where there is one
+  -- the error of a list of data, if it has one
   abbrev pub failure : Result (Given F) SetFault → Uses F
   failure (Ok given) = []
   failure (Err fault) = (fault.at, failing fault.error) ∷ []
 
-  -- the error of the elements that items give at these positions, those before the first that has not its parts
+  -- the error of the elements that items give at these positions; only items before the first that
+  -- lacks parts count
   abbrev pub expansion_uses : Known F → List (Option ℕ) → List (Item F) → Uses F
   expansion_uses known domain items =
       if are_usable known domain then failure (expanded known.state domain (take_while (has_all_parts domain) items)) else []
 
-  -- the items of data at these positions: each has its parts; those before the first that has not give elements, or an error
+  -- the items of data at these positions: each has its parts; those before the first that lacks
+  -- parts give elements, or an error
   abbrev pub data_uses : Known F → List (Option ℕ) → List (Item F) → Uses F
   data_uses known domain items =
       map (λ (item : Item F). (item.at, placing (length domain) (length item.parts))) items ++ expansion_uses known domain items
 
-  -- a name that is declared, with its domain and its data
+  -- the uses of a name that is declared, with its domain and its data
   abbrev pub item_uses : Known F → DeclKind → Decl F → Uses F
   item_uses known kind item =
       (item.named.at, naming kind item.named.name (names_of item.domain)) ∷ (flat_map domain_use item.domain ++ data_uses known (positions_of kind (names_of item.domain)) item.items)
 
-  -- a declaration by its kind
+  -- the use of a declaration, by its kind
   abbrev pub kind_uses : Place → DeclKind → Uses F
   kind_uses at declaring.Discrete = (at, not_continuous) ∷ []
   kind_uses at kind = []
 
-  -- a model that is declared, with its equations
+  -- the uses of a model that is declared, with its equations
   abbrev pub model_uses : ModelDecl → Uses F
   model_uses model =
       (model.named.at, modelling model.named.name) ∷ map (λ (equation : Named). (equation.at, listing equation.name)) model.equations

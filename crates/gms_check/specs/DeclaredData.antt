@@ -1,5 +1,6 @@
--- What the declarations of a program give its names: the data of their items, the bounds of their types, and nothing else.
--- GAMS User's Guide, "Set Definition"; "Data Entry: Parameters, Scalars and Tables"; "Variables"; "Equations".
+-- What the declarations of a program give its names: the data of their items, the bounds of their
+-- types, and nothing else (GAMS User's Guide, "Set Definition"; "Data Entry: Parameters, Scalars
+-- and Tables"; "Variables"; "Equations").
 use Rattle.std.specs.Prelude.{◌≡◌, ◌++◌, ◌∷◌, ℕ, Bool, true, false, List, [], Option, Some, None, if◌then◌else◌}
 use Rattle.gq_number.specs.Number.{Number}
 use Rattle.gq_extended.specs.Extended.{Extended}
@@ -36,12 +37,13 @@ type_of declaring.Discrete = Some Discrete
 type_of kind = None
 
 module _ {F : Type 0} where
-  -- what items of data give at a tuple: the value of the item that has it, or that this has none; nothing where no item has it
+  -- what items of data give at a tuple: the value of the item that has it, or none if the item has
+  -- no value; nothing if no item has the tuple
   abbrev pub datum_at : List (Item F) → List ℕ → Option (Option (Ext F))
   datum_at [] t = None
   datum_at (item ∷ items) t = if has (product item.parts) t then Some item.value else datum_at items t
 
-  -- whether a tuple is put into a set: an item without a value has it
+  -- whether a tuple is put into a set: the item that has it has no value
   abbrev pub is_put_in : Option (Option (Ext F)) → Bool
   is_put_in (Some None) = true
   is_put_in datum = false
@@ -65,7 +67,7 @@ module _ {F : Type 0} where
       (before : List (Stmt F)) (statement : Stmt F) → StandsAfter program before statement → is_among (names_declared statement.act) name ≡ false
 
 module _ {F : Type 0} (value : F → Number) where
-  -- the value that a parameter has of what items give it: 0 where they give none
+  -- the value of a parameter, from what items give it: 0 if they give none
   abbrev pub value_put : Option (Option (Ext F)) → Extended
   value_put (Some (Some x)) = extended value x
   value_put datum = zero

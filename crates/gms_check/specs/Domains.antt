@@ -1,5 +1,6 @@
--- Numbers of indices, and indices and labels against the domains of names.
--- GAMS User's Guide, "Set Definition", domain checking; "Dynamic Sets". That a dynamic set is no domain is this project's own choice.
+-- Numbers of indices, and indices and labels against the domains of names (GAMS User's Guide, "Set
+-- Definition", domain checking; "Dynamic Sets"). A dynamic set is no domain; this is the project's
+-- own choice.
 use Rattle.std.specs.Prelude.{ℕ, zero, suc, Bool, true, false, not, ◌&&◌, ◌||◌, ◌==◌, ◌+◌, nat_lt, List, [], ◌∷◌, length, Option, Some, None, if◌then◌else◌}
 use Rattle.gms_ast.specs.Trees.{Indices, no_index, label, set, lagged}
 use Rattle.gms_store.specs.Declarations.{positions_of}
@@ -9,7 +10,7 @@ use Rattle.gms_check.specs.Past.{Known, is_dynamic}
 use Rattle.gms_known.specs.Names.{positions}
 use Rattle.gms_check.specs.IndexList.{have_unfit_label, have_unfit_set}
 
--- whether so many indices are another number than is due, or over 10
+-- whether a number of indices is not the expected one, or over 10
 abbrev pub is_wrong_count : ℕ → ℕ → Bool
 is_wrong_count due count = not (count == due) || nat_lt 10 count
 
@@ -21,7 +22,8 @@ module _ {F : Type 0} where
   index_count (set name rest) = index_count rest + 1
   index_count (lagged name op at amount rest) = index_count rest + 1
 
-  -- WrongArity: there are more or fewer indices or parts than the name has positions, or more than 10; a control has more than 10 sets
+  -- WrongArity: there are more or fewer indices or parts than the name has positions, or more than
+  -- 10; a control has more than 10 sets
   abbrev pub wrong_arity : Known F → Use F → Bool
   wrong_arity known (reading standing controlled name suffix indices) = is_wrong_count (length (positions known.state name)) (index_count indices)
   wrong_arity known (assigning name suffix indices) = is_wrong_count (length (positions known.state name)) (index_count indices)
@@ -35,18 +37,18 @@ module _ {F : Type 0} where
   abbrev pub has_unfit_set : Known F → ℕ → List (Option ℕ) → Indices F → Bool
   has_unfit_set known name domain indices = have_unfit_set known.state known.declared known.above name domain indices
 
-  -- whether some label does not stand at its position of a name
+  -- whether some label does not fit its position of a name
   abbrev pub has_unfit_label : Known F → ℕ → List (Option ℕ) → Indices F → Bool
   has_unfit_label known name domain indices = have_unfit_label known.state known.declared name domain indices
 
-  -- DomainOfSet: a set stands at a position whose set it is not below
+  -- DomainOfSet: a set is at a position whose set it is not below
   abbrev pub domain_of_set : Known F → Use F → Bool
   domain_of_set known (reading standing controlled name suffix indices) = has_unfit_set known name (positions known.state name) indices
   domain_of_set known (assigning name suffix indices) = has_unfit_set known name (positions known.state name) indices
   domain_of_set known (defining name indices) = has_unfit_set known name (positions known.state name) indices
   domain_of_set known used = false
 
-  -- DomainOfLabel: a label stands at a position whose set does not have it
+  -- DomainOfLabel: a label is at a position whose set does not have it
   abbrev pub domain_of_label : Known F → Use F → Bool
   domain_of_label known (reading standing controlled name suffix indices) = has_unfit_label known name (positions known.state name) indices
   domain_of_label known (assigning name suffix indices) = has_unfit_label known name (positions known.state name) indices
@@ -54,7 +56,7 @@ module _ {F : Type 0} where
   domain_of_label known (failing Outside) = true
   domain_of_label known used = false
 
-  -- DynamicDomain: a set that the program assigns stands in a domain
+  -- DynamicDomain: a set that the program assigns is in a domain
   abbrev pub dynamic_domain : Known F → Use F → Bool
   dynamic_domain known (bounding name) = is_dynamic known name
   dynamic_domain known used = false

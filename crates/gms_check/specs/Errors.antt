@@ -59,7 +59,7 @@ error_name Restart = codes "Restart"
 abbrev pub stands_before : Place → Place → Bool
 stands_before a b = nat_lt a.line b.line || a.line == b.line && nat_lt a.column b.column
 
--- whether two places are one
+-- whether two places are equal
 abbrev pub same_place : Place → Place → Bool
 same_place a b = a.line == b.line && a.column == b.column
 
@@ -67,17 +67,17 @@ same_place a b = a.line == b.line && a.column == b.column
 abbrev pub comes_first : CompileError → CompileError → Bool
 comes_first a b = stands_before a.at b.at || same_place a.at b.at && nat_lt (error_code a.kind) (error_code b.kind)
 
--- an error, or another one where that comes first
+-- an error, or another one if that comes first
 abbrev pub earlier : CompileError → Option CompileError → CompileError
 earlier error None = error
 earlier error (Some other) = if comes_first other error then other else error
 
--- the earlier of two errors, where there are any
+-- the earlier of two errors, if there are any
 abbrev pub sooner : Option CompileError → Option CompileError → Option CompileError
 sooner None other = other
 sooner (Some error) other = Some (earlier error other)
 
--- the first of some errors, where there is one
+-- the first of some errors, if there is one
 abbrev pub first_of : List CompileError → Option CompileError
 first_of [] = None
 first_of (error ∷ errors) = Some (earlier error (first_of errors))

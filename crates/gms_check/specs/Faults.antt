@@ -1,4 +1,4 @@
--- What is wrong with a name and its indices, wherever they stand.
+-- The errors of a name and its indices, in any context.
 use Rattle.std.specs.Prelude.{ℕ, Bool, not, ◌||◌, List, [], ◌∷◌, length}
 use Rattle.std.specs.List.{list_any}
 use Rattle.gms_ast.specs.Trees.{Indices}
@@ -13,7 +13,7 @@ use Rattle.gms_check.specs.Kinds.{has_wrong_set}
 use Rattle.gms_check.specs.Domains.{has_unfit_label, has_unfit_set, index_count, is_wrong_count}
 use Rattle.gms_check.specs.Controls.{is_ordered, lagged_sets}
 
--- the error that an error of data is
+-- the compile error for an error of data
 abbrev pub kind_of_fault : SetError → ErrorKind
 kind_of_fault Outside = DomainOfLabel
 kind_of_fault BadRange = DataFault
@@ -21,7 +21,8 @@ kind_of_fault Repeated = DataFault
 kind_of_fault Full = DataFault
 
 module _ {F : Type 0} where
-  -- the errors of a name that stands by its kind or not, with its indices, each with whether it is there
+  -- the possible errors of a name with its indices, each with whether it occurs; `stands` tells
+  -- whether the name's kind fits the context
   abbrev pub index_faults : Known F → ℕ → Bool → Indices F → List (Bool × ErrorKind)
   index_faults known name stands indices =
       (is_unknown known.state name || list_any (is_unknown known.state) (index_sets indices), UnknownName) ∷ (not stands || has_wrong_set known (index_sets indices), WrongKind) ∷ (is_wrong_count (length (positions known.state name)) (index_count indices), WrongArity) ∷ (has_unfit_set known name (positions known.state name) indices, DomainOfSet) ∷ (has_unfit_label known name (positions known.state name) indices, DomainOfLabel) ∷ (list_any (λ index. not (is_ordered known index)) (lagged_sets indices), NotOrdered) ∷ []

@@ -1,5 +1,5 @@
--- Index sets and labels against the positions of a name.
--- GAMS User's Guide, "Set Definition", domain checking.
+-- Index sets and labels against the positions of a name (GAMS User's Guide, "Set Definition",
+-- domain checking).
 use Rattle.std.specs.Prelude.{ℕ, Bool, false, not, ◌||◌, List, [], ◌∷◌, Option}
 use Rattle.gms_ast.specs.Trees.{Indices, no_index, label, set, lagged}
 use Rattle.gms_store.specs.State.{State}
@@ -15,7 +15,7 @@ module _ {F : Type 0} where
       not (fits state declared above name position index) || have_unfit_set state declared above name rest indices
   have_unfit_set state declared above name domain indices = false
 
-  -- whether some label does not stand at its position
+  -- whether some label does not fit its position
   abbrev pub have_unfit_label : State → List ℕ → ℕ → List (Option ℕ) → Indices F → Bool
   have_unfit_label state declared name (position ∷ rest) (label n indices) =
       not (holds state declared name position n) || have_unfit_label state declared name rest indices

@@ -1,5 +1,6 @@
--- Symbols, values and functions where their kind does not stand.
--- GAMS User's Guide, "Data Manipulation"; "Variables", attributes; "Equations"; "Model and Solve Statements"; "Display". Which functions there are is this project's own choice.
+-- Symbols, values and functions in contexts that do not admit their kind (GAMS User's Guide, "Data
+-- Manipulation"; "Variables", attributes; "Equations"; "Model and Solve Statements"; "Display").
+-- Which functions there are is this project's own choice.
 use Rattle.std.specs.Prelude.{ℕ, Bool, true, false, not, ◌&&◌, ◌||◌, ◌==◌, ◌+◌, nat_lt, List, [], ◌∷◌, length}
 use Rattle.std.specs.List.{list_any}
 use Rattle.gms_ast.specs.declared.expression.Function.{Function}
@@ -35,7 +36,7 @@ abbrev pub part_count : {F : Type 0} → Parts F → ℕ
 part_count no_part = 0
 part_count (part mark tree rest) = part_count rest + 1
 
--- whether a function takes so many arguments; one that is left out takes none
+-- whether a function takes `count` arguments; one that is left out takes none
 abbrev pub takes : Function → ℕ → Bool
 takes function.Abs count = count == 1
 takes function.Max count = nat_lt 1 count
@@ -50,7 +51,8 @@ takes function.Trunc count = count == 1
 takes function.Sign count = count == 1
 takes function.NotInProfile count = false
 
--- whether a reference may be the amount of a lag on the left: a scalar. Of a variable without suffix another error speaks
+-- whether a reference may be the amount of a lag on the left: a scalar may. A variable without
+-- suffix is another error
 abbrev pub may_shift : SymbolKind → Bool → Bool
 may_shift kind.Parameter scalar = scalar
 may_shift kind.Variable scalar = true
@@ -68,7 +70,10 @@ module _ {F : Type 0} where
   abbrev pub has_wrong_set : Known F → List ℕ → Bool
   has_wrong_set known names = list_any (λ name. not (is_index_set known.state name)) names
 
-  -- WrongKind: what does not stand there by its kind: a symbol by its suffix, a number or an infinity, `yes` and `no`; a set of several positions as an index, in a control or in a domain; on the left of an assignment an attribute of an equation, and an amount of a lag that is not a whole literal or a scalar
+  -- WrongKind: the context does not admit this kind: a symbol by its suffix, a number or an
+  -- infinity, `yes` and `no`; a set of several positions as an index, in a control or in a domain;
+  -- on the left of an assignment an attribute of an equation, and an amount of a lag that is not a
+  -- whole literal or a scalar
   abbrev pub wrong_kind : Known F → Use F → Bool
   wrong_kind known (literal standing) = not standing.numbers
   wrong_kind known (truth standing) = not standing.membership

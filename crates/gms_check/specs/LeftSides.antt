@@ -1,5 +1,6 @@
--- The left sides of assignments in an accepted program: which indices stand there.
--- GAMS User's Guide, "Data Manipulations with Parameters", indexed assignments; "Sets as Sequences: Ordered Sets", lags and leads in assignments.
+-- The left sides of assignments in an accepted program: which indices occur there (GAMS User's
+-- Guide, "Data Manipulations with Parameters", indexed assignments; "Sets as Sequences: Ordered
+-- Sets", lags and leads in assignments).
 use Rattle.std.specs.Prelude.{◌≡◌, ◌++◌, ◌∷◌, ℕ, zero, suc, Bool, true, false, List, Vec}
 use Rattle.std.specs.declared.alloc.Global.{Global}
 use Rattle.gms_ast.specs.declared.expression.Control.{Control}
@@ -24,7 +25,7 @@ AreLeftIndices state (tree.set name rest) = (is_index_set state name ≡ true) �
 AreLeftIndices state (tree.lagged name op at amount rest) = (is_index_set state name ≡ true) × ((is_fixed_amount amount ≡ true) × AreLeftIndices state rest)
 
 module _ {F : Type 0} where
-  -- A loop has a statement in its body of which something holds.
+  -- A loop whose body has a statement with a property.
   pub record IsIn (Inner : Stmt F → Type 0) (outer : Stmt F) : Type 0 where
     pub control : Control F
     pub body : Vec (Stmt F) Global
@@ -35,7 +36,7 @@ module _ {F : Type 0} where
     pub stands : body.items ≡ before ++ next ∷ rest
     pub holds : Inner next
 
-  -- a statement is another one, or stands so many loops deep in it
+  -- a statement is another one, or `depth` loops deep in it
   abbrev pub StandsIn : ℕ → Stmt F → Stmt F → Type 0
   StandsIn zero inner outer = outer ≡ inner
   StandsIn (suc depth) inner outer = IsIn (StandsIn depth inner) outer

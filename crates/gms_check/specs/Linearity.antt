@@ -1,5 +1,5 @@
--- Where variables stand, and which steps of an equation are not linear.
--- GAMS User's Guide, "Equations"; "Model and Solve Statements", linear programs.
+-- Where variables occur, and which steps of an equation are not linear (GAMS User's Guide,
+-- "Equations"; "Model and Solve Statements", linear programs).
 use Rattle.std.specs.Prelude.{ℕ, Bool, true, false, not, ◌&&◌, ◌||◌, List}
 use Rattle.std.specs.List.{list_any}
 use Rattle.gms_ast.specs.declared.expression.Suffix.{Suffix}
@@ -24,7 +24,8 @@ module _ {F : Type 0} where
   is_variable_by known name suffix = false
 
 abbrev mutual
-  -- whether an expression has variables: one stands where it counts, so not in a condition, a relation, an operand of logic or a lag
+  -- whether an expression has a variable that counts: one outside conditions, relations, operands
+  -- of logic and lags
   pub has_variable : {F : Type 0} → Known F → Tree F → Bool
   has_variable known (reference at name suffix indices) = is_variable_by known name suffix
   has_variable known (call at function args) = have_variable known args
@@ -42,7 +43,9 @@ abbrev mutual
   have_variable known (part mark tree rest) = has_variable known tree || have_variable known rest
 
 module _ {F : Type 0} where
-  -- Nonlinear: in an equation a step whose value is not linear in the variables: two operands with variables multiplied, a division by one, one raised or raising, and a function, prod, smin or smax of one
+  -- Nonlinear: a step in an equation whose value is not linear in the variables: a product of two
+  -- operands with variables, a division by one, one as base or exponent of a power, and a function,
+  -- prod, smin or smax of one
   abbrev pub nonlinear : Known F → Use F → Bool
   nonlinear known (stepping standing multiplies earlier right) =
       standing.variables && (list_any (has_variable known) earlier && has_variable known right)
@@ -53,7 +56,7 @@ module _ {F : Type 0} where
   nonlinear known (folding standing op body) = standing.variables && (not (is_sum op) && has_variable known body)
   nonlinear known used = false
 
-  -- Endogenous: a variable without suffix is displayed, or stands where none may
+  -- Endogenous: a variable without suffix is displayed, or occurs where the context admits none
   abbrev pub endogenous : Known F → Use F → Bool
   endogenous known (reading standing controlled name suffix indices) = not standing.variables && is_variable_by known name suffix
   endogenous known (showing name suffix) = is_variable_by known name suffix

@@ -19,12 +19,12 @@ module _ {F : Type 0} where
     pub given : (given : Given F) × (expanded state (positions_of kind (names_of item.domain)) item.items ≡ Ok given)
 
 module _ {F : Type 0} (value : F → Number) where
-  -- the same of names one after another
+  -- the same of names in sequence
   abbrev pub AreLoadable : DeclKind → State → List (Decl F) → Type 0
   AreLoadable kind state [] = Unit {0}
   AreLoadable kind state (item ∷ items) = IsLoadableItem kind state item × AreLoadable kind (with_item value kind state item) items
 
-  -- the same of what an act declares
+  -- the data that an act declares can be given
   abbrev pub IsLoadable : State → Act F → Type 0
   IsLoadable state (Declare kind items) = AreLoadable kind state items
   IsLoadable state act = Unit {0}

@@ -1,5 +1,6 @@
--- The state in which a run begins: what the program declares, with all its data, and nothing else given.
--- GAMS User's Guide, "Data Entry: Parameters, Scalars and Tables". That the data of all declarations hold before the first statement acts is this project's own rule.
+-- The state in which a run begins: what the program declares, with all its data, and nothing else
+-- given (GAMS User's Guide, "Data Entry: Parameters, Scalars and Tables"). The data of all
+-- declarations hold before the first statement acts; this is the project's own rule.
 use Rattle.std.specs.Prelude.{true, List, [], ◌≡◌, length, map, ℕ}
 use Rattle.gq_number.specs.Number.{Number}
 use Rattle.gms_ast.specs.declared.program.Stmt.{Stmt}

@@ -1,5 +1,7 @@
--- Names that are used before they are declared, and names that are declared again.
--- GAMS User's Guide, "Language Items", rules on declarations; "Set Definition", the alias statement; "Variables". In which order the names of an alias stand, and when a variable may be given a type once more, is this project's own choice.
+-- Names that are used before they are declared, and names that are declared again (GAMS User's
+-- Guide, "Language Items", rules on declarations; "Set Definition", the alias statement;
+-- "Variables"). The order of the names of an alias, and when a variable may be given a type once
+-- more, are this project's own choice.
 use Rattle.std.specs.Prelude.{ℕ, Bool, true, false, not, ◌&&◌, ◌||◌, ◌==◌, List, [], ◌∷◌, length, Option, Some, None}
 use Rattle.std.specs.List.{list_any}
 use Rattle.gms_ast.specs.declared.declaration.DeclKind.{DeclKind}
@@ -33,7 +35,7 @@ repeats_domain state [] old = true
 repeats_domain state domain old = same_domain state domain old
 
 module _ {F : Type 0} where
-  -- the names that have to be declared before
+  -- the names that a use requires to be declared before
   abbrev pub names_used : Use F → List ℕ
   names_used (reading standing controlled name suffix indices) = name ∷ index_sets indices
   names_used (ordinal standing controlled name) = name ∷ []
@@ -48,18 +50,21 @@ module _ {F : Type 0} where
   names_used (showing name suffix) = name ∷ []
   names_used used = []
 
-  -- UnknownName: a name that no statement before declares, of an alias both names; a word that is no option
+  -- UnknownName: a name that no statement before declares, of an alias both names; a word that is
+  -- no option
   abbrev pub unknown_name : Known F → Use F → Bool
   unknown_name known (first_alias first second) = is_unknown known.state first && is_unknown known.state second
   unknown_name known (option_word word) = not (is_option word)
   unknown_name known used = list_any (is_unknown known.state) (names_used used)
 
-  -- whether a declaration gives a variable a type once more: its type is free, and its domain is left out or the same
+  -- whether a declaration gives a variable a type once more: its type is free, and its domain is
+  -- left out or the same
   abbrev pub may_be_typed : Known F → DeclKind → ℕ → List (Option ℕ) → Bool
   may_be_typed known kind name domain =
       is_free (symbol_at known.state name).content && (is_variable (content_of kind) && repeats_domain known.state domain (positions known.state name))
 
-  -- Redeclared: a name that is declared already, but for a variable that gets a type again; of an alias both names are declared
+  -- Redeclared: a name that is declared already, except for a variable that gets a type again; of
+  -- an alias both names are declared
   abbrev pub redeclared : Known F → Use F → Bool
   redeclared known (naming kind name domain) = not (is_unknown known.state name) && not (may_be_typed known kind name domain)
   redeclared known (modelling name) = not (is_unknown known.state name)

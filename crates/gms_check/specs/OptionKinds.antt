@@ -1,5 +1,5 @@
--- Which option a word is, and what an option may be set to.
--- GAMS User's Guide, "The Option Statement".
+-- Which option a word is, and what an option may be set to (GAMS User's Guide, "The Option
+-- Statement").
 use Rattle.std.specs.Prelude.{ℕ, Bool, true, false, List, codes, if◌then◌else◌}
 use Rattle.std.specs.Str.{str_eq_ignore_ascii_case}
 use Rattle.gq_number.specs.Number.{Number}
@@ -24,7 +24,7 @@ names_solver Solver = true
 names_solver option = false
 
 module _ {F : Type 0} (value : F → Number) where
-  -- whether an option is set to what it takes
+  -- whether an option is set to an admitted value
   abbrev pub is_within : OptionWord → Setting F → Bool
   is_within Count setting = is_count_up_to value 2147483647 setting
   is_within Decimals setting = is_count_up_to value 8 setting

@@ -1,5 +1,5 @@
--- The words of options, and what they may be set to.
--- GAMS User's Guide, "The Option Statement". The ranges, and the words that are accepted without effect, are this project's own choice.
+-- The words of options, and what they may be set to (GAMS User's Guide, "The Option Statement").
+-- The ranges, and the words that are accepted without effect, are this project's own choice.
 use Rattle.std.specs.Prelude.{ℕ, ℤ, pos, negsuc, Bool, true, false, not, ◌&&◌, ◌||◌, ◌==◌, nat_le, List, [], ◌∷◌, ◌++◌, codes, if◌then◌else◌}
 use Rattle.std.specs.List.{list_any}
 use Rattle.std.specs.Str.{str_eq_ignore_ascii_case}
@@ -11,7 +11,7 @@ use Rattle.gms_ast.specs.declared.program.Setting.TheVariants as setting
 abbrev pub is_one_of : List (List ℕ) → List ℕ → Bool
 is_one_of words word = list_any (str_eq_ignore_ascii_case word) words
 
--- the options that are set to a whole number up to 2,147,483,647
+-- the options that are set to an integer up to 2,147,483,647
 abbrev pub counts : List (List ℕ)
 counts = codes "limrow" ∷ codes "limcol" ∷ codes "iterlim" ∷ []
 
@@ -28,16 +28,16 @@ others = codes "decimals" ∷ codes "solprint" ∷ codes "lp" ∷ []
 abbrev pub is_option : List ℕ → Bool
 is_option word = is_one_of (counts ++ others ++ ignored) word
 
--- whether a whole number is from 0 to another
+-- whether an integer is from 0 to `most`
 abbrev pub is_up_to : ℕ → ℤ → Bool
 is_up_to most (pos n) = nat_le n most
 is_up_to most (negsuc n) = false
 
--- whether a number is whole
+-- whether a number is an integer
 abbrev pub is_whole : Number → Bool
 is_whole x = x.denominator == 1
 
--- whether a number is whole and from 0 to another
+-- whether a number is an integer from 0 to `most`
 abbrev pub is_whole_up_to : ℕ → Number → Bool
 is_whole_up_to most x = is_whole x && is_up_to most x.numerator
 
@@ -53,12 +53,13 @@ module _ {F : Type 0} where
   is_worded (setting.Name word) = true
 
 module _ {F : Type 0} (value : F → Number) where
-  -- whether an option is set to a whole number from 0 to another
+  -- whether an option is set to an integer from 0 to `most`
   abbrev pub is_count_up_to : ℕ → Setting F → Bool
   is_count_up_to most (setting.Number at x) = is_whole_up_to most (value x)
   is_count_up_to most (setting.Name word) = false
 
-  -- whether what an option is set to is within its range; a word that is no option has none
+  -- whether an option is set to a value within its range; for a word that is no option, any value
+  -- is
   abbrev pub is_in_range : List ℕ → Setting F → Bool
   is_in_range word setting =
       if is_one_of counts word then is_count_up_to 2147483647 setting else if str_eq_ignore_ascii_case word (codes "decimals") then is_count_up_to 8 setting else if str_eq_ignore_ascii_case word (codes "solprint") then is_switch setting else if str_eq_ignore_ascii_case word (codes "lp") then is_worded setting else true

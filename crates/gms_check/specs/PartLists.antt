@@ -1,4 +1,4 @@
--- The parts of a node of a program, as the parts of a tree.
+-- The parts of a node of a program: their view as the parts of a tree.
 use Rattle.std.specs.Prelude.{ℕ, Bool, true, false, not, ◌&&◌, ◌||◌, List, [], ◌∷◌, map}
 use Rattle.gms_labels.specs.declared.place.Place.{Place}
 use Rattle.gms_ast.specs.declared.expression.Expr.{Expr}
@@ -11,7 +11,7 @@ use Rattle.gms_check.specs.declared.error.ErrorKind.TheVariants.{WrongKind, Nonl
 use Rattle.gms_check.specs.declared.expression.Operation.{Operation}
 use Rattle.gms_check.specs.declared.expression.Operation.TheVariants.{Multiplies, Divides, Raises}
 
--- the place around parts that all have their own
+-- the place around parts that all have places
 abbrev pub in_no_place : Place
 in_no_place = record { line = 0; column = 0 }
 
@@ -42,13 +42,13 @@ step_wrong standing Multiplies = false
 step_wrong standing Divides = not standing.numbers
 step_wrong standing Raises = not standing.numbers
 
--- whether a step is not linear, where the operands before it and the right one have variables or not
+-- whether a step is not linear, by whether the operands before it and the right one have variables
 abbrev pub step_curved : Operation → Bool → Bool → Bool
 step_curved Multiplies earlier right = earlier && right
 step_curved Divides earlier right = right
 step_curved Raises earlier right = earlier || right
 
--- the errors of a step, where the operands before it and the right one have variables or not
+-- the possible errors of a step, by whether the operands before it and the right one have variables
 abbrev pub step_faults : Standing → Operation → Bool → Bool → List (Bool × ErrorKind)
 step_faults standing Multiplies earlier right = (false, WrongKind) ∷ (standing.variables && (earlier && right), Nonlinear) ∷ []
 step_faults standing Divides earlier right = (not standing.numbers, WrongKind) ∷ (standing.variables && right, Nonlinear) ∷ []

@@ -1,5 +1,7 @@
--- What the statements before a statement declare, define and give.
--- GAMS User's Guide, "Set Definition", "Data Entry: Parameters, Scalars and Tables", "Equations", "Model and Solve Statements". That names of a statement with an error count as declared, and its data as not given, is this project's own rule.
+-- What the statements before a statement declare, define and give (GAMS User's Guide, "Set
+-- Definition", "Data Entry: Parameters, Scalars and Tables", "Equations", "Model and Solve
+-- Statements"). Names of a statement with an error count as declared, and its data as not given;
+-- this is the project's own rule.
 use Rattle.std.specs.Prelude.{ℕ, Bool, true, false, not, ◌&&◌, ◌==◌, nat_lt, List, [], ◌∷◌, ◌++◌, map, flat_map, filter, find, Option, Some, None, Result, Ok, Err, option_map, unwrap_or, if◌then◌else◌}
 use Rattle.std.specs.List.{fold, list_any}
 use Rattle.gq_number.specs.Number.{Number}
@@ -32,7 +34,8 @@ numbers_of names = map (λ (named : Named). named.name) names
 abbrev pub is_among : List ℕ → ℕ → Bool
 is_among names name = list_any (λ other. other == name) names
 
--- the equations of a model: those that are listed, or all that are declared before; none where its statement has an error
+-- the equations of a model: those that are listed, or all that are declared before; none where its
+-- statement has an error
 abbrev pub equations_listed : List ℕ → Bool → ModelDecl → List ℕ
 equations_listed declared true model = if model.all then declared else numbers_of model.equations
 equations_listed declared false model = []
@@ -84,7 +87,8 @@ module _ {F : Type 0} where
   gives_unordered name (Declare declaring.Set items) = list_any (λ (item : Decl F). item.named.name == name && not (is_ascending (labels_of item.items))) items
   gives_unordered name act = false
 
-  -- whether a statement without an error gives a set its labels in another order than that of all labels
+  -- whether a statement without an error gives a set its labels in another order than that of all
+  -- labels
   abbrev pub is_unordered : Past F → ℕ → Bool
   is_unordered past name = list_any (λ p. p.1 && gives_unordered name p.0.act) past
 
@@ -110,11 +114,12 @@ module _ {F : Type 0} (value : F → Number) where
   after_act state (Declare kind items) = fold (with_item kind) state items
   after_act state act = declared_by state act
 
-  -- the state after a statement: where it has an error its names are declared, and its data are not given
+  -- the state after a statement: where it has an error its names are declared, and its data are not
+  -- given
   abbrev pub after_statement : State → Stmt F × Bool → State
   after_statement state (statement, sound) = if sound then after_act state statement.act else declared_by state statement.act
 
-  -- the state that statements make of a state in which nothing is declared, of so many names
+  -- the state after statements, from one of `names` names in which nothing is declared
   abbrev pub state_after : ℕ → Past F → State
   state_after names past = fold after_statement (blank_state names) past
 
@@ -122,7 +127,8 @@ module _ {F : Type 0} (value : F → Number) where
 pub record Known (F : Type 0) : Type 0 where
   -- the numbers that values mean
   pub value : F → Number
-  -- what the statements before declare and give, and within a declaration what the names before it do
+  -- what the statements before declare and give; within a declaration, also what the names before
+  -- it do
   pub state : State
   -- the names that they declare, in order
   pub declared : List ℕ

@@ -1,5 +1,6 @@
--- Where references stand in a program, and which sets are controlled there: those of the loops around a statement, those of the left side of an
--- assignment or a definition, and those of each fold around the reference (GAMS User's Guide, "Data Manipulations with Parameters", indexed
+-- Where references occur in a program, and which sets are controlled there: those of the loops
+-- around a statement, those of the left side of an assignment or a definition, and those of each
+-- fold around the reference (GAMS User's Guide, "Data Manipulations with Parameters", indexed
 -- operations; "Programming Flow Control Features", loops).
 use Rattle.std.specs.Prelude.{◌≡◌, ◌++◌, ◌∷◌, ℕ, zero, suc, true, List, Option, Some, Vec}
 use Rattle.std.specs.declared.alloc.Global.{Global}
@@ -31,7 +32,7 @@ use Rattle.gms_check.specs.Uses.{sets_of}
 
 -- ---- in an expression
 
--- What asks for the labels that sets stand for.
+-- What reads the labels that sets stand for.
 pub data Asking (F : Type 0) : Type 0 where
   -- a reference: a name, a suffix and indices
   reads : ℕ → Suffix → Indices F → Asking F
@@ -39,18 +40,19 @@ pub data Asking (F : Type 0) : Type 0 where
   orders : ℕ → Asking F
 
 mutual
-  -- It stands in an expression around which some sets are controlled, and where it stands these are.
+  -- It occurs in an expression around which the sets `around` are controlled; at its place the sets
+  -- `within` are.
   pub data InTree {F : Type 0} (within : List ℕ) : Asking F → List ℕ → Tree F → Type 0 where
     -- the expression is the reference, or the `ord`
     a_reference : {at : Place} {name : ℕ} {suffix : Suffix} {indices : Indices F} →
         InTree within (reads name suffix indices) within (reference at name suffix indices)
     an_ord : {at : Place} {name : ℕ} → InTree within (orders name) within (place_in_set at name)
-    -- the amount of a lag among the indices of a reference
+    -- in the amount of a lag among the indices of a reference
     in_amount : {what : Asking F} {around : List ℕ} {at : Place} {name : ℕ} {suffix : Suffix} {indices : Indices F} →
         InIndices within what around indices → InTree within what around (reference at name suffix indices)
     in_argument : {what : Asking F} {around : List ℕ} {at : Place} {function : Function} {args : Parts F} →
         InParts within what around args → InTree within what around (call at function args)
-    -- the condition of a fold, and its body: there the sets of the fold are controlled too
+    -- in the condition of a fold, and in its body: there the sets of the fold are controlled too
     in_condition : {what : Asking F} {around : List ℕ} {at : Place} {op : FoldOp} {control : Control F} {body : Tree F} →
         InControl within what around control → InTree within what around (fold_over at op control body)
     in_body : {what : Asking F} {around : List ℕ} {at : Place} {op : FoldOp} {control : Control F} {body : Tree F} →
@@ -72,14 +74,14 @@ mutual
     in_guard : {what : Asking F} {around : List ℕ} {operand : Tree F} {guards : Parts F} →
         InParts within what around guards → InTree within what around (guarded operand guards)
 
-  -- the same of the parts of a node
+  -- It occurs in one of the parts of a node.
   pub data InParts {F : Type 0} (within : List ℕ) : Asking F → List ℕ → Parts F → Type 0 where
     in_part : {what : Asking F} {around : List ℕ} {mark : Mark} {tree : Tree F} {rest : Parts F} →
         InTree within what around tree → InParts within what around (part mark tree rest)
     in_later_part : {what : Asking F} {around : List ℕ} {mark : Mark} {tree : Tree F} {rest : Parts F} →
         InParts within what around rest → InParts within what around (part mark tree rest)
 
-  -- the same of the amounts of lags among indices
+  -- It occurs in the amount of a lag among indices.
   pub data InIndices {F : Type 0} (within : List ℕ) : Asking F → List ℕ → Indices F → Type 0 where
     in_lag : {what : Asking F} {around : List ℕ} {name : ℕ} {op : LagOp} {at : Place} {amount : Tree F} {rest : Indices F} →
         InTree within what around amount → InIndices within what around (lagged name op at amount rest)
@@ -90,7 +92,7 @@ mutual
     behind_lag : {what : Asking F} {around : List ℕ} {name : ℕ} {op : LagOp} {at : Place} {amount : Tree F} {rest : Indices F} →
         InIndices within what around rest → InIndices within what around (lagged name op at amount rest)
 
-  -- the same of the condition of a control, in which its sets are controlled
+  -- It occurs in the condition of a control, in which its sets are controlled.
   pub data InControl {F : Type 0} (within : List ℕ) : Asking F → List ℕ → Control F → Type 0 where
     in_where : {what : Asking F} {around sets : List ℕ} {condition : Tree F} →
         InTree within what (around ++ sets) condition → InControl within what around (over_where sets condition)
@@ -98,9 +100,10 @@ mutual
 -- ---- in a statement
 
 module _ {F : Type 0} where
-  -- It stands in an act, around which the sets of loops are controlled.
+  -- It occurs in an act, around which the sets of loops are controlled.
   pub data InAct (within : List ℕ) (what : Asking F) (loops : List ℕ) (act : Act F) : Type 0 where
-    -- in the amount of a lag on the left of an assignment, in its condition, and in its right side: there the sets on the left are controlled too
+    -- in the amount of a lag on the left of an assignment, in its condition, and in its right side:
+    -- there the sets on the left are controlled too
     on_the_left : (target : Target F) (condition : Option (Expr F)) (right_at : Place) (right : Expr F) → act ≡ Assign target condition right_at (Value right) →
         InIndices within what (with_left loops target.indices) (index_list target.indices) → InAct within what loops act
     in_left_condition : (target : Target F) (condition : Expr F) (right_at : Place) (right : Expr F) → act ≡ Assign target (Some condition) right_at (Value right) →
@@ -123,7 +126,7 @@ module _ {F : Type 0} where
     in_abort_condition : (condition : Expr F) (items : List Show) → act ≡ Abort (Some condition) items →
         InTree within what loops (tree_of condition) → InAct within what loops act
 
-  -- A loop has a statement in its body of which something holds under the sets of the loop.
+  -- A loop whose body has a statement with a property, under the sets of the loop.
   pub record IsInLoop (Inner : List ℕ → Stmt F → Type 0) (loops : List ℕ) (outer : Stmt F) : Type 0 where
     pub control : ControlNode F
     pub body : Vec (Stmt F) Global
@@ -134,14 +137,15 @@ module _ {F : Type 0} where
     pub stands : body.items ≡ before ++ next ∷ rest
     pub holds : Inner (loops ++ sets_of (control_tree control)) next
 
-  -- it stands in a statement, or so many loops deep in it
+  -- it occurs in a statement, `depth` loops deep
   abbrev pub InStatement : ℕ → List ℕ → Asking F → List ℕ → Stmt F → Type 0
   InStatement zero within what loops statement = InAct within what loops statement.act
   InStatement (suc depth) within what loops statement = IsInLoop (InStatement depth within what) loops statement
 
-  -- ---- what it has to be
+  -- ---- its meaning
 
-  -- a reference has a meaning where it stands; the set of an `ord` is one-dimensional, controlled and ordered
+  -- a reference has a meaning at its place; the set of an `ord` is one-dimensional, controlled and
+  -- ordered
   abbrev pub IsMeant : Known F → List ℕ → Asking F → Type 0
   IsMeant known within (reads name suffix indices) = (standing : Standing) × IsReading known standing within name suffix indices
   IsMeant known within (orders name) = (is_index_set known.state name ≡ true) × (is_among within name ≡ true) × (is_ordered known name ≡ true)

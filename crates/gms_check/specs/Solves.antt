@@ -1,5 +1,5 @@
--- What a solve asks of its model, its word and its objective, and options and definitions that are wrong.
--- GAMS User's Guide, "Equations"; "Model and Solve Statements"; "The Option Statement".
+-- What a solve requires of its model, its word and its objective, and options and definitions that
+-- are wrong (GAMS User's Guide, "Equations"; "Model and Solve Statements"; "The Option Statement").
 use Rattle.std.specs.Prelude.{ℕ, Bool, true, false, not, ◌&&◌, codes}
 use Rattle.std.specs.List.{list_any}
 use Rattle.std.specs.Str.{str_eq_ignore_ascii_case}
@@ -30,18 +30,18 @@ module _ {F : Type 0} where
   defined_twice known (defining name indices) = known.defined name
   defined_twice known used = false
 
-  -- Objective: what is minimized or maximized has indices, or is not free
+  -- Objective: the variable that is minimized or maximized has indices, or is not free
   abbrev pub objective : Known F → Use F → Bool
   objective known (optimizing name) =
       not (is_free (symbol_at known.state name).content && is_without_positions (positions known.state name))
   objective known used = false
 
-  -- UnknownSolver: `option lp` names no solver that there is
+  -- UnknownSolver: `option lp` names none of the solvers
   abbrev pub unknown_solver : Known F → Use F → Bool
   unknown_solver known (option_value word setting) = str_eq_ignore_ascii_case word (codes "lp") && is_none_of known.solvers setting
   unknown_solver known used = false
 
-  -- OptionRange: an option is set to what it does not take
+  -- OptionRange: an option is set to a value that it does not admit
   abbrev pub option_range : Known F → Use F → Bool
   option_range known (option_value word setting) = not (is_in_range known.value word setting)
   option_range known used = false

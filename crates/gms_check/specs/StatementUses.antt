@@ -1,5 +1,6 @@
--- What the statements use, but for declarations of names and of models, whose parts are looked at one after another.
--- GAMS User's Guide, "Data Manipulation", "Equations", "Model and Solve Statements", "Display", "Programming Flow Control Features".
+-- What the statements use, part by part, except for declarations of names and of models (GAMS
+-- User's Guide, "Data Manipulation", "Equations", "Model and Solve Statements", "Display",
+-- "Programming Flow Control Features").
 use Rattle.std.specs.Prelude.{ℕ, List, [], ◌∷◌, ◌++◌, map, flat_map, Option, option_map, if◌then◌else◌}
 use Rattle.gms_labels.specs.declared.place.Place.{Place}
 use Rattle.gms_ast.specs.declared.expression.Expr.{Expr}
@@ -21,7 +22,7 @@ use Rattle.gms_check.specs.declared.standing.Standing.{Standing}
 use Rattle.gms_check.specs.Standing.{as_number, as_side, as_members}
 use Rattle.gms_check.specs.Uses.{Use, Uses, assigning, defining, first_alias, second_alias, solving, method, optimizing, showing, option_word, option_value, sets_of, index_sets, uses, control_uses, shift_uses, condition_uses}
 
--- where the right side of an assignment to a name stands
+-- the context of the right side of an assignment to a name
 abbrev pub right_standing : State → ℕ → Standing
 right_standing state name = if is_set (symbol_at state name).content then as_members else as_number
 
@@ -29,16 +30,17 @@ right_standing state name = if is_set (symbol_at state name).content then as_mem
 abbrev pub OfStatement : Type 0 → Type 0
 OfStatement F = State → List ℕ → Uses F
 
--- what an act uses, by what is declared, the place of its statement and the sets that are controlled
+-- what an act uses, by what is declared, the place of its statement and the sets that are
+-- controlled
 abbrev pub OfAct : Type 0 → Type 0
 OfAct F = State → Place → List ℕ → Uses F
 
 module _ {F : Type 0} where
-  -- indices as one tree
+  -- the view of indices
   abbrev pub index_list : List (Index F) → Indices F
   index_list indices = indices_of (map index_tree indices)
 
-  -- what is displayed
+  -- the use of a displayed item
   abbrev pub show_uses : Show → Uses F
   show_uses (show.Text word) = []
   show_uses (show.Symbol named suffix) = (named.at, showing named.name suffix) ∷ []
@@ -48,20 +50,21 @@ module _ {F : Type 0} where
   setting_place (setting.Number at value) = at
   setting_place (setting.Name word) = word.at
 
-  -- an option: its word, and what it is set to
+  -- the uses of an option: its word, and the value that it is set to
   abbrev pub option_uses : Word × Setting F → Uses F
   option_uses (word, setting) = (word.at, option_word word.text) ∷ (setting_place setting, option_value word.text setting) ∷ []
 
-  -- the sets that are controlled behind a left side: those of loops, and its own
+  -- the sets that are controlled after a left side: those of loops, and its own
   abbrev pub with_left : List ℕ → List (Index F) → List ℕ
   with_left controlled indices = controlled ++ index_sets (index_list indices)
 
-  -- the amounts of a left side, and the condition behind it
+  -- the amounts of a left side, and the condition after it
   abbrev pub left_uses : Place → List ℕ → List (Index F) → Option (Expr F) → Uses F
   left_uses at controlled indices condition =
       shift_uses controlled (index_list indices) ++ condition_uses at controlled (option_map tree_of condition)
 
-  -- one statement, with each statement of a loop's body already seen as what it uses
+  -- what one statement uses, where the statements of a loop's body are already given by what they
+  -- use
   abbrev pub act_step : Act-F F (OfAct F) (OfStatement F) → OfAct F
   act_step (Act-F.Declare kind items) state at controlled = []
   act_step (Act-F.Alias first second) state at controlled =
@@ -80,10 +83,10 @@ module _ {F : Type 0} where
   act_step (Act-F.Abort condition items) state at controlled =
       condition_uses at controlled (option_map tree_of condition) ++ flat_map show_uses items
 
-  -- a statement with its place
+  -- the uses of a statement, at its place
   abbrev pub statement_step : Stmt-F F (OfAct F) (OfStatement F) → OfStatement F
   statement_step statement state controlled = statement.act state statement.at controlled
 
-  -- what a statement uses, and with it what the statements of its body do
+  -- what a statement uses, and what the statements of its body use
   abbrev pub statement_uses : Stmt F → OfStatement F
   statement_uses = fold-Stmt F (OfAct F) (OfStatement F) act_step statement_step

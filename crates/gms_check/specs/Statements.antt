@@ -6,7 +6,8 @@ use Rattle.gms_ast.specs.declared.program.Act.TheVariants.{Declare, Model}
 use Rattle.gms_check.specs.StatementUses.{OfAct, OfStatement, act_step, statement_step}
 
 module _ {F : Type 0} where
-  -- what an act uses, by what is declared, the place of its statement and the sets that are controlled
+  -- what an act uses, by what is declared, the place of its statement and the sets that are
+  -- controlled
   abbrev pub act_uses : Act F → OfAct F
   act_uses = fold-Act F (OfAct F) (OfStatement F) act_step statement_step
 

@@ -1,5 +1,6 @@
--- Names of a declaration that are declared one after another, with the data of those that have no error, until the whole declaration is known to have none.
--- GAMS User's Guide, "Set Definition"; "Data Entry: Parameters, Scalars and Tables".
+-- Names that are declared in sequence, with the data of those that have no error, until the whole
+-- declaration is known to have none (GAMS User's Guide, "Set Definition"; "Data Entry: Parameters,
+-- Scalars and Tables").
 use Rattle.std.specs.Prelude.{ℕ, Bool, true, false, List, [], ◌∷◌, ◌++◌, if◌then◌else◌}
 use Rattle.std.specs.List.{fold}
 use Rattle.gq_number.specs.Number.{Number}
@@ -11,7 +12,7 @@ use Rattle.gms_check.specs.Changes.{after_item}
 use Rattle.gms_check.specs.Checking.{known_by}
 use Rattle.gms_check.specs.DeclarationUses.{item_uses}
 
--- after the data of names were taken out again
+-- what is known after the data of names were removed again
 abbrev pub taken_back : Facts → List ℕ → Facts
 taken_back facts names = fold without_data facts names
 
@@ -20,7 +21,7 @@ module _ {F : Type 0} (value : F → Number) (solvers : List (List ℕ)) where
   abbrev pub is_sound : DeclKind → Facts → Decl F → Bool
   is_sound kind facts item = is_faultless (errors_of (known_by value solvers facts) (item_uses (known_by value solvers facts) kind item))
 
-  -- what is known after names, where the data of each that has no error are given
+  -- what is known after names were declared, where the data of each that has no error are given
   abbrev pub trial_facts : DeclKind → Facts → List (Decl F) → Facts
   trial_facts kind facts [] = facts
   trial_facts kind facts (item ∷ items) = trial_facts kind (after_item value kind (is_sound kind facts item) facts item) items

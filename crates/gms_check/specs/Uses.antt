@@ -1,5 +1,6 @@
--- What a statement uses, part by part, each with its place: names, indices, sets that are controlled, steps, words.
--- The place of a part is its own where the source gives it one, and else that of the smallest part around it.
+-- What a statement uses, part by part, each with its place: names, indices, sets that are
+-- controlled, steps, words. A part has the place that the source gives it, or else that of the
+-- smallest part around it.
 use Rattle.std.specs.Prelude.{ℕ, Bool, true, false, List, [], ◌∷◌, ◌++◌, map, flat_map, Option, Some, None}
 use Rattle.gms_labels.specs.declared.place.Place.{Place}
 use Rattle.gms_ast.specs.declared.expression.Suffix.{Suffix}
@@ -32,7 +33,7 @@ pub data Use (F : Type 0) : Type 0 where
   cardinal : Standing → ℕ → Use F
   -- a function of arguments
   calling : Standing → Function → Parts F → Use F
-  -- a sum or the like, of this body
+  -- a sum or another fold, of this body
   folding : Standing → FoldOp → Tree F → Use F
   -- sets that a fold or a loop controls, where others are controlled already
   controlling : List ℕ → List ℕ → Use F
@@ -77,17 +78,17 @@ pub data Use (F : Type 0) : Type 0 where
   -- what an option is set to
   option_value : List ℕ → Setting F → Use F
 
--- parts with their places
+-- uses with their places
 abbrev pub Uses : Type 0 → Type 0
 Uses F = List (Place × Use F)
 
--- the place of a part: its own, or that of what is around it
+-- the place of a part: its own, or that of the smallest part around it
 abbrev pub place_of : Mark → Place → Place
 place_of (placed at) around = at
 place_of (signed at mark) around = at
 place_of mark around = around
 
--- which step stands before a part of a product or a power
+-- which step comes before a part of a product or a power
 abbrev pub operation_of : Mark → Operation
 operation_of (signed at true) = divides
 operation_of (signed at false) = multiplies
@@ -106,19 +107,19 @@ module _ {F : Type 0} where
   index_sets (set name rest) = name ∷ index_sets rest
   index_sets (lagged name op at amount rest) = name ∷ index_sets rest
 
-  -- the steps to the parts after some operands
+  -- the steps of the parts after these operands
   abbrev pub later_steps : Standing → Place → List (Tree F) → Parts F → Uses F
   later_steps standing around earlier no_part = []
   later_steps standing around earlier (part mark tree rest) =
       (place_of mark around, stepping standing (operation_of mark) earlier tree) ∷ later_steps standing around (earlier ++ tree ∷ []) rest
 
-  -- the steps of a product or a power: one to each part but the first
+  -- the steps of a product or a power: one for each part except the first
   abbrev pub steps : Standing → Place → Parts F → Uses F
   steps standing around no_part = []
   steps standing around (part mark tree rest) = later_steps standing around (tree ∷ []) rest
 
 abbrev mutual
-  -- what an expression uses, where it stands so, at a place around it, under these controlled sets
+  -- what an expression uses in a context, with a place around it, under these controlled sets
   pub uses : {F : Type 0} → Standing → Place → List ℕ → Tree F → Uses F
   uses standing around controlled (number n) = (around, literal standing) ∷ []
   uses standing around controlled plus_infinity = (around, literal standing) ∷ []
@@ -144,7 +145,7 @@ abbrev mutual
   uses standing around controlled (guarded operand guards) =
       uses (as_guarded standing) around controlled operand ++ part_uses as_condition around controlled guards
 
-  -- what the parts of a node use, one after another
+  -- what the parts of a node use, in sequence
   pub part_uses : {F : Type 0} → Standing → Place → List ℕ → Parts F → Uses F
   part_uses standing around controlled no_part = []
   part_uses standing around controlled (part mark tree rest) =
@@ -172,7 +173,7 @@ module _ {F : Type 0} where
   shift_uses controlled (lagged name op at amount rest) =
       (at, shifting amount) ∷ (uses as_number at controlled amount ++ shift_uses controlled rest)
 
-  -- what a condition uses, where there is one
+  -- what a condition, if any, uses
   abbrev pub condition_uses : Place → List ℕ → Option (Tree F) → Uses F
   condition_uses at controlled None = []
   condition_uses at controlled (Some condition) = uses as_condition at controlled condition

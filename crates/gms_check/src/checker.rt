@@ -13,12 +13,14 @@ use gms_labels::Place;
 use gq_field::ExactField;
 use std::alloc::{AllocError, Global};
 
-/// The compile errors of a program, with solvers of these names: at most one of each statement, in order.
+/// The compile errors of a program, with solvers of these names: at most one of each statement, in
+/// order.
 ///
-/// The error of a statement is the first by place, and at one place the one with the least number. A loop with its body is
-/// one statement. A name is declared by the first statement that declares it, with an error or without; the data of a
-/// statement with an error are not given. The program is accepted exactly where there is no error. GAMS User's Guide, "Set
-/// Definition", "Data Manipulation", "Equations", "Model and Solve Statements".
+/// The error of a statement is the first by place, and at one place the one with the least number.
+/// A loop with its body is one statement. A name is declared by the first statement that declares
+/// it, with an error or without; the data of a statement with an error are not given. The program
+/// is accepted exactly where there is no error. GAMS User's Guide, "Set Definition", "Data
+/// Manipulation", "Equations", "Model and Solve Statements".
 pub fn check<F: ExactField>(
     alloc: Global,
     program: &Program<F>,
@@ -43,8 +45,8 @@ pub fn names_of(alloc: Global, solvers: &[String]) -> Result<Vec<Sequence<u8>>, 
     Ok(names)
 }
 
-/// The error of each statement of a program, in order, `None` where it has none, with solvers of these names: those of
-/// `check`, each beside its statement.
+/// The error of each statement of a program, in order, with solvers of these names: those of
+/// `check`, each beside its statement; `None` for a statement without an error.
 pub fn statement_errors<F: ExactField>(
     alloc: Global,
     program: &Program<F>,
@@ -56,7 +58,7 @@ pub fn statement_errors<F: ExactField>(
     check_statements(alloc, &mut checker, program)
 }
 
-/// The error of each statement of a program, by a check that is at its beginning.
+/// The error of each statement of a program, by a check at its beginning.
 fn check_statements<F: ExactField>(
     alloc: Global,
     checker: &mut Checker<'_, F>,
@@ -74,7 +76,7 @@ fn check_statements<F: ExactField>(
     Ok(errors)
 }
 
-/// The errors that are there, in order.
+/// The errors, in order, without those that are `None`.
 pub fn found_errors(
     alloc: Global,
     each: &[Option<CompileError>],
@@ -88,7 +90,7 @@ pub fn found_errors(
     Ok(errors)
 }
 
-/// Puts an error last among others, where there is one.
+/// Puts an error, if there is one, last among others.
 fn put_last(errors: &mut Vec<CompileError>, error: Option<CompileError>) -> Result<(), AllocError>
     ensures { OnOk result (errors.new.items ≡ errors.old.items ++ option_to_list error) }
 {
@@ -98,10 +100,11 @@ fn put_last(errors: &mut Vec<CompileError>, error: Option<CompileError>) -> Resu
     Ok(())
 }
 
-/// A check that is going on: what is known, the sets that are controlled here, and the first error of the statement so far.
+/// A check in progress: what is known, the sets that are controlled here, and the first error of
+/// the statement so far.
 #[derive(Drop)]
 pub struct Checker<'s, F: ExactField> {
-    /// Where memory is taken from.
+    /// The allocator.
     pub alloc: Global,
     /// The names of the solvers.
     pub solvers: &'s [Sequence<u8>],
@@ -133,7 +136,7 @@ impl<'s, F: ExactField> Checker<'s, F> {
         })
     }
 
-    /// Remembers an error, where none comes before it.
+    /// Remembers an error, unless an earlier one is remembered.
     pub fn report(&mut self, kind: ErrorKind, at: Place)
         ensures { seen self.new ≡ record (seen self.old) { first = sooner (seen self.old).first (Some (record { kind = kind; at = at })) } }
     {
@@ -141,7 +144,7 @@ impl<'s, F: ExactField> Checker<'s, F> {
         self.first = Some(error.or_earlier(self.first));
     }
 
-    /// Remembers an error where something does not hold.
+    /// Remembers an error if something does not hold.
     pub fn require(&mut self, holds: bool, kind: ErrorKind, at: Place)
         ensures { seen self.new ≡ faulted (seen self.old) at ((not holds, kind) ∷ []) }
     {
@@ -150,7 +153,7 @@ impl<'s, F: ExactField> Checker<'s, F> {
         }
     }
 
-    /// The first error so far, which is forgotten.
+    /// Answers the first error so far, and forgets it.
     pub fn take_first(&mut self) -> Option<CompileError>
         ensures first { result ≡ (seen self.old).first }
         ensures forgotten { seen self.new ≡ record (seen self.old) { first = None } }
@@ -160,7 +163,7 @@ impl<'s, F: ExactField> Checker<'s, F> {
         first
     }
 
-    /// Remembers an error that was found before, where there is one and none comes before it.
+    /// Remembers an error, if any, that was found before, unless an earlier one is remembered.
     pub fn merge(&mut self, before: Option<CompileError>)
         ensures { seen self.new ≡ record (seen self.old) { first = sooner before (seen self.old).first } }
     {

@@ -38,7 +38,7 @@ impl<'s, F: ExactField> Checker<'s, F> {
         Ok(())
     }
 
-    /// Controls sets. The answer is whether one of them is controlled already.
+    /// Controls sets. Answers whether one of them is controlled already.
     fn push_sets(&mut self, sets: &[u32]) -> Result<bool, AllocError>
         ensures twice { IfOk result (λ twice. twice ≡ is_controlled_twice (seen self.old).controlled sets.now) }
         ensures controlled { OnOk result (seen self.new ≡ with_controlled (seen self.old) sets.now) }
@@ -51,7 +51,7 @@ impl<'s, F: ExactField> Checker<'s, F> {
         Ok(twice)
     }
 
-    /// Checks `ord` of a set. The answer is whether it has variables: it has none.
+    /// Checks `ord` of a set. Answers whether it has variables: it has none.
     pub fn ordinal(&mut self, standing: Standing, at: Place, set: u32) -> bool
         ensures noted { seen self.new ≡ noted F.value (seen self.old) ((at, ordinal standing (seen self.old).controlled set) ∷ []) }
         ensures variable { result ≡ false }
@@ -64,7 +64,7 @@ impl<'s, F: ExactField> Checker<'s, F> {
         variable
     }
 
-    /// Checks `card` of a set. The answer is whether it has variables: it has none.
+    /// Checks `card` of a set. Answers whether it has variables: it has none.
     pub fn cardinal(&mut self, standing: Standing, at: Place, set: u32) -> bool
         ensures noted { seen self.new ≡ noted F.value (seen self.old) ((at, cardinal standing set) ∷ []) }
         ensures variable { result ≡ false }

@@ -5,12 +5,12 @@ ghost use Rattle.gms_check.specs.Past.{is_among};
 use std::alloc::{AllocError, Global};
 use std::marker::Model;
 
-/// The sets that are controlled, in order, each as often as it is. Whether a set is among them is told by the place where it is
-/// first, so that asking takes the same time however many there are.
+/// The sets that are controlled, in order, with repetitions. Whether a set is among them is read at
+/// its first place, so that a query takes the same time however many there are.
 #[derive(Drop)]
 pub struct Controlled {
     sets: Vec<u32>,
-    /// By the number of a set: its first place among them, plus 1; 0 where it is none of them.
+    /// By the number of a set: its first place among them, plus 1; 0 if it is none of them.
     firsts: Vec<usize>,
 }
 
@@ -66,7 +66,7 @@ impl Controlled {
         Ok(())
     }
 
-    /// Controls no more than so many of the first of them.
+    /// Keeps only the first `count` of them.
     pub fn truncate(&mut self, count: usize)
         ensures { self.new ≡ take count self.old }
     {
@@ -75,7 +75,7 @@ impl Controlled {
         }
     }
 
-    /// Controls the last no more.
+    /// Removes the last controlled set.
     fn pop(&mut self)
         ensures { self.new ≡ take (length self.old - 1) self.old }
     {
@@ -89,7 +89,7 @@ impl Controlled {
     }
 }
 
-/// Makes room for what stands by the number of a set: the list goes on with 0 up to there.
+/// Extends a list so that the number of a set has an entry: the new entries are 0.
 fn reach(firsts: &mut Vec<usize>, set: u32) -> Result<(), AllocError>
     ensures there { OnOk result (set < length firsts.new.items) }
     ensures same { (n : ℕ) → slice_index_or firsts.new.items n 0 ≡ slice_index_or firsts.old.items n 0 }

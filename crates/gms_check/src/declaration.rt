@@ -28,7 +28,7 @@ use gq_field::ExactField;
 use std::alloc::AllocError;
 
 impl<'s, F: ExactField> Checker<'s, F> {
-    /// Checks a declaration of names, and declares them. Where it has no error its data are given.
+    /// Checks a declaration of names, and declares them. If it has no error its data are given.
     pub fn declaration(
         &mut self,
         at: Place,
@@ -51,7 +51,8 @@ impl<'s, F: ExactField> Checker<'s, F> {
         }
     }
 
-    /// Checks names of a declaration one after another, and declares them. The answer is those whose data are given.
+    /// Checks names of a declaration in sequence, and declares them. Answers those whose data are
+    /// given.
     fn declared_items(&mut self, kind: DeclKind, items: &[Decl<F>]) -> Result<Vec<u32>, AllocError>
         ensures noted { OnOk result (seen self.new
             ≡ record (seen self.old) { first = sooner (seen self.old).first (first_of (declaration_errors (known_of F.value (seen self.old)) kind items.now)); facts = trial_facts F.value (seen self.old).solvers kind (seen self.old).facts items.now }) }
@@ -67,7 +68,8 @@ impl<'s, F: ExactField> Checker<'s, F> {
         Ok(given)
     }
 
-    /// Checks a name of a declaration, and declares it. Where it has no error its data are given, and the answer is true.
+    /// Checks a name of a declaration, and declares it. If it has no error its data are given, and
+    /// the answer is true.
     fn declared_item(&mut self, kind: DeclKind, item: &Decl<F>) -> Result<bool, AllocError>
         ensures sound { IfOk result (λ sound. sound
             ≡ is_faultless (errors_of (known_of F.value (seen self.old)) (item_uses (known_of F.value (seen self.old)) kind item.now))) }
@@ -87,7 +89,8 @@ impl<'s, F: ExactField> Checker<'s, F> {
         Ok(sound)
     }
 
-    /// Checks a name of a declaration. The answer is its data, of no meaning where they have an error.
+    /// Checks a name of a declaration. Answers its data, which have no meaning if they have an
+    /// error.
     fn item(&mut self, kind: DeclKind, item: &Decl<F>) -> Result<Data<F>, AllocError>
         ensures noted { OnOk result (seen self.new
             ≡ noted F.value (seen self.old) (item_uses (known_of F.value (seen self.old)) kind item.now)) }
@@ -137,7 +140,7 @@ impl<'s, F: ExactField> Checker<'s, F> {
         true
     }
 
-    /// Whether a written position is another one, both of one set or both of any label.
+    /// Whether a written position equals another: both are of one set, or both of any label.
     fn is_same_position(&self, written: Option<Named>, position: Option<u32>) -> bool
         ensures { result ≡ same_position (seen self.now).facts.state (option_map (λ (named : Named). named.name) written) position }
     {
@@ -183,8 +186,8 @@ impl<'s, F: ExactField> Checker<'s, F> {
         }
     }
 
-    /// Checks the elements that data give at these positions. The answer is these elements, of no meaning where they have
-    /// an error.
+    /// Checks the elements that data give at these positions. Answers these elements, which have no
+    /// meaning if they have an error.
     fn data(&mut self, positions: &[Option<u32>], items: &[Item<F>]) -> Result<Data<F>, AllocError>
         ensures noted { OnOk result (seen self.new
             ≡ noted F.value (seen self.old) (expansion_uses (known_of F.value (seen self.old)) positions.now items.now)) }
@@ -214,7 +217,7 @@ impl<'s, F: ExactField> Checker<'s, F> {
         self.report(kind_of_fault(fault.error), fault.at);
     }
 
-    /// Takes out the data of these names.
+    /// Removes the data of these names.
     fn take_out_all(&mut self, names: &[u32]) -> Result<(), AllocError>
         ensures { OnOk result (seen self.new ≡ with_facts (seen self.old) (taken_back (seen self.old).facts names.now)) }
     {
@@ -224,7 +227,7 @@ impl<'s, F: ExactField> Checker<'s, F> {
         Ok(())
     }
 
-    /// Remembers which sets have their labels in another order than that of the labels.
+    /// Remembers which sets have their labels in another order than that of all labels.
     fn remember_order(&mut self, kind: DeclKind, items: &[Decl<F>])
         ensures { seen self.new ≡ with_facts (seen self.old) (with_order kind (seen self.old).facts items.now) }
     {
@@ -239,7 +242,8 @@ impl<'s, F: ExactField> Checker<'s, F> {
     }
 }
 
-/// Whether data can be given at these positions: there are at most 10, and their sets can be in a domain.
+/// Whether data can be given at these positions: there are at most 10, and their sets can be in a
+/// domain.
 fn are_usable<F: ExactField>(known: &Known<F>, positions: &[Option<u32>]) -> bool
     ensures { result ≡ are_usable_in known.now.state positions.now }
 {
@@ -256,7 +260,7 @@ fn are_usable<F: ExactField>(known: &Known<F>, positions: &[Option<u32>]) -> boo
     true
 }
 
-/// The error that an error of data is.
+/// The compile error for an error of data.
 fn kind_of_fault(error: SetError) -> ErrorKind
     ensures { result ≡ kind_of_fault error }
 {
@@ -283,7 +287,7 @@ fn declares_variables(kind: DeclKind) -> bool
     )
 }
 
-/// How many of the first items have so many parts.
+/// How many of the first items have `due` parts.
 fn first_whole<F>(due: usize, items: &[Item<F>]) -> usize
     ensures { result ≡ length (take_while (λ (item : Item F). not (is_wrong_count due (length item.parts))) items.now) }
 {

@@ -5,17 +5,20 @@ ghost use Rattle.gms_check.specs.Errors.{comes_first, earlier, error_code, error
 use gms_labels::Place;
 use thiserror::Error;
 
-/// A compile error. Each example is a source that has it, after `set i /a,b/, s(i); parameter p(i); variables x, z; equation e;`.
+/// A compile error. Each example is a source that has it, after `set i /a,b/, s(i); parameter p(i);
+/// variables x, z; equation e;`.
 #[derive(Clone, Copy, Debug, Error)]
 pub enum ErrorKind {
-    /// A name that no statement before declares, as `q = 1;`, or a word that is no option, as `option foo = 1;`.
+    /// A name that no statement before declares, as `q = 1;`, or a word that is no option, as
+    /// `option foo = 1;`.
     #[error("an unknown name")]
     UnknownName,
-    /// A name that is declared again, as `set i;`. A variable may be given a type once more, with the same domain or none,
-    /// while its type is free.
+    /// A name that is declared again, as `set i;`. A variable may be given a type once more, with
+    /// the same domain or none, while its type is free.
     #[error("a name declared twice")]
     Redeclared,
-    /// A symbol, a suffix, `yes`, `no` or an infinity where its kind does not stand, as `p("a") = yes;`.
+    /// A symbol, a suffix, `yes`, `no` or an infinity whose kind the context does not admit, as
+    /// `p("a") = yes;`.
     #[error("a symbol, suffix or value of a kind that cannot occur here")]
     WrongKind,
     /// Another number of indices than declared, or over 10, as `p = 1;`.
@@ -48,13 +51,14 @@ pub enum ErrorKind {
     /// A kind of model other than `lp`, as `solve m using nlp minimizing z;`.
     #[error("a model type other than `lp`")]
     ModelType,
-    /// A solve of a model with an equation that no statement before defines, as `model m /e/; solve m using lp minimizing z;`.
+    /// A solve of a model with an equation that no statement before defines, as `model m /e/; solve
+    /// m using lp minimizing z;`.
     #[error("an equation without a definition")]
     NotDefined,
     /// A second definition of an equation, as `e.. x =e= 1; e.. z =e= 2;`.
     #[error("an equation defined twice")]
     DefinedTwice,
-    /// An objective that is no variable of type free without indices.
+    /// An objective that is not a free variable without indices.
     #[error("an objective that is not a free variable without indices")]
     Objective,
     /// A name that no solver has, as `option lp = nobody;`.
@@ -66,14 +70,16 @@ pub enum ErrorKind {
     /// A variable without suffix where it is no unknown of an equation, as `p("a") = x;`.
     #[error("a variable without suffix outside an equation")]
     Endogenous,
-    /// A function that this language leaves out, or a wrong number of arguments, as `p("a") = exp(1);`.
+    /// A function that this language leaves out, or a wrong number of arguments, as `p("a") =
+    /// exp(1);`.
     #[error("an unsupported function or a wrong number of arguments")]
     Function,
-    /// A range that is none, an element that is given twice, or too many of them, as `set k /a3*a1/;`.
+    /// A range that is none, an element that is given twice, or too many of them, as `set k
+    /// /a3*a1/;`.
     #[error("not a range, an element given twice or over 1,048,576 elements")]
     DataFault,
-    /// In a restarted run, a statement of the new file that gives a type to a saved variable, or that assigns a saved set
-    /// which the saved source does not assign.
+    /// In a restarted run, a statement of the new file that gives a type to a saved variable, or
+    /// that assigns a saved set which the saved source does not assign.
     #[error("a saved variable or set that a restarted run cannot change")]
     Restart,
 }
@@ -140,13 +146,14 @@ impl ErrorKind {
     }
 }
 
-/// A compile error and its place: that of the smallest part of the statement around it that has one.
+/// A compile error and its place: that of the smallest part of the statement around it that has
+/// one.
 #[derive(Clone, Copy, Debug, Error)]
 #[error("{at}: {code} {name}: {kind}", code = .kind.code(), name = .kind.name())]
 pub struct CompileError {
     /// The error.
     pub kind: ErrorKind,
-    /// Where it stands.
+    /// Its place.
     pub at: Place,
 }
 
@@ -160,7 +167,8 @@ impl CompileError {
         place < others
     }
 
-    /// This error, or another one where that comes first: by its place, and at one place by its number.
+    /// This error, or another one where that comes first: by its place, and at one place by its
+    /// number.
     pub fn or_earlier(self, other: Option<CompileError>) -> CompileError
         ensures { result ≡ earlier self other }
     {

@@ -1,4 +1,4 @@
-//! The check of expressions: what stands in them, and which steps are not linear.
+//! The check of expressions: what may occur in them, and which steps are not linear.
 ghost use Rattle.std.specs.Prelude.{◌≡◌, ◌++◌, ◌∷◌, [], ◌&&◌, false, not, take, IfOk, OnOk};
 ghost use Rattle.gms_ast.specs.TreeView.{control_tree, tree_of};
 ghost use Rattle.gms_check.specs.Checking.{faulted, known_of, noted, seen, with_controlled, with_sets};
@@ -30,7 +30,7 @@ pub enum Operation {
 }
 
 impl<'s, F: ExactField> Checker<'s, F> {
-    /// Checks an expression that stands so, with a place around it. The answer is whether it has variables.
+    /// Checks an expression in a context, with a place around it. Answers whether it has variables.
     #[cycle(expression)]
     pub fn expression(
         &mut self,
@@ -82,7 +82,7 @@ impl<'s, F: ExactField> Checker<'s, F> {
         }
     }
 
-    /// Checks a leaf by whether it may stand there. The answer is whether it has variables: it has none.
+    /// Checks a leaf by whether it may occur there. Answers whether it has variables: it has none.
     fn leaf(&mut self, stands: bool, at: Place) -> bool
         ensures noted { seen self.new ≡ faulted (seen self.old) at ((not stands, WrongKind) ∷ []) }
         ensures variable { result ≡ false }
@@ -91,7 +91,8 @@ impl<'s, F: ExactField> Checker<'s, F> {
         false
     }
 
-    /// Checks a reference and the amounts of its lags. The answer is whether it is a variable without suffix.
+    /// Checks a reference and the amounts of its lags. Answers whether it is a variable without
+    /// suffix.
     #[cycle(expression)]
     fn referred(
         &mut self,
@@ -111,8 +112,8 @@ impl<'s, F: ExactField> Checker<'s, F> {
         Ok(variable)
     }
 
-    /// Checks a fold behind its control, whose sets are controlled in its body: behind it only the first `outer` sets still
-    /// are. The answer is whether the body has variables.
+    /// Checks a fold after its control, whose sets are controlled in its body; after it only the
+    /// first `outer` sets still are. Answers whether the body has variables.
     #[cycle(expression)]
     fn folded(
         &mut self,
@@ -133,7 +134,7 @@ impl<'s, F: ExactField> Checker<'s, F> {
         Ok(variable)
     }
 
-    /// Checks expressions that stand alike. The answer is whether one has variables.
+    /// Checks expressions in the same context. Answers whether one has variables.
     #[cycle(expression)]
     fn expressions(
         &mut self,
@@ -186,7 +187,8 @@ impl<'s, F: ExactField> Checker<'s, F> {
         Ok(variable)
     }
 
-    /// Checks the sets that a fold or a loop controls, and its condition under them. They stay controlled.
+    /// Checks the sets that a fold or a loop controls, and its condition under them. They stay
+    /// controlled.
     #[cycle(expression)]
     pub fn control(&mut self, control: &Control<F>, at: Place) -> Result<(), AllocError>
         ensures { OnOk result (seen self.new
@@ -261,7 +263,7 @@ impl<'s, F: ExactField> Checker<'s, F> {
         Ok(earlier)
     }
 
-    /// Checks relations. The answer is whether they have variables that count: they have none.
+    /// Checks relations. Answers whether they have variables that count: they have none.
     #[cycle(expression)]
     fn relations(
         &mut self,
@@ -280,7 +282,8 @@ impl<'s, F: ExactField> Checker<'s, F> {
         Ok(false)
     }
 
-    /// Checks the operands of `and`. The answer is whether they have variables that count: they have none.
+    /// Checks the operands of `and`. Answers whether they have variables that count: they have
+    /// none.
     #[cycle(expression)]
     fn all_of(
         &mut self,
@@ -297,7 +300,8 @@ impl<'s, F: ExactField> Checker<'s, F> {
         Ok(false)
     }
 
-    /// Checks the operands of a choice. The answer is whether they have variables that count: they have none.
+    /// Checks the operands of a choice. Answers whether they have variables that count: they have
+    /// none.
     #[cycle(expression)]
     fn choice(
         &mut self,
@@ -316,7 +320,7 @@ impl<'s, F: ExactField> Checker<'s, F> {
         Ok(false)
     }
 
-    /// Checks the step of a fold, whose body has variables or not.
+    /// Checks the step of a fold, by whether its body has variables.
     fn fold_step(&mut self, standing: Standing, op: FoldOp, variable: bool, at: Place)
         ensures { seen self.new ≡ faulted (seen self.old) at ((standing.variables && (not (is_sum op) && variable), Nonlinear) ∷ []) }
     {
@@ -324,7 +328,8 @@ impl<'s, F: ExactField> Checker<'s, F> {
         self.require_linear(standing, linear, at);
     }
 
-    /// Checks a step at its right operand, where the operands before it and it have variables or not.
+    /// Checks a step at its right operand, by whether the operands before it and the right one have
+    /// variables.
     fn step(
         &mut self,
         standing: Standing,
@@ -341,7 +346,7 @@ impl<'s, F: ExactField> Checker<'s, F> {
         self.require_linear(standing, linear, at);
     }
 
-    /// Checks that what stands in an equation is linear.
+    /// Checks that a step in an equation is linear.
     fn require_linear(&mut self, standing: Standing, linear: bool, at: Place)
         ensures { seen self.new ≡ faulted (seen self.old) at ((standing.variables && not linear, Nonlinear) ∷ []) }
     {
@@ -350,7 +355,7 @@ impl<'s, F: ExactField> Checker<'s, F> {
     }
 }
 
-/// Whether a fold of a body with variables or without is linear.
+/// Whether a fold is linear, by whether its body has variables.
 fn is_linear_fold(op: FoldOp, variable: bool) -> bool
     ensures { not result ≡ (not (is_sum op) && variable) }
 {
@@ -360,7 +365,7 @@ fn is_linear_fold(op: FoldOp, variable: bool) -> bool
     }
 }
 
-/// Whether operands stand in a step by their kind.
+/// Whether a step admits operands of their kind.
 fn may_step(standing: Standing, operation: Operation) -> bool
     ensures { not result ≡ step_wrong standing operation }
 {
@@ -370,7 +375,7 @@ fn may_step(standing: Standing, operation: Operation) -> bool
     }
 }
 
-/// Whether a step is linear, where the operands before it and the right one have variables or not.
+/// Whether a step is linear, by whether the operands before it and the right one have variables.
 fn is_linear_step(operation: Operation, earlier: bool, right: bool) -> bool
     ensures { not result ≡ step_curved operation earlier right }
 {
@@ -381,7 +386,7 @@ fn is_linear_step(operation: Operation, earlier: bool, right: bool) -> bool
     }
 }
 
-/// Whether a function takes so many arguments. One that is left out takes none.
+/// Whether a function takes `count` arguments. One that is left out takes none.
 fn takes(function: Function, count: usize) -> bool
     ensures { result ≡ takes function count }
 {

@@ -20,7 +20,7 @@ use std::alloc::{AllocError, Global};
 /// How many sets a control has at most, and how many indices a reference.
 pub const MOST: usize = 10;
 
-/// Whether so many indices are another number than is due, or over 10.
+/// Whether a number of indices is not the expected one, or over 10.
 pub fn is_wrong_count(due: usize, count: usize) -> bool
     ensures { result ≡ is_wrong_count due count }
 {
@@ -91,7 +91,7 @@ pub fn has_unordered<F: ExactField>(known: &Known<F>, sets: &[u32]) -> bool
     false
 }
 
-/// Whether some of these sets is none of those that are controlled.
+/// Whether some of these sets is not controlled.
 pub fn has_uncontrolled(controlled: &Controlled, sets: &[u32]) -> bool
     ensures { result ≡ list_any (λ set. not (is_among controlled.now set)) sets.now }
 {
@@ -118,7 +118,7 @@ pub fn has_unfit_set<F: ExactField>(known: &Known<F>, name: u32, indices: &[Inde
     false
 }
 
-/// Whether some label does not stand at its position of a name.
+/// Whether some label does not fit its position of a name.
 pub fn has_unfit_label<F: ExactField>(
     alloc: Global,
     known: &Known<F>,

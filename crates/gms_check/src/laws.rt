@@ -26,30 +26,36 @@ ghost use Rattle.gms_check.specs.StatementUses.{index_list};
 
 use gq_field::ExactField;
 
-/// What holds of each program without compile errors: every reference in it, wherever it stands, names what a statement before
-/// declares, and may stand there; it has as many indices as its name has positions; each index set is one-dimensional, below
-/// its position's set and controlled, each label is in its position's set, and a set with a lag is ordered. Sets that are
-/// controlled are one-dimensional, and controlled once; so is the set of an `ord`, which is ordered.
+/// What holds of each program without compile errors. Each reference in it names what a statement
+/// before declares, in a context that admits it, with as many indices as its name has positions.
+/// Each index set is one-dimensional, below its position's set and controlled; each label is in its
+/// position's set; and a set with a lag is ordered. Sets that are controlled are one-dimensional,
+/// and controlled once; so is the set of an `ord`, which is ordered.
 pub fn checked_laws<F: ExactField>()
     ensures checked { (program : Program F) (solvers : List (List ℕ)) → compile_errors F.value program solvers ≡ [] → IsChecked F.value program solvers }
 {}
 
-/// What holds of each reference of a program without compile errors, wherever it stands in a statement: in an expression, under any
-/// folds and conditions, in the amount of a lag, in an assignment, a definition, an abort or the condition of a loop, so many loops deep.
-/// Its name is declared by a statement before, as one that may stand somewhere with its suffix (that it may stand just there is said by
-/// `checked_laws`), it has as many indices as its name has positions, at most 10, each set among them has one dimension and fits its position,
-/// each label is in its position's set, a set with a lag is ordered, and each set is one of those that are controlled just there: by the loops
-/// around the statement, by the left side, and by the folds around the reference. So is the set of an `ord`, which is ordered.
+/// What holds of each reference of a program without compile errors, wherever it occurs in a
+/// statement: in an expression, under any folds and conditions, in the amount of a lag, in an
+/// assignment, a definition, an abort or the condition of a loop, `depth` loops deep. Its name is
+/// declared by a statement before, and some context admits it with its suffix (`checked_laws` says
+/// that its own context does). It has as many indices as its name has positions, at most 10; each
+/// set among them has one dimension and fits its position; each label is in its position's set; and
+/// a set with a lag is ordered. Each set is one of those that are controlled at the reference: by
+/// the loops around the statement, by the left side, and by the folds around the reference. So is
+/// the set of an `ord`, which is ordered.
 ///
-/// GAMS User's Guide, "Data Manipulations with Parameters", "Sets as Sequences: Ordered Sets", "Programming Flow Control Features".
+/// GAMS User's Guide, "Data Manipulations with Parameters", "Sets as Sequences: Ordered Sets",
+/// "Programming Flow Control Features".
 pub fn reference_laws<F: ExactField>()
     ensures { (program : Program F) (solvers : List (List ℕ)) (before : List (Stmt F)) (statement : Stmt F) (depth : ℕ) (within : List ℕ) (what : Asking F) →
         compile_errors F.value program solvers ≡ [] → StandsAfter program before statement → InStatement depth within what [] statement →
         IsMeant (known_after F.value program solvers (sound before)) within what }
 {}
 
-/// What stands on the left of an assignment in a program without compile errors, also of one in the body of a loop: each set among its
-/// indices has one dimension, and each amount of a lag is a number or a scalar, which is the same at all elements.
+/// The left side of an assignment in a program without compile errors, also of one in the body of a
+/// loop: each set among its indices has one dimension, and each amount of a lag is a number or a
+/// scalar, which is the same at all elements.
 pub fn left_laws<F: ExactField>()
     ensures { (program : Program F) (solvers : List (List ℕ)) (before : List (Stmt F)) (outer inner : Stmt F) (depth : ℕ) (target : Target F) (condition : Option (Expr F)) (right_at : Place) (right : Expr F) →
         compile_errors F.value program solvers ≡ [] → StandsAfter program before outer → StandsIn depth inner outer →
@@ -57,10 +63,11 @@ pub fn left_laws<F: ExactField>()
         AreLeftIndices (known_after F.value program solvers (sound before)).state (index_list target.indices) }
 {}
 
-/// What is loaded of a program that has no compile error with solvers of some names, before its first statement acts: a set has
-/// the tuples of its items and no other, a parameter at each tuple the value of the item that has it and 0 elsewhere, a variable the
-/// bounds of its type and an equation none, with level and marginal 0. A set, a parameter and an equation have the positions
-/// of their declaration. Of a name that no statement declares there is nothing.
+/// What is loaded of a program that has no compile error with solvers of some names, before its
+/// first statement acts. A set has the tuples of its items and no other. A parameter has at each
+/// tuple the value of the item that has it, and 0 elsewhere. A variable has the bounds of its type
+/// and an equation none, with level and marginal 0. A set, a parameter and an equation have the
+/// positions of their declaration. A name that no statement declares has nothing.
 ///
 /// GAMS User's Guide, "Set Definition"; "Data Entry: Parameters, Scalars and Tables"; "Variables".
 pub fn load_laws<F: ExactField>()

@@ -1,4 +1,5 @@
-//! Floor 3, state and checks. The check of a program: its compile errors, and the state in which an accepted program begins.
+//! Layer 3, state and checks. The check of a program: its compile errors, and the state in which an
+//! accepted program begins.
 #![tactic(auto)]
 
 mod checker;

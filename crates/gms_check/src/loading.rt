@@ -14,10 +14,11 @@ use gms_store::Store;
 use gq_field::ExactField;
 use std::alloc::{AllocError, Global};
 
-/// The state in which an accepted program begins: what it declares with all its data, the entries of tables among them, and
-/// nothing else given.
+/// The state in which an accepted program begins: what it declares with all its data, the entries
+/// of tables among them, and nothing else given.
 ///
-/// The program has no compile error, for solvers of some names. GAMS User's Guide, "Data Entry: Parameters, Scalars and Tables".
+/// The program has no compile error, for solvers of some names. GAMS User's Guide, "Data Entry:
+/// Parameters, Scalars and Tables".
 pub fn load<F: ExactField>(alloc: Global, program: &Program<F>) -> Result<Store<F>, AllocError>
     requires { IsAccepted F.value program.now }
     ensures { IfOk result (λ store. store ≡ loaded F.value program.now) }
@@ -89,7 +90,7 @@ fn load_item<F: ExactField>(
     put_data(alloc, store, item.named.name, &data)
 }
 
-/// The data of a name. A program that is accepted has no error in them.
+/// The data of a name. An accepted program has no error in them.
 fn data_of<F: ExactField>(
     alloc: Global,
     store: &Store<F>,

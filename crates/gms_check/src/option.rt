@@ -38,12 +38,12 @@ pub enum OptionWord {
     Solver,
     /// One that is accepted without effect.
     Ignored,
-    /// None.
+    /// No option.
     Unknown,
 }
 
 impl OptionWord {
-    /// What option a word is, letter case ignored.
+    /// The option of a word, letter case ignored.
     fn of(word: &[u8]) -> OptionWord
         ensures { result ≡ kind_of_word word.now }
     {
@@ -62,7 +62,7 @@ impl OptionWord {
         }
     }
 
-    /// Whether it is one.
+    /// Whether it is an option.
     fn is_known(self) -> bool
         ensures { result ≡ is_known_option self }
     {
@@ -100,7 +100,7 @@ impl<'s, F: ExactField> Checker<'s, F> {
         self.require(within, ErrorKind::OptionRange, at);
     }
 
-    /// Whether a setting is no word, or the name of a solver.
+    /// Whether a setting is a number, or the name of a solver.
     fn is_solver(&self, setting: &Setting<F>) -> bool
         ensures { result ≡ not (is_none_of (seen self.now).solvers setting.now) }
     {

@@ -20,7 +20,8 @@ use gq_field::ExactField;
 use std::alloc::AllocError;
 
 impl<'s, F: ExactField> Checker<'s, F> {
-    /// Checks a reference but for the amounts of its lags. The answer is whether it is a variable without suffix.
+    /// Checks a reference except for the amounts of its lags. Answers whether it is a variable
+    /// without suffix.
     pub fn reference(
         &mut self,
         standing: Standing,
@@ -53,7 +54,7 @@ impl<'s, F: ExactField> Checker<'s, F> {
         }
     }
 
-    /// Checks a name that stands by its kind or not, and its indices against its positions.
+    /// Checks a name, which its context admits or not, and its indices against its positions.
     pub fn named(
         &mut self,
         named: Named,
@@ -80,7 +81,7 @@ impl<'s, F: ExactField> Checker<'s, F> {
         Ok(())
     }
 
-    /// Checks what is displayed.
+    /// Checks displayed items.
     pub fn shows(&mut self, items: &[Show])
         ensures { seen self.new ≡ noted F.value (seen self.old) (flat_map show_uses items.now) }
     {
@@ -89,7 +90,7 @@ impl<'s, F: ExactField> Checker<'s, F> {
         }
     }
 
-    /// Checks one thing that is displayed.
+    /// Checks a displayed item.
     fn show(&mut self, item: &Show)
         ensures { seen self.new ≡ noted F.value (seen self.old) (show_uses item.now) }
     {

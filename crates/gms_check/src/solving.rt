@@ -47,7 +47,7 @@ impl<'s, F: ExactField> Checker<'s, F> {
         Ok(())
     }
 
-    /// Checks models one after another, and declares their names.
+    /// Checks models in sequence, and declares their names.
     fn declare_models(&mut self, models: &[ModelDecl]) -> Result<(), AllocError>
         ensures { OnOk result (seen self.new
             ≡ record (seen self.old) { first = sooner (seen self.old).first (first_of (model_errors (known_of F.value (seen self.old)) models.now)); facts = with_model_names (seen self.old).facts models.now }) }
@@ -70,7 +70,7 @@ impl<'s, F: ExactField> Checker<'s, F> {
         }
     }
 
-    /// Remembers the equations of a model: none where its statement has an error.
+    /// Remembers the equations of a model: none if its statement has an error.
     fn list_model(&mut self, model: &ModelDecl, sound: bool) -> Result<(), AllocError>
         ensures { OnOk result (seen self.new
             ≡ with_facts (seen self.old) (with_model (seen self.old).facts model.now.named.name (equations_listed (seen self.old).facts.equations sound model.now))) }

@@ -1,14 +1,15 @@
-//! Where an expression stands, and so what may stand in it.
+//! The context of an expression, and so what may occur in it.
 ghost use Rattle.std.specs.Prelude.{◌≡◌};
 ghost use Rattle.gms_check.specs.Standing.{as_condition, as_denied, as_guarded, as_inner, as_members, as_number, as_part, as_side, may_be_assigned, may_stand};
 
 use gms_ast::Suffix;
 use gms_store::SymbolKind;
 
-/// What may stand at a place of an expression.
+/// What may occur at a place of an expression.
 #[derive(Clone, Copy, Debug, PartialEq, Eq)]
 pub struct Standing {
-    /// What has a number: literals, parameters, attributes, functions, sums and the like, relations, `and` and `or`.
+    /// What has a number: literals, parameters, attributes, functions, sums and the like,
+    /// relations, `and` and `or`.
     pub numbers: bool,
     /// A variable without suffix.
     pub variables: bool,
@@ -19,7 +20,8 @@ pub struct Standing {
 }
 
 impl Standing {
-    /// A number is due: in an assignment to a parameter or an attribute, in a relation, as an argument, as the amount of a lag.
+    /// A number is expected: in an assignment to a parameter or an attribute, in a relation, as an
+    /// argument, as the amount of a lag.
     pub(crate) const NUMBER: Standing = Standing {
         numbers: true,
         variables: false,
@@ -27,7 +29,7 @@ impl Standing {
         membership: false,
     };
 
-    /// One side of an equation, in which variables stand.
+    /// One side of an equation, in which variables may occur.
     pub(crate) const SIDE: Standing = Standing {
         numbers: true,
         variables: true,
@@ -51,7 +53,7 @@ impl Standing {
         membership: true,
     };
 
-    /// What may stand in a part of a sum, a product or a power, or in what has a sign.
+    /// What may occur in a part of a sum, a product or a power, or in an operand with a sign.
     pub(crate) fn part(self) -> Standing
         ensures { result ≡ as_part self }
     {
@@ -61,14 +63,14 @@ impl Standing {
         }
     }
 
-    /// What may stand in the left operand of `$`.
+    /// What may occur in the left operand of `$`.
     pub(crate) fn guarded(self) -> Standing
         ensures { result ≡ as_guarded self }
     {
         Standing { sets: true, ..self }
     }
 
-    /// What may stand in an argument of a function, or in the body of a sum and the like.
+    /// What may occur in an argument of a function, or in the body of a sum and the like.
     pub(crate) fn inner(self) -> Standing
         ensures { result ≡ as_inner self }
     {
@@ -80,7 +82,7 @@ impl Standing {
         }
     }
 
-    /// What may stand in the operand of `not`.
+    /// What may occur in the operand of `not`.
     pub(crate) fn denied(self) -> Standing
         ensures { result ≡ as_denied self }
     {
@@ -91,7 +93,8 @@ impl Standing {
         }
     }
 
-    /// Whether a symbol of this kind may be read by this suffix. A variable without suffix is let pass: another error speaks of it.
+    /// Whether a symbol of this kind may be read by this suffix. A variable without suffix is
+    /// admitted here: it is another error.
     pub(crate) fn admits(self, kind: SymbolKind, suffix: Suffix) -> bool
         ensures { result ≡ may_stand self kind suffix }
     {

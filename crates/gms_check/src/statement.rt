@@ -19,7 +19,7 @@ use gq_field::ExactField;
 use std::alloc::AllocError;
 
 impl<'s, F: ExactField> Checker<'s, F> {
-    /// Checks a statement, and declares its names. The answer is its error.
+    /// Checks a statement, and declares its names. Answers its error.
     pub fn statement(&mut self, statement: &Stmt<F>) -> Result<Option<CompileError>, AllocError>
         requires { (seen self.old).first ≡ None }
         ensures error { IfOk result (λ error. error ≡ statement_error (known_of F.value (seen self.old)) statement.now) }
@@ -51,7 +51,7 @@ impl<'s, F: ExactField> Checker<'s, F> {
         }
     }
 
-    /// Checks what a statement does, but for declarations of names and of models.
+    /// Checks what a statement does, except for declarations of names and of models.
     #[cycle(statement)]
     fn act(&mut self, at: Place, act: &Act<F>) -> Result<(), AllocError>
         ensures { OnOk result (seen self.new ≡ noted F.value (seen self.old) (act_uses act.now (seen self.old).facts.state at (seen self.old).controlled)) }
@@ -148,7 +148,8 @@ impl<'s, F: ExactField> Checker<'s, F> {
         Ok(())
     }
 
-    /// Checks the left side of an assignment, and its condition. The sets of the left side stay controlled.
+    /// Checks the left side of an assignment, and its condition. The sets of the left side stay
+    /// controlled.
     fn left_of_assignment(
         &mut self,
         at: Place,
@@ -164,7 +165,7 @@ impl<'s, F: ExactField> Checker<'s, F> {
         self.condition(condition, at)
     }
 
-    /// Where the right side of an assignment to a name stands.
+    /// The context of the right side of an assignment to a name.
     fn right_standing(&self, name: u32) -> Standing
         ensures { result ≡ right_standing (seen self.now).facts.state name }
     {
@@ -175,7 +176,7 @@ impl<'s, F: ExactField> Checker<'s, F> {
         }
     }
 
-    /// Checks the sides of a definition, after which so many sets are controlled again.
+    /// Checks the sides of a definition, after which only the first `outer` sets are controlled.
     fn sides(
         &mut self,
         outer: usize,
@@ -193,7 +194,8 @@ impl<'s, F: ExactField> Checker<'s, F> {
         Ok(())
     }
 
-    /// Checks the left side of a definition, and its condition. The sets of the left side stay controlled.
+    /// Checks the left side of a definition, and its condition. The sets of the left side stay
+    /// controlled.
     fn left_of_definition(
         &mut self,
         at: Place,
@@ -210,7 +212,8 @@ impl<'s, F: ExactField> Checker<'s, F> {
         self.condition(condition, at)
     }
 
-    /// Remembers what a statement that is no declaration of names or models declares or defines, with an error or without.
+    /// Remembers what a statement that is no declaration of names or models declares or defines,
+    /// with an error or without.
     fn remember(&mut self, act: &Act<F>) -> Result<(), AllocError>
         requires { is_action act.now ≡ true }
         ensures { OnOk result (seen self.new ≡ with_facts (seen self.old) (facts_after F.value (seen self.old).facts act.now true)) }

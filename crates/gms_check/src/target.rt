@@ -1,4 +1,5 @@
-//! The check of left sides: what is assigned or defined, the amounts of its lags, and the sets that it controls.
+//! The check of left sides: what is assigned or defined, the amounts of its lags, and the sets that
+//! it controls.
 ghost use Rattle.std.specs.Prelude.{◌≡◌, ◌∷◌, ◌&&◌, [], option_map, OnOk};
 ghost use Rattle.gms_ast.specs.TreeView.{tree_of};
 ghost use Rattle.gms_check.specs.Checking.{known_of, noted, seen, with_controlled};
@@ -21,7 +22,7 @@ use gq_field::ExactField;
 use std::alloc::AllocError;
 
 impl<'s, F: ExactField> Checker<'s, F> {
-    /// Checks what an assignment assigns, but for the amounts of its lags.
+    /// Checks what an assignment assigns, except for the amounts of its lags.
     pub fn target(&mut self, target: &Target<F>) -> Result<(), AllocError>
         ensures { OnOk result (seen self.new
             ≡ noted F.value (seen self.old) ((target.now.at, assigning target.now.name target.now.suffix (index_list target.now.indices)) ∷ [])) }
@@ -97,7 +98,8 @@ impl<'s, F: ExactField> Checker<'s, F> {
         Ok(())
     }
 
-    /// Whether an amount is a whole literal or a scalar. A variable without suffix is let pass: another error speaks of it.
+    /// Whether an amount is a whole literal or a scalar. A variable without suffix is admitted
+    /// here: it is another error.
     fn is_left_amount(&self, amount: &Expr<F>) -> bool
         ensures { result ≡ is_left_amount (known_of F.value (seen self.now)) (tree_of amount.now) }
     {
@@ -113,7 +115,8 @@ impl<'s, F: ExactField> Checker<'s, F> {
         }
     }
 
-    /// Whether a name without suffix, with indices or bare, is that of a scalar or of a variable.
+    /// Whether a name without suffix, with indices or without, is that of a scalar or of a
+    /// variable.
     fn may_shift(&self, name: u32, bare: bool) -> bool
         ensures { result ≡ may_shift (kind_of (seen self.now).facts.state name) (is_without_positions (positions (seen self.now).facts.state name) && bare) }
     {
@@ -124,7 +127,7 @@ impl<'s, F: ExactField> Checker<'s, F> {
         }
     }
 
-    /// Checks a condition, where there is one.
+    /// Checks a condition, if there is one.
     pub fn condition(&mut self, condition: &Option<Expr<F>>, at: Place) -> Result<(), AllocError>
         ensures { OnOk result (seen self.new
             ≡ noted F.value (seen self.old) (condition_uses at (seen self.old).controlled (option_map tree_of condition.now))) }

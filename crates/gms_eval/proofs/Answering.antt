@@ -1,4 +1,4 @@
--- Answers one after another, and what a stop says of them.
+-- Answers in sequence, and what a stop says of them.
 use Rattle.std.proofs.Common.{◌≡◌, ℕ, ◌+◌, ◌<◌, ◌≤◌, List, [], ◌∷◌, ◌++◌, map, drop, get_or, length, Ok, Err, Result, refl, sym, ap, ◌∙◌, append-nil, append_assoc}
 use Rattle.std.proofs.lemmas.List.{at_drop_more, at_drop_all}
 use Rattle.std.specs.Result.{IsErrAnd}
@@ -21,12 +21,12 @@ module _ {F : Type 0} (v : F → Number) where
   stops-same Memory a b e s = tt
   stops-same (Stop stop) a b e s = e ∙ s
 
-  -- a stop stays where another step goes on
+  -- a stop remains one where another step follows
   pub stops-then : {A B : Type 0} (stop : StopOrMemory F) (a : Answer A) (next : A → Answer B) → Stops v stop a → Stops v stop (a and_then next)
   stops-then Memory a next s = tt
   stops-then (Stop stop) a next s = ap (λ b. b and_then next) s
 
-  -- a stop says what is said of every answer that is a fault
+  -- a stop shows a fault of one answer where another answer has the same faults
   pub stops-along : {A B : Type 0} (stop : StopOrMemory F) (a : Answer A) (b : Answer B) → ((fault : Fault) → a ≡ Err fault → b ≡ Err fault) → Stops v stop a → Stops v stop b
   stops-along Memory a b along s = tt
   stops-along (Stop stop) a b along s = along (fault_of v stop) s
@@ -80,10 +80,10 @@ pub gives-same : {F A R : Type 0} (v : F → Number) (shown : R → A) (r : Resu
 gives-same v shown (Ok x) a b e g = e ∙ g
 gives-same v shown (Err stop) a b e g = stops-same v stop a b e g
 
--- after a value comes what goes on with it
+-- after a value comes the next step with it
 pub then-value : {A B : Type 0} (a : Answer A) (x : A) (next : A → Answer B) → a ≡ Ok x → (a and_then next) ≡ next x
 then-value a x next e = ap (λ b. b and_then next) e
 
--- a stop that is handed on
+-- a stop that is returned as it is
 pub handed_on : {F A R : Type 0} (v : F → Number) (shown : R → A) (r : Result R (StopOrMemory F)) (stop : StopOrMemory F) (a : Answer A) → IsErrAnd r (λ e. e ≡ stop) → Stops v stop a → Gives v shown r a
 handed_on v shown r stop a h s = let p = err_from_is_err_and r h in rw (p.1, p.2) s

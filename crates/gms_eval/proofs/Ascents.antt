@@ -20,7 +20,7 @@ all_in [] (l ∷ tuple) = false
 all_in (labels ∷ lists) [] = false
 all_in (labels ∷ lists) (l ∷ tuple) = list_any (λ m. nat_eq m l) labels && all_in lists tuple
 
--- the tuples behind each of some labels
+-- the tuples with each of some labels put before them
 abbrev behind_each : List (List ℕ) → List ℕ → List (List ℕ)
 behind_each tuples labels = flat_map (λ label. map (λ tuple. label ∷ tuple) tuples) labels
 
@@ -79,7 +79,7 @@ all_in-length (labels ∷ lists) (l ∷ tuple) e =
 
 -- ---- order
 
--- labels in order, each before those behind it
+-- labels in ascending order
 abbrev pub AreAscending : List ℕ → Type 0
 AreAscending labels = IsOrdered (map (λ label. label ∷ []) labels)
 

@@ -7,7 +7,7 @@ use Rattle.std.proofs.Math.Nat.{add-mul-mod_self_right, add-mod_left}
 use Rattle.std.proofs.lemmas.Int.{int_rem_euclid_is, ints}
 
 module _ {X Y : Type 0} (better : Y → Y → Y) (shown : X → Y) where
-  -- the best of what is left and of the best so far
+  -- the best of the remaining elements and of the best so far
   abbrev pub best_from : Y → List X → Y
   best_from best xs = fold better best (map shown xs)
 
@@ -20,7 +20,7 @@ module _ {X Y : Type 0} (better : Y → Y → Y) (shown : X → Y) where
 
 -- ---- places that go round
 
--- a place moved by less than so many, where it does not pass the last
+-- a place plus a shift, where the sum is below the count
 stays : (place shift count : ℕ) → shift < count - place → (place + shift) % count ≡ place + shift
 stays place shift count before = mod-eq_of_lt (let l : place + shift < count = omega arith in l)
 
@@ -31,7 +31,7 @@ passes place shift count p s past =
     let e : place + shift ≡ count + behind = omega arith in
     ap (λ n. n % count) e ∙ add-mod_left count behind ∙ mod-eq_of_lt (let l : behind < count = omega arith in l)
 
--- a place moved by a whole number is the place moved by what it leaves
+-- a place moved by an integer is the place moved by the integer's remainder
 turned : (place count : ℕ) (amount : ℤ) (shift : ℕ) → place < count → int_rem_euclid amount (pos count) ≡ pos shift → int_rem_euclid (pos place +ℤ amount) (pos count) ≡ pos ((place + shift) % count)
 turned place count (pos a) shift p e =
     let left : a % count ≡ shift = ap unsigned_abs e in
@@ -49,7 +49,7 @@ pub around-past : (place count : ℕ) (amount : ℤ) (shift : ℕ) → place < c
 around-past place count amount shift p s e past =
     sym (turned place count amount shift p e ∙ ap pos (passes place shift count p s past))
 
--- what a whole number leaves, read from the code's signed numbers
+-- the remainder of an integer, read from the code's signed numbers
 pub shift-is : (count : ℕ) (amount r s : ℤ) → r ≡ int_rem_euclid amount (pos count) → s ≡ r → int_rem_euclid amount (pos count) ≡ pos (nat_abs s)
 shift-is count (pos a) r s e f = sym (ap (λ z. pos (nat_abs z)) (f ∙ e))
 shift-is count (negsuc a) r s e f = sym (ap (λ z. pos (nat_abs z)) (f ∙ e))

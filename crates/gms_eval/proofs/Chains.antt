@@ -1,4 +1,4 @@
--- Parts joined one after another: a step of the walk, its end, and its faults.
+-- Parts joined in sequence: a step of the loop, its end, and its faults.
 use Rattle.std.proofs.Common.{◌≡◌, ℕ, ◌+◌, ◌<◌, ◌≤◌, List, [], ◌∷◌, map, drop, get_or, length, Option, Some, None, Ok, Err, refl, sym, ap, ◌∙◌}
 use Rattle.std.proofs.lemmas.List.{at_drop_more, at_drop_all}
 use Rattle.gq_number.specs.Number.{Number}
@@ -31,12 +31,12 @@ module _ (step : Step) (empty : Answer Extended) where
   part_stopped (Some x) mark a parts fault e s =
       ap (λ b. step mark x b and_then λ y. joined step empty (Some y) parts) e ∙ ap (λ b. b and_then λ y. joined step empty (Some y) parts) (s x refl)
 
-  -- the step leaves the next part
+  -- one step with the next part
   part_left : (x : Extended) (mark : Mark) (a : Answer Extended) (parts : Marked) (z : Extended) → step mark x a ≡ Ok z → joined step empty (Some x) ((mark, a) ∷ parts) ≡ joined step empty (Some z) parts
   part_left x mark a parts z s = ap (λ b. b and_then λ y. joined step empty (Some y) parts) s
 
   module _ {X : Type 0} (mark : X → Mark) (answer : X → Answer Extended) where
-    -- what the parts from here on make of the value so far
+    -- the parts from here on, joined to the value so far
     abbrev pub from_here : Option Extended → List X → Answer Extended
     from_here o xs = joined step empty o (map (λ x. (mark x, answer x)) xs)
 

@@ -43,6 +43,6 @@ module _ {F X : Type 0} (v : F → Number) (step : Step) (mark : X → Mark) (an
       ∙ chain-end step empty mark answer (option_map (extended v) so_far) xs i all
       ∙ joined-empty step empty (option_map (extended v) so_far) (ap (option_map (extended v)) is)
 
--- an element that stands at a place, at its own default
+-- an element of a list, read with itself as the default
 pub at_itself : {X : Type 0} (xs : List X) (i : ℕ) (d x : X) → i < length xs → x ≡ get_or xs i d → x ≡ get_or xs i x
 at_itself xs i d x l e = e ∙ get_or_default xs i d x l

@@ -1,4 +1,4 @@
--- The labels of a reference's tuple, and that a walk over its stored tuples serves for it.
+-- The labels of a reference's tuple, and that a traversal of its stored tuples finds its elements.
 use Rattle.std.proofs.Common.{◌≡◌, ℕ, ◌<◌, ◌≤◌, zero, suc, Bool, true, false, not, ◌&&◌, ◌||◌, List, [], ◌∷◌, ◌++◌, map, take, get_or, length, slice_range, nat_le, nat_eq, pos, ◌==◌, Option, Some, None, option_map, Ok, Err, Box, IsOk, IfSome, is_some, if◌then◌else◌, refl, sym, ap, subst, ◌∙◌, eq-eqb, arith}
 use Rattle.std.specs.List.{All, list_any, flat_map}
 use Rattle.std.proofs.lemmas.List.Folds.{list_any-append}
@@ -36,7 +36,7 @@ use Rattle.gms_eval.proofs.Zeros.{whole_zero}
 
 -- ---- labels that are all there
 
--- a label that is there
+-- a label that exists
 abbrev pub there : ℕ → Answer (Option ℕ)
 there label = Ok (Some label)
 
@@ -82,7 +82,7 @@ each-ok (Ok x ∷ answers) t e = by (each-ok answers) (in_order answers) refl t 
         let others : xs ≡ map Some t = cc in
         ap (λ y. Ok y ∷ answers) first ∙ ap (λ rest. there l ∷ rest) (same t (q ∙ ap Ok others))
 
--- where indices have a tuple, each label of it is there
+-- if indices have a tuple, each of its labels exists
 pub tuple-labels : (answers : List (Answer (Option ℕ))) (t : List ℕ) → (in_order answers and_then λ those. Ok (tuple_of those)) ≡ Ok (Some t) → answers ≡ map there t
 tuple-labels answers t e = each-ok answers t (all-ok answers t e)
 
@@ -115,7 +115,7 @@ label-inside (p ∷ b) more set e = by (label-inside b more set) (p.0 == set) e
     by rest true e = absurd cc
     by rest false e = rest e
 
--- the label of a set that stands first at a place
+-- the label of the first occurrence of a set
 pub label-paired : (sets x : List ℕ) (k set : ℕ) → length x ≡ length sets → k < length sets → set ≡ get_or sets k 0 → list_any (λ y. nat_eq y set) (take k sets) ≡ false → label_of (paired sets x) set ≡ Some (get_or x k 0)
 label-paired [] x k set long l at first = absurd (omega arith)
 label-paired (s ∷ sets) [] k set long l at first = absurd (omega arith)
@@ -170,13 +170,14 @@ no-some : {X : Type 0} (o : Option X) → is_some o ≡ false → o ≡ None
 no-some None e = refl
 no-some (Some x) e = absurd cc
 
--- the index that has the label of the set at a position, which stands for none outside and comes there first
+-- the index whose label is that of the set at a position: the set has no label outside, and this is
+-- its first occurrence
 pub place-picks : {F : Type 0} (v : F → Number) (limit : ℕ) (b : Pairs) (sets : List ℕ) (indices : List (Index F)) (position : ℕ) (outside : Option ℕ) (place : Option ℕ) → position < length sets → outside ≡ label_of b (get_or sets position 0) → is_some outside ≡ false → list_any (λ y. nat_eq y (get_or sets position 0)) (take position sets) ≡ false → IfSome place (λ n. n < length indices) → IfSome place (λ n. (state : State) (binding : Pairs) → get_or (map (label_answer v limit state binding) indices) n (Ok None) ≡ Ok (label_of binding (get_or sets position 0))) → IfSome place (λ n. (state : State) (element tuple : List ℕ) → length element ≡ length sets → tuple_answer v limit state indices (controlled b sets element) ≡ Ok (Some tuple) → get_or tuple n 0 ≡ get_or element position 0)
 place-picks v limit b sets indices position outside None l is none first within label = tt
 place-picks v limit b sets indices position outside (Some n) l is none first within label =
     λ state element tuple long e. tuple-label (map (label_answer v limit state (controlled b sets element)) indices) tuple n (get_or element position 0) (let m = length-map indices (label_answer v limit state (controlled b sets element)) in omega arith) e (label state (controlled b sets element) ∙ ap Ok (label-inside b (paired sets element) (get_or sets position 0) (sym is ∙ no-some outside none) ∙ label-paired sets element position (get_or sets position 0) long l refl first))
 
--- what is said of the value that is there
+-- from a fact about an option that has a value, the fact about the value
 pub at-some : {X : Type 0} (P : X → Type 0) (o : Option X) (x : X) → o ≡ Some x → IfSome o P → P x
 at-some P o x e h = subst (λ o. IfSome o P) e h
 
@@ -229,7 +230,7 @@ so-differs state name t (equation_of entries) is so =
 so-differs state name t (model_with model solver) is so =
     absurd (both_ways (is_so nothing) nothing_not_so (ap (λ c. is_so (value_in c t)) (sym is) ∙ so))
 
--- ---- walks
+-- ---- traversals
 
 -- what one of them makes is among what all make
 pub has-flat_map : (f : List ℕ → List (List ℕ)) (xs : List (List ℕ)) (x t : List ℕ) → has xs x ≡ true → has (f x) t ≡ true → has (flat_map f xs) t ≡ true
@@ -248,7 +249,8 @@ has-flat_map f (y ∷ xs) x t e there =
     by rest false other later = ap (λ b. has (f y) t || b) (rest later there) ∙ or-true (has (f y) t)
 
 module _ {F : Type 0} (v : F → Number) (limit : ℕ) (state : State) (b : Pairs) (sets : List ℕ) (name : ℕ) (indices : List (Index F)) where
-  -- a walk over the stored tuples that begin with the labels from outside, of which each gives the elements of its labels
+  -- a traversal of the stored tuples that begin with the labels from outside, where each tuple
+  -- gives the elements with its labels
   pub leads-by : (walk : Walk) (prefix : List ℕ) (given : List (List ℕ)) → walk.name ≡ name → given ≡ given_of state name → ((t : List ℕ) → has given t ≡ differs_in (symbol_of state name).content t) → walk.from ≤ walk.upto → walk.upto ≤ length given → slice_range given walk.from walk.upto ≡ those_with given prefix → length walk.places.items ≡ length sets → length sets ≤ 10 → walk.spread ≡ length (elements state walk.free.items) → ((binding : Pairs) → IsOk (tuple_answer v limit state indices binding)) → ((more : Pairs) (t : List ℕ) → tuple_answer v limit state indices (b ++ more) ≡ Ok (Some t) → begins_with t prefix ≡ true) → ((x t : List ℕ) → has (elements state sets) x ≡ true → tuple_answer v limit state indices (controlled b sets x) ≡ Ok (Some t) → has (spread_over state walk.free.items walk.places.items t) x ≡ true) → Leads state b sets (entry_holds v limit state name indices) walk
   leads-by walk prefix given same_name same_given differs from_upto within range covers few counted ok begins spreads =
       record {

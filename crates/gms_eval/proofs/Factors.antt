@@ -1,4 +1,5 @@
--- What is known of a condition that is a number or a reference, and that a walk by a factor finds all elements.
+-- What is known of a condition that is a number or a reference, and that a traversal led by a
+-- factor finds all elements.
 use Rattle.std.proofs.Common.{◌≡◌, ℕ, Bool, true, false, ◌&&◌, List, Option, Some, None, Ok, Err, Result, Vec, Box, IfOk, is_ok, refl, sym, ap, subst, ◌∙◌}
 use Rattle.std.specs.declared.alloc.Global.{Global}
 use Rattle.std.proofs.lemmas.Result.{IfOk-weaker}
@@ -62,7 +63,7 @@ module _ {F : Type 0} (v : F → Number) (limit : ℕ) (state : State) (binding 
     known-Guard under at k =
         subst (λ e. IsScan state binding sets (expression_holds v limit state e) scan) (sym is) (scan-Guard v limit state binding sets scan operand guards (subst (λ those. IsScan state binding sets (λ b. both (guards_hold v limit state those b) (expression_holds v limit state operand.value b)) scan) same (subst (λ under. IsScan state binding sets (λ b. both (guards_hold v limit state those b) (expression_holds v limit state under b)) scan) at k)))
 
-  -- the elements to which a walk comes that leads are all at which the condition may hold
+  -- a traversal that leads visits all elements at which the condition may hold
   pub led : (e : Expr F) (walk : Walk) (found : List (List ℕ)) → All (IsSimple state) sets → IsOrdered found → ((t : List ℕ) → has found t ≡ (has (walked state walk) t && has (elements state sets) t)) → Leads state binding sets (expression_holds v limit state e) walk → those_where (λ element. holds v limit state (controlled binding sets element) (tree_of e)) found ≡ those_where (λ element. holds v limit state (controlled binding sets element) (tree_of e)) (elements state sets)
   led e walk found simple ordered members leads =
       walk-thinned (λ element. holds v limit state (controlled binding sets element) (tree_of e)) (elements state sets) found (elements-ordered state sets simple) ordered (λ t there. second (has (walked state walk) t) (has (elements state sets) t) (sym (members t) ∙ there)) (λ x there out. leads.needed x there (first (has (walked state walk) x) (has (elements state sets) x) there (sym (members x) ∙ out)))
@@ -78,7 +79,7 @@ module _ {F : Type 0} (v : F → Number) (limit : ℕ) (state : State) (binding 
           there_not b there out = sym there ∙ out
       first false b there out = refl
 
-  -- a domain found by a walk over other elements at which the condition may hold
+  -- a domain found by a traversal of other elements at which the condition may hold
   pub by-others : (e same : Expr F) (whole : Answer (List (List ℕ))) (all among : List (List ℕ)) → same ≡ e → whole ≡ those_where (λ element. holds v limit state (controlled binding sets element) (tree_of e)) all → those_where (λ element. holds v limit state (controlled binding sets element) (tree_of e)) among ≡ those_where (λ element. holds v limit state (controlled binding sets element) (tree_of e)) all → whole ≡ those_where (λ element. holds v limit state (controlled binding sets element) (tree_of same)) among
   by-others e same whole all among is so thinner =
       so

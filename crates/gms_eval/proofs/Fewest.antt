@@ -1,4 +1,4 @@
--- How many elements are found by a walk.
+-- How many elements a traversal finds.
 use Rattle.std.proofs.Common.{◌≡◌, ℕ, suc, ◌-◌, ◌*◌, ◌<◌, ◌≤◌, Bool, true, false, not, ◌&&◌, ◌||◌, cond, List, [], ◌∷◌, ◌++◌, drop, length, slice_range, refl, sym, ap, ◌∙◌, length-append, suc-mul, zero-mul, mul_comm, arith}
 use Rattle.std.specs.List.{flat_map}
 use Rattle.std.specs.Ordering.{is_lt}
@@ -51,7 +51,7 @@ other-first x xs t ordered there = by (same_tuple x t) refl
         absurd (both_ways (is_lt (tuple_cmp x t)) (ap is_lt equal) (ap is_lt less))
     by false other = refl
 
--- an ordered list whose tuples all stand in another is no longer
+-- an ordered list whose tuples are all in another list is no longer than it
 pub ordered-most : (xs ys : List (List ℕ)) → IsOrdered xs → ((t : List ℕ) → has xs t ≡ true → has ys t ≡ true) → length xs ≤ length ys
 ordered-most [] ys ordered within = omega arith
 ordered-most (x ∷ xs) ys ordered within =
@@ -69,7 +69,7 @@ ordered-most (x ∷ xs) ys ordered within =
         ∙ ap (λ b. b && not (same_tuple x t)) (within t (ap (λ b. same_tuple x t || b) there ∙ or-true (same_tuple x t)))
         ∙ ap not (other-first x xs t ordered there)
 
--- ---- walks
+-- ---- traversals
 
 each-length : (m : ℕ) (f : List ℕ → List (List ℕ)) (xs : List (List ℕ)) → ((x : List ℕ) → length (f x) ≡ m) → length (flat_map f xs) ≡ length xs * m
 each-length m f [] same = omega (arith, zero-mul m)
@@ -79,7 +79,7 @@ each-length m f (x ∷ xs) same =
 mul-less : (a b m : ℕ) → a ≤ b → a * m ≤ b * m
 mul-less a b m le = rw (mul_comm a m, mul_comm b m) (mul-le m a b le)
 
--- a walk comes to no more elements than its steps
+-- a traversal visits no more elements than its steps
 pub walked-most : (state : State) (walk : Walk) → walk.spread ≡ length (elements state walk.free.items) → length (walked state walk) ≤ steps_of walk
 walked-most state walk counted =
     let given : List (List ℕ) = slice_range (given_of state walk.name) walk.from walk.upto in
@@ -90,7 +90,7 @@ walked-most state walk counted =
     let same : steps_of walk ≡ (walk.upto - walk.from) * spread = ap (λ n. (walk.upto - walk.from) * n) counted in
     omega (arith, all, most, same)
 
--- the elements that are found are no more
+-- the elements that are found are no more than the steps
 pub found-most : (state : State) (sets : List ℕ) (walk : Walk) (found list : List (List ℕ)) → walk.spread ≡ length (elements state walk.free.items) → list ≡ found → IsOrdered found → ((t : List ℕ) → has found t ≡ (has (walked state walk) t && has (elements state sets) t)) → length list ≤ steps_of walk
 found-most state sets walk found list counted is ordered members =
     let most : length found ≤ length (walked state walk) = ordered-most found (walked state walk) ordered (λ t there. first (has (walked state walk) t) (has (elements state sets) t) (sym (members t) ∙ there)) in

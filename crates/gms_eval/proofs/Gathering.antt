@@ -1,4 +1,4 @@
--- The elements to which a walk comes, gathered one after another.
+-- The elements that a traversal visits, gathered in sequence.
 use Rattle.std.proofs.Common.{◌≡◌, ℕ, ◌+◌, ◌-◌, ◌<◌, ◌≤◌, Bool, true, false, ◌&&◌, ◌||◌, List, [], ◌∷◌, ◌++◌, take, drop, get_or, length, slice_range, slice_get, Some, refl, sym, ap, ◌∙◌, arith, length-drop}
 use Rattle.std.specs.List.{flat_map}
 use Rattle.std.proofs.lemmas.Bool.{both_ways}
@@ -36,7 +36,7 @@ module _ (old : List (List ℕ)) (x : List ℕ) (those start : List (List ℕ)) 
   has-last : (t : List ℕ) → has (old ++ x ∷ []) t ≡ (has old t || (same_tuple x t || false))
   has-last t = list_any-append (λ m. same_tuple m t) old (x ∷ [])
 
-  -- an element that is one of those is put in
+  -- an element that a condition holds for is inserted
   pub gathered-in : (found next : List (List ℕ)) → true ≡ has those x → ((t : List ℕ) → has found t ≡ (has start t || (has old t && has those t))) → ((t : List ℕ) → has next t ≡ (same_tuple x t || has found t)) → (t : List ℕ) → has next t ≡ (has start t || (has (old ++ x ∷ []) t && has those t))
   gathered-in found next one so_far put t =
       put t

@@ -10,7 +10,7 @@ use Rattle.gms_eval.specs.Nodes.{each_holds, is_so}
 use Rattle.gms_eval.specs.Faults.{Answer, Fault, nothing, ◌and_then◌}
 use Rattle.gms_eval.specs.Gives.{fault_of, Stops}
 
--- whether a guard holds, where those behind it do
+-- whether a guard holds, where the guards after it do
 abbrev pub and_this : Answer Extended → Bool → Answer Bool
 and_this guard hold = if hold then guard and_then (λ x. Ok (is_so x)) else Ok false
 
@@ -31,24 +31,24 @@ module _ {X : Type 0} (answer : X → Answer Extended) where
   abbrev pub hold_all : List X → Answer Bool
   hold_all xs = each_holds (map answer xs)
 
-  -- the guard at a place, where those behind it hold
+  -- the guard at a place, where those after it hold
   pub holds-here : (xs : List X) (n : ℕ) (x : X) → n < length xs → x ≡ get_or xs n x → hold_all (drop (n + 1) xs) ≡ Ok true → hold_all (drop n xs) ≡ (answer x and_then λ y. Ok (is_so y))
   holds-here xs n x l at e =
       at_drop_more hold_all xs n x l
       ∙ ap (λ z. hold_all (z ∷ drop (n + 1) xs)) (sym at)
       ∙ ap (λ a. a and_then and_this (answer x)) e
 
-  -- before the last of them none is taken
+  -- before the last guard none is evaluated
   pub holds-start : (xs : List X) → hold_all (drop (length xs) xs) ≡ Ok true
   holds-start xs = ap hold_all (drop-length xs)
 
-  -- one more is taken
+  -- one more guard is evaluated
   pub holds-next : (xs : List X) (p : ℕ) (x : X) (y : Extended) → 0 < p → p ≤ length xs → x ≡ get_or xs (p - 1) x → hold_all (drop p xs) ≡ Ok true → answer x ≡ Ok y → hold_all (drop (p - 1) xs) ≡ Ok (is_so y)
   holds-next xs p x y some within at e is =
       let n : p - 1 + 1 ≡ p = omega arith in
       holds-here xs (p - 1) x (omega arith) at (ap (λ k. hold_all (drop k xs)) n ∙ e) ∙ ap (λ a. a and_then λ z. Ok (is_so z)) is
 
-  -- all are taken
+  -- all guards are evaluated
   pub all-hold : (xs : List X) (p : ℕ) → p ≡ 0 → hold_all (drop p xs) ≡ Ok true → hold_all xs ≡ Ok true
   all-hold xs p none e = ap (λ k. hold_all (drop k xs)) (sym none) ∙ e
 
@@ -63,7 +63,7 @@ module _ {X : Type 0} (answer : X → Answer Extended) where
       let n : p - 1 + 1 ≡ p = omega arith in
       holds-fault (p - 1) (map answer xs) (fault_of v stop) (ap each_holds (drop-map answer (p - 1) xs) ∙ holds-here xs (p - 1) x (omega arith) at (ap (λ k. hold_all (drop k xs)) n ∙ e) ∙ ap (λ a. a and_then λ z. Ok (is_so z)) s)
 
--- an operand whose guards hold is taken
+-- an operand whose guards hold is evaluated
 pub guard-so : (a : Answer Bool) (hold : Bool) (x : Answer Extended) → a ≡ Ok hold → hold ≡ true → (a and_then λ h. if h then x else Ok nothing) ≡ x
 guard-so a hold x e so =
     ap (λ b. b and_then λ h. if h then x else Ok nothing) e ∙ ap (λ h. if h then x else Ok nothing) so

@@ -1,4 +1,5 @@
--- The binding under which the elements of a walk are looked at: the outer one, and the element's labels behind it.
+-- The binding under which the elements of a traversal are tested: the outer one, followed by the
+-- element's labels.
 use Rattle.std.proofs.Common.{◌≡◌, ◌∙◌, ap, sym, refl, ℕ, Bool, List, ◌++◌, length, take, take_all, take_at, le_refl, Ok}
 use Rattle.gq_number.specs.Number.{Number}
 use Rattle.gq_extended.specs.Extended.{Extended}

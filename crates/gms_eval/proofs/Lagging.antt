@@ -49,7 +49,7 @@ moved-label members CircularLag amount place =
 pub lagged-nowhere : (members : List (List ℕ)) (op : LagOp) (amount : ℤ) (label : ℕ) → None ≡ place_of members (label ∷ []) → None ≡ lagged_label members op amount label
 lagged-nowhere members op amount label e = ap (option_and_then (λ place. moved members op amount (pos place))) e
 
--- from another it reaches that at the place to which it goes
+-- from any other label it reaches the one at the place to which it goes
 pub lagged-there : (members : List (List ℕ)) (op : LagOp) (amount : ℤ) (label n : ℕ) (o : Option ℕ) → Some n ≡ place_of members (label ∷ []) → o ≡ moved_place (length members) op amount (pos n) → option_map (labelled members) o ≡ lagged_label members op amount label
 lagged-there members op amount label n o e is =
     ap (option_map (labelled members)) is

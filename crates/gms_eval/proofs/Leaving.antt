@@ -1,4 +1,4 @@
--- Operands that `and` and `or` leave, and steps that take a fault as it is.
+-- Operands that `and` and `or` do not evaluate, and steps that return a fault as it is.
 use Rattle.std.proofs.Common.{◌≡◌, ℕ, ◌+◌, ◌<◌, Bool, true, false, not, List, drop, get_or, length, Option, Some, None, Ok, Err, if◌then◌else◌, refl, sym, ap, ◌∙◌}
 use Rattle.gms_labels.specs.declared.place.Place.{Place}
 use Rattle.gq_extended.specs.Extended.{Extended}
@@ -35,13 +35,13 @@ or-takes exclusive o stays fault y is =
     ap (λ b. if b then Ok (truth true) else Err fault) (ap (is_left_by_or exclusive) (sym is) ∙ stays)
 
 module _ {X : Type 0} (mark : X → tree.Mark) (answer : X → Answer Extended) where
-  -- a part that `and` leaves
+  -- a part that `and` does not evaluate
   pub and-left : (o : Option Extended) (xs : List X) (i : ℕ) (x : X) → i < length xs → x ≡ get_or xs i x → is_left_by_and o ≡ true → from_here all_step (Ok nothing) mark answer o (drop i xs) ≡ from_here all_step (Ok nothing) mark answer (Some nothing) (drop (i + 1) xs)
   and-left None xs i x l at left = absurd (cc)
   and-left (Some y) xs i x l at left =
       chain-left all_step (Ok nothing) mark answer (Some y) xs i x y nothing l at refl (ap (λ b. if b then answer x and_then (λ z. Ok (truth (is_so z))) else Ok (truth false)) (not-true (is_so y) left))
 
-  -- a part that `or` leaves
+  -- a part that `or` does not evaluate
   pub or-left : (exclusive : Bool) (o : Option Extended) (xs : List X) (i : ℕ) (x : X) → mark x ≡ tree.chosen exclusive → i < length xs → x ≡ get_or xs i x → is_left_by_or exclusive o ≡ true → from_here one_step (Ok nothing) mark answer o (drop i xs) ≡ from_here one_step (Ok nothing) mark answer (Some (truth true)) (drop (i + 1) xs)
   or-left exclusive None xs i x is l at left = absurd (cc)
   or-left exclusive (Some y) xs i x is l at left =

@@ -46,7 +46,7 @@ module _ {F : Type 0} where
     abbrev pub chosen_answer : Bool × Expr F → Answer Extended
     chosen_answer p = of_expr v limit state b p.1
 
--- the value so far, or another where there is none
+-- the value so far, or else another
 pub value_or : {F : Type 0} (v : F → Number) (o : Option (Ext F)) (z : Ext F) → extended v z ≡ nothing → extended v (unwrap_or o z) ≡ unwrap_or (option_map (extended v) o) nothing
 value_or v None z e = e
 value_or v (Some x) z e = refl

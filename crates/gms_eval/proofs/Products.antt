@@ -10,13 +10,13 @@ pub pos_of_product : (a b n : ℕ) → n < a * b → 0 < b
 pos_of_product a zero n below = absurd (omega (arith, mul-zero a))
 pos_of_product a (suc b) n below = omega arith
 
--- how many elements lists of one length make, one after another
+-- how many elements lists of one length have together
 length-each : (m : ℕ) (f : ℕ → List (List ℕ)) (xs : List ℕ) → ((x : ℕ) → length (f x) ≡ m) → length (flat_map f xs) ≡ length xs * m
 length-each m f [] same = omega arith
 length-each m f (x ∷ xs) same =
     let rest = length-each m f xs same in let this = same x in let both = length-append (f x) (flat_map f xs) in omega (arith, suc-mul (length xs) m)
 
--- the element of the list at a place that stands at another in it
+-- the element at a place in the list at a place
 at_place : (m : ℕ) (f : ℕ → List (List ℕ)) (xs : List ℕ) (a b : ℕ) → ((x : ℕ) → length (f x) ≡ m) → a < length xs → b < m → get_or (flat_map f xs) (a * m + b) [] ≡ get_or (f (get_or xs a 0)) b []
 at_place m f [] a b same l k = absurd (omega arith)
 at_place m f (x ∷ xs) zero b same l k =

@@ -1,4 +1,5 @@
--- The labels of a reference that are known outside, the sets of which its tuples say nothing, and how many elements a walk by it has.
+-- The labels of a reference that are known outside, the sets that its tuples do not determine, and
+-- how many elements a traversal by it visits.
 use Rattle.std.proofs.Common.{◌≡◌, ◌⊎◌, inl, inr, ℕ, zero, suc, ◌+◌, ◌-◌, ◌*◌, ◌<◌, ◌≤◌, Bool, true, false, ◌&&◌, ◌||◌, nat_le, ◌==◌, List, [], ◌∷◌, ◌++◌, map, take, drop, get_or, length, Option, Some, None, is_none, Box, if◌then◌else◌, refl, sym, ap, ◌∙◌, append-nil, append_assoc, mul-zero, zero-mul, mul-one, suc-mul, leb-true, arith}
 use Rattle.std.specs.declared.alloc.Global.{Global}
 use Rattle.std.proofs.lemmas.List.{at_drop_more, at_drop_all, take_more}
@@ -80,7 +81,7 @@ module _ {F : Type 0} where
         ap (λ i. front_of b (index_tree i rest)) (is ∙ ap (Set name) there) ∙ ap (front_of b) (tree-lagged name some rest)
 
   module _ (b : Pairs) (indices : List (Index F)) (i : ℕ) where
-    -- the front of the indices that are left
+    -- the prefix of the remaining indices
     abbrev pub front_from : List ℕ
     front_from = front_of b (indices_tree (drop i indices))
 
@@ -207,7 +208,7 @@ module _ {F : Type 0} (b : Pairs) (indices : tree.Indices F) where
     free-end free whole all known =
         sym (append-nil free) ∙ ap (λ t. free ++ t) (sym (at_drop_all (free_behind b indices (take i sets)) sets i all)) ∙ known
 
-  -- free sets are no more than the sets
+  -- there are no more free sets than sets
   free-few : (before sets : List ℕ) → length (free_behind b indices before sets) ≤ length sets
   free-few before [] = omega arith
   free-few before (name ∷ rest) = by (is_told b indices before name) (free-few (before ++ name ∷ []) rest)
@@ -217,7 +218,7 @@ module _ {F : Type 0} (b : Pairs) (indices : tree.Indices F) where
       by false le = omega (arith, le)
 
   module _ (list : ℕ → List ℕ) where
-    -- the sets make nothing, or the free ones make something and no more
+    -- a size is 0, or a positive number of free ones is at most it
     abbrev NoMore : ℕ → ℕ → Type 0
     NoMore size free = (size ≡ 0) ⊎ ((0 < free) × (free ≤ size))
 
@@ -244,7 +245,7 @@ module _ {F : Type 0} (b : Pairs) (indices : tree.Indices F) where
         by true h = told-more (length (list name)) (size_from list rest) (size_from list (free_behind b indices (before ++ name ∷ []) rest)) h
         by false h = free-both (length (list name)) (size_from list rest) (size_from list (free_behind b indices (before ++ name ∷ []) rest)) h
 
--- ---- how many elements a walk has
+-- ---- how many elements a traversal visits
 
 size-elements : (state : State) (sets : List ℕ) → length sets ≤ 10 → length (elements state sets) ≡ size_from (labels_of state) sets
 size-elements state sets few = ap length (elements-few state sets few) ∙ length-size_of (map (labels_of state) sets)
@@ -258,7 +259,7 @@ no-elements state sets many = by (nat_le (length sets) 10) refl
     by false e = refl
 
 module _ {F : Type 0} (state : State) (b : Pairs) (sets : List ℕ) (name : ℕ) (indices : tree.Indices F) where
-  -- the sets have no element, or the free ones have some and no more than they
+  -- the sets have no element, or the free ones have at least one and no more than they
   free-elements : length sets ≤ 10 → (length (elements state sets) ≡ 0) ⊎ ((0 < length (elements state (free_behind b indices [] sets))) × (length (elements state (free_behind b indices [] sets)) ≤ length (elements state sets)))
   free-elements few =
       let whole = size-elements state sets few in
@@ -269,7 +270,7 @@ module _ {F : Type 0} (state : State) (b : Pairs) (sets : List ℕ) (name : ℕ)
         | inr some ↦ inr (omega (arith, free, some.0), omega (arith, free, whole, some.1))
       ]
 
-  -- stored tuples that are no fewer than a bound come to no fewer elements
+  -- at least `bound` stored tuples lead to at least `bound` elements
   pub reach-many : (bound count : ℕ) → length sets ≤ 10 → bound ≤ length (elements state sets) → bound ≤ count → count ≡ length (those_with (given_of state name) (front_of b indices)) → bound ≤ reach state b sets name indices
   reach-many bound count few below many is =
       elim (free-elements few) [
@@ -288,7 +289,7 @@ module _ {F : Type 0} (state : State) (b : Pairs) (sets : List ℕ) (name : ℕ)
   pub reach-none : (bound : ℕ) → 10 < length sets → bound ≤ length (elements state sets) → bound ≤ reach state b sets name indices
   reach-none bound many below = omega (arith, no-elements state sets many, below)
 
-  -- how many elements the walk has
+  -- how many elements the traversal visits
   pub reach-is : (count spread : ℕ) → count ≡ length (those_with (given_of state name) (front_of b indices)) → spread ≡ length (elements state (free_behind b indices [] sets)) → count * spread ≡ reach state b sets name indices
   reach-is count spread is wide =
       ap (λ k. k * spread) is ∙ ap (λ k. length (those_with (given_of state name) (front_of b indices)) * k) wide

@@ -1,4 +1,4 @@
--- What is known of a condition from what is known of its factors, which are taken one after another.
+-- What is known of a condition from what is known of its factors, which are evaluated in sequence.
 use Rattle.std.proofs.Common.{◌≡◌, ℕ, ◌+◌, ◌-◌, ◌<◌, ◌≤◌, Bool, true, false, not, List, [], ◌∷◌, ◌++◌, map, fold, take, drop, get_or, length, Option, Some, None, Ok, Err, Vec, Box, IsOk, IfSome, is_ok, if◌then◌else◌, refl, sym, ap, subst, ◌∙◌, arith}
 use Rattle.std.proofs.lemmas.List.{take_more, take_all, take-append-drop, at_drop_more}
 use Rattle.std.proofs.lemmas.List.Sums.{fold_push, fold-append}
@@ -44,7 +44,8 @@ both-ok (Err fault) b ok other = absurd cc
 -- ---- scans
 
 module _ (state : State) (binding : Pairs) (sets : List ℕ) where
-  -- what fails where another condition fails, and has a fault only where that has one, has the same scan
+  -- a condition that fails where another fails, and has a fault only where the other has one, has
+  -- the same scan
   pub scan-follows : (one other : Condition) (scan : Scan) → ((b : Pairs) → IsOk (one b) → IsOk (other b)) → ((b : Pairs) → one b ≡ Ok false → other b ≡ Ok false) → IsScan state binding sets one scan → IsScan state binding sets other scan
   scan-follows one other scan ok fails known =
       record {
@@ -57,7 +58,7 @@ module _ (state : State) (binding : Pairs) (sets : List ℕ) where
       walk-follows (Some w) l =
           record { few = l.few; range = l.range; within = l.within; counted = l.counted; needed = λ x long out. fails (controlled binding sets x) (l.needed x long out) }
 
-  -- of a scan that has found a fault to be possible, only that the condition fails where the other does
+  -- of a scan in which a fault is possible, only that the condition fails where the other does
   pub scan-unsafe : (one other : Condition) (scan : Scan) → scan.safe ≡ false → ((b : Pairs) → one b ≡ Ok false → other b ≡ Ok false) → IsScan state binding sets one scan → IsScan state binding sets other scan
   scan-unsafe one other scan unsafe fails known =
       record {
@@ -70,7 +71,7 @@ module _ (state : State) (binding : Pairs) (sets : List ℕ) where
       walk-follows (Some w) l =
           record { few = l.few; range = l.range; within = l.within; counted = l.counted; needed = λ x long out. fails (controlled binding sets x) (l.needed x long out) }
 
-  -- nothing is known of a condition without a walk that may have a fault
+  -- without a traversal, nothing is known of a condition that may have a fault
   pub scan-nothing : (one : Condition) (scan : Scan) → scan.safe ≡ false → scan.walk ≡ None → IsScan state binding sets one scan
   scan-nothing one scan unsafe none =
       record {
@@ -78,7 +79,7 @@ module _ (state : State) (binding : Pairs) (sets : List ℕ) where
         leads = subst (λ walk. IfSome walk (λ w. Leads state binding sets one w)) (sym none) tt;
       }
 
-  -- one without a walk that has none
+  -- without a traversal, a condition that never has a fault
   pub scan-safe : (one : Condition) (scan : Scan) → scan.walk ≡ None → ((b : Pairs) → IsOk (one b)) → IsScan state binding sets one scan
   scan-safe one scan none ok =
       record {
@@ -86,7 +87,7 @@ module _ (state : State) (binding : Pairs) (sets : List ℕ) where
         leads = subst (λ walk. IfSome walk (λ w. Leads state binding sets one w)) (sym none) tt;
       }
 
-  -- the walk of the second condition serves, where the first has no fault
+  -- the traversal of the second condition serves, where the first has no fault
   pub scan-second : (one other : Condition) (first second result : Scan) (walk : Walk) → first.safe ≡ true → second.walk ≡ Some walk → result.safe ≡ second.safe → result.walk ≡ Some walk → IsScan state binding sets one first → IsScan state binding sets other second → IsScan state binding sets (λ b. both (one b) (other b)) result
   scan-second one other first second result walk sure has_walk same_safe same_walk known later =
       let l : Leads state binding sets other walk = subst (λ w. IfSome w (λ w. Leads state binding sets other w)) has_walk later.leads in
@@ -108,7 +109,7 @@ module _ (state : State) (binding : Pairs) (sets : List ℕ) where
       walk-first (Some w) l =
           record { few = l.few; range = l.range; within = l.within; counted = l.counted; needed = λ x long out. first-false (one (controlled binding sets x)) (other (controlled binding sets x)) (l.needed x long out) }
 
--- ---- conditions in turn
+-- ---- conditions in sequence
 
 stays-false : (answers : List (Answer Bool)) → fold both (Ok false) answers ≡ Ok false
 stays-false [] = refl
@@ -126,7 +127,7 @@ unfolding whole
 truth-so true = refl
 truth-so false = nothing_not_so
 
--- `and` after a value holds where each part behind it does
+-- `and` after a value holds where each later part does
 and-after : (x : Extended) (parts : Marked) → when_so (joined all_step (Ok nothing) (Some x) parts) ≡ fold both (Ok (is_so x)) (map (λ part. when_so part.1) parts)
 and-after x [] = refl
 and-after x (part ∷ parts) = by (λ y. and-after y parts) (is_so x) part.1
@@ -243,7 +244,7 @@ module _ {F : Type 0} (v : F → Number) (limit : ℕ) (state : State) where
   scan-guard binding sets guards p guard scan some within at known =
       scan-follows state binding sets (λ b. both (guards_hold v limit state (drop p guards) b) (expression_holds v limit state guard b)) (guards_hold v limit state (drop (p - 1) guards)) scan (λ b ok. ap is_ok (guards-more guards p guard b some within at) ∙ ok) (λ b e. guards-more guards p guard b some within at ∙ e) known
 
-  -- before the last guard none is taken
+  -- before the last guard none is evaluated
   pub scan-no_guard : (binding : Pairs) (sets : List ℕ) (guards : List (Expr F)) (scan : Scan) → scan.walk ≡ None → IsScan state binding sets (guards_hold v limit state (drop (length guards) guards)) scan
   scan-no_guard binding sets guards scan none =
       scan-safe state binding sets (guards_hold v limit state (drop (length guards) guards)) scan none (λ b. ap is_ok (holds-start (of_expr v limit state b) guards))

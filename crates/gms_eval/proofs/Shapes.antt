@@ -1,4 +1,4 @@
--- The values of leaves, the labels of indices and the domains of controls, by what they are made of.
+-- The values of leaves, the labels of indices and the domains of controls, by their parts.
 use Rattle.std.proofs.Common.{◌≡◌, ℕ, true, false, List, map, Option, Some, None, Ok, Box, length, refl, sym, ap, subst, ◌∙◌}
 use Rattle.std.specs.declared.alloc.Global.{Global}
 use Rattle.gms_labels.specs.declared.place.Place.{Place}

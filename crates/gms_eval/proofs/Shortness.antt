@@ -1,4 +1,4 @@
--- How short the walk of a condition is, from how short those of its factors are.
+-- A bound on the traversal of a condition, from those of its factors.
 use Rattle.std.proofs.Common.{◌≡◌, ◌⊎◌, inl, inr, ℕ, ◌+◌, ◌-◌, ◌<◌, ◌≤◌, Bool, true, false, ◌&&◌, List, [], ◌∷◌, ◌++◌, take, drop, get_or, length, Option, Some, None, Vec, Box, refl, sym, ap, subst, ◌∙◌, arith}
 use Rattle.std.specs.declared.alloc.Global.{Global}
 use Rattle.std.proofs.lemmas.List.{take_more, take-append-drop, at_drop_more}
@@ -153,9 +153,9 @@ module _ {F : Type 0} where
             | inr behind ↦ inr (subst (λ x. MayLead name i (tree_of x)) (sym at) behind.1)
           ]
 
-  -- ---- conditions one after another
+  -- ---- conditions in sequence
 
-  -- one more, behind those that never fail
+  -- one more, after those that never fail
   more-safe : (xs : List (Expr F)) (x : Expr F) → none_fails (parts_tree xs) ≡ true → none_fails (parts_tree (xs ++ x ∷ [])) ≡ never_fails (tree_of x)
   more-safe [] x sure = and-left (never_fails (tree_of x))
   more-safe (y ∷ xs) x sure =
@@ -187,7 +187,7 @@ module _ {F : Type 0} where
     pub part-leads : (name : ℕ) (i : tree.Indices F) → OneMayLead name i (parts_tree (take (k + 1) parts)) → OneMayLead name i (parts_tree (take k parts)) ⊎ MayLead name i (tree_of part)
     part-leads name i may = more-leads name i (take k parts) part (subst (λ ps. OneMayLead name i (parts_tree ps)) taken may)
 
-  -- behind one that may fail
+  -- after one that may fail
   front-fails : (xs ys : List (Expr F)) → none_fails (parts_tree xs) ≡ false → none_fails (parts_tree (xs ++ ys)) ≡ false
   front-fails [] ys off = not_both true refl off
   front-fails (x ∷ xs) ys off = by (front-fails xs ys) (never_fails (tree_of x)) off
@@ -257,7 +257,7 @@ comes-both None None bound one two le a c = omega (arith, le, a, c)
 comes-both (Some walk) None bound one two le a c = omega (arith, le, a, c)
 comes-both first (Some walk) bound one two le a c = c
 
--- ---- how short a walk is
+-- ---- how short a traversal is
 
 module _ {F : Type 0} (state : State) (b : Pairs) (sets : List ℕ) where
   -- where fewer references lead
@@ -274,7 +274,7 @@ module _ {F : Type 0} (state : State) (b : Pairs) (sets : List ℕ) where
         fewest = λ name i leads. absurd (off name i leads);
       }
 
-  -- of two conditions, of which the second is looked at with the bound of the first
+  -- two conditions, of which the second is examined with the bound of the first
   pub short-both : (bound : ℕ) (one other both : Leading F) (first second result : Scan) → result.bound ≡ second.bound → result.walk ≡ later_walk first.walk second.walk → ((name : ℕ) (i : tree.Indices F) → both name i → one name i ⊎ other name i) → IsShort state b sets bound one first → IsShort state b sets first.bound other second → IsShort state b sets bound both result
   short-both bound one other both first second result same_bound same_walk parts s t =
       record {
@@ -293,7 +293,7 @@ module _ {F : Type 0} (state : State) (b : Pairs) (sets : List ℕ) where
     reach-same : (other : ℕ) (i : tree.Indices F) → IsBareReference name (indices_tree indices) other i → reach state b sets name (indices_tree indices) ≡ reach state b sets other i
     reach-same other i h = ap (λ n. reach state b sets n (indices_tree indices)) h.2 ∙ ap (reach state b sets other) h.3
 
-    -- a reference that a walk goes by
+    -- a reference by which a traversal goes
     pub short-walk : (walk : Walk) → scan.walk ≡ Some walk → scan.bound ≡ steps_of walk → steps_of walk < bound → (length indices ≤ 10 → steps_of walk ≡ reach state b sets name (indices_tree indices)) → IsShort state b sets bound (IsBareReference name (indices_tree indices)) scan
     short-walk walk there same shorter is =
         record {
@@ -311,6 +311,6 @@ module _ {F : Type 0} (state : State) (b : Pairs) (sets : List ℕ) where
           fewest = λ other i h. omega (arith, same, le (few other i h), reach-same other i h);
         }
 
-    -- one with a lag leads no walk
+    -- a reference with a lag leads no traversal
     pub lagged-none : without_lags (indices_tree indices) ≡ false → (other : ℕ) (i : tree.Indices F) → IsBareReference name (indices_tree indices) other i → ⊥
     lagged-none lags other i h = not_both (without_lags (indices_tree indices)) h.0 lags

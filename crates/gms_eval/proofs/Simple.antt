@@ -86,7 +86,7 @@ module _ (state : State) where
 
   -- ---- the test label by label
 
-  -- whether the labels that are left are in the sets that are left
+  -- whether the remaining labels are in the remaining sets
   abbrev pub rest_in : List ℕ → List ℕ → ℕ → Bool
   rest_in sets x place = all_in (map (labels_of state) (drop place sets)) (drop place x)
 
@@ -104,7 +104,7 @@ module _ (state : State) where
   rest-end sets x place all all_x =
       ap (λ s. all_in (map (labels_of state) s) (drop place x)) (drop_all place sets all) ∙ ap (all_in []) (drop_all place x all_x)
 
--- what a function makes of a member is a member of what it makes of all
+-- the image of a member is a member of the mapped list
 pub has-map : (f : List ℕ → List ℕ) (xs : List (List ℕ)) (t : List ℕ) → has xs t ≡ true → has (map f xs) (f t) ≡ true
 has-map f [] t e = absurd cc
 has-map f (x ∷ xs) t e = by (has-map f xs t) (same_tuple x t) refl e

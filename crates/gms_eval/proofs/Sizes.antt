@@ -55,7 +55,8 @@ module _ (list : ℕ → List ℕ) where
 
 -- ---- the element of a number, label by label
 
--- what is known while an element is made: the labels so far, and the number of what is left among the elements of the sets that are left
+-- what is known while an element is made: the labels so far, and the remaining number among the
+-- elements of the remaining sets
 pub record IsMade (lists : List (List ℕ)) (number : ℕ) (rest : List (List ℕ)) (element : List ℕ) (size place : ℕ) : Type 0 where
   pub made : get_or (product lists) number [] ≡ element ++ get_or (product rest) place []
   pub size_is : size ≡ length (product rest)
@@ -90,7 +91,7 @@ made-as {lists} {number} {rest} {element} {size} {place} element' size' place' m
       below = omega (arith, m.below);
     }
 
--- what the code has to know at a step: its divisors are not 0, and the label is there
+-- what the code requires at a step: its divisors are not 0, and the label exists
 pub record IsTurn (xs : List ℕ) (rest : List (List ℕ)) (size place : ℕ) : Type 0 where
   pub quotient : size / length xs ≡ length (product rest)
   pub some_labels : 0 < length xs
@@ -129,7 +130,7 @@ pub elements-few : (state : State) (sets : List ℕ) → length sets ≤ 10 → 
 elements-few state sets few =
     ap (λ b. if b then product (map (labels_of state) sets) else []) (le-leb (length sets) 10 few)
 
--- where there is an element the sets are at most 10
+-- if there is an element there are at most 10 sets
 pub few-elements : (state : State) (sets : List ℕ) (number size : ℕ) → size ≡ length (elements state sets) → number < size → length sets ≤ 10
 few-elements state sets number size is below =
     elim (nat_le (length sets) 10) as (λ b. nat_le (length sets) 10 ≡ b → size ≡ length (if b then product (map (labels_of state) sets) else []) → length sets ≤ 10) [

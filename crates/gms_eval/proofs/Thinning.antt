@@ -1,4 +1,4 @@
--- A walk may leave out elements for which the test does not hold.
+-- A traversal may leave out elements for which the test does not hold.
 use Rattle.std.proofs.Common.{◌≡◌, ℕ, Bool, true, false, ◌&&◌, cond, filter, List, [], ◌∷◌, get_or, Ok, Err, if◌then◌else◌, refl, sym, ap, ◌∙◌}
 use Rattle.std.specs.List.{All}
 use Rattle.std.proofs.lemmas.List.Elements.{All-head, All-tail, Contains-get_or}
@@ -30,7 +30,8 @@ module _ (test : List ℕ → Answer Bool) where
               rest ∙ sym (left_out x xs (All-head (λ x. kept x ≡ false → test x ≡ Ok false) x xs out e))
         ] refl
 
-  -- the walk over some of them in order finds the same, where it has all for which the test may hold
+  -- traversing only some elements in order finds the same, where they include all for which the
+  -- test may hold
   pub walk-thinned : (xs among : List (List ℕ)) → IsOrdered xs → IsOrdered among → ((t : List ℕ) → has among t ≡ true → has xs t ≡ true) → ((x : List ℕ) → has xs x ≡ true → has among x ≡ false → test x ≡ Ok false) → those_where test among ≡ those_where test xs
   walk-thinned xs among in_order among_in_order within out =
       ap (those_where test) (same_from_members among (filter (has among) xs) among_in_order (IsOrdered-filter (has among) xs in_order) (λ t. both t ∙ sym (has-filter (has among) xs t)))

@@ -18,7 +18,7 @@ no_magnitude (negsuc n) e = absurd (let f : suc n ≡ 0 = eqb-true (suc n) 0 e i
 pub zero_from_test : (x : Number) → is_zero x ≡ true → x ≡ whole (pos 0)
 zero_from_test x e = zero_from_numerator x (no_magnitude x.numerator e)
 
--- the test, by what the field answers
+-- the test of zero, by the answer of the field
 pub zero_told : (b : Bool) (x : Number) → IsTrue b ↔ (x ≡ whole (pos 0)) → is_zero x ≡ b
 zero_told true x told = ap is_zero (told.0 refl) ∙ whole_zero
 zero_told false x told =

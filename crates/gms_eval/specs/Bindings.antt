@@ -1,5 +1,5 @@
--- The labels that sets stand for within folds, loops and assignments (GAMS User's Guide, "Data Manipulations with Parameters", indexed
--- assignments, controlled indices).
+-- The labels that sets stand for within folds, loops and assignments (GAMS User's Guide, "Data
+-- Manipulations with Parameters", indexed assignments, controlled indices).
 use Rattle.std.specs.Prelude.{ℕ, List, [], ◌∷◌, ◌++◌, Option, Some, None, if◌then◌else◌, ◌==◌}
 
 -- sets, by the numbers of their names, each with the label that it stands for
@@ -16,6 +16,6 @@ abbrev pub paired : List ℕ → List ℕ → Pairs
 paired (set ∷ sets) (label ∷ labels) = (set, label) ∷ paired sets labels
 paired sets labels = []
 
--- the binding in which these sets stand for the labels of an element, besides those that stand for one already
+-- the binding in which these sets also stand for the labels of an element
 abbrev pub controlled : Pairs → List ℕ → List ℕ → Pairs
 controlled pairs sets element = pairs ++ paired sets element

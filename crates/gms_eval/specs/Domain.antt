@@ -1,6 +1,7 @@
--- The domain of a fold, a loop or an assignment: the elements of the product of its sets whose condition holds (GAMS User's Guide,
--- "Data Manipulations with Parameters", indexed operations; "Conditional Expressions, Assignments and Equations", dollar control).
--- How large a product may be is this project's own rule.
+-- The domain of a fold, a loop or an assignment: the elements of the product of its sets whose
+-- condition holds (GAMS User's Guide, "Data Manipulations with Parameters", indexed operations;
+-- "Conditional Expressions, Assignments and Equations", dollar control). How large a product may be
+-- is this project's own rule.
 use Rattle.std.specs.Prelude.{ℕ, nat_lt, nat_le, min, Bool, List, [], ◌∷◌, length, map, Ok, Err, if◌then◌else◌}
 use Rattle.gms_labels.specs.declared.place.Place.{Place}
 use Rattle.gms_tuple.specs.Products.{product}
@@ -14,7 +15,8 @@ use Rattle.gms_eval.specs.declared.stop.StopKind.TheVariants.{DomainSize}
 abbrev pub labels_of : State → ℕ → List ℕ
 labels_of state set = map label_in (members_of state set)
 
--- the elements of the product of sets; an element has at most 10 labels, so more sets have none
+-- the elements of the product of sets; an element has at most 10 labels, so the product of more
+-- sets is empty
 abbrev pub elements : State → List ℕ → List (List ℕ)
 elements state sets = if nat_le (length sets) 10 then product (map (labels_of state) sets) else []
 
@@ -26,12 +28,13 @@ most_elements = 16777216
 abbrev pub most_counted : ℕ
 most_counted = 18446744073709551615
 
--- the fault of so many elements, whose count stops at the greatest number that is counted
+-- the fault of a domain with `count` elements; the reported count is at most the greatest that is
+-- counted
 abbrev pub too_large : Place → Pairs → ℕ → Fault
 too_large at binding count =
     record { kind = DomainSize; at = at; binding = binding; left = nothing; right = nothing; count = min count most_counted }
 
--- a product of more elements than may be is a fault
+-- a product with more elements than are allowed is a fault
 abbrev pub sized : Place → Pairs → List (List ℕ) → Answer (List (List ℕ))
 sized at binding those = if nat_lt most_elements (length those) then Err (too_large at binding (length those)) else Ok those
 

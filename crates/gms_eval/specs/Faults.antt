@@ -1,4 +1,5 @@
--- Why an execution stops (GAMS User's Guide, "GAMS Output", execution errors). Their kinds and numbers are this project's own.
+-- Why an execution stops (GAMS User's Guide, "GAMS Output", execution errors). Their kinds and
+-- numbers are this project's own.
 use Rattle.std.specs.Prelude.{ℕ, List, Result, Ok, Err, codes, pos}
 use Rattle.gms_labels.specs.declared.place.Place.{Place}
 use Rattle.gq_number.specs.Number.{whole}
@@ -48,8 +49,8 @@ kind_of_step step.Exponent = Exponent
 
 -- ---- faults
 
--- A fault: its kind, its place, the binding under which the step is taken, the operands of the step, 0 where there are none, and how
--- many elements there are too many of, 0 for the other kinds.
+-- A fault: its kind, its place, the binding under which the step is taken, the operands of the step
+-- (0 if it has none), and how many elements there are (0 for other kinds than too many elements).
 pub record Fault : Type 0 where
   pub kind : StopKind
   pub at : Place
@@ -58,7 +59,7 @@ pub record Fault : Type 0 where
   pub right : Extended
   pub count : ℕ
 
--- what is there where no operand is, and the value where nothing is given: 0
+-- 0, for a missing operand and for a value that was never given
 abbrev pub nothing : Extended
 nothing = number (whole (pos 0))
 
@@ -74,12 +75,12 @@ abbrev pub Answer : Type 0 → Type 0
 Answer A = Result A Fault
 
 infixl 10 ◌and_then◌
--- where an answer has a value the next goes on with it; a fault stays
+-- where an answer has a value the next step takes it; a fault remains
 abbrev pub ◌and_then◌ : {A B : Type 0} → Answer A → (A → Answer B) → Answer B
 (Ok x) and_then next = next x
 (Err fault) and_then next = Err fault
 
--- what a step gives that stands at a place and is taken under a binding
+-- the answer of a step at a place under a binding
 abbrev pub taken : Place → Pairs → Extended → Extended → Outcome → Answer Extended
 taken at binding left right (Ok x) = Ok x
 taken at binding left right (Err fault) = Err (faulted (kind_of_step fault) at binding left right)

@@ -1,4 +1,4 @@
--- What a call answers, as what the definitions give.
+-- The answers of calls, compared with what the definitions give.
 use Rattle.std.specs.Prelude.{◌≡◌, Result, Ok, Err, Box}
 use Rattle.std.specs.declared.alloc.Global.{Global}
 use Rattle.gq_number.specs.Number.{Number}
@@ -14,21 +14,21 @@ module _ {F : Type 0} (number_of : F → Number) where
   shown_by stop =
       record { kind = stop.kind; at = stop.at; binding = stop.binding; left = extended number_of stop.left; right = extended number_of stop.right; count = stop.count }
 
-  -- the same of a stop on the heap
+  -- the fault of a stop on the heap
   abbrev pub fault_of : Box (ExecStop F) Global → Fault
   fault_of stop = shown_by stop.value
 
-  -- a stop shows this fault; want of memory says nothing of it
+  -- a stop shows this fault; out of memory makes no claim
   abbrev pub Shows : StopOrMemory F → Fault → Type 0
   Shows Memory fault = Unit {0}
   Shows (Stop stop) fault = fault ≡ fault_of stop
 
-  -- the answer is exactly the fault of a stop; want of memory says nothing of it
+  -- the answer is exactly the fault of a stop; out of memory makes no claim
   abbrev pub Stops : {A : Type 0} → StopOrMemory F → Answer A → Type 0
   Stops Memory answer = Unit {0}
   Stops (Stop stop) answer = answer ≡ Err (fault_of stop)
 
-  -- the answer is what the result shows: its value, or exactly its fault
+  -- an answer agrees with a result: the same value, or exactly the same fault
   abbrev pub Gives : {A R : Type 0} → (R → A) → Result R (StopOrMemory F) → Answer A → Type 0
   Gives shown (Ok x) answer = answer ≡ Ok (shown x)
   Gives shown (Err stop) answer = Stops stop answer

@@ -1,4 +1,5 @@
--- What the pieces of the code promise each other of walks over the stored tuples of a name, in place of a whole product of sets.
+-- The contracts of the code that traverses the stored tuples of a name, in place of a whole product
+-- of sets.
 use Rattle.std.specs.Prelude.{◌≡◌, ◌≤◌, ◌-◌, ◌*◌, ℕ, Bool, true, false, List, ◌++◌, length, map, fold, slice_index, slice_range, Option, Some, None, Ok, IsOk, IsTrue, IfSome, if◌then◌else◌}
 use Rattle.std.specs.List.{flat_map}
 use Rattle.gq_number.specs.Number.{Number}
@@ -27,17 +28,17 @@ abbrev pub IsSimple : State → ℕ → Type 0
 IsSimple state set =
     IsOrdered (members_of state set) × ((member : List ℕ) → has (members_of state set) member ≡ true → length member ≡ 1)
 
--- ---- walks
+-- ---- traversals
 
 -- the labels that a tuple has at these places, 0 where it has none
 abbrev pub picked : List ℕ → List ℕ → List ℕ
 picked places tuple = map (λ place. slice_index tuple place) places
 
--- the elements whose labels are at these places of a tuple that an element of free sets follows
+-- the elements whose labels are at these places of a tuple followed by an element of the free sets
 abbrev pub spread_over : State → List ℕ → List ℕ → List ℕ → List (List ℕ)
 spread_over state free places tuple = map (λ rest. picked places (tuple ++ rest)) (elements state free)
 
--- the elements that a walk comes to, in the order of the stored tuples
+-- the elements that a traversal visits, in the order of the stored tuples
 abbrev pub walked : State → Walk → List (List ℕ)
 walked state walk =
     flat_map (spread_over state walk.free.items walk.places.items) (slice_range (given_of state walk.name) walk.from walk.upto)
@@ -48,15 +49,16 @@ walked state walk =
 abbrev pub Condition : Type 0
 Condition = Pairs → Answer Bool
 
--- one condition, and where it holds another
+-- two conditions in sequence: the second is evaluated only where the first holds
 abbrev pub both : Answer Bool → Answer Bool → Answer Bool
 both first second = first and_then λ holds. if holds then second else Ok false
 
--- conditions one after another, up to one that does not hold
+-- conditions in sequence, up to the first that does not hold
 abbrev pub each_in_turn : List (Answer Bool) → Answer Bool
 each_in_turn answers = fold both (Ok true) answers
 
--- A walk that serves for a condition: each element of the sets that it does not come to fails the condition.
+-- A traversal that leads a condition: the condition fails at each element of the sets that the
+-- traversal does not visit.
 pub record Leads (state : State) (binding : Pairs) (sets : List ℕ) (condition : Condition) (walk : Walk) : Type 0 where
   pub few : length walk.places.items ≤ 10
   pub range : walk.from ≤ walk.upto
@@ -64,33 +66,33 @@ pub record Leads (state : State) (binding : Pairs) (sets : List ℕ) (condition 
   pub counted : walk.spread ≡ length (elements state walk.free.items)
   pub needed : (element : List ℕ) → has (elements state sets) element ≡ true → has (walked state walk) element ≡ false → condition (controlled binding sets element) ≡ Ok false
 
--- What is known of a condition: whether it never has a fault, and a walk that serves for it.
+-- What is known of a condition: whether it never has a fault, and a traversal that leads it.
 pub record IsScan (state : State) (binding : Pairs) (sets : List ℕ) (condition : Condition) (scan : Scan) : Type 0 where
   pub safe : IsTrue scan.safe → (other : Pairs) → IsOk (condition other)
   pub leads : IfSome scan.walk (λ walk. Leads state binding sets condition walk)
 
--- ---- how short a walk is
+-- ---- how short a traversal is
 
--- to how many elements a walk comes at most
+-- how many elements a traversal visits at most
 abbrev pub steps_of : Walk → ℕ
 steps_of walk = (walk.upto - walk.from) * walk.spread
 
--- a walk comes to so many elements; where there is none, so many are no fewer than the bound
+-- a traversal visits exactly `count` elements; without a traversal, `count` is at least the bound
 abbrev pub IsReaching : ℕ → ℕ → Option Walk → Type 0
 IsReaching bound count None = bound ≤ count
 IsReaching bound count (Some walk) = steps_of walk ≡ count
 
--- a walk comes to at most so many elements; where there is none, the bound is no more
+-- a traversal visits at most `count` elements; without a traversal, `count` is at least the bound
 abbrev pub IsBounded : ℕ → ℕ → Option Walk → Type 0
 IsBounded bound count None = bound ≤ count
 IsBounded bound count (Some walk) = steps_of walk ≤ count
 
--- the references of which one may lead
+-- which references may lead a traversal
 abbrev pub Leading : Type 0 → Type 1
 Leading F = ℕ → tree.Indices F → Type 0
 
--- What is known of how short the walk of a condition is, whose leading references are these: its bound is at most this one, the walk
--- comes to no more elements, and no leading reference comes to fewer.
+-- How short the traversal of a condition with these leading references is: its bound is at most
+-- this one, it visits no more elements than its bound, and no leading reference visits fewer.
 pub record IsShort {F : Type 0} (state : State) (binding : Pairs) (sets : List ℕ) (bound : ℕ) (leading : Leading F) (scan : Scan) : Type 0 where
   pub below : scan.bound ≤ bound
   pub comes : IsBounded bound scan.bound scan.walk
@@ -104,19 +106,19 @@ indices_tree indices = indices_of (map index_tree indices)
 abbrev pub parts_tree : {F : Type 0} → List (Expr F) → tree.Parts F
 parts_tree conditions = parts_of (map (λ condition. (tree.plain, tree_of condition)) conditions)
 
--- the reference that may lead, where the condition is one without a suffix
+-- the one reference that may lead, where the condition is a reference without a suffix
 abbrev pub IsBareReference : {F : Type 0} → ℕ → tree.Indices F → Leading F
 IsBareReference other those name indices =
     (without_lags those ≡ true) × (index_count those ≤ 10) × (other ≡ name) × (those ≡ indices)
 
--- the walk of the second of two conditions, or else that of the first
+-- the traversal of the second of two conditions, or else that of the first
 abbrev pub later_walk : Option Walk → Option Walk → Option Walk
 later_walk first None = first
 later_walk first (Some walk) = Some walk
 
 -- ---- references
 
--- whether what a name has at a tuple is not the number 0; where there is no tuple it is
+-- whether the value of a name at a tuple is not the number 0; without a tuple it is 0
 abbrev pub plain_so : State → ℕ → Option (List ℕ) → Bool
 plain_so state name None = is_so nothing
 plain_so state name (Some tuple) = is_so (plain_value state name (symbol_of state name).content tuple)

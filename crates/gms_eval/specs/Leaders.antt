@@ -1,6 +1,7 @@
--- Which references of a condition may lead the walk over the elements of a control, and to how many elements a walk by one comes at
--- most. A condition holds only where each of its factors does, and a reference holds only at its stored tuples (GAMS User's Guide,
--- "Conditional Expressions, Assignments and Equations", logical operators and nested dollar conditions).
+-- Which references of a condition may lead the traversal of the elements of a control, and how many
+-- elements a traversal by one visits at most. A condition holds only where each of its factors
+-- does, and a reference holds only at its stored tuples (GAMS User's Guide, "Conditional
+-- Expressions, Assignments and Equations", logical operators and nested dollar conditions).
 use Rattle.std.specs.Prelude.{◌≡◌, ◌⊎◌, ℕ, suc, ◌*◌, ◌≤◌, Bool, true, false, not, ◌&&◌, ◌||◌, ◌==◌, is_some, List, [], ◌∷◌, ◌++◌, length, Option, Some, None, if◌then◌else◌}
 use Rattle.std.specs.List.{list_any}
 use Rattle.gms_ast.specs.declared.expression.Suffix.{Suffix}
@@ -11,7 +12,7 @@ use Rattle.gms_store.specs.State.{State, given_of}
 use Rattle.gms_eval.specs.Bindings.{Pairs, label_of}
 use Rattle.gms_eval.specs.Domain.{elements}
 
--- a label before others, where there is one; else nothing
+-- a label before others; without a label, nothing
 abbrev pub before_others : Option ℕ → List ℕ → List ℕ
 before_others None others = []
 before_others (Some label) others = label ∷ others
@@ -37,8 +38,8 @@ module _ {F : Type 0} where
   is_bare other indices = false
 
   abbrev mutual
-    -- A condition that never has a fault: a number, a reference with neither a suffix nor a lag, or such conditions joined by `and`
-    -- or under guards.
+    -- A condition that never has a fault: a number, a reference with neither a suffix nor a lag, or
+    -- such conditions joined by `and` or under guards.
     pub never_fails : tree.Tree F → Bool
     never_fails (tree.number n) = true
     never_fails (tree.reference at name suffix indices) = is_bare suffix indices
@@ -53,9 +54,10 @@ module _ {F : Type 0} where
 
   module _ (name : ℕ) (indices : tree.Indices F) where
     abbrev mutual
-      -- The reference to this name with these indices may lead the walk of a condition: it has neither a suffix nor a lag and at
-      -- most 10 indices, and it is the condition, or a factor of it that is taken behind factors which never have a fault. Guards are
-      -- taken before what they guard, from the last to the first.
+      -- The reference to this name with these indices may lead the traversal of a condition. It has
+      -- neither a suffix nor a lag and at most 10 indices. It is the condition, or a factor of it
+      -- that is evaluated after factors which never have a fault. Guards are evaluated before what
+      -- they guard, from the last to the first.
       pub MayLead : tree.Tree F → Type 0
       MayLead (tree.reference at other suffix those) =
           (is_bare suffix those ≡ true) × (index_count those ≤ 10) × (other ≡ name) × (those ≡ indices)
@@ -63,46 +65,47 @@ module _ {F : Type 0} where
       MayLead (tree.guarded operand guards) = LastMayLead guards ⊎ ((none_fails guards ≡ true) × MayLead operand)
       MayLead other = ⊥
 
-      -- it may lead that of conditions taken from the first to the last
+      -- it may lead that of conditions evaluated from the first to the last
       pub OneMayLead : tree.Parts F → Type 0
       OneMayLead tree.no_part = ⊥
       OneMayLead (tree.part mark condition rest) = MayLead condition ⊎ ((never_fails condition ≡ true) × OneMayLead rest)
 
-      -- it may lead that of conditions taken from the last to the first
+      -- it may lead that of conditions evaluated from the last to the first
       pub LastMayLead : tree.Parts F → Type 0
       LastMayLead tree.no_part = ⊥
       LastMayLead (tree.part mark condition rest) = LastMayLead rest ⊎ ((none_fails rest ≡ true) × MayLead condition)
 
-  -- The first labels of each tuple of a reference: those of its first indices that are labels, or sets that stand for a label
-  -- outside.
+  -- The first labels of each tuple of a reference: those of its first indices that are labels, or
+  -- sets that stand for a label outside.
   abbrev pub front_of : Pairs → tree.Indices F → List ℕ
   front_of binding tree.no_index = []
   front_of binding (tree.label label rest) = label ∷ front_of binding rest
   front_of binding (tree.set name rest) = before_others (label_of binding name) (front_of binding rest)
   front_of binding (tree.lagged name op at amount rest) = []
 
-  -- a set stands among indices without a lag
+  -- a set occurs among indices without a lag
   abbrev pub is_index : ℕ → tree.Indices F → Bool
   is_index name tree.no_index = false
   is_index name (tree.label label rest) = is_index name rest
   is_index name (tree.set other rest) = other == name || is_index name rest
   is_index name (tree.lagged other op at amount rest) = is_index name rest
 
-  -- The tuple of a reference says what a set of a control stands for, before which these sets stand there: the set is an index, it
-  -- stands for no label outside, and it does not stand before.
+  -- The tuple of a reference determines the label of a set of a control, where these sets come
+  -- before it in the control: the set is an index, it stands for no label outside, and it is not
+  -- among those before.
   abbrev pub is_told : Pairs → tree.Indices F → List ℕ → ℕ → Bool
   is_told binding indices before name =
       not (is_some (label_of binding name) || list_any (λ other. other == name) before) && is_index name indices
 
-  -- the sets of a control of which the tuple of a reference says nothing, behind those that stand before
+  -- the sets of a control, after these, whose labels the tuple of a reference does not determine
   abbrev pub free_behind : Pairs → tree.Indices F → List ℕ → List ℕ → List ℕ
   free_behind binding indices before [] = []
   free_behind binding indices before (name ∷ rest) =
       let others = free_behind binding indices (before ++ name ∷ []) rest in
       if is_told binding indices before name then others else name ∷ others
 
-  -- To how many elements a walk by a reference comes at most: its stored tuples that begin with the labels known outside, times the
-  -- elements of the sets of which they say nothing.
+  -- How many elements a traversal by a reference visits at most: its stored tuples that begin with
+  -- the labels known outside, times the elements of the sets that they do not determine.
   abbrev pub reach : State → Pairs → List ℕ → ℕ → tree.Indices F → ℕ
   reach state binding sets name indices =
       length (those_with (given_of state name) (front_of binding indices)) * length (elements state (free_behind binding indices [] sets))

@@ -1,6 +1,7 @@
--- How the answers of the parts of an expression make that of the whole (GAMS User's Guide, "Data Manipulations with Parameters",
--- "Conditional Expressions, Assignments and Equations"). The order in which faults come is this project's own rule: parts from the
--- left to the right, guards from the last to the first.
+-- How the answers of the parts of an expression give that of the whole (GAMS User's Guide, "Data
+-- Manipulations with Parameters", "Conditional Expressions, Assignments and Equations"). The order
+-- in which faults are found is this project's own rule: parts from the left to the right, guards
+-- from the last to the first.
 use Rattle.std.specs.Prelude.{ℕ, pos, Bool, true, false, not, ◌&&◌, List, [], ◌∷◌, map, fold, Option, Some, None, Ok, Err, if◌then◌else◌}
 use Rattle.gms_labels.specs.declared.place.Place.{Place}
 use Rattle.gq_number.specs.Number.{whole}
@@ -41,7 +42,7 @@ holds_between Ne x y = differs x y
 holds_between Ge x y = is_at_least x y
 holds_between Gt x y = is_greater x y
 
--- ---- parts one after another
+-- ---- parts in sequence
 
 -- the answers of the parts of a node, each with its mark
 abbrev pub Marked : Type 0
@@ -51,12 +52,12 @@ Marked = List (Mark × Answer Extended)
 abbrev pub unmarked : Marked → List (Answer Extended)
 unmarked parts = map (λ part. part.1) parts
 
--- a step takes the value so far and the answer of the next part
+-- a step: from the mark of a part, the value so far and the answer of the part
 abbrev pub Step : Type 0
 Step = Mark → Extended → Answer Extended → Answer Extended
 
--- the parts joined one after another to the value so far; where there is none, the first part makes it, and where no part is left
--- either the answer is that for nothing
+-- the parts joined in sequence to the value so far. Without such a value the first part gives it;
+-- without parts either the answer is that for nothing.
 abbrev pub joined : Step → Answer Extended → Option Extended → Marked → Answer Extended
 joined step empty None [] = empty
 joined step empty (Some x) [] = Ok x
@@ -72,7 +73,8 @@ abbrev pub in_order : {A : Type 0} → List (Answer A) → Answer (List A)
 in_order [] = Ok []
 in_order (answer ∷ answers) = answer and_then λ x. in_order answers and_then λ xs. Ok (x ∷ xs)
 
--- whether each guard holds: they are taken from the last to the first, up to one that does not hold
+-- whether each guard holds: they are evaluated from the last to the first, up to one that does not
+-- hold
 abbrev pub each_holds : List (Answer Extended) → Answer Bool
 each_holds [] = Ok true
 each_holds (guard ∷ guards) = each_holds guards and_then λ hold. if hold then guard and_then (λ x. Ok (is_so x)) else Ok false
@@ -84,29 +86,29 @@ abbrev pub extreme : (Extended → Extended → Extended) → List Extended → 
 extreme better [] = nothing
 extreme better (x ∷ xs) = fold better x xs
 
--- where a fold starts: the least and the greatest of values have no start
+-- the initial value of a fold; minimum and maximum have none
 abbrev pub start_of : FoldOp → Option Extended
 start_of Sum = Some (number (whole (pos 0)))
 start_of Prod = Some (number (whole (pos 1)))
 start_of Smin = None
 start_of Smax = None
 
--- ---- steps without a fault of their own
+-- ---- steps that have no fault
 
--- a relation compares the value so far, which is 1 or 0 where it is a relation's
+-- a relation compares the value so far; the result of an earlier relation is 1 or 0
 abbrev pub relation_step : Step
 relation_step (related op) x answer = answer and_then λ y. Ok (truth (holds_between op x y))
 relation_step mark x answer = answer
 
--- `and` leaves its right operand where the left is 0
+-- `and` does not evaluate its right operand if the left is 0
 abbrev pub all_step : Step
 all_step mark x answer = if is_so x then answer and_then (λ y. Ok (truth (is_so y))) else Ok (truth false)
 
--- what `xor` gives of two values
+-- the result of `xor` on two values
 abbrev pub either : Extended → Extended → Bool
 either x y = if is_so x then not (is_so y) else is_so y
 
--- `or` leaves its right operand where the left is not 0; `xor` takes both
+-- `or` does not evaluate its right operand if the left is not 0; `xor` evaluates both
 abbrev pub one_step : Step
 one_step (chosen exclusive) x answer =
     if not exclusive && is_so x then Ok (truth true) else answer and_then λ y. Ok (truth (either x y))
@@ -137,7 +139,7 @@ module _ (limit : ℕ) (binding : Pairs) where
   power_step (placed at) x answer = answer and_then λ y. taken at binding x y (power limit x y)
   power_step mark x answer = answer
 
-  -- what is left of a division, by its four steps, each at the place of the function
+  -- the remainder of a division, by its four steps, each at the place of the function
   abbrev pub remainder_of : Place → Extended → Extended → Answer Extended
   remainder_of at x y =
       taken at binding x y (quotient limit x y) and_then λ q. taken at binding y (truncation q) (product limit y (truncation q)) and_then λ p. taken at binding x p (difference limit x p)
@@ -159,7 +161,8 @@ module _ (limit : ℕ) (binding : Pairs) where
   of_two at function.Power x y = taken at binding x y (power limit x y)
   of_two at function x y = Ok nothing
 
-  -- a function of its arguments' values; with another number of arguments its value is 0, as that of a function that the language leaves out
+  -- a function of its arguments' values; with another number of arguments its value is 0, as for a
+  -- function that the language leaves out
   abbrev pub called : Place → Function → List Extended → Answer Extended
   called at function.Max xs = Ok (extreme greater xs)
   called at function.Min xs = Ok (extreme lesser xs)
@@ -167,11 +170,11 @@ module _ (limit : ℕ) (binding : Pairs) where
   called at function (x ∷ y ∷ []) = of_two at function x y
   called at function xs = Ok nothing
 
-  -- a count, where it fits
+  -- a count, if it fits
   abbrev pub counted : Place → ℕ → Answer Extended
   counted at n = taken at binding nothing nothing (number_if (fits limit (whole (pos n))) (whole (pos n)))
 
-  -- what a fold makes of the value so far and that of the next body
+  -- a step of a fold: the value so far with that of the next body
   abbrev pub fold_join : FoldOp → Place → Extended → Extended → Answer Extended
   fold_join Sum at x y = taken at binding x y (sum limit x y)
   fold_join Prod at x y = taken at binding x y (product limit x y)
@@ -182,8 +185,8 @@ module _ (limit : ℕ) (binding : Pairs) where
   abbrev pub fold_step : FoldOp → Place → Step
   fold_step op at mark x answer = answer and_then λ y. fold_join op at x y
 
-  -- the values of a fold's bodies joined one after another, each joining at the place of the fold and under its binding; the least and
-  -- the greatest of no values are a fault
+  -- the values of a fold's bodies, joined in sequence; each step is at the place of the fold and
+  -- under its binding. The least and the greatest of no values are a fault.
   abbrev pub folded : FoldOp → Place → Marked → Answer Extended
   folded op at bodies =
       joined (fold_step op at) (Err (faulted EmptyExtreme at binding nothing nothing)) (start_of op) bodies

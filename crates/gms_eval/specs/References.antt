@@ -1,4 +1,5 @@
--- What a reference reads (GAMS User's Guide, "Data Manipulations with Parameters", "Variables", "Model and Solve Statements").
+-- What a reference reads (GAMS User's Guide, "Data Manipulations with Parameters", "Variables",
+-- "Model and Solve Statements").
 use Rattle.std.specs.Prelude.{ℕ, ◌+◌, nat_le, List, [], ◌∷◌, length, Option, Some, None, unwrap_or, option_map, option_and_then, ok_or, Ok, if◌then◌else◌}
 use Rattle.gms_labels.specs.declared.place.Place.{Place}
 use Rattle.gms_tuple.specs.TupleSet.{has, place_of}
@@ -16,12 +17,12 @@ use Rattle.gms_eval.specs.declared.stop.StopKind.TheVariants.{LagNotWhole}
 
 -- ---- indices
 
--- the label that a lag of an amount reaches from the label of its set; none where the set stands for none
+-- the label that a lag of an amount reaches from the label of its set; none if the set has no label
 abbrev pub reached : State → Pairs → ℕ → LagOp → Place → Extended → Answer (Option ℕ)
 reached state binding set op at amount =
     ok_or (whole_number amount) (faulted LagNotWhole at binding amount nothing) and_then λ places. Ok (option_and_then (λ label. lagged_label (members_of state set) op places label) (label_of binding set))
 
--- the labels of indices, where each has one
+-- the labels of indices, if each has one
 abbrev pub all_there : List (Option ℕ) → Option (List ℕ)
 all_there [] = Some []
 all_there (None ∷ rest) = None
@@ -31,24 +32,24 @@ all_there (Some label ∷ rest) = option_map (λ labels. label ∷ labels) (all_
 abbrev pub tuple_of : List (Option ℕ) → Option (List ℕ)
 tuple_of labels = if nat_le (length labels) 10 then all_there labels else None
 
--- the place of a set's label in the set, from 1; 0 where it has none
+-- the place of a set's label in the set, from 1; 0 if it has none
 abbrev pub place_in_set : State → Pairs → ℕ → ℕ
 place_in_set state binding set =
     unwrap_or (option_map (λ place. place + 1) (option_and_then (λ label. place_of (members_of state set) (label ∷ [])) (label_of binding set))) 0
 
 -- ---- entries
 
--- a lower bound, or minus infinity where there is none
+-- a lower bound; minus infinity if there is none
 abbrev pub lower_value : Option Number → Extended
 lower_value None = minus_infinity
 lower_value (Some x) = number x
 
--- an upper bound, or infinity where there is none
+-- an upper bound; infinity if there is none
 abbrev pub upper_value : Option Number → Extended
 upper_value None = plus_infinity
 upper_value (Some x) = number x
 
--- what a name without a suffix has at a tuple: a set has 1 at its members and 0 at other tuples
+-- the value of a name without a suffix at a tuple: a set has 1 at its members and 0 at other tuples
 abbrev pub plain_value : State → ℕ → Content → List ℕ → Extended
 plain_value state name (set_of members) tuple = truth (has members tuple)
 plain_value state name content tuple = value_of state name tuple
@@ -65,7 +66,7 @@ module _ (limit : ℕ) (state : State) (binding : Pairs) where
   entry_at at name suffix.ModelStat tuple = counted limit binding at (statuses_in (symbol_of state name).content).0
   entry_at at name suffix.SolveStat tuple = counted limit binding at (statuses_in (symbol_of state name).content).1
 
-  -- the same where the indices have a tuple; where they have none the value is 0
+  -- what a reference reads; without a tuple of its indices, 0
   abbrev pub entry_of : Place → ℕ → Suffix → Option (List ℕ) → Answer Extended
   entry_of at name suffix None = Ok nothing
   entry_of at name suffix (Some tuple) = entry_at at name suffix tuple

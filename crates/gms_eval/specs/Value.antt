@@ -1,5 +1,6 @@
--- The value of an expression in a state of the run, under the labels that its controlled sets stand for (GAMS User's Guide, "Data
--- Manipulations with Parameters", "Conditional Expressions, Assignments and Equations", "Sets as Sequences: Ordered Sets").
+-- The value of an expression in a state of the run, under the labels that its controlled sets stand
+-- for (GAMS User's Guide, "Data Manipulations with Parameters", "Conditional Expressions,
+-- Assignments and Equations", "Sets as Sequences: Ordered Sets").
 use Rattle.std.specs.Prelude.{ℕ, Bool, true, false, not, List, [], ◌∷◌, length, map, Option, Some, None, Ok, if◌then◌else◌}
 use Rattle.gms_labels.specs.declared.place.Place.{Place}
 use Rattle.gq_number.specs.Number.{Number}
@@ -19,7 +20,7 @@ abbrev pub sets_of : {F : Type 0} → tree.Control F → List ℕ
 sets_of (tree.over sets) = sets
 sets_of (tree.over_where sets condition) = sets
 
--- sets, with a condition where there is one
+-- sets, with a condition if there is one
 abbrev pub control_over : {F : Type 0} → List ℕ → Option (tree.Tree F) → tree.Control F
 control_over sets None = tree.over sets
 control_over sets (Some condition) = tree.over_where sets condition
@@ -61,7 +62,7 @@ module _ {F : Type 0} (number_of : F → Number) (limit : ℕ) (state : State) w
     values binding tree.no_part = []
     values binding (tree.part mark part rest) = (mark, value binding part) ∷ values binding rest
 
-    -- the label of each index; none where the element that a lag goes to is not there
+    -- the label of each index; none if a lag goes past the ends of its set
     pub labels : Pairs → tree.Indices F → List (Answer (Option ℕ))
     labels binding tree.no_index = []
     labels binding (tree.label label rest) = Ok (Some label) ∷ labels binding rest
@@ -69,7 +70,8 @@ module _ {F : Type 0} (number_of : F → Number) (limit : ℕ) (state : State) w
     labels binding (tree.lagged set op at amount rest) =
         (value binding amount and_then λ x. reached state binding set op at x) ∷ labels binding rest
 
-    -- the elements of a control: those of the product of its sets whose condition holds under the binding with the element
+    -- the elements of a control: those of the product of its sets whose condition holds under the
+    -- binding with the element
     pub domain : Pairs → Place → tree.Control F → Answer (List (List ℕ))
     domain binding at (tree.over sets) = sized at binding (elements state sets)
     domain binding at (tree.over_where sets condition) =

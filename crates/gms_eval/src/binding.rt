@@ -5,17 +5,18 @@ ghost use Rattle.gms_eval.specs.Bindings.{label_of, paired};
 use std::alloc::{AllocError, Global};
 use std::marker::Model;
 
-/// The sets that are controlled at a place of a program, each with the label that it stands for there, outermost first.
+/// The sets that are controlled at a place of a program, each with its label there, outermost
+/// first.
 ///
-/// In `loop(i, s = sum(j, p(i,j)))` the entry `p(i,j)` is taken under a binding of `i` and of `j`, each to a label. Sets are
-/// named by the numbers of their names, so a set and an alias of it may stand for two labels. GAMS User's Guide, "Data
-/// Manipulations with Parameters".
+/// In `loop(i, s = sum(j, p(i,j)))` the entry `p(i,j)` is read under a binding of `i` and of `j`,
+/// each to a label. Sets are named by the numbers of their names, so a set and an alias of it may
+/// stand for two labels. GAMS User's Guide, "Data Manipulations with Parameters".
 #[derive(Debug)]
 pub struct Binding {
     pairs: Vec<(u32, u32)>,
 }
 
-// Written out, so that it is proved here alone, and not in each crate that lets one go.
+// Written out, so that it is proved once, and not in each crate that drops one.
 impl Drop for Binding {
     fn drop(self) {
         let Self { pairs: _ } = self;
@@ -49,7 +50,8 @@ impl Binding {
         Ok(binding)
     }
 
-    /// The label that a set stands for: that of the first pair with its name, and none exactly where there is no such pair.
+    /// The label that a set stands for: that of the first pair with its name; none exactly where no
+    /// pair has it.
     pub fn label(&self, set: u32) -> Option<u32>
         ensures { result ≡ label_of self.now set }
     {
@@ -84,7 +86,7 @@ impl Binding {
         self.pairs.len()
     }
 
-    /// Keeps the first `outer` pairs, and puts behind them these sets with the labels of an element.
+    /// Keeps the first `outer` pairs, and appends these sets with the labels of an element.
     pub fn control(&mut self, outer: usize, sets: &[u32], labels: &[u32]) -> Result<(), AllocError>
         ensures { OnOk result (self.new ≡ take outer self.old ++ paired sets.now labels.now) }
     {

@@ -16,7 +16,7 @@ use std::alloc::{AllocError, Global};
 /// How many elements the product of the sets of a domain may have.
 pub(crate) const MOST_ELEMENTS: u64 = 16_777_216;
 
-/// How many elements the product of sets has, or the greatest number of a `u64` where they pass it.
+/// How many elements the product of sets has, at most the greatest `u64`.
 pub(crate) fn count<F: ExactField>(store: &Store<F>, sets: &[u32]) -> u64
     ensures { result ≡ min (length (elements store.now sets.now)) most_counted }
 {
@@ -30,7 +30,8 @@ pub(crate) fn count<F: ExactField>(store: &Store<F>, sets: &[u32]) -> u64
     count
 }
 
-/// How many elements the product of sets has. `DomainSize` exactly where they are more than 16,777,216.
+/// How many elements the product of sets has. `DomainSize` exactly where they are more than
+/// 16,777,216.
 #[inline(never)]
 pub(crate) fn size<F: ExactField>(
     alloc: Global,
@@ -90,7 +91,7 @@ pub(crate) fn all<F: ExactField>(
     Ok(all)
 }
 
-/// Adds an element at the end of others, where it is one of them.
+/// Adds an element at the end of others, if a condition holds for it.
 #[inline(never)]
 pub(crate) fn keep(those: &mut Vec<Tuple>, element: Tuple, holds: bool) -> Result<(), AllocError>
     ensures { OnOk result (those.new.items ≡ with_element those.old.items element holds) }
@@ -101,12 +102,12 @@ pub(crate) fn keep(those: &mut Vec<Tuple>, element: Tuple, holds: bool) -> Resul
     Ok(())
 }
 
-/// Elements over which a walk goes.
+/// The elements that are tested.
 #[derive(Drop)]
 pub(crate) enum Elements {
-    /// All of the product of the sets, so many.
+    /// All of the product of the sets; how many they are.
     Every(usize),
-    /// These.
+    /// The listed ones.
     Those(Vec<Tuple>),
 }
 

@@ -1,4 +1,4 @@
-//! The value of an expression, when a condition holds, and the elements of a domain.
+//! The value of an expression, whether a condition holds, and the elements of a domain.
 ghost use Rattle.std.specs.Prelude.{◌≡◌, map, not, Ok, IfOk, option_map, option_copied};
 ghost use Rattle.gq_extended.specs.Extended.{negated};
 ghost use Rattle.gq_extended.specs.Meaning.{extended};
@@ -33,17 +33,19 @@ use gq_extended::Ext;
 use gq_field::ExactField;
 use std::alloc::Global;
 
-/// The value of an expression in a state, where its controlled sets stand for the labels of a binding.
+/// The value of an expression in a state, where its controlled sets stand for the labels of a
+/// binding.
 ///
-/// A stop is the first fault: parts are taken from the left to the right, guards from the last to the first and before
-/// their operand, all amounts of the lags of a reference before what it reads, and a fold's domain before its bodies. An
-/// operand that decides nothing is not taken: the right one of `and` where the left is 0, that of `or` where it is not,
-/// and one under a guard that is 0. The kinds are `Limit`, `Divide`, `LagNotWhole`, `EmptyExtreme`, `Exponent`,
-/// `DomainSize` and `Undefined`. GAMS User's Guide, "Data Manipulations with Parameters", "Conditional Expressions,
-/// Assignments and Equations".
+/// A stop is the first fault. Parts are evaluated from the left to the right, guards from the last
+/// to the first and before their operand, all amounts of the lags of a reference before what it
+/// reads, and a fold's domain before its bodies. An operand that decides nothing is not evaluated:
+/// the right one of `and` where the left is 0, that of `or` where it is not, and one under a guard
+/// that is 0. The kinds are `Limit`, `Divide`, `LagNotWhole`, `EmptyExtreme`, `Exponent`,
+/// `DomainSize` and `Undefined`. GAMS User's Guide, "Data Manipulations with Parameters",
+/// "Conditional Expressions, Assignments and Equations".
 ///
-/// A name that the program does not have reads as one of which nothing is given, a set that stands for no label as an
-/// index without an element; a checked program has none of these.
+/// A name that the program does not have reads as one without data, and a set without a label as an
+/// index without an element; a checked program has neither.
 #[cycle(value)]
 pub fn value<F: ExactField>(
     alloc: Global,
@@ -141,7 +143,7 @@ fn call<F: ExactField>(
     called(alloc, at, function, values.as_slice(), b)
 }
 
-/// The value of an operand behind a minus sign.
+/// The value of an operand after a minus sign.
 #[cycle(value)]
 #[inline(never)]
 fn negative<F: ExactField>(
@@ -157,7 +159,7 @@ fn negative<F: ExactField>(
     Ok(x.neg())
 }
 
-/// The value of an operand behind `not`, 1 or 0.
+/// The value of an operand after `not`, 1 or 0.
 #[cycle(value)]
 #[inline(never)]
 fn denied<F: ExactField>(
@@ -173,9 +175,11 @@ fn denied<F: ExactField>(
     Ok(truth(!is_so(x)))
 }
 
-/// The value of a sum or a product of parts, joined from the left to the right; that of no parts is 0.
+/// The value of a sum or a product of parts, joined from the left to the right; that of no parts is
+/// 0.
 ///
-/// Each part has its place, and whether it is subtracted, or divides, which says nothing of the first. A stop is the first fault of a part or a step.
+/// Each part has its place, and whether it is subtracted, or divides; for the first part that has
+/// no effect. A stop is the first fault of a part or a step.
 #[cycle(value)]
 #[inline(never)]
 pub fn signed_chain<F: ExactField>(
@@ -236,7 +240,7 @@ fn relations<F: ExactField>(
     Ok(so_far.unwrap_or(zero()))
 }
 
-/// 1 where each part holds, and else 0: no part behind one that does not hold is taken.
+/// 1 if each part holds, else 0. No part after one that does not hold is evaluated.
 #[cycle(value)]
 #[inline(never)]
 fn all_of<F: ExactField>(
@@ -260,7 +264,8 @@ fn all_of<F: ExactField>(
     Ok(so_far.unwrap_or(zero()))
 }
 
-/// The value of a choice, 1 or 0: a part joined by `or` is not taken where what stands before it holds.
+/// The value of a choice, 1 or 0: a part joined by `or` is not evaluated if the parts before it
+/// hold.
 #[cycle(value)]
 #[inline(never)]
 fn one_of<F: ExactField>(
@@ -284,7 +289,8 @@ fn one_of<F: ExactField>(
     Ok(so_far.unwrap_or(zero()))
 }
 
-/// Whether each guard holds: they are taken from the last to the first, up to one that does not hold.
+/// Whether each guard holds: they are evaluated from the last to the first, up to one that does not
+/// hold.
 #[cycle(value)]
 #[inline(never)]
 pub fn all_hold<F: ExactField>(
@@ -324,7 +330,7 @@ fn arguments<F: ExactField>(
     Ok(values)
 }
 
-/// The tuple of indices, where each has a label and they are at most 10.
+/// The tuple of indices, if each has a label and they are at most 10.
 #[cycle(value)]
 #[inline(never)]
 pub fn tuple_of<F: ExactField>(
@@ -344,7 +350,7 @@ pub fn tuple_of<F: ExactField>(
     Ok(tuple)
 }
 
-/// The label of an index, where there is one: that of its set, or the one that its lag reaches.
+/// The label of an index, if any: that of its set, or the one that its lag reaches.
 #[cycle(value)]
 #[inline(never)]
 fn label_of<F: ExactField>(
@@ -393,7 +399,7 @@ fn elements_of<F: ExactField>(
     }
 }
 
-/// Those of some elements for which a condition holds, in order.
+/// The elements for which a condition holds, in order.
 #[cycle(value)]
 #[inline(never)]
 fn chosen<F: ExactField>(
@@ -419,7 +425,7 @@ fn chosen<F: ExactField>(
     Ok(those)
 }
 
-/// The values of a fold's bodies joined one after another.
+/// The values of a fold's bodies, joined in sequence.
 #[cycle(value)]
 #[inline(never)]
 fn folded<F: ExactField>(
@@ -452,7 +458,8 @@ fn folded<F: ExactField>(
 
 /// Whether a condition holds in a state, under a binding: where its value is not the number 0.
 ///
-/// A stop is the first fault of its value. GAMS User's Guide, "Conditional Expressions, Assignments and Equations".
+/// A stop is the first fault of its value. GAMS User's Guide, "Conditional Expressions, Assignments
+/// and Equations".
 pub fn holds<F: ExactField>(
     alloc: Global,
     store: &Store<F>,
@@ -464,12 +471,13 @@ pub fn holds<F: ExactField>(
     Ok(is_so(value(alloc, store, e, b)?))
 }
 
-/// The elements of a control in a state, under a binding: those of the product of its sets whose condition holds, in the
-/// order of tuples.
+/// The elements of a control in a state, under a binding: those of the product of its sets whose
+/// condition holds, in the order of tuples.
 ///
-/// A stop is `DomainSize` at `at`, with their number as its count, or the greatest `u64`, where the product has more than 16,777,216 elements,
-/// and else the first fault of the conditions, each under the binding with its element. GAMS User's Guide, "Data
-/// Manipulations with Parameters", "Conditional Expressions, Assignments and Equations".
+/// A stop is `DomainSize` at `at` if the product has more than 16,777,216 elements, with their
+/// number as its count, or the greatest `u64`. Otherwise it is the first fault of the conditions,
+/// each under the binding with its element. GAMS User's Guide, "Data Manipulations with
+/// Parameters", "Conditional Expressions, Assignments and Equations".
 pub fn domain<F: ExactField>(
     alloc: Global,
     store: &Store<F>,
@@ -486,9 +494,11 @@ pub fn domain<F: ExactField>(
     }
 }
 
-/// The elements of the product of sets for which a condition holds, where there is one, in the order of tuples.
+/// The elements of the product of sets for which a condition, if any, holds, in the order of
+/// tuples.
 ///
-/// It is `domain` for sets and a condition that stand apart, as those of a left side do, and stops as `domain` does.
+/// It is `domain` for sets and a condition that are separate, as those of a left side are, and
+/// stops as `domain` does.
 pub fn domain_over<F: ExactField>(
     alloc: Global,
     store: &Store<F>,

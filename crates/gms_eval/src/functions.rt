@@ -16,8 +16,8 @@ use std::alloc::Global;
 
 /// The value of a function at the values of its arguments.
 ///
-/// With another number of arguments than the function takes the value is 0, as that of a function that the language
-/// leaves out.
+/// With another number of arguments than the function takes the value is 0, as for a function that
+/// the language leaves out.
 #[inline(never)]
 pub(crate) fn called<F: ExactField>(
     alloc: Global,
@@ -81,7 +81,7 @@ fn of_two<F: ExactField>(
     }
 }
 
-/// What is left of a division, by its four steps.
+/// The remainder of a division, by its four steps.
 fn remainder<F: ExactField>(
     alloc: Global,
     at: Place,
@@ -97,7 +97,7 @@ fn remainder<F: ExactField>(
     taken(alloc, at, x, part, x.sub(part), b)
 }
 
-/// The greatest of some values; NA where one is NA, and 0 where there is none.
+/// The greatest of some values: NA if one is NA, and 0 if there are none.
 fn greatest<F: ExactField>(values: &[Ext<F>]) -> Ext<F>
     ensures { extended F.value result ≡ extreme greater (map (extended F.value) values.now) }
 {
@@ -111,7 +111,7 @@ fn greatest<F: ExactField>(values: &[Ext<F>]) -> Ext<F>
     greatest
 }
 
-/// The least of some values; NA where one is NA, and 0 where there is none.
+/// The least of some values: NA if one is NA, and 0 if there are none.
 fn least<F: ExactField>(values: &[Ext<F>]) -> Ext<F>
     ensures { extended F.value result ≡ extreme lesser (map (extended F.value) values.now) }
 {

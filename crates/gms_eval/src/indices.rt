@@ -1,4 +1,4 @@
-//! The labels of indices: where a set's label stands in the set, and which one a lag reaches.
+//! The labels of indices: the place of a set's label in the set, and the label that a lag reaches.
 ghost use Rattle.std.specs.Prelude.{◌≡◌, ◌<◌, ◌^◌, ◌∷◌, [], map, pos, ◌+ℤ◌, length, nat_abs, slice_get, slice_index, Some, IsTrue, IfOk, IfSome};
 ghost use Rattle.std.specs.Int.{int_rem_euclid};
 ghost use Rattle.gq_extended.specs.Meaning.{extended};
@@ -30,7 +30,8 @@ pub(crate) fn label_at(members: &TupleSet, place: usize) -> u32
     }
 }
 
-/// Where a label of a set of one dimension is if the labels between the set's first and it are all in the set.
+/// The place of a label in a set of one dimension, if the labels between the set's first and it are
+/// all in the set.
 fn likely_place(members: &TupleSet, label: u32) -> usize {
     if members.is_empty() {
         return 0;
@@ -38,7 +39,7 @@ fn likely_place(members: &TupleSet, label: u32) -> usize {
     label.saturating_sub(label_at(members, 0)) as usize
 }
 
-/// Whether the tuple at a place of a set is one label, and this one.
+/// Whether the tuple at a place of a set consists of this one label.
 fn is_at(members: &TupleSet, place: usize, label: u32) -> bool
     ensures { IsTrue result → slice_get members.now place ≡ Some (label ∷ []) }
 {
@@ -49,7 +50,8 @@ fn is_at(members: &TupleSet, place: usize, label: u32) -> bool
     labels.len() == 1 && labels[0] == label
 }
 
-/// The place of a label in a set of one dimension. The likely place is tried before the set is searched.
+/// The place of a label in a set of one dimension. The likely place is tried before the set is
+/// searched.
 fn place_in(alloc: Global, members: &TupleSet, label: u32) -> Result<Option<usize>, AllocError>
     ensures value { IfOk result (λ place. place ≡ place_of members.now (label ∷ [])) }
     ensures within { IfOk result (λ place. IfSome place (λ n. n < length members.now)) }
@@ -67,7 +69,8 @@ fn place_in(alloc: Global, members: &TupleSet, label: u32) -> Result<Option<usiz
     }
 }
 
-/// The place of a set's label in the set, from 1; 0 where the set stands for none, or for one that it does not have.
+/// The place of a set's label in the set, from 1; 0 if the set has no label, or one that is not in
+/// it.
 #[inline(never)]
 pub(crate) fn place_in_set<F: ExactField>(
     alloc: Global,
@@ -88,7 +91,7 @@ pub(crate) fn place_in_set<F: ExactField>(
     }
 }
 
-/// The whole number that a value is, where it is one.
+/// The integer that a value is, if it is one.
 fn whole_number<F: ExactField>(value: Ext<F>) -> Option<i128>
     ensures value { result ≡ whole_number (extended F.value value) }
     ensures room { IfSome result (λ n. nat_abs n < 2 ^ 127) }
@@ -104,7 +107,7 @@ fn whole_number<F: ExactField>(value: Ext<F>) -> Option<i128>
     }
 }
 
-/// The place that lies so many behind one of `count` places, where it is one of them.
+/// The place `amount` after one of `count` places, if it is one of them.
 fn ahead(count: usize, amount: i128, place: usize) -> Option<usize>
     ensures { result ≡ within count (pos place +ℤ amount) }
 {
@@ -116,7 +119,7 @@ fn ahead(count: usize, amount: i128, place: usize) -> Option<usize>
     }
 }
 
-/// The place that lies so many behind one of `count` places that go round.
+/// The place `amount` after one of `count` places, counted in a circle.
 fn around(count: usize, amount: i128, place: usize) -> usize
     requires { place < count }
     ensures { pos result ≡ int_rem_euclid (pos place +ℤ amount) (pos count) }
@@ -145,7 +148,7 @@ fn moved(count: usize, op: LagOp, amount: i128, place: usize) -> Option<usize>
     }
 }
 
-/// The label that a lead or a lag of so many places reaches from a label.
+/// The label that a lead or a lag of `amount` places reaches from a label.
 fn lagged(
     alloc: Global,
     members: &TupleSet,
@@ -165,8 +168,8 @@ fn lagged(
     }
 }
 
-/// The label that a lag of this amount reaches from the label of its set. `LagNotWhole` exactly where the amount is no
-/// whole number.
+/// The label that a lag of this amount reaches from the label of its set. `LagNotWhole` exactly
+/// where the amount is no whole number.
 #[inline(never)]
 pub(crate) fn reached<F: ExactField>(
     alloc: Global,
@@ -188,7 +191,7 @@ pub(crate) fn reached<F: ExactField>(
     }
 }
 
-/// A tuple with one more label, while both are there and the tuple has room.
+/// A tuple with one more label, if both exist and the tuple has fewer than 10 labels.
 #[inline(never)]
 pub(crate) fn with_label(
     alloc: Global,

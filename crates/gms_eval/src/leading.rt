@@ -1,4 +1,5 @@
-//! The factor of a condition that leads a walk: a reference whose stored tuples are all at which the condition may hold.
+//! The factor of a condition that leads a traversal: a reference whose stored tuples are all at
+//! which the condition may hold.
 ghost use Rattle.std.specs.Prelude.{◌≡◌, ◌<◌, ◌≤◌, ◌-◌, ◌*◌, ◌&&◌, ◌||◌, ℕ, Bool, ◌++◌, [], List, length, take, slice_index_or, is_some, true, None, Some, Ok, IfOk, IfSome, IsOk, IsTrue};
 ghost use Rattle.std.specs.List.{All};
 ghost use Rattle.gms_ast.specs.Trees.{Indices};
@@ -23,7 +24,7 @@ use gms_tuple::{MOST_LABELS, Tuple};
 use gq_field::ExactField;
 use std::alloc::{AllocError, Global};
 
-/// The label of an index whose set stands for one outside, or that is a label itself.
+/// The label of an index that is a label, or whose set stands for a label outside.
 fn constant<F: ExactField>(index: &Index<F>, b: &Binding) -> Option<u32>
     ensures label { IfSome result (λ label. (state : State) (more : Pairs) →
         label_answer F.value F.limit state (b.now ++ more) index.now ≡ Ok (Some label)) }
@@ -38,7 +39,8 @@ fn constant<F: ExactField>(index: &Index<F>, b: &Binding) -> Option<u32>
     }
 }
 
-/// The labels with which each tuple of some indices begins: those of the first indices that have one outside.
+/// The labels with which each tuple of some indices begins: those of the first indices that have
+/// one outside.
 fn prefix<F: ExactField>(
     alloc: Global,
     indices: &[Index<F>],
@@ -88,8 +90,8 @@ fn place_of<F: ExactField>(indices: &[Index<F>], set: u32) -> Option<usize>
     None
 }
 
-/// The place of the index that has the label of the set at `position` of a control; none where the set stands for a label
-/// outside or stands before that place too.
+/// The place of the index that has the label of the set at `position` of a control; none where the
+/// set stands for a label outside or occurs before that position too.
 fn place_at<F: ExactField>(
     indices: &[Index<F>],
     sets: &[u32],
@@ -111,8 +113,8 @@ fn place_at<F: ExactField>(
     place_of(indices, set)
 }
 
-/// Where the labels of an element of a control are: those that are labels of indices in the tuple of the indices, the
-/// others behind it.
+/// The place of each label of an element of a control: labels of indices are in the tuple of the
+/// indices, the others after it.
 #[derive(Drop)]
 struct Cover {
     /// The place of each label.
@@ -121,7 +123,7 @@ struct Cover {
     free: Vec<u32>,
 }
 
-/// Where the labels of an element of a control are, by the tuple of indices.
+/// The place of each label of an element of a control, by the tuple of indices.
 fn covered<F: ExactField>(
     alloc: Global,
     indices: &[Index<F>],
@@ -175,7 +177,7 @@ fn are_plain<F: ExactField>(indices: &[Index<F>]) -> bool
     true
 }
 
-/// The walk over the tuples of a reference, where it comes to fewer than `bound` elements.
+/// The traversal of the tuples of a reference, if it visits fewer than `bound` elements.
 fn walk_by<F: ExactField>(
     alloc: Global,
     store: &Store<F>,
@@ -221,14 +223,15 @@ fn walk_by<F: ExactField>(
 pub(crate) struct Scan {
     /// Whether it never has a fault.
     pub safe: bool,
-    /// How many tuples a walk has at most to be shorter than this one.
+    /// How many elements another traversal visits at most to be shorter than this one.
     pub bound: usize,
-    /// The walk that leads, where there is one.
+    /// The traversal that leads, if any.
     pub walk: Option<Walk>,
 }
 
 impl Scan {
-    /// What is known of two conditions of which the second is taken where the first holds and never has a fault.
+    /// What is known of two conditions of which the second is evaluated where the first holds and
+    /// never has a fault.
     fn and(self, second: Scan) -> Scan
         ensures known { IsTrue self.safe → (state : State) (binding : Pairs) (sets : List ℕ) (one other : Condition) →
             IsScan state binding sets one self → IsScan state binding sets other second →
@@ -291,7 +294,7 @@ fn scan_reference<F: ExactField>(
     }
 }
 
-/// What is known of a condition, with the shortest walk that leads.
+/// What is known of a condition, with the shortest traversal that leads it.
 #[cycle(scan_condition)]
 fn scan_condition<F: ExactField>(
     alloc: Global,
@@ -344,7 +347,8 @@ fn scan_condition<F: ExactField>(
     }
 }
 
-/// What is known of conditions that are taken from the first to the last, up to one that does not hold.
+/// What is known of conditions that are evaluated from the first to the last, up to one that does
+/// not hold.
 #[cycle(scan_condition)]
 fn scan_parts<F: ExactField>(
     alloc: Global,
@@ -376,7 +380,8 @@ fn scan_parts<F: ExactField>(
     Ok(known)
 }
 
-/// What is known of guards, which are taken from the last to the first, up to one that does not hold.
+/// What is known of guards, which are evaluated from the last to the first, up to one that does not
+/// hold.
 #[cycle(scan_condition)]
 fn scan_guards<F: ExactField>(
     alloc: Global,
@@ -408,8 +413,8 @@ fn scan_guards<F: ExactField>(
     Ok(first)
 }
 
-/// The elements at which a condition is to be tested, for those of the product of sets at which it holds: all of the
-/// product, which are `size`, or those to which a walk comes that leads.
+/// The elements at which a condition is to be tested, for those of the product of sets at which it
+/// holds: all of the product, which are `size`, or those that a leading traversal visits.
 #[inline(never)]
 pub(crate) fn candidates<F: ExactField>(
     alloc: Global,
@@ -424,7 +429,7 @@ pub(crate) fn candidates<F: ExactField>(
         those_where (λ element. holds F.value F.limit store.now (controlled b.now sets.now element) (tree_of condition.now)) (those_of store.now sets.now among)
         ≡ those_where (λ element. holds F.value F.limit store.now (controlled b.now sets.now element) (tree_of condition.now)) (elements store.now sets.now)) }
     ensures counted { IfOk result (IsCounted store.now sets.now) }
-    // Where references lead, a walk by the one that comes to the fewest elements comes to no fewer.
+    // If references lead, the shortest traversal by one of them visits no fewer elements.
     ensures fewest { IfOk result (λ among. size ≤ most_elements →
         All (λ set. length (symbol_of store.now set).domain ≡ 1) sets.now → (name : ℕ) (indices : Indices F) →
         MayLead name indices (tree_of condition.now) →

@@ -1,4 +1,5 @@
-//! Floor 5, the run. The values of expressions over the state of a run, conditions, and the domains of folds and loops.
+//! Layer 5, the run. The values of expressions over the state of a run, conditions, and the domains
+//! of folds and loops.
 #![tactic(auto)]
 
 mod binding;

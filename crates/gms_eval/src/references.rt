@@ -16,7 +16,7 @@ use gq_extended::Ext;
 use gq_field::ExactField;
 use std::alloc::Global;
 
-/// A lower bound, or minus infinity where there is none.
+/// A lower bound; minus infinity if there is none.
 fn lower_value<F: ExactField>(bound: Option<F>) -> Ext<F>
     ensures { extended F.value result ≡ lower_value (option_map F.value bound) }
 {
@@ -26,7 +26,7 @@ fn lower_value<F: ExactField>(bound: Option<F>) -> Ext<F>
     }
 }
 
-/// An upper bound, or infinity where there is none.
+/// An upper bound; infinity if there is none.
 fn upper_value<F: ExactField>(bound: Option<F>) -> Ext<F>
     ensures { extended F.value result ≡ upper_value (option_map F.value bound) }
 {
@@ -36,7 +36,8 @@ fn upper_value<F: ExactField>(bound: Option<F>) -> Ext<F>
     }
 }
 
-/// What a name without a suffix has at a tuple: a set has 1 at its members and 0 at other tuples.
+/// The value of a name without a suffix at a tuple: a set has 1 at its members and 0 at other
+/// tuples.
 fn plain_value<F: ExactField>(store: &Store<F>, name: u32, tuple: &Tuple) -> Ext<F>
     ensures { extended F.value result ≡ plain_value store.now name (symbol_of store.now name).content tuple.now }
 {
@@ -71,7 +72,7 @@ fn entry_at<F: ExactField>(
     }
 }
 
-/// What a reference reads where its indices have a tuple; where they have none its value is 0.
+/// What a reference reads; without a tuple of its indices, 0.
 #[inline(never)]
 pub(crate) fn entry_of<F: ExactField>(
     alloc: Global,

@@ -60,7 +60,8 @@ fn holds_between<F: ExactField>(op: RelOp, x: Ext<F>, y: Ext<F>) -> bool
     }
 }
 
-/// A chain of parts with signs. GAMS User's Guide, "Data Manipulations with Parameters", arithmetic operations.
+/// A chain of parts with signs. GAMS User's Guide, "Data Manipulations with Parameters", arithmetic
+/// operations.
 #[derive(Clone, Copy)]
 pub enum Signed {
     /// A sum: a part is added or subtracted.
@@ -69,7 +70,7 @@ pub enum Signed {
     Product,
 }
 
-/// What a part of a sum or a product makes of the value so far.
+/// A step of a sum or a product: the value so far with a part.
 fn signed_outcome<F: ExactField>(
     chain: Signed,
     inverse: bool,
@@ -86,7 +87,7 @@ fn signed_outcome<F: ExactField>(
     }
 }
 
-/// The value so far joined with the next part of a sum or a product; the first part makes it.
+/// The value so far joined with the next part of a sum or a product, which gives the first value.
 #[inline(never)]
 pub(crate) fn signed_part<F: ExactField>(
     alloc: Global,
@@ -106,7 +107,7 @@ pub(crate) fn signed_part<F: ExactField>(
     }
 }
 
-/// The value so far raised to the next part of a power; the first part makes it.
+/// The value so far raised to the next part of a power, which gives the first value.
 #[inline(never)]
 pub(crate) fn power_part<F: ExactField>(
     alloc: Global,
@@ -124,7 +125,8 @@ pub(crate) fn power_part<F: ExactField>(
     }
 }
 
-/// 1 or 0, as a relation holds between the value so far and the next part; the first part makes it.
+/// 1 or 0: whether a relation holds between the value so far and the next part, which gives the
+/// first value.
 #[inline(never)]
 pub(crate) fn related_part<F: ExactField>(op: RelOp, so_far: Option<Ext<F>>, y: Ext<F>) -> Ext<F>
     ensures { after relation_step (related op) (option_map (extended F.value) so_far) (extended F.value y) ≡ Ok (extended F.value result) }
@@ -135,7 +137,7 @@ pub(crate) fn related_part<F: ExactField>(op: RelOp, so_far: Option<Ext<F>>, y: 
     }
 }
 
-/// Whether `and` leaves its right operand: where the left is 0.
+/// Whether `and` does not evaluate its right operand: if the left is 0.
 pub(crate) fn is_left_by_and<F: ExactField>(so_far: Option<Ext<F>>) -> bool
     ensures { result ≡ is_left_by_and (option_map (extended F.value) so_far) }
 {
@@ -145,7 +147,8 @@ pub(crate) fn is_left_by_and<F: ExactField>(so_far: Option<Ext<F>>) -> bool
     }
 }
 
-/// 1 or 0, as what stands before it and the next part both hold; the first part makes it.
+/// 1 or 0: whether the value so far and the next part both hold. The first part gives the first
+/// value.
 #[inline(never)]
 pub(crate) fn all_part<F: ExactField>(so_far: Option<Ext<F>>, y: Ext<F>) -> Ext<F>
     ensures { after all_step plain (option_map (extended F.value) so_far) (extended F.value y) ≡ Ok (extended F.value result) }
@@ -156,7 +159,7 @@ pub(crate) fn all_part<F: ExactField>(so_far: Option<Ext<F>>, y: Ext<F>) -> Ext<
     }
 }
 
-/// Whether `or` leaves its right operand: where the left is not 0. `xor` leaves none.
+/// Whether `or` does not evaluate its right operand: if the left is not 0. `xor` evaluates both.
 pub(crate) fn is_left_by_or<F: ExactField>(exclusive: bool, so_far: Option<Ext<F>>) -> bool
     ensures { result ≡ is_left_by_or exclusive (option_map (extended F.value) so_far) }
 {
@@ -166,7 +169,8 @@ pub(crate) fn is_left_by_or<F: ExactField>(exclusive: bool, so_far: Option<Ext<F
     }
 }
 
-/// 1 or 0, as what stands before it or the next part holds, with `xor` only one of them; the first part makes it.
+/// 1 or 0: whether the value so far or the next part holds; with `xor`, whether only one of them
+/// does. The first part gives the first value.
 #[inline(never)]
 pub(crate) fn one_part<F: ExactField>(exclusive: bool, so_far: Option<Ext<F>>, y: Ext<F>) -> Ext<F>
     ensures { after one_step (chosen exclusive) (option_map (extended F.value) so_far) (extended F.value y) ≡ Ok (extended F.value result) }
@@ -177,7 +181,7 @@ pub(crate) fn one_part<F: ExactField>(exclusive: bool, so_far: Option<Ext<F>>, y
     }
 }
 
-/// 1 or 0, as one of two holds, with `xor` only one of them.
+/// 1 or 0: whether one of two holds; with `xor`, whether only one of them does.
 fn one_of_two<F: ExactField>(exclusive: bool, x: bool, y: bool) -> Ext<F>
     ensures { extended F.value result ≡ truth (if exclusive then (if x then not y else y) else (x || y)) }
 {
@@ -188,7 +192,7 @@ fn one_of_two<F: ExactField>(exclusive: bool, x: bool, y: bool) -> Ext<F>
     }
 }
 
-/// A count, where it fits.
+/// A count, if it fits.
 #[inline(never)]
 pub(crate) fn counted<F: ExactField>(
     alloc: Global,
@@ -204,7 +208,7 @@ pub(crate) fn counted<F: ExactField>(
     }
 }
 
-/// Where a fold starts: the least and the greatest of values have no start.
+/// The initial value of a fold; minimum and maximum have none.
 pub(crate) fn start<F: ExactField>(op: FoldOp) -> Option<Ext<F>>
     ensures { option_map (extended F.value) result ≡ start_of op }
 {
@@ -216,7 +220,7 @@ pub(crate) fn start<F: ExactField>(op: FoldOp) -> Option<Ext<F>>
     }
 }
 
-/// The value so far joined with that of the next body of a fold; the first makes it where there is none.
+/// The value so far joined with that of the next body of a fold, which gives the first value.
 #[inline(never)]
 pub(crate) fn fold_part<F: ExactField>(
     alloc: Global,

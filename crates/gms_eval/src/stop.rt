@@ -110,20 +110,21 @@ impl StopKind {
 pub struct ExecStop<F> {
     /// Why the execution stops.
     pub kind: StopKind,
-    /// Where the step stands: one of two operands at the right one, another at its own first character.
+    /// The place of the step: one of two operands at the right one, another at its own first
+    /// character.
     pub at: Place,
     /// The labels under which the step is taken.
     pub binding: Binding,
-    /// The left operand of the step, or the amount of a lag; 0 where there is none.
+    /// The left operand of the step, or the amount of a lag; 0 if there is none.
     pub left: Ext<F>,
-    /// The right operand of the step, 0 where there is none.
+    /// The right operand of the step; 0 if there is none.
     pub right: Ext<F>,
-    /// How many elements, rows or columns there are too many of, or the greatest number of a `u64` where they pass it; 0
-    /// for the other kinds.
+    /// How many elements, rows or columns there are, if they are too many, or the greatest `u64` if
+    /// they are more; 0 for the other kinds.
     pub count: u64,
 }
 
-// Written out, so that it is proved here alone, and not in each crate that lets one go.
+// Written out, so that it is proved once, and not in each crate that drops one.
 impl<F: Drop> Drop for ExecStop<F> {
     fn drop(self) {
         let Self {
@@ -143,7 +144,8 @@ pub enum StopOrMemory<F> {
     /// Out of memory.
     #[error("out of memory")]
     Memory,
-    /// The execution stops. The stop is stored on the heap, so that the result of a nested expression stays small.
+    /// The execution stops. The stop is stored on the heap, so that the result of a nested
+    /// expression stays small.
     #[error(transparent)]
     Stop(Box<ExecStop<F>>),
 }
@@ -209,7 +211,7 @@ impl<F: ExactField> StopOrMemory<F> {
         StopOrMemory::made(alloc, kind, at, left, right, 0, b)
     }
 
-    /// The stop of a domain, or of a linear program, that has so many elements, rows or columns.
+    /// The stop of a domain, or of a linear program, that has `count` elements, rows or columns.
     #[inline(never)]
     pub fn counted(
         alloc: Global,
@@ -223,7 +225,7 @@ impl<F: ExactField> StopOrMemory<F> {
         StopOrMemory::made(alloc, kind, at, zero(), zero(), count, b)
     }
 
-    /// The stop of a domain whose product has so many elements.
+    /// The stop of a domain whose product has `count` elements.
     pub fn too_large(alloc: Global, at: Place, count: u64, b: &Binding) -> StopOrMemory<F>
         ensures { Shows F.value result (record { kind = DomainSize; at = at; binding = b.now; left = nothing; right = nothing; count = count }) }
     {

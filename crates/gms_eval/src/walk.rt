@@ -1,4 +1,4 @@
-//! Walks over the stored tuples of a name, in place of the whole product of sets.
+//! Traversals of the stored tuples of a name, in place of the whole product of sets.
 ghost use Rattle.std.specs.Prelude.{◌≡◌, ◌≤◌, ℕ, ◌∷◌, [], ◌++◌, ◌&&◌, ◌||◌, List, length, slice_index, All, IfOk, IsTrue, IsFalse};
 ghost use Rattle.gms_tuple.specs.TupleOrder.{IsOrdered};
 ghost use Rattle.gms_tuple.specs.TupleSet.{has};
@@ -12,28 +12,28 @@ use gms_tuple::{MOST_LABELS, Tuple, TupleSet};
 use gq_field::ExactField;
 use std::alloc::{AllocError, Global};
 
-/// A walk over stored tuples of a name. A label of an element is one of the tuple, or one of an element of sets of which
-/// the tuple says nothing.
+/// A traversal of stored tuples of a name. A label of an element is one of the tuple, or one of an
+/// element of the sets that the tuple does not determine.
 ///
-/// In `sum((i,j,k)$s(j,i), w(i,k))` it goes over the tuples of `s`; the labels of `i` and `j` are at the places 1 and 0 of
-/// each, and that of `k` is at place 2, behind them.
+/// In `sum((i,j,k)$s(j,i), w(i,k))` it goes over the tuples of `s`; the labels of `i` and `j` are
+/// at the places 1 and 0 of each, and that of `k` is at place 2, after them.
 #[derive(Drop)]
 pub(crate) struct Walk {
     /// The name.
     pub name: u32,
     /// The place of the first of its tuples.
     pub from: usize,
-    /// The place behind the last of them.
+    /// The place after the last of them.
     pub upto: usize,
-    /// The sets of which the tuples say nothing.
+    /// The sets that the tuples do not determine.
     pub free: Vec<u32>,
     /// How many elements the product of these sets has.
     pub spread: usize,
-    /// The place of each label of an element in a tuple that an element of these sets follows.
+    /// The place of each label of an element, in a tuple followed by an element of these sets.
     pub places: Vec<usize>,
 }
 
-/// The label that a tuple has at a place, 0 where it has none.
+/// The label of a tuple at a place; 0 if it has none.
 fn label_in(tuple: &Tuple, place: usize) -> u32
     ensures { result ≡ slice_index tuple.now place }
 {
@@ -43,7 +43,7 @@ fn label_in(tuple: &Tuple, place: usize) -> u32
     }
 }
 
-/// The label that a tuple has at a place, where another follows it; 0 where it has none.
+/// The label at a place of a tuple followed by another; 0 if there is none.
 fn label_at(tuple: &Tuple, rest: &Tuple, place: usize) -> u32
     ensures { result ≡ slice_index (tuple.now ++ rest.now) place }
 {
@@ -55,7 +55,7 @@ fn label_at(tuple: &Tuple, rest: &Tuple, place: usize) -> u32
     }
 }
 
-/// The labels that a tuple has at these places, where another follows it; 0 where it has none.
+/// The labels at these places of a tuple followed by another; 0 where there is none.
 fn picked(alloc: Global, tuple: &Tuple, rest: &Tuple, places: &[usize]) -> Result<Tuple, AllocError>
     requires { length places.now ≤ MOST_LABELS }
     ensures { IfOk result (λ element. element ≡ picked places.now (tuple.now ++ rest.now)) }
@@ -121,7 +121,7 @@ fn is_element<F: ExactField>(
     Ok(true)
 }
 
-/// Elements, and those of the product of sets of one dimension to which a walk comes at a tuple.
+/// Appends the elements of the product of sets of one dimension that a traversal visits at a tuple.
 fn spread<F: ExactField>(
     alloc: Global,
     store: &Store<F>,
@@ -150,7 +150,7 @@ fn spread<F: ExactField>(
     Ok(more)
 }
 
-/// The elements of the product of sets of one dimension to which a walk comes.
+/// The elements of the product of sets of one dimension that a traversal visits.
 pub(crate) fn gathered<F: ExactField>(
     alloc: Global,
     store: &Store<F>,

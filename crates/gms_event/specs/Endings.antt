@@ -1,11 +1,12 @@
--- How the end of a solve counts for its model and its solver (GAMS User's Guide, "GAMS Output", model status and solver status).
+-- How the end of a solve counts for its model and its solver (GAMS User's Guide, "GAMS Output",
+-- model status and solver status).
 use Rattle.std.specs.Prelude.{ℕ, ◌==◌, if◌then◌else◌}
 use Rattle.gms_store.specs.declared.status.SolveStatus.{SolveStatus}
 use Rattle.gms_store.specs.declared.status.SolveStatus.TheVariants as status
 use Rattle.lp_core.specs.declared.answer.End.{End}
 use Rattle.lp_core.specs.declared.answer.End.TheVariants.{Optimal, Infeasible, Unbounded, Interrupted, Refused}
 
--- after an interrupt: a feasible point is there from the second phase on
+-- the status after an interrupt: from the second phase on there is a feasible point
 abbrev pub interrupted : ℕ → SolveStatus
 interrupted phase = if phase == 1 then status.Intermediate else status.Feasible
 

@@ -1,4 +1,4 @@
--- The events that those of a run show: the numbers that their values mean.
+-- The view of the events of a run: the numbers that their values mean.
 use Rattle.std.specs.Prelude.{List, map}
 use Rattle.gq_number.specs.Number.{Number}
 use Rattle.gq_extended.specs.Meaning.{extended}
@@ -10,7 +10,7 @@ use Rattle.gms_event.specs.declared.event.Shown.{Shown as OwnShown}
 use Rattle.gms_event.specs.Events.{Event, Shown, displays, solves, aborts, stops}
 
 module _ {F : Type 0} (value : F → Number) where
-  -- what is shown for an item
+  -- the view of an item that is shown
   abbrev pub shown_in : OwnShown F → Shown
   shown_in item =
       record {
@@ -23,7 +23,7 @@ module _ {F : Type 0} (value : F → Number) where
         decimals = item.decimals;
       }
 
-  -- an event
+  -- the view of an event
   abbrev pub event_in : OwnEvent F → Event
   event_in (own.Display line items) = displays line (map shown_in items)
   event_in (own.Solve line model equations lp answer solver settings objective_level) =
@@ -40,6 +40,6 @@ module _ {F : Type 0} (value : F → Number) where
   event_in (own.Abort line items) = aborts line (map shown_in items)
   event_in (own.Fault stop) = stops (fault_of value stop)
 
-  -- events in order
+  -- the views of events, in order
   abbrev pub events_in : List (OwnEvent F) → List Event
   events_in events = map event_in events

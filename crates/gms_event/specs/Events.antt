@@ -1,4 +1,5 @@
--- What the statements of a run show (GAMS User's Guide, "GAMS Output", "The Display Statement", "Model and Solve Statements").
+-- What the statements of a run show (GAMS User's Guide, "GAMS Output", "The Display Statement",
+-- "Model and Solve Statements").
 use Rattle.std.specs.Prelude.{ℕ, Bool, List, Option}
 use Rattle.gq_number.specs.Number.{Number}
 use Rattle.gq_extended.specs.Extended.{Extended}
@@ -20,7 +21,7 @@ pub record Shown : Type 0 where
   pub suffix : Suffix
   -- whether the symbol has indices
   pub indexed : Bool
-  -- the tuples with their values, those that are 0 left out where the symbol has indices
+  -- the tuples with their values; if the symbol has indices, those that are 0 are left out
   pub entries : List (List ℕ × Extended)
   -- with how many decimals numbers are shown
   pub decimals : ℕ

@@ -58,7 +58,7 @@ pub struct Shown<F> {
     pub kind: SymbolKind,
     /// Which of the symbol's values are shown.
     pub suffix: Suffix,
-    /// Whether the symbol has indices. One without them has exactly one entry, also where it is 0.
+    /// Whether the symbol has indices. One without them has exactly one entry, also if it is 0.
     pub indexed: bool,
     /// The entries that are not 0, in the order of tuples.
     pub entries: Sequence<(Tuple, Ext<F>)>,
@@ -66,7 +66,7 @@ pub struct Shown<F> {
     pub decimals: u8,
 }
 
-// Written out, so that it is proved here alone, and not in each crate that lets one go.
+// Written out, so that it is proved once, and not in each crate that drops one.
 impl<F: Drop> Drop for Shown<F> {
     fn drop(self) {
         let Self {

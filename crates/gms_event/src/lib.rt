@@ -1,4 +1,4 @@
-//! Floor 5, the run. Events: what a run shows, statement by statement.
+//! Layer 5, the run. Events: what a run shows, statement by statement.
 #![tactic(auto)]
 
 mod ending;

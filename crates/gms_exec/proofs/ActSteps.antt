@@ -1,4 +1,4 @@
--- What each act makes of a run, by its parts.
+-- What each act does to a run, by its parts.
 use Rattle.std.proofs.Common.{◌≡◌, ℕ, Bool, List, map, Option, option_map, Vec, sym, ap, ◌∙◌}
 use Rattle.std.specs.declared.alloc.Global.{Global}
 use Rattle.gms_labels.specs.declared.place.Place.{Place}
@@ -29,12 +29,12 @@ use Rattle.gms_exec.specs.Options.{after_options}
 use Rattle.gms_exec.specs.Run.{Course, World, OfStatement, OfAct, labels_in, in_state, with_value, display, abort_where, over_elements, solve, act_step, statement_step, of_statement}
 
 module _ {F : Type 0} (value : F → Number) (limit : ℕ) (world : World F) where
-  -- what an act makes of a run
+  -- what an act does to a run
   abbrev of_act : Act F → OfAct
   of_act = fold-Act F OfAct OfStatement (act_step value limit world) (statement_step value limit)
 
   module _ (s : Stmt F) (binding : Pairs) (course : Course) where
-    -- what a statement makes of a run is what its act does
+    -- what a statement does to a run is what its act does
     by-act : (act : Act F) → s.act ≡ act → of_statement value limit world s binding course ≡ of_act act s.at binding course
     by-act act e =
         ap (λ (f : OfStatement). f binding course) (fold_out-Stmt F OfAct OfStatement (act_step value limit world) (statement_step value limit) s) ∙ ap (λ (act : Act F). of_act act s.at binding course) e

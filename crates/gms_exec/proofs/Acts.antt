@@ -33,7 +33,7 @@ use Rattle.gms_exec.proofs.Keeping.{Keeps, run-keeps}
 use Rattle.gms_exec.proofs.SolveRuns.{as-long}
 
 module _ {F : Type 0} (value : F → Number) (limit : ℕ) (world : World F) (s : Stmt F) (binding : Pairs) where
-  -- what the statement makes of a run
+  -- what the statement does to a run
   abbrev does : Course → Course
   does = of_statement value limit world s binding
 

@@ -41,7 +41,7 @@ behind-at : (xs : List Number) (i : ℕ) (x : Number) → slice_get xs (suc i) �
 behind-at [] i x at = absurd cc
 behind-at (y ∷ ys) i x at = at
 
--- a marginal that stands at a place, or that no list has
+-- the marginal at a place; 0 if there are no marginals
 abbrev IsMarginal : List Number → ℕ → Number → Type 0
 IsMarginal [] i x = whole (pos 0) ≡ x
 IsMarginal (y ∷ ys) i x = slice_get (y ∷ ys) i ≡ Some x
@@ -99,7 +99,7 @@ module _ (state : State) (p : Point) where
   base-point : (other : ℕ) → base_of (with_point state p) other ≡ base_of state other
   base-point other = base-after state p.key.symbol new alike other
 
-  -- what attributes leave as it is of a content is as before
+  -- what does not depend on attributes is as before
   read-point : {Y : Type 0} (read : Content → Y) → ((c : Content) (t : List ℕ) (a : Attributes) → read (with_attributes c t a) ≡ read c) → (other : ℕ) → read (symbol_of (with_point state p) other).content ≡ read (symbol_of state other).content
   read-point read stays other =
       reads-same state p.key.symbol new alike read other (λ same. fits-either (λ c. read c ≡ read symbol.content) symbol p.key.tuple (with_attributes symbol.content p.key.tuple put) refl (stays symbol.content p.key.tuple put))
@@ -139,7 +139,7 @@ module _ (state : State) (p : Point) where
   elsewhere-point : (name : ℕ) (t : List ℕ) → IsNot state p.key name t → attributes_of (with_point state p) name t ≡ attributes_of state name t
   elsewhere-point name t apart = attributes_elsewhere state p.key.symbol p.key.tuple put name t apart
 
--- ---- one after another
+-- ---- in sequence
 
 -- no point is the element of this name at this tuple
 abbrev AreNot : State → List Point → ℕ → List ℕ → Type 0
@@ -151,7 +151,8 @@ all-elsewhere (p ∷ ps) state name t apart =
     all-elsewhere ps (with_point state p) name t (λ j q at. not-point state p q.key name t (apart (suc j) q at))
     ∙ elsewhere-point state p name t (apart zero p refl)
 
--- where the points of other places are other elements, the element of a place has its level and its marginal
+-- if the points at other places are other elements, the element at a place has its level and its
+-- marginal
 all-here : (ps : List Point) (i : ℕ) (p : Point) (state : State) → slice_get ps i ≡ Some p → IsElement state p.key → ((j : ℕ) (q : Point) → slice_get ps j ≡ Some q → (j ≡ i → ⊥) → IsNot state q.key p.key.symbol p.key.tuple) → attributes_of (fold with_point state ps) p.key.symbol p.key.tuple ≡ with_marginal (with_level (attributes_of state p.key.symbol p.key.tuple) p.level) p.marginal
 all-here [] i p state at is apart = absurd cc
 all-here (q ∷ ps) zero p state at is apart =
@@ -166,7 +167,7 @@ read-all : {Y : Type 0} (read : Content → Y) → ((c : Content) (t : List ℕ)
 read-all read stays [] state other = refl
 read-all read stays (p ∷ ps) state other = read-all read stays ps (with_point state p) other ∙ read-point state p read stays other
 
--- a name of which no element is put stays
+-- a name of which no element is written is unchanged
 symbol-all : (ps : List Point) (state : State) (other : ℕ) → ((j : ℕ) (q : Point) → slice_get ps j ≡ Some q → base_of state other ≡ base_of state q.key.symbol → ⊥) → symbol_of (fold with_point state ps) other ≡ symbol_of state other
 symbol-all [] state other apart = refl
 symbol-all (p ∷ ps) state other apart =
@@ -247,7 +248,7 @@ module _ (state : State) (model m s : ℕ) where
   not-begun : (key : Key) (name : ℕ) (t : List ℕ) → IsNot state key name t → IsNot begun key name t
   not-begun key name t apart = λ same. apart (sym (base-begun name) ∙ same ∙ base-begun key.symbol)
 
-  -- ---- the points behind the statuses
+  -- ---- the points, after the statuses
 
   module _ (ps : List Point) (keys : List Key) (are_keys : map key_of ps ≡ keys) where
     key-at : (j : ℕ) (q : Point) → slice_get ps j ≡ Some q → slice_get keys j ≡ Some q.key
@@ -263,7 +264,7 @@ module _ (state : State) (model m s : ℕ) where
     other-left : (name : ℕ) (t : List ℕ) → ((j : ℕ) (key : Key) → slice_get keys j ≡ Some key → IsNot state key name t) → attributes_of (fold with_point begun ps) name t ≡ attributes_of state name t
     other-left name t apart = all-elsewhere ps begun name t (λ j q at. not-begun q.key name t (apart j q.key (key-at j q at))) ∙ attributes-begun name t
 
-    -- any other name is what it was
+    -- any other name is unchanged
     name-left : (other : ℕ) → (base_of state other ≡ base_of state model → ⊥) → ((j : ℕ) (key : Key) → slice_get keys j ≡ Some key → base_of state other ≡ base_of state key.symbol → ⊥) → symbol_of (fold with_point begun ps) other ≡ symbol_of state other
     name-left other apart none =
         symbol-all ps begun other (λ j q at same. none j q.key (key-at j q at) (sym (base-begun other) ∙ same ∙ base-begun q.key.symbol))
@@ -308,7 +309,7 @@ either-keys lp (Interrupted phase levels row_levels) = by (phase == 2)
     by false = inr refl
 either-keys lp (Refused name) = inr refl
 
--- what an end puts that comes with a feasible point, and what one puts that comes with none
+-- what an end with a feasible point writes, and what one without writes
 feasible-points : (lp : Lp Number) (end : End Number) (levels row_levels : List Number) → feasible_levels end ≡ Some (levels, row_levels) → points_of lp end ≡ points (column_keys lp) levels [] ++ points (row_keys lp) row_levels []
 feasible-points lp (Optimal ls rs duals reduced) levels row_levels e = absurd cc
 feasible-points lp (Unbounded ls rs ray) levels row_levels e =

@@ -22,7 +22,7 @@ use Rattle.gms_exec.specs.Stepping.{Seen, come_to, Runs, Answered, paths_taken, 
 use Rattle.gms_exec.proofs.Joining.{grown-nothing}
 
 module _ {F : Type 0} (value : F → Number) where
-  -- a call does the same by other words
+  -- a call that does the same as another
   pub runs-alike : {A : Type 0} (result : Result A (StopOrMemory F)) (does other : Course → Course) (old new : Seen F) → ((left : List (Answer Number)) → does (come_to value old left) ≡ other (come_to value old left)) → Runs value result other old new → Runs value result does old new
   runs-alike (Ok x) does other old new same runs =
       record { shown = runs.shown; events = runs.events; fresh = runs.fresh; answers = runs.answers; comes = λ more. same (map (answer_numbers value) runs.fresh ++ more) ∙ runs.comes more }
@@ -31,7 +31,7 @@ module _ {F : Type 0} (value : F → Number) where
   runs-alike (Err (Stop stop)) does other old new same runs =
       record { shown = runs.shown; events = runs.events; fresh = runs.fresh; answers = runs.answers; comes = λ more. same (map (answer_numbers value) runs.fresh ++ more) ∙ runs.comes more }
 
-  -- a call that changed nothing, where there was nothing to do
+  -- a call that changed nothing, where nothing was to be done
   pub runs-nothing : {A : Type 0} (x : A) (does : Course → Course) (seen : Seen F) → ((left : List (Answer Number)) → does (come_to value seen left) ≡ come_to value seen left) → Runs value {A = A} (Ok x) does seen seen
   runs-nothing x does seen same =
       record { shown = []; events = sym (append-nil seen.events); fresh = []; answers = sym (append-nil seen.answers); comes = same }
@@ -41,7 +41,7 @@ module _ {F : Type 0} (value : F → Number) where
   runs-state x does old new events answers goes =
       record { shown = []; events = sym (append-nil events); fresh = []; answers = sym (append-nil answers); comes = goes }
 
-  -- want of memory leaves what it leaves: events and answers that were there stay at the front
+  -- out of memory makes no claim on the state: earlier events and answers remain as a prefix
   pub runs-memory : {A : Type 0} (failed : StopOrMemory F) (does : Course → Course) (old new : Seen F) (fresh : List (Answer F)) → failed ≡ Memory → new.events ≡ old.events → new.answers ≡ old.answers ++ fresh → Runs value {A = A} (Err failed) does old new
   runs-memory {A} failed does old new fresh memory events answers =
       subst (λ failed. Runs value {A = A} (Err failed) does old new) (sym memory) (record { shown = []; events = events ∙ sym (append-nil old.events); fresh = fresh; answers = answers; comes = λ more. tt })
@@ -144,7 +144,7 @@ module _ {S F : Type 0} (value : F → Number) (limit : ℕ) (name : S → List 
         grown = λ k. grown-nothing (slice_get (map paths solvers) k) ∙ ap (λ taken. option_map (λ before. before ++ taken) (slice_get (map paths solvers) k)) (sym (quiet-paths k new.answers shows.shown shows.quiet));
       }
 
--- what holds in any case holds unless memory was wanted
+-- what holds in any case holds unless memory ran out
 pub unless-any : {F A : Type 0} (result : Result A (StopOrMemory F)) (P : Type 0) → P → UnlessMemory result P
 unless-any (Ok x) P p = p
 unless-any (Err Memory) P p = tt

@@ -71,7 +71,7 @@ pub taken-not : (s : Suffix) (at : Place) (b : Pairs) (x right : Extended) (t : 
 taken-not s at b x right t is so none =
     ap (λ t. cond t (Ok (value_is x)) (Err (faulted Undefined at b x nothing))) (sym is ∙ so) ∙ ap (λ z. Err (faulted Undefined at b x z)) (sym none)
 
--- a step that goes on as another does
+-- two steps that continue alike
 and_then-as : {A B : Type 0} (a : Answer A) (f g : A → Answer B) → ((x : A) → f x ≡ g x) → (a and_then f) ≡ (a and_then g)
 and_then-as (Ok x) f g same = same x
 and_then-as (Err fault) f g same = refl
@@ -114,7 +114,7 @@ module _ {F : Type 0} (v : F → Number) (limit : ℕ) (state : State) (target :
 
 -- ---- the state
 
--- a stop that is handed on leaves the state
+-- a stop that is returned as it is leaves the state unchanged
 pub assigns-handed : {F A : Type 0} (v : F → Number) (r : Result A (StopOrMemory F)) (stop : StopOrMemory F) (state : State) (a : Answer State) → IsErrAnd r (λ e. e ≡ stop) → Stops v stop a → Assigns v r state state a
 assigns-handed {F = F} {A = A} v r stop state a h s = let p = err_from_is_err_and r h in rw (p.1, p.2) (by stop s)
   where

@@ -1,4 +1,4 @@
--- What a run showed before changes nothing of what statements do: they put what they show behind it.
+-- What a run showed before has no effect on what statements do: they append what they show to it.
 use Rattle.std.proofs.Common.{◌≡◌, ℕ, ◌+◌, Bool, true, false, List, [], ◌∷◌, ◌++◌, map, Option, Some, None, Ok, Err, refl, sym, ap, ◌∙◌, subst, append_assoc}
 use Rattle.std.specs.Prelude.{if◌then◌else◌, option_map}
 use Rattle.gq_number.specs.Number.{Number}
@@ -32,7 +32,7 @@ use Rattle.gms_exec.specs.Run.{Course, Halt, World, OfAct, OfStatement, in_state
 abbrev pub behind : List Event → Course → Course
 behind front c = record { state = c.state; events = front ++ c.events; left = c.left; taken = c.taken; halted = c.halted }
 
--- a statement, and an act, do the same behind events that were shown before
+-- a statement, or an act, does the same after events that were shown before
 abbrev pub IsBehind : OfStatement → Type 0
 IsBehind s = (front : List Event) (binding : Pairs) (c : Course) → s binding (behind front c) ≡ behind front (s binding c)
 
@@ -43,12 +43,12 @@ IsBehindAct act = (front : List Event) (at : Place) (binding : Pairs) (c : Cours
 behind_event : (front : List Event) (c : Course) (e : Event) → with_event (behind front c) e ≡ behind front (with_event c e)
 behind_event front c e = ap (λ (es : List Event). record { state = c.state; events = es; left = c.left; taken = c.taken; halted = c.halted }) (append_assoc front c.events (e ∷ []))
 
--- a value is taken, or a fault stops the run
+-- a step with a value, or a stop by a fault
 behind_value : {A : Type 0} (front : List Event) (r : Evaluated A) (next other : A → Course) (c : Course) → ((x : A) → other x ≡ behind front (next x)) → with_value r other (behind front c) ≡ behind front (with_value r next c)
 behind_value front (Ok x) next other c same = same x
 behind_value front (Err fault) next other c same = refl
 
--- what goes on only where nothing halts the run
+-- a step that is taken only where nothing halts the run
 behind_runs : (front : List Event) (next : Course → Course) (c : Course) → next (behind front c) ≡ behind front (next c) → while_it_runs next (behind front c) ≡ behind front (while_it_runs next c)
 behind_runs front next c same = by_halt c.halted
   where
@@ -56,12 +56,12 @@ behind_runs front next c same = by_halt c.halted
     by_halt None = same
     by_halt (Some halt) = refl
 
--- each of some statements does so
+-- each of some statements does the same
 abbrev pub AreBehind : List OfStatement → Type 0
 AreBehind [] = Unit {0}
 AreBehind (s ∷ ss) = IsBehind s × AreBehind ss
 
--- statements one after another
+-- statements in sequence
 pub behind_all : (ss : List OfStatement) → AreBehind ss → IsBehind (one_after_another ss)
 behind_all [] are front binding c = refl
 behind_all (s ∷ ss) are front binding c =
@@ -117,12 +117,12 @@ module _ {F : Type 0} (number_of : F → Number) (limit : ℕ) (world : World F)
   abbrev Q : Stmt F → Type 0
   Q s = IsBehind (of_statement number_of limit world s)
 
-  -- statements that do so, each with the proof of it
+  -- the statements of a body do, from a proof for each
   body_behind : (body : List ((s : Stmt F) × Q s)) → AreBehind (map (of_statement number_of limit world) (map (λ e. e.0) body))
   body_behind [] = tt
   body_behind (e ∷ body) = (e.1, body_behind body)
 
-  -- an act does so where what its layer comes to does
+  -- the claim for an act, from that for its unrolled form
   rolled : (x : Act-F F (Act F) (Stmt F)) (f : OfAct) → of_act (roll-Act F x) ≡ f → IsBehindAct f → IsBehindAct (of_act (roll-Act F x))
   rolled x f e q = subst IsBehindAct (sym e) q
 
@@ -134,7 +134,7 @@ module _ {F : Type 0} (number_of : F → Number) (limit : ℕ) (world : World F)
   behind_assign target condition right_at right front at binding c =
       behind_value front (after_assignment number_of limit c.state at binding (target_of target) (option_map tree_of condition) right_at (tree_of right)) (in_state c) (in_state (behind front c)) c (λ state. refl)
 
-  -- an act whose loop's statements do so
+  -- an act does, if the statements of its loop do
   by_layer : (y : Act-F F ((a : Act F) × IsBehindAct (of_act a)) ((s : Stmt F) × Q s)) → IsBehindAct (of_act (roll-Act F (map-Act F ((a : Act F) × IsBehindAct (of_act a)) ((s : Stmt F) × Q s) (Act F) (Stmt F) (λ e. e.0) (λ e. e.0) y)))
   by_layer (Act-F.Declare kind items) = rolled (Act-F.Declare kind items) _ (fold-roll-Act F OfAct OfStatement (act_step number_of limit world) (statement_step number_of limit) (Act-F.Declare kind items)) behind_nothing
   by_layer (Act-F.Alias first second) = rolled (Act-F.Alias first second) _ (fold-roll-Act F OfAct OfStatement (act_step number_of limit world) (statement_step number_of limit) (Act-F.Alias first second)) behind_nothing
@@ -147,13 +147,13 @@ module _ {F : Type 0} (number_of : F → Number) (limit : ℕ) (world : World F)
   by_layer (Act-F.Solve model word objective maximize) = rolled (Act-F.Solve model word objective maximize) _ (fold-roll-Act F OfAct OfStatement (act_step number_of limit world) (statement_step number_of limit) (Act-F.Solve model word objective maximize)) (behind_solve world.solvers world.program.statements.items model.name objective.name maximize)
   by_layer (Act-F.Loop control body) = rolled (map-Act F ((a : Act F) × IsBehindAct (of_act a)) ((s : Stmt F) × Q s) (Act F) (Stmt F) (λ e. e.0) (λ e. e.0) (Act-F.Loop control body)) _ (fold-roll-Act F OfAct OfStatement (act_step number_of limit world) (statement_step number_of limit) (map-Act F ((a : Act F) × IsBehindAct (of_act a)) ((s : Stmt F) × Q s) (Act F) (Stmt F) (λ e. e.0) (λ e. e.0) (Act-F.Loop control body))) (behind_loop (control_tree control) _ (body_behind body.items))
 
-  -- a statement whose act does so
+  -- a statement does, if its act does
   by_statement : (y : Stmt-F F ((a : Act F) × IsBehindAct (of_act a)) ((s : Stmt F) × Q s)) → Q (roll-Stmt F (map-Stmt F ((a : Act F) × IsBehindAct (of_act a)) ((s : Stmt F) × Q s) (Act F) (Stmt F) (λ e. e.0) (λ e. e.0) y))
   by_statement y =
       let z = map-Stmt F ((a : Act F) × IsBehindAct (of_act a)) ((s : Stmt F) × Q s) (Act F) (Stmt F) (λ e. e.0) (λ e. e.0) y in
       subst IsBehind (sym (fold-roll-Stmt F OfAct OfStatement (act_step number_of limit world) (statement_step number_of limit) z)) (λ front binding c. y.act.1 front y.at binding c)
 
-  -- Each statement does the same behind what was shown before.
+  -- Each statement does the same after what was shown before.
   pub behind_statement : (s : Stmt F) → Q s
   behind_statement =
       ind-Stmt F (λ act. IsBehindAct (of_act act)) Q

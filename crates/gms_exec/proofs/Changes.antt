@@ -5,7 +5,7 @@ use Rattle.gms_store.specs.State.{Symbol, State, no_symbol, symbol_at, behind, b
 
 -- ---- lists
 
--- an element that is put where it stands
+-- writing an element where it is already changes nothing
 set-same : {X : Type 0} (xs : List X) (i : ℕ) (d : X) → set xs i (unwrap_or (slice_get xs i) d) ≡ xs
 set-same [] i d = refl
 set-same (x ∷ xs) zero d = refl
@@ -17,7 +17,7 @@ set-twice [] i d f g = refl
 set-twice (x ∷ xs) zero d f g = refl
 set-twice (x ∷ xs) (suc i) d f g = ap (λ ys. x ∷ ys) (set-twice xs i d f g)
 
--- what stands at a place where something was put
+-- what is read at a place where something was written: the new element, or as before
 read-set_or : {X : Type 0} (xs : List X) (i : ℕ) (v : X) → (slice_get (set xs i v) i ≡ slice_get xs i) ⊎ (slice_get (set xs i v) i ≡ Some v)
 read-set_or [] i v = inl refl
 read-set_or (x ∷ xs) zero v = inr refl

@@ -18,13 +18,13 @@ module _ {A : Type 0} (p : A → Bool) (xs : List A) (d : A) where
   above-test : (i n : ℕ) → n ≤ i → nat_lt i n ≡ false
   above-test i n h = grind (arith, nat_tests)
 
-  -- the first place is one at which the test passes, behind none
+  -- the first place at which the test passes, where it fails at all places before it
   pub position-there : (i : ℕ) → i < length xs → FailsBefore i → p (get_or xs i d) ≡ true → position p xs ≡ Some i
   position-there i within fails passes =
       let at_most : i ≤ length xs = omega arith in
       ap (λ n. cond (nat_lt n (length xs)) (Some n) None) (position_or_len_is p xs i d at_most fails (λ _. passes)) ∙ ap (λ b. cond b (Some i) None) (below-test i (length xs) within)
 
-  -- there is none where the test passes nowhere
+  -- no place is found if the test passes nowhere
   pub position-nowhere : (i : ℕ) → i ≡ length xs → FailsBefore i → position p xs ≡ None
   position-nowhere i all fails =
       let at_most : i ≤ length xs = omega arith in
@@ -46,7 +46,7 @@ module _ {S A : Type 0} (f : S → A) (p : A → Bool) (xs : List S) (d : A) whe
       let inside : i < length (map f xs) = rw length-map within in
       position-there p (map f xs) d i inside before (test-here i s true within is e)
 
-  -- there is none
+  -- no place is found
   pub first-nowhere : (i : ℕ) → length xs ≤ i → ((k : ℕ) → k < i → p (get_or (map f xs) k d) ≡ false) → position p (map f xs) ≡ None
   first-nowhere i beyond before =
       let all : length (map f xs) ≤ i = rw length-map beyond in

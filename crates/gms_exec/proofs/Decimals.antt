@@ -14,7 +14,7 @@ use Rattle.gms_event.specs.EventView.{shown_in}
 use Rattle.gms_event.specs.declared.event.Shown.{Shown as OwnShown}
 use Rattle.gms_exec.specs.Showing.{shown_of, all_shown, tuples_looked_at}
 
--- what is made of a value has what each such thing has
+-- the result of a step on a value has the property, if each such result has it
 made : {A : Type 0} (state : State) (answer : Evaluated A) (next : A → Shown) → ((x : A) → (next x).decimals ≡ state.settings.decimals) → IfOk (answer and_then λ x. Ok (next x)) (λ (one : Shown). one.decimals ≡ state.settings.decimals)
 made state (Ok x) next each = each x
 made state (Err fault) next each = tt

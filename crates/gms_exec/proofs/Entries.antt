@@ -1,4 +1,4 @@
--- The entries of a name that are shown, one after another.
+-- The entries of a name that are shown, in sequence.
 use Rattle.std.proofs.Common.{◌≡◌, ℕ, ◌+◌, ◌<◌, ◌≤◌, min, nat_lt, Bool, true, false, not, List, [], ◌∷◌, ◌++◌, length, map, take, get_or, take_all, cond, filter, Ok, Err, refl, sym, ap, ◌∙◌, append-nil, arith, lt-ltb, ltb-true}
 use Rattle.std.proofs.lemmas.List.{take_more, map-append}
 use Rattle.std.proofs.lemmas.List.Elements.{filter-append}
@@ -13,7 +13,7 @@ use Rattle.gms_eval.specs.declared.stop.StopKind.TheVariants.{DomainSize}
 use Rattle.gms_exec.specs.Showing.{value_shown, is_indexed, entries_shown}
 use Rattle.gms_exec.specs.InnerWalks.{is_kept, with_entries}
 
--- an entry that is left out, and one that is put behind others
+-- an entry that is left out, and one that is appended
 pub left-out : (done : List (List ℕ × Extended)) (e : List ℕ × Extended) (keep out : Bool) → out ≡ not keep → out ≡ true → done ≡ done ++ cond keep (e ∷ []) []
 left-out done e true out is so = absurd cc
 left-out done e false out is so = sym (append-nil done)

@@ -86,7 +86,7 @@ with_attribute-over suffix.Fx a x y = refl
 with_attribute-over suffix.ModelStat a x y = refl
 with_attribute-over suffix.SolveStat a x y = refl
 
--- ---- one after another
+-- ---- in sequence
 
 values_given-append : (one other : AllGiven) → values_given (one ++ other) ≡ values_given one ++ values_given other
 values_given-append one other = flat_map-append _ one other
@@ -127,7 +127,7 @@ behind-given s all (variable_of type entries) n = refl
 behind-given s all (equation_of entries) n = refl
 behind-given s all (model_with model solver) n = refl
 
--- what is given to elements, and more of it
+-- elements that are given something, followed by more of them
 pub after_given-append : (s : Suffix) (name : ℕ) (one other : AllGiven) (state : State) → after_given s name other (after_given s name one state) ≡ after_given s name (one ++ other) state
 after_given-append s name one other state =
     let symbol : Symbol = symbol_of state name in
@@ -136,7 +136,7 @@ after_given-append s name one other state =
 
 -- ---- one alone
 
--- what a name stands for where all that is kept differs from what is absent
+-- a content whose stored entries all differ from an absent one
 pub record IsTidy (content : Content) : Type 0 where
   pub differs : (t : List ℕ) → has (given_in content) t ≡ differs_in content t
   pub is_ordered : IsOrdered (given_in content)
@@ -177,7 +177,7 @@ pub after_given-none : (s : Suffix) (name : ℕ) (state : State) → IsTidy (sym
 after_given-none s name state tidy =
     changed-same (given_to s []) name state (ap (with_content (symbol_of state name)) (with_given-none s (symbol_of state name).content tidy))
 
--- one element that is given something, by what that does to the content
+-- one element that is given something, by its effect on the content
 module _ (s : Suffix) (given : List ℕ × Given) (change : Content → Content) (does : (content : Content) → IsTidy content → with_given s (given ∷ []) content ≡ change content) where
   pub after_given-one : (name : ℕ) (state : State) → IsTidy (symbol_of state name).content → after_given s name (given ∷ []) state ≡ changed (λ symbol. if_fits symbol given.0 (change symbol.content)) name state
   after_given-one name state tidy =

@@ -1,4 +1,4 @@
--- Runs one after another, and what solvers answered in them.
+-- Runs in sequence, and what solvers answered in them.
 use Rattle.std.proofs.Common.{◌≡◌, ℕ, zero, suc, ◌==◌, List, [], ◌∷◌, ◌++◌, map, slice_get, refl, sym, ap, subst, ◌∙◌, cond, Option, Some, None, option_map, option_to_list, Ok, Err, append_assoc, append-nil, arith}
 use Rattle.std.proofs.lemmas.List.{map-append}
 use Rattle.std.proofs.lemmas.List.Elements.{All-head, All-tail, All-append, All-weaker}
@@ -33,18 +33,19 @@ each-halted sets body [] binding course halt e = refl
 each-halted sets body (element ∷ elements) binding course halt e =
     ap (for_each sets body elements binding) (statements-halted body _ course halt e) ∙ each-halted sets body elements binding course halt e
 
--- a course is left alone where it is halted
+-- a halted run does not change
 abbrev pub LeavesHalted : (Course → Course) → Type 0
 LeavesHalted rest = (course : Course) (halt : Halt) → course.halted ≡ Some halt → rest course ≡ course
 
--- two lists behind another, the second behind the first
+-- two lists appended to another, the second after the first
 pub behind-both : {A : Type 0} (old mid new first second : List A) → mid ≡ old ++ first → new ≡ mid ++ second → new ≡ old ++ (first ++ second)
 behind-both old mid new first second a b = b ∙ ap (λ xs. xs ++ second) a ∙ append_assoc old first second
 
 -- ---- runs
 
 module _ {F : Type 0} (value : F → Number) where
-  -- A run that does something from an old point on has come to a new one, with the rest left to do: it showed events and took answers.
+  -- A run of `does` from an old point has reached a new one, where `rest` remains to be done. It
+  -- showed events and took answers.
   pub record Reaches (does rest : Course → Course) (old new : Seen F) : Type 0 where
     pub shown : List (Event F)
     pub events : new.events ≡ old.events ++ shown
@@ -52,7 +53,7 @@ module _ {F : Type 0} (value : F → Number) where
     pub answers : new.answers ≡ old.answers ++ fresh
     pub comes : (more : List (Answer Number)) → does (come_to value old (map (answer_numbers value) fresh ++ more)) ≡ rest (come_to value new more)
 
-  -- what is left is the next thing to do, and what is left behind it
+  -- what remains is the next step, followed by what remains after it
   abbrev pub GoesOn : (Course → Course) → (Course → Course) → (Course → Course) → Type 0
   GoesOn rest first then = (seen : Seen F) (left : List (Answer Number)) → rest (come_to value seen left) ≡ then (first (come_to value seen left))
 
@@ -61,7 +62,7 @@ module _ {F : Type 0} (value : F → Number) where
       record { shown = []; events = sym (append-nil old.events); fresh = []; answers = sym (append-nil old.answers); comes = λ more. refl }
 
   module _ (does rest first then : Course → Course) (old mid new : Seen F) (reached : Reaches does rest old mid) (goes : GoesOn rest first then) where
-    -- the next thing to do, with the answers that it takes behind those that were taken
+    -- the next step, with its answers after those that were taken
     next-comes : (fresh : List (Answer F)) (more : List (Answer Number)) → does (come_to value old (map (answer_numbers value) (reached.fresh ++ fresh) ++ more)) ≡ then (first (come_to value mid (map (answer_numbers value) fresh ++ more)))
     next-comes fresh more =
         ap (λ left. does (come_to value old left)) (ap (λ xs. xs ++ more) (map-append (answer_numbers value) reached.fresh fresh) ∙ append_assoc (map (answer_numbers value) reached.fresh) (map (answer_numbers value) fresh) more)
@@ -103,7 +104,7 @@ module _ {F : Type 0} (value : F → Number) where
   reaches-end x does rest old new reached done =
       record { shown = reached.shown; events = reached.events; fresh = reached.fresh; answers = reached.answers; comes = λ more. reached.comes more ∙ done more }
 
-  -- want of memory leaves a run where it is
+  -- out of memory ends a run where it is
   pub reaches-memory : {A : Type 0} (failed : StopOrMemory F) (does rest : Course → Course) (old new : Seen F) → failed ≡ Memory → Reaches does rest old new → Runs value {A = A} (Err failed) does old new
   reaches-memory {A} failed does rest old new memory reached =
       subst (λ failed. Runs value {A = A} (Err failed) does old new) (sym memory) (record { shown = reached.shown; events = reached.events; fresh = reached.fresh; answers = reached.answers; comes = λ more. tt })
@@ -131,7 +132,7 @@ paths-both k answers (event.Abort line items ∷ first) second = paths-both k an
 paths-both k answers (event.Fault stop ∷ first) second = paths-both k answers first second
 
 module _ {F : Type 0} (value : F → Number) (limit : ℕ) (rules : List SolverRule) (answers fresh : List (Answer F)) where
-  -- what is answered stays so behind further answers
+  -- answered events remain so with further answers
   still-answered : (e : means.Event) → IsAnswered value limit rules answers e → IsAnswered value limit rules (answers ++ fresh) e
   still-answered (means.displays line items) is = tt
   still-answered (means.solves solved) is =

@@ -1,4 +1,5 @@
--- What statements that are no loops keep: settings within their ranges, and definitions over sets of one dimension.
+-- What statements other than loops keep: settings within their ranges, and definitions over sets of
+-- one dimension.
 use Rattle.std.proofs.Common.{◌≡◌, ℕ, Bool, true, false, List, [], ◌∷◌, length, get_or, refl, sym, ap, subst, ◌∙◌, Option, Some, None, option_map, Result, Ok, Err, if◌then◌else◌}
 use Rattle.gms_labels.specs.declared.place.Place.{Place}
 use Rattle.gq_number.specs.Number.{Number}
@@ -130,7 +131,7 @@ module _ {F : Type 0} (value : F → Number) (limit : ℕ) (world : World F) whe
     keeps-act (Act-F.Abort condition items) e once =
         moved _ (on-Abort value limit world s binding course condition items (e ∙ rolls-Abort condition items)) (keeps-abort_where course (labels_in world) (option_map tree_of condition) items s.at binding kept)
 
-  -- what a call that did what a statement does has kept, unless it wanted memory
+  -- what a call that did what a statement does has kept, unless memory ran out
   pub run-keeps : {A : Type 0} (result : Result A (StopOrMemory F)) (s : Stmt F) (binding : Pairs) (old new : Seen F) → IsOnce s.act → Runs value result (of_statement value limit world s binding) old new → Kept old.state → UnlessMemory result (Kept new.state)
   run-keeps (Ok x) s binding old new once runs kept =
       subst (λ (c : Course). Kept c.state) (runs.comes []) (keeps-act s binding (come_to value old _) kept (out-Act F s.act) (sym (roll-out-Act F s.act)) once)

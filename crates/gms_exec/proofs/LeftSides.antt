@@ -1,4 +1,4 @@
--- The sets of a left side, and its elements with what they are given, one after another.
+-- The sets of a left side, and its elements with their values, in sequence.
 use Rattle.std.proofs.Common.{◌≡◌, ℕ, ◌+◌, ◌<◌, ◌≤◌, ◌==◌, Bool, true, false, not, ◌&&◌, ◌||◌, List, [], ◌∷◌, ◌++◌, map, filter, drop, get_or, length, cond, Option, Some, None, is_none, Ok, Err, Box, refl, sym, ap, ◌∙◌, append-nil, append_assoc}
 use Rattle.std.specs.declared.alloc.Global.{Global}
 use Rattle.std.specs.List.{list_any}
@@ -31,7 +31,7 @@ use Rattle.gms_exec.specs.InnerWalks.{first_set, behind_others, noted, with_foun
 
 -- ---- the sets of indices
 
--- a set before others, where there is one
+-- a set before others, if there is one
 abbrev pub before_others : Option ℕ → List ℕ → List ℕ
 before_others None sets = sets
 before_others (Some set) sets = set ∷ sets
@@ -52,12 +52,12 @@ step-sets (Index-F.Label n) rest = refl
 step-sets (Index-F.Set name None) rest = refl
 step-sets (Index-F.Set name (Some lag)) rest = refl
 
--- the sets of an index and of those behind it
+-- the sets of an index and of those after it
 pub sets-index : {F : Type 0} (index : Index F) (rest : tree.Indices F) → sets_among (index_tree index rest) ≡ before_others (first_set (index_tree index tree.no_index)) (sets_among rest)
 sets-index {F} index rest =
     rw (fold_out-Index F (tree.Tree F) (tree.Indices F → tree.Indices F) (tree.Control F) tree_step index_step control_step index) (step-sets _ rest)
 
--- ---- sets, each once
+-- ---- distinct sets
 
 filter-filter : (p q : ℕ → Bool) (xs : List ℕ) → filter p (filter q xs) ≡ filter (λ x. q x && p x) xs
 filter-filter p q [] = refl
@@ -68,7 +68,7 @@ filter-filter p q (x ∷ xs) = by (filter-filter p q xs) (q x) (p x) refl refl
     by rest true false e f = ap (λ c. cond c (x ∷ filter p (filter q xs)) (filter p (filter q xs))) f ∙ rest
     by rest false c e f = rest
 
--- whether a set may be noted behind others
+-- whether a set may be appended to those noted
 abbrev is_new : Pairs → List ℕ → ℕ → Bool
 is_new b done n = is_none (label_of b n) && not (list_any (λ one. one == n) done)
 
@@ -83,7 +83,7 @@ noting-start b indices = filter_agree (λ n. is_none (label_of b n)) (is_new b [
     and-true true = refl
     and-true false = refl
 
--- a set that is new, behind the one that is noted
+-- a set that is new, also after one that was noted
 new-behind : (b : Pairs) (done : List ℕ) (n m : ℕ) → (not (m == n) && is_new b done m) ≡ is_new b (done ++ n ∷ []) m
 new-behind b done n m =
     by (is_none (label_of b m)) (m == n) (n == m) (list_any (λ one. one == m) done) (same n m) ∙ sym (ap (λ c. is_none (label_of b m) && not c) (list_any-append (λ one. one == m) done (n ∷ [])))

@@ -1,4 +1,4 @@
--- Levels and marginals that are put one after another.
+-- Levels and marginals that are written in sequence.
 use Rattle.std.proofs.Common.{◌≡◌, ℕ, zero, suc, ◌+◌, ◌<◌, ◌≤◌, Bool, true, false, not, ◌==◌, List, [], ◌∷◌, length, map, set, drop, get_or, refl, sym, ap, ◌∙◌, cond, Some, None, unwrap_or, pos, inl, inr, add-one}
 use Rattle.std.specs.Ordering.{eq_by_cmp}
 use Rattle.std.specs.List.{fold}
@@ -23,7 +23,7 @@ use Rattle.gms_exec.proofs.Assigned.{absent-not_given}
 
 -- ---- one write after another at one element
 
--- what a write leaves at each tuple
+-- what is read at each tuple after a write
 get-write : {X : Type 0} (b : Bool) (m : Entries X) (t : List ℕ) (x : X) (q : List ℕ) → finite.get (after_write b m t x) q ≡ cond (eq_by_cmp tuple_cmp q t) (cond b (Some x) None) (finite.get m q)
 get-write true m t x q = finite.get-insert tuple_cmp-total m t x q
 get-write false m t x q = finite.get-remove tuple_cmp-total m t q
@@ -51,7 +51,7 @@ read-written b m t x absent agree =
     by false agree = agree refl
 
 module _ (t : List ℕ) (a : Attributes) (f : Attributes → Attributes) where
-  -- the same of a content, where the later attributes are made of those that were put
+  -- the same of a content, where the later attributes are made of those that were written
   content-twice : (content : Content) → with_attributes (with_attributes content t a) t (f (attributes_in (with_attributes content t a) t)) ≡ with_attributes content t (f a)
   content-twice undeclared = refl
   content-twice (alias_of base) = refl
@@ -80,7 +80,7 @@ set-twice [] i v w = refl
 set-twice (x ∷ xs) zero v w = refl
 set-twice (x ∷ xs) (suc i) v w = ap (λ ys. x ∷ ys) (set-twice xs i v w)
 
--- attributes that are put leave what a name stands for
+-- writing attributes does not change the set that a name stands for
 pub behind-put : (content : Content) (t : List ℕ) (a : Attributes) (n : ℕ) → behind n (with_attributes content t a) ≡ behind n content
 behind-put undeclared t a n = refl
 behind-put (alias_of base) t a n = refl
@@ -90,7 +90,7 @@ behind-put (variable_of type entries) t a n = refl
 behind-put (equation_of entries) t a n = refl
 behind-put (model_with model solver) t a n = refl
 
--- what holds of a content and of a new one holds where the new one stands if it fits
+-- what holds of a content and of a new one holds of the result of `if_fits`
 pub fits-either : (P : Content → Type 0) (s : Symbol) (t : List ℕ) (new : Content) → P s.content → P new → P (if_fits s t new).content
 fits-either P s t new old changed = by (length t == length s.domain)
   where
@@ -105,7 +105,8 @@ behind-fitted s t a n = fits-either (λ c. behind n c ≡ behind n s.content) s 
 abbrev with_symbols : State → List Symbol → State
 with_symbols state symbols = record { symbols = symbols; settings = state.settings }
 
--- Attributes of an element that are put twice: the later ones are left, made of those that were put first.
+-- Attributes of an element that are written twice: the later ones remain, made of those that were
+-- written first.
 module _ (t : List ℕ) (a : Attributes) (f : Attributes → Attributes) (state : State) (name : ℕ) where
   abbrev base : ℕ
   base = base_of state name
@@ -135,7 +136,7 @@ module _ (t : List ℕ) (a : Attributes) (f : Attributes → Attributes) (state 
   pub put-twice : after_attributes (after_attributes state name t a) name t (f (attributes_of (after_attributes state name t a) name t)) ≡ after_attributes state name t (f a)
   put-twice = elim (cases_lt (base_of state name) (length state.symbols)) [ inl within ↦ put-twice_within within | inr beyond ↦ put-twice_beyond beyond ]
 
--- a level and then a marginal that are put are a point
+-- a level and then a marginal that are written are a point
 pub point-put : (state : State) (key : Key) (level marginal : Number) → after_attributes (after_attributes state key.symbol key.tuple (with_level (attributes_of state key.symbol key.tuple) level)) key.symbol key.tuple (with_marginal (attributes_of (after_attributes state key.symbol key.tuple (with_level (attributes_of state key.symbol key.tuple) level)) key.symbol key.tuple) marginal) ≡ with_point state (record { key = key; level = level; marginal = marginal })
 point-put state key level marginal =
     put-twice key.tuple (with_level (attributes_of state key.symbol key.tuple) level) (λ a. with_marginal a marginal) state key.symbol
@@ -155,7 +156,7 @@ behind-drop (x ∷ xs) zero = refl
 behind-drop (x ∷ xs) (suc i) = behind-drop xs i
 
 module _ (keys : List Key) (levels marginals : List Number) where
-  -- the points that are left from a place on
+  -- the remaining points from a place on
   abbrev pub left_at : ℕ → List Point
   left_at i = points (drop i keys) (drop i levels) (drop i marginals)
 
@@ -168,14 +169,14 @@ module _ (keys : List Key) (levels marginals : List Number) where
       ∙ ap (λ xs. record { key = key; level = get_or levels i (whole (pos 0)); marginal = get_or marginals i (whole (pos 0)) } ∷ points (drop (i + 1) keys) xs (behind_first (drop i marginals))) (behind-drop levels i ∙ ap (λ n. drop n levels) (sym (add-one i)))
       ∙ ap (λ xs. record { key = key; level = get_or levels i (whole (pos 0)); marginal = get_or marginals i (whole (pos 0)) } ∷ points (drop (i + 1) keys) (drop (i + 1) levels) xs) (behind-drop marginals i ∙ ap (λ n. drop n marginals) (sym (add-one i)))
 
-  -- one point more is put, and those behind it are left
+  -- one more point is written, and those after it remain
   pub put-more : (goes now next : State) (i : ℕ) (key : Key) (level marginal : Number) → i < length keys → key ≡ get_or keys i key → level ≡ get_or levels i (whole (pos 0)) → marginal ≡ get_or marginals i (whole (pos 0)) → next ≡ with_point now (record { key = key; level = level; marginal = marginal }) → fold with_point now (left_at i) ≡ goes → fold with_point next (left_at (i + 1)) ≡ goes
   put-more goes now next i key level marginal within is at_level at_marginal put so_far =
       ap (λ s. fold with_point s (left_at (i + 1))) (put ∙ ap (λ x. with_point now (record { key = key; level = x; marginal = marginal })) at_level ∙ ap (λ x. with_point now (record { key = key; level = get_or levels i (whole (pos 0)); marginal = x })) at_marginal)
       ∙ sym (ap (fold with_point now) (left-more i key within is))
       ∙ so_far
 
-  -- all are put
+  -- all are written
   pub put-all : (goes now : State) (i : ℕ) → length keys ≤ i → fold with_point now (left_at i) ≡ goes → now ≡ goes
   put-all goes now i beyond so_far =
       sym (at_drop_all (λ ks. fold with_point now (points ks (drop i levels) (drop i marginals))) keys i beyond) ∙ so_far
@@ -183,7 +184,7 @@ module _ (keys : List Key) (levels marginals : List Number) where
 -- ---- the elements of a program
 
 module _ {F : Type 0} (value : F → Number) (lp : Lp F) where
-  -- a column that stands at a place, and its element
+  -- a column at a place, and its element
   pub column-at : (columns : List (Column F)) (i : ℕ) (column : Column F) → columns ≡ lp.columns → i < length columns → column ≡ get_or columns i column → (i < length (column_keys (lp_numbers value lp))) × (column.key ≡ get_or (column_keys (lp_numbers value lp)) i column.key)
   column-at columns i column are within is = (
     rw (length-map, length-map) (rw are at within),

@@ -1,4 +1,5 @@
--- A loop of statements over elements: where it stands between two elements and inside one, and each step from there.
+-- A loop of statements over elements: its invariants before an element and before a statement, and
+-- each step.
 use Rattle.std.proofs.Common.{◌≡◌, ℕ, ◌+◌, ◌<◌, ◌≤◌, List, [], ◌∷◌, length, map, take, drop, get_or, refl, sym, ap, subst, ◌∙◌, Result, Ok, Err, append-nil}
 use Rattle.std.proofs.lemmas.List.{at_drop_more, drop_all, get_or_default, length-map}
 use Rattle.gq_number.specs.Number.{Number}
@@ -20,24 +21,24 @@ use Rattle.gms_exec.proofs.Joining.{Reaches, LeavesHalted, reaches-more, reaches
 use Rattle.gms_exec.proofs.Keeping.{Keeps}
 use Rattle.gms_exec.proofs.Stepping.{Left, left-start, left-both}
 
--- what is left of a list at a place is the element there, and what is left behind it
+-- what remains of a list at a place: the element there, followed by what remains after it
 drop-at : {X : Type 0} (xs : List X) (i : ℕ) (x : X) → i < length xs → x ≡ get_or xs i x → drop i xs ≡ x ∷ drop (i + 1) xs
 drop-at xs i x within is = at_drop_more (λ left. left) xs i x within ∙ ap (λ y. y ∷ drop (i + 1) xs) (sym is)
 
 module _ {F : Type 0} (value : F → Number) (limit : ℕ) (program : Program F) where
-  -- what a statement makes of a run, by the names of the solvers
+  -- what a statement does to a run, by the names of the solvers
   abbrev pub step_of : List (List ℕ) → Stmt F → OfStatement
   step_of names s = of_statement value limit (record { program = program; solvers = names }) s
 
 module _ {S F : Type 0} (value : F → Number) (limit : ℕ) (name : S → List ℕ) (rule : S → SolverRule) (paths : S → List (List Pivot)) (program : Program F) where
-  -- what a call leaves besides its run
+  -- what holds after a call in addition to its run
   abbrev pub LeftBy : List S → List S → Seen F → Seen F → Type 0
   LeftBy old_solvers new_solvers old new = Left value limit name rule paths program.statements.items old_solvers new_solvers old new
 
   pub left-many : (old_solvers new_solvers : List S) (old new : Seen F) → LeftBy old_solvers new_solvers old new → length new_solvers ≡ length old_solvers
   left-many old_solvers new_solvers old new left = sym (length-map new_solvers name) ∙ ap length left.answered.names ∙ length-map old_solvers name
 
-  -- the clauses of a call that speak of what it leaves
+  -- the clauses of a call on what holds after it
   pub record Leaves {A : Type 0} (result : Result A (StopOrMemory F)) (old_solvers new_solvers : List S) (old new : Seen F) : Type 0 where
     pub solvers : UnlessMemory result (Answered value limit name rule paths old_solvers new_solvers old new)
     pub standing : UnlessMemory result (ShowsStanding value limit (map rule old_solvers) new.answers old.events new.events)
@@ -49,7 +50,7 @@ module _ {S F : Type 0} (value : F → Number) (limit : ℕ) (name : S → List 
   leaves-of (Err Memory) old_solvers new_solvers old new left = record { solvers = tt; standing = tt; settings = tt; plain = tt }
   leaves-of (Err (Stop stop)) old_solvers new_solvers old new left = record { solvers = left.answered; standing = left.standing; settings = left.kept.settings; plain = left.kept.plain }
 
-  -- a call that changed nothing leaves all as it was
+  -- after a call that changed nothing all is as before
   pub leaves-nothing : {A : Type 0} (result : Result A (StopOrMemory F)) (solvers : List S) (seen : Seen F) → Keeps (length solvers) program.statements.items seen.state → Leaves result solvers solvers seen seen
   leaves-nothing result solvers seen kept =
       leaves-of result solvers solvers seen seen (unless-any result (LeftBy solvers solvers seen seen) (left-start value limit name rule paths program.statements.items solvers seen kept))
@@ -61,27 +62,27 @@ module _ {S F : Type 0} (value : F → Number) (limit : ℕ) (name : S → List 
   left-of (Err (Stop stop)) old_solvers new_solvers old new answered standing settings plain = record { answered = answered; standing = standing; kept = record { settings = settings; plain = plain } }
 
   module _ (does : Course → Course) (sets : List ℕ) (b : Pairs) (body : List (Stmt F)) (elements : List (List ℕ)) (solvers : List S) (old : Seen F) where
-    -- what a run makes of the elements from a place on
+    -- what a run does with the elements from a place on
     abbrev pub from_element : ℕ → Course → Course
     from_element i = for_each sets (map (step_of value limit program (map name solvers)) body) (drop i elements) b
 
-    -- what it makes of some statements under an element, before it goes on behind that element
+    -- what it does with some statements under an element, followed by the elements after it
     abbrev pub from_statement : ℕ → List ℕ → List (Stmt F) → Course → Course
     from_statement i element left course = from_element (i + 1) (one_after_another (map (step_of value limit program (map name solvers)) left) (controlled b sets element) course)
 
-    -- A loop stands in front of the element of a place.
+    -- The loop is before element `i`.
     pub record Between (i : ℕ) (inner : Pairs) (new_solvers : List S) (new : Seen F) : Type 0 where
       pub reached : Reaches value does (from_element i) old new
       pub left : LeftBy solvers new_solvers old new
       pub outer : take (length b) inner ≡ b
 
-    -- It stands at an element, in front of the statement of a place.
+    -- The loop is at an element, before statement `k`.
     pub record Within (i : ℕ) (element : List ℕ) (k : ℕ) (inner : Pairs) (new_solvers : List S) (new : Seen F) : Type 0 where
       pub reached : Reaches value does (from_statement i element (drop k body)) old new
       pub left : LeftBy solvers new_solvers old new
       pub bound : inner ≡ controlled b sets element
 
-    -- it begins in front of the first element
+    -- it begins before the first element
     pub between-start : (inner : Pairs) → inner ≡ b → ((left : List (Answer Number)) → does (come_to value old left) ≡ for_each sets (map (step_of value limit program (map name solvers)) body) elements b (come_to value old left)) → Keeps (length solvers) program.statements.items old.state → Between 0 inner solvers old
     between-start inner is same kept =
         record {
@@ -90,7 +91,7 @@ module _ {S F : Type 0} (value : F → Number) (limit : ℕ) (name : S → List 
           outer = inner-start b inner is;
         }
 
-    -- it comes to the first statement under an element
+    -- it reaches the first statement under an element
     pub within-start : (i : ℕ) (x : List ℕ) (inner next own : Pairs) (new_solvers : List S) (new : Seen F) → Between i inner new_solvers new → i < length elements → x ≡ get_or elements i x → own ≡ controlled b sets x → own ≡ next → Within i (get_or elements i []) 0 next new_solvers new
     within-start i x inner next own new_solvers new between in_it is e same =
         record {
@@ -110,7 +111,7 @@ module _ {S F : Type 0} (value : F → Number) (limit : ℕ) (name : S → List 
         subst (λ binding. Runs value result (step_of value limit program (map name solvers) s binding) mid new) (same ∙ within.bound)
         (subst (λ names. Runs value result (step_of value limit program names s own) mid new) within.left.answered.names runs)
 
-    -- it comes behind the statement
+    -- it reaches the place after the statement
     pub within-more : {A : Type 0} (x : A) (i : ℕ) (element : List ℕ) (k : ℕ) (s : Stmt F) (inner own : Pairs) (mid_solvers new_solvers : List S) (mid new : Seen F) → Within i element k inner mid_solvers mid → k < length body → s ≡ get_or body k s → own ≡ inner → Runs value {A = A} (Ok x) (step_of value limit program (map name mid_solvers) s own) mid new → LeftBy mid_solvers new_solvers mid new → Within i element (k + 1) inner new_solvers new
     within-more {A} x i element k s inner own mid_solvers new_solvers mid new within in_it is same runs left =
         let does_so = next-runs {A = A} (Ok x) i element k s inner own mid_solvers mid new within same runs in
@@ -132,7 +133,7 @@ module _ {S F : Type 0} (value : F → Number) (limit : ℕ) (name : S → List 
         reaches-stop value does (from_statement i element (s ∷ drop (k + 1) body)) (step_of value limit program (map name solvers) s (controlled b sets element)) (from_statement i element (drop (k + 1) body)) old mid new (next-reached i element k s inner mid_solvers mid within in_it is) (λ seen left. refl) failed (leaves i element (drop (k + 1) body))
         (next-runs {A = A} (Err failed) i element k s inner own mid_solvers mid new within same runs)
 
-    -- and leaves what the calls before it left, and it
+    -- and what the calls before it, and it, give holds
     within-left : {A : Type 0} (B : Type 0) (failed : StopOrMemory F) (i : ℕ) (element : List ℕ) (k : ℕ) (inner : Pairs) (mid_solvers new_solvers : List S) (mid new : Seen F) (does_so : Course → Course) → Within i element k inner mid_solvers mid → Runs value {A = A} (Err failed) does_so mid new → UnlessMemory {A = A} (Err failed) (LeftBy mid_solvers new_solvers mid new) → UnlessMemory {A = B} (Err failed) (LeftBy solvers new_solvers old new)
     within-left B Memory i element k inner mid_solvers new_solvers mid new does_so within runs left = tt
     within-left B (Stop stop) i element k inner mid_solvers new_solvers mid new does_so within runs left =
@@ -145,7 +146,7 @@ module _ {S F : Type 0} (value : F → Number) (limit : ℕ) (name : S → List 
         leaves-of {A = B} (Err failed) solvers new_solvers old new
         (within-left {A = A} B failed i element k inner mid_solvers new_solvers mid new does_so within runs (left-of {A = A} (Err failed) mid_solvers new_solvers mid new answered standing settings plain))
 
-    -- behind the last statement it comes to the next element
+    -- after the last statement it reaches the next element
     pub within-end : (i : ℕ) (element : List ℕ) (k : ℕ) (inner own : Pairs) (new_solvers : List S) (new : Seen F) → Within i element k inner new_solvers new → length body ≤ k → own ≡ inner → Between (i + 1) own new_solvers new
     within-end i element k inner own new_solvers new within all same =
         record {
@@ -154,7 +155,7 @@ module _ {S F : Type 0} (value : F → Number) (limit : ℕ) (name : S → List 
           outer = inner-kept b own sets element (same ∙ within.bound);
         }
 
-    -- behind the last element there is nothing left to do
+    -- after the last element nothing remains to be done
     pub between-end : {A : Type 0} (x : A) (i : ℕ) (inner : Pairs) (new_solvers : List S) (new : Seen F) → Between i inner new_solvers new → length elements ≤ i → Runs value {A = A} (Ok x) does old new
     between-end x i inner new_solvers new between all =
         reaches-end value x does (for_each sets (map (step_of value limit program (map name solvers)) body) [] b) old new

@@ -67,7 +67,7 @@ ordered-ordered ts = keys-ordered (finite.from_entries {R = tuple_cmp} (map (λ 
 
 -- ---- members
 
--- whether a tuple is a member now: what it was given last counts
+-- whether a tuple is a member now: the last that it was given counts
 abbrev now_in : Option Bool → Bool → Bool
 now_in None was = was
 now_in (Some on) was = on
@@ -84,7 +84,7 @@ is_among-last : (given : List (List ℕ × Bool)) (q : List ℕ) → is_among gi
 is_among-last given q =
     list_any-IsPermutation (λ one. same_tuple one.0 q) given (reverse given) (IsPermutation-reverse given) ∙ found-among (reverse given) q
 
--- whether a tuple is put in
+-- whether a tuple is inserted
 put-in : (given : List (List ℕ × Bool)) (q : List ℕ) → has (finite.keys (finite.retain_keys (finite.from_entries {R = tuple_cmp} (reverse given)) (λ t. unwrap_or (finite.get (finite.from_entries {R = tuple_cmp} (reverse given)) t) false))) q ≡ is_some (cond (unwrap_or (last_at given q) false) (last_at given q) None)
 put-in given q =
     let last : Entries Bool = finite.from_entries {R = tuple_cmp} (reverse given) in
@@ -133,7 +133,7 @@ pub with_members-none : (members : List (List ℕ)) → IsOrdered members → wi
 with_members-none members o =
     same_from_members (with_members [] members) members (with_members-ordered [] members) o (has-with_members [] members)
 
--- one that is given is put in or taken out
+-- one tuple that is given is inserted or removed
 pub with_members-one : (t : List ℕ) (on : Bool) (members : List (List ℕ)) → IsOrdered members → with_members ((t, on) ∷ []) members ≡ cond on (inserted members t) (removed members t)
 with_members-one t true members o =
     same_from_members (with_members ((t, true) ∷ []) members) (inserted members t) (with_members-ordered ((t, true) ∷ []) members) (IsOrdered-inserted members t o) (λ q.

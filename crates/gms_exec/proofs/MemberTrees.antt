@@ -65,9 +65,9 @@ module _ {F : Type 0} (v : F → Number) (limit : ℕ) (state : State) (b : Pair
       ap (membership v limit state b) (tree_of-Guard operand guards)
       ∙ ap (λ answers. each_holds answers and_then λ hold. if hold then member_expr operand.value else Ok false) (unmarked-parts_of v limit state b (λ _. tree.plain) tree_of guards.items)
 
--- ---- parts joined one after another
+-- ---- parts joined in sequence
 
--- an operand whose guards hold is taken
+-- an operand whose guards hold is evaluated
 pub guarded-so : (a : Answer Bool) (hold : Bool) (x : Answer Bool) → a ≡ Ok hold → hold ≡ true → (a and_then λ h. if h then x else Ok false) ≡ x
 guarded-so a hold x e so =
     ap (λ b. b and_then λ h. if h then x else Ok false) e ∙ ap (λ h. if h then x else Ok false) so
@@ -78,7 +78,7 @@ guarded-not a hold x e so =
     ap (λ b. b and_then λ h. if h then x else Ok false) e ∙ ap (λ h. if h then x else Ok false) so
 
 module _ {X : Type 0} (join : Join) (mark : X → tree.Mark) (answer : X → Answer Bool) where
-  -- the parts from here on, joined to what stands before them
+  -- the parts from here on, joined to the result so far
   abbrev pub joined_on : Bool → List X → Answer Bool
   joined_on so_far xs = joined join so_far (map (λ x. (mark x, answer x)) xs)
 

@@ -1,4 +1,5 @@
--- What is read of a map, and of a set, in which some elements are new: the last new one at an element, or what was there.
+-- What is read of a map, and of a set, in which some elements are new: the last new one at an
+-- element, or the old one.
 use Rattle.std.proofs.Common.{◌≡◌, ℕ, Bool, true, false, not, ◌||◌, ◌&&◌, List, [], ◌∷◌, ◌++◌, map, reverse, filter, refl, sym, ap, ◌∙◌, cond, Option, Some, None, unwrap_or, option_map, is_some}
 use Rattle.std.specs.declared.cmp.Ordering.TheVariants.{Equal}
 use Rattle.std.specs.Option.{option_or}
@@ -17,7 +18,7 @@ use Rattle.gms_store.specs.State.{Entries}
 use Rattle.gms_exec.specs.Given.{overlaid, ordered, is_among, with_members}
 use Rattle.gms_exec.specs.Reads.{last_at}
 
--- two tuples tie, seen from the other one, just where they are the same
+-- two tuples tie exactly where they are the same
 pub tie-same : (t u : List ℕ) → eq_by_cmp tuple_cmp t u ≡ same_tuple u t
 tie-same t u = (eq_by_cmp_equiv tuple_cmp-total).symm t u ∙ sym (same_tuple-tuple_cmp u t)
 
@@ -34,14 +35,14 @@ find-first {A} t (e ∷ es) =
     ∙ ap (cond (same_tuple e.0 t) (Some e.1)) (find-first t es)
     ∙ elim (same_tuple e.0 t) as (λ b. cond b (Some e.1) (option_map (λ (p : List ℕ × A). p.1) (find (at_tuple t) es)) ≡ option_map (λ (p : List ℕ × A). p.1) (cond b (Some e) (find (at_tuple t) es))) [ true ↦ refl | false ↦ refl ]
 
--- what is found in one list or behind it in another
+-- what is found in one list, or otherwise in another after it
 find-behind : {A : Type 0} (t : List ℕ) (es fs : List (List ℕ × A)) → finite.find tuple_cmp t (es ++ fs) ≡ option_or (finite.find tuple_cmp t es) (finite.find tuple_cmp t fs)
 find-behind t [] fs = refl
 find-behind {A} t (e ∷ es) fs =
     ap (cond (eq_by_cmp tuple_cmp t e.0) (Some e.1)) (find-behind t es fs)
     ∙ elim (eq_by_cmp tuple_cmp t e.0) as (λ b. cond b (Some e.1) (option_or (finite.find tuple_cmp t es) (finite.find tuple_cmp t fs)) ≡ option_or (cond b (Some e.1) (finite.find tuple_cmp t es)) (finite.find tuple_cmp t fs)) [ true ↦ refl | false ↦ refl ]
 
--- what a map made of entries, the last first, has at a tuple is the last of them there
+-- a map made from entries in reverse order has at a tuple the last of them there
 get-last : {A : Type 0} (es : List (List ℕ × A)) (t : List ℕ) → finite.get (finite.from_entries {R = tuple_cmp} (reverse es)) t ≡ last_at es t
 get-last es t = finite.get-from_entries tuple_cmp-total (reverse es) t ∙ find-first t (reverse es)
 
@@ -104,7 +105,7 @@ any-agree : {A : Type 0} (p q : A → Bool) → ((x : A) → p x ≡ q x) → (x
 any-agree p q agree [] = refl
 any-agree p q agree (x ∷ xs) = ap (λ b. b || list_any p xs) (agree x) ∙ ap (λ b. q x || b) (any-agree p q agree xs)
 
--- the keys of a map have a tuple just where the map has an entry there
+-- the keys of a map have a tuple exactly where the map has an entry there
 pub has-keys_of_map : {X : Type 0} (m : Entries X) (t : List ℕ) → has (finite.keys m) t ≡ is_some (finite.get m t)
 has-keys_of_map m t =
     any-agree (λ member. same_tuple member t) (eq_by_cmp tuple_cmp t) (λ u. sym (tie-same t u)) (finite.keys m) ∙ sym (finite.contains_key-keys m t)
@@ -115,7 +116,7 @@ found-marked (u ∷ ts) t =
     ap (λ b. is_some (cond b (Some true) (finite.find tuple_cmp t (map (λ u. (u, true)) ts)))) (tie-same t u)
     ∙ elim (same_tuple u t) as (λ b. is_some (cond b (Some true) (finite.find tuple_cmp t (map (λ u. (u, true)) ts))) ≡ (b || has ts t)) [ true ↦ refl | false ↦ found-marked ts t ]
 
--- tuples put in order are the same tuples
+-- sorting tuples keeps their members
 pub has-ordered : (ts : List (List ℕ)) (t : List ℕ) → has (ordered ts) t ≡ has ts t
 has-ordered ts t =
     has-keys_of_map (finite.from_entries {R = tuple_cmp} (map (λ u. (u, true)) ts)) t
@@ -145,7 +146,7 @@ some-map : {A B : Type 0} (f : A → B) (o : Option A) → is_some (option_map f
 some-map f None = refl
 some-map f (Some x) = refl
 
--- some pair stands at an element just where there is a last one
+-- an element has some pair exactly where it has a last one
 pub last-there : (given : List (List ℕ × Bool)) (t : List ℕ) → is_among given t ≡ is_some (last_at given t)
 last-there given t =
     sym (some-map (λ (p : List ℕ × Bool). p.1) (find (at_tuple t) (reverse given)) ∙ found-any (at_tuple t) (reverse given) ∙ any-reverse (at_tuple t) given)

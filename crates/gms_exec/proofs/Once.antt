@@ -54,7 +54,7 @@ has-at (y ∷ ys) (suc i) x at = by (same_tuple y x) (has-at ys i x at)
     by true there = refl
     by false there = there
 
--- a tuple is not behind itself in order
+-- a tuple does not occur again after itself in an ordered list
 not-behind : (x : List ℕ) (xs : List (List ℕ)) → IsOrdered (x ∷ xs) → has xs x ≡ false
 not-behind x xs ordered = by (has xs x) refl
   where
@@ -64,7 +64,7 @@ not-behind x xs ordered = by (has xs x) refl
         f
     by false none = refl
 
--- a tuple stands at one place
+-- a tuple occurs at one place
 one-place : (xs : List (List ℕ)) (i j : ℕ) (x : List ℕ) → IsOrdered xs → slice_get xs i ≡ Some x → slice_get xs j ≡ Some x → i ≡ j
 one-place [] i j x ordered at other = absurd cc
 one-place (y ∷ ys) zero zero x ordered at other = refl
@@ -90,7 +90,7 @@ one-label (x ∷ w ∷ m) k long same e = absurd (omega arith)
 
 -- ---- lags
 
--- What stands at a place that is a whole number.
+-- The member at a place that is given as an integer.
 record AtPlace (members : List (List ℕ)) (z : ℤ) (h : ℕ) : Type 0 where
   place : ℕ
   is : z ≡ pos place
@@ -117,7 +117,7 @@ module _ (members : List (List ℕ)) (ordered : IsOrdered members) (single : (me
 plus-same : (i j : ℕ) (a : ℤ) → pos i +ℤ a ≡ pos j +ℤ a → i ≡ j
 plus-same i j a e = omega (arith, ints)
 
--- a number that is not below 0, some times n behind another
+-- An integer that becomes non-negative by adding some multiple of `n`.
 record Shifted (a : ℤ) (n : ℕ) : Type 0 where
   times : ℕ
   shifted : ℕ
@@ -221,7 +221,7 @@ reaches-same state one other set op x y h simple same a b =
 
 -- ---- answers
 
--- What goes before an answer that is a value.
+-- The answer before a step that ended with a value.
 record Before {A B : Type 0} (a : Answer A) (next : A → Answer B) (y : B) : Type 0 where
   found : A
   is : a ≡ Ok found
@@ -276,9 +276,9 @@ module _ {F : Type 0} (v : F → Number) (limit : ℕ) (state : State) (one othe
       by here later true same among = subst (λ n. label_of one n ≡ label_of other n) (eqb-true s set same) here
       by here later false apart among = later among
 
--- ---- sets, each once
+-- ---- distinct sets
 
--- sets of which none stands twice
+-- distinct sets
 abbrev AreApart : List ℕ → Type 0
 AreApart [] = Unit {0}
 AreApart (n ∷ ns) = (list_any (λ m. m == n) ns ≡ false) × AreApart ns
@@ -361,7 +361,7 @@ ordered-once : (ts : List (List ℕ)) → IsOrdered ts → StandOnce ts
 ordered-once [] ordered = tt
 ordered-once (t ∷ ts) ordered = (not-behind t ts ordered, ordered-once ts (rest-ordered t ts ordered))
 
--- Some of these tuples, each once.
+-- Some of these tuples, without repetition.
 record AreSome (all es : List (List ℕ)) : Type 0 where
   once : StandOnce es
   among : (e : List ℕ) → has es e ≡ true → has all e ≡ true
@@ -409,7 +409,7 @@ module _ {F : Type 0} (v : F → Number) (limit : ℕ) (state : State) (binding 
 -- ---- elements with what they are given
 
 module _ {F : Type 0} (v : F → Number) (limit : ℕ) (state : State) (answer : List ℕ → Answer (Option (List ℕ × Given))) where
-  -- what is given is given to one of these elements
+  -- the pair is the answer at one of these elements
   abbrev IsOf : List (List ℕ) → List ℕ × Given → Type 0
   IsOf es a = (e : List ℕ) × (has es e ≡ true) × (answer e ≡ Ok (Some a))
 

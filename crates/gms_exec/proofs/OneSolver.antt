@@ -5,7 +5,7 @@ use Rattle.lp_core.specs.declared.answer.Pivot.{Pivot}
 use Rattle.gms_exec.specs.InnerSolving.{path_at}
 
 module _ {S A : Type 0} (f : S → A) where
-  -- a list in which an element of the same reading stands at a place reads as before
+  -- replacing an element by one with the same image leaves the mapped list unchanged
   pub map-set : (xs : List S) (i : ℕ) (new old : S) → old ≡ get_or xs i old → f new ≡ f old → map f (set xs i new) ≡ map f xs
   map-set [] i new old is same = refl
   map-set (x ∷ xs) zero new old is same = ap (λ y. y ∷ map f xs) (same ∙ ap f is)

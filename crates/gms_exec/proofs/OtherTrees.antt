@@ -1,4 +1,4 @@
--- Right sides that are a reference, or what no set is made of.
+-- Right sides that are a reference, or of which no set is made.
 use Rattle.std.proofs.Common.{◌≡◌, ℕ, Bool, Vec, Box, refl, sym, ap, ◌∙◌}
 use Rattle.std.specs.declared.alloc.Global.{Global}
 use Rattle.gms_labels.specs.declared.place.Place.{Place}

@@ -32,7 +32,7 @@ tied q t e = tuple_cmp-Equal q t (equal_from (tuple_cmp q t) e)
 pub same-tie : (t q : List ℕ) → same_tuple t q ≡ eq_by_cmp tuple_cmp q t
 same-tie t q = same_tuple-tuple_cmp t q ∙ (eq_by_cmp_equiv tuple_cmp-total).symm t q
 
--- the first of two that is there
+-- the first of two options that has a value
 abbrev pub first_of : {X : Type 0} → Option X → Option X → Option X
 first_of None o = o
 first_of (Some x) o = Some x
@@ -81,7 +81,7 @@ module _ {X : Type 0} (differs : X → Bool) where
       by true e = kept-some x true e
       by false e = refl
 
-  -- what a map has that keeps only what differs
+  -- what a map has after only differing entries were kept
   get-kept : (m : Entries X) (q : List ℕ) → finite.get (finite.retain_keys m (λ t. unwrap_or (option_map differs (finite.get m t)) false)) q ≡ kept (finite.get m q)
   get-kept m q =
       finite.get-retain_keys m (λ t. unwrap_or (option_map differs (finite.get m t)) false) q (λ x e. ap (λ t. unwrap_or (option_map differs (finite.get m t)) false) (sym (tuple_cmp-Equal q x e)))
@@ -130,7 +130,7 @@ module _ {X : Type 0} (differs : X → Bool) where
       by false e = same_map (overlaid differs ((t, x) ∷ []) m) (finite.remove m t) (λ q. get-overlaid ((t, x) ∷ []) m q ∙ taken_out e q (eq_by_cmp tuple_cmp q t) ∙ sym (finite.get-remove tuple_cmp-total m t q))
 
   module _ (absent : X) (nothing : differs absent ≡ false) where
-    -- a map is all kept where a tuple has an entry just if what is read there differs
+    -- all entries of a map are kept, if a tuple has an entry exactly where its value differs
     pub all-kept : (m : Entries X) → ((t : List ℕ) → has (finite.keys m) t ≡ differs (unwrap_or (finite.get m t) absent)) → IsAllKept m
     all-kept m there q = by (finite.get m q) (sym (has-keys m q) ∙ there q)
       where
@@ -138,7 +138,7 @@ module _ {X : Type 0} (differs : X → Bool) where
         by None e = refl
         by (Some x) e = kept-some x true (sym e)
 
-    -- an entry that is as it was
+    -- writing an entry that is as before changes nothing
     pub overlaid-same : (t : List ℕ) (m : Entries X) → IsAllKept m → overlaid differs ((t, unwrap_or (finite.get m t) absent) ∷ []) m ≡ m
     overlaid-same t m all = same_map (overlaid differs ((t, unwrap_or (finite.get m t) absent) ∷ []) m) m (λ q. get-overlaid ((t, unwrap_or (finite.get m t) absent) ∷ []) m q ∙ by q (eq_by_cmp tuple_cmp q t) refl)
       where
@@ -150,7 +150,7 @@ module _ {X : Type 0} (differs : X → Bool) where
         by q true e = ap (λ u. kept (Some (unwrap_or (finite.get m u) absent))) (sym (tied q t e)) ∙ as_it_was (finite.get m q) (all q)
         by q false e = all q
 
--- ---- entries that are made of those that were there
+-- ---- entries made from the old ones
 
 module _ {X V : Type 0} (differs : X → Bool) (absent : X) (nothing : (x : X) → differs x ≡ false → absent ≡ x) (with_one : X → V → X) (over : (a : X) (x y : V) → with_one (with_one a x) y ≡ with_one a y) where
   -- what is read at a tuple

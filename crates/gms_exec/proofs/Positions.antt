@@ -66,7 +66,7 @@ module _ (labels : ℕ) (state : State) where
         | false ↦ λ _. omega arith
       ] refl
 
-  -- where there is an element the positions are at most 10
+  -- if there is an element there are at most 10 positions
   pub few-elements : (positions : List (Option ℕ)) (number size : ℕ) → size ≡ length (elements_at labels state positions) → number < size → length positions ≤ 10
   few-elements positions number size is below =
       elim (nat_le (length positions) 10) as (λ b. nat_le (length positions) 10 ≡ b → size ≡ length (if b then product (map (labels_at labels state) positions) else []) → length positions ≤ 10) [

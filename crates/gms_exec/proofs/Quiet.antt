@@ -1,4 +1,5 @@
--- Statements for which no answer is left: they take none, and what they show stands behind what was shown before, and is no solve.
+-- Statements for which no answer remains: they take none, append what they show to what was shown
+-- before, and show no solve.
 use Rattle.std.proofs.Common.{◌≡◌, ℕ, Bool, true, false, List, [], ◌∷◌, ◌++◌, map, Option, Some, None, Ok, Err, refl, sym, ap, ◌∙◌, subst, append_assoc, append-nil}
 use Rattle.std.specs.Prelude.{if◌then◌else◌, option_map}
 use Rattle.std.specs.List.{All}
@@ -33,7 +34,7 @@ abbrev pub IsNoSolve : Event → Type 0
 IsNoSolve (solves solved) = ⊥
 IsNoSolve event = Unit {0}
 
--- A run goes on without an answer: none is left then either, and what was shown more is no solve.
+-- A run continues without an answer: none remains then either, and no further event is a solve.
 pub record Quiet (old new : Course) : Type 0 where
   pub left : new.left ≡ []
   pub more : List Event
@@ -44,7 +45,7 @@ pub record Quiet (old new : Course) : Type 0 where
 pub quiet_none : (old new : Course) → new.left ≡ [] → new.events ≡ old.events → Quiet old new
 quiet_none old new left same = record { left = left; more = []; events = same ∙ sym (append-nil old.events); unsolved = All-nil IsNoSolve }
 
--- one step behind another
+-- one step after another
 pub quiet_more : {a b c : Course} → Quiet a b → Quiet b c → Quiet a c
 quiet_more {a} {b} {c} p q =
     record {
@@ -62,12 +63,12 @@ quiet_event c e left is = record { left = left; more = e ∷ []; events = refl; 
 quiet_stop : (old c : Course) (fault : Fault) → Quiet old c → Quiet old (stopped_by c fault)
 quiet_stop old c fault q = record { left = q.left; more = q.more; events = q.events; unsolved = q.unsolved }
 
--- a value is taken, or a fault stops the run
+-- a step with a value, or a stop by a fault
 quiet_value : {A : Type 0} (r : Evaluated A) (next : A → Course) (c : Course) → c.left ≡ [] → ((x : A) → Quiet c (next x)) → Quiet c (with_value r next c)
 quiet_value (Ok x) next c left go = go x
 quiet_value (Err fault) next c left go = quiet_stop c c fault (quiet_none c c left refl)
 
--- what goes on only where nothing halts the run
+-- a step that is taken only where nothing halts the run
 quiet_runs : (next : Course → Course) (c : Course) → c.left ≡ [] → Quiet c (next c) → Quiet c (while_it_runs next c)
 quiet_runs next c left go = by_halt c.halted
   where
@@ -87,7 +88,7 @@ abbrev pub AreQuiet : List OfStatement → Type 0
 AreQuiet [] = Unit {0}
 AreQuiet (s ∷ ss) = IsQuiet s × AreQuiet ss
 
--- statements one after another
+-- statements in sequence
 pub quiet_all : (ss : List OfStatement) → AreQuiet ss → IsQuiet (one_after_another ss)
 quiet_all [] qs binding c left = quiet_none c c left refl
 quiet_all (s ∷ ss) qs binding c left =
@@ -147,7 +148,7 @@ module _ {F : Type 0} (number_of : F → Number) (limit : ℕ) (world : World F)
   body_quiet [] = tt
   body_quiet (e ∷ body) = (e.1, body_quiet body)
 
-  -- an act is quiet where what its layer comes to is
+  -- the claim for an act, from that for its unrolled form
   rolled : (x : Act-F F (Act F) (Stmt F)) (f : OfAct) → of_act (roll-Act F x) ≡ f → IsQuietAct f → IsQuietAct (of_act (roll-Act F x))
   rolled x f e q = subst IsQuietAct (sym e) q
 
@@ -182,7 +183,7 @@ module _ {F : Type 0} (number_of : F → Number) (limit : ℕ) (world : World F)
       let z = map-Stmt F ((a : Act F) × IsQuietAct (of_act a)) ((s : Stmt F) × Q s) (Act F) (Stmt F) (λ e. e.0) (λ e. e.0) y in
       subst IsQuiet (sym (fold-roll-Stmt F OfAct OfStatement (act_step number_of limit world) (statement_step number_of limit) z)) (λ binding c left. y.act.1 y.at binding c left)
 
-  -- Each statement is quiet where no answer is left.
+  -- Each statement is quiet where no answer remains.
   pub quiet_statement : (s : Stmt F) → Q s
   quiet_statement =
       ind-Stmt F (λ act. IsQuietAct (of_act act)) Q

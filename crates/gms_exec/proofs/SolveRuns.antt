@@ -1,4 +1,4 @@
--- What a solve did, as a run, as an answer, and as an event that stands.
+-- What a solve did: as a run, as an answer, and as a valid event.
 use Rattle.std.proofs.Common.{◌≡◌, ℕ, zero, suc, ◌+◌, ◌<◌, Bool, true, false, ◌==◌, List, [], ◌∷◌, ◌++◌, length, map, slice_get, refl, sym, ap, subst, ◌∙◌, cond, Option, Some, None, option_map, option_to_list, Ok, Err, append-nil, arith, Vec}
 use Rattle.std.specs.Prelude.{slice_index_or, vec_len}
 use Rattle.std.specs.declared.alloc.Global.{Global}
@@ -97,7 +97,7 @@ module _ {F : Type 0} (value : F → Number) (limit : ℕ) where
     abbrev course_with : State → List means.Event → ℕ → List (Answer Number) → Course
     course_with state events taken left = record { state = state; events = events; left = left; taken = taken; halted = None }
 
-    -- with its answer the run comes to where the call has come
+    -- with its answer the run reaches the point that the call has reached
     solves-comes : (more : List (Answer Number)) → answered value limit names model equations objective at (come_to value old (answer_numbers value is.answer ∷ more)) (lp_numbers value lp) ≡ come_to value new more
     solves-comes more =
         ap (λ (state : State). course_with state (events_in value old.events ++ event_with (attributes_of state objective []).level ∷ []) (length old.answers + 1) more) (sym is.after)
@@ -174,7 +174,7 @@ module _ {F : Type 0} (value : F → Number) where
         comes = λ more. goes more ∙ ap (λ fault. stopped_by (come_to value seen more) fault) shows;
       }
 
-  -- a call that wanted memory, and left what it had shown and taken
+  -- a call that ran out of memory, after it had shown events and taken answers
   pub runs-grown : {A : Type 0} (failed : StopOrMemory F) (does : Course → Course) (old new : Seen F) → failed ≡ Memory → Grown old.events new.events → Grown old.answers new.answers → Runs value {A = A} (Err failed) does old new
   runs-grown {A} failed does old new memory events answers =
       subst (λ failed. Runs value {A = A} (Err failed) does old new) (sym memory) (record { shown = events.fresh; events = events.is; fresh = answers.fresh; answers = answers.is; comes = λ more. tt })

@@ -1,4 +1,4 @@
--- Events that stand are answered.
+-- Valid events are answered.
 use Rattle.std.proofs.Common.{ℕ, List, [], ◌∷◌, refl}
 use Rattle.std.specs.List.{All}
 use Rattle.std.proofs.lemmas.List.Elements.{All-nil, All-cons, All-head, All-tail}
@@ -12,7 +12,7 @@ use Rattle.gms_exec.specs.Answering.{AreAnswered, IsAnswered}
 use Rattle.gms_exec.specs.Standing.{IsStanding}
 
 module _ {F : Type 0} (value : F → Number) (limit : ℕ) (rules : List SolverRule) (answers : List (Answer F)) where
-  -- an event that stands is answered
+  -- a valid event is answered
   one_answered : (e : Event F) → IsStanding value limit rules answers e → IsAnswered value limit rules answers (event_in value e)
   one_answered (event.Display line items) is = tt
   one_answered (event.Abort line items) is = tt
@@ -20,7 +20,7 @@ module _ {F : Type 0} (value : F → Number) (limit : ℕ) (rules : List SolverR
   one_answered (event.Solve line model equations lp answer solver settings level) is =
       record { lp = lp; shows = refl; answer = is.given; stands = is.stands; rule = is.rule; chosen = is.chosen; is_answer = is.is_answer }
 
-  -- Each of events that stand is answered.
+  -- Each valid event is answered.
   pub answered_by_standing : (shown : List (Event F)) → All (IsStanding value limit rules answers) shown → AreAnswered value limit rules answers (events_in value shown)
   answered_by_standing [] is = All-nil (IsAnswered value limit rules answers)
   answered_by_standing (e ∷ shown) is =

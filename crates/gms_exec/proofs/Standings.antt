@@ -1,4 +1,4 @@
--- Events that stand, one call after another.
+-- Valid events, over calls in sequence.
 use Rattle.std.proofs.Common.{◌≡◌, ℕ, ◌≤◌, List, [], ◌∷◌, ◌++◌, sym, subst, ◌∙◌, append-nil}
 use Rattle.std.specs.List.{All}
 use Rattle.std.proofs.lemmas.List.Elements.{All-nil, All-cons, All-append, All-weaker}
@@ -25,7 +25,7 @@ module _ {F : Type 0} (value : F → Number) (limit : ℕ) (rules : List SolverR
   standing-abort answers old new line items e few =
       record { shown = event.Abort line items ∷ []; events = e; standing = All-cons (IsStanding value limit rules answers) (event.Abort line items) [] few (All-nil (IsStanding value limit rules answers)) }
 
-  -- what stands with some answers stands with more
+  -- an event that is valid with some answers is valid with more
   still-standing : (answers fresh : List (Answer F)) (e : Event F) → IsStanding value limit rules answers e → IsStanding value limit rules (answers ++ fresh) e
   still-standing answers fresh (event.Display line items) is = is
   still-standing answers fresh (event.Abort line items) is = is

@@ -1,5 +1,5 @@
--- States that differ in contents alone: names stand for the same ones, over the same domains, sets of one dimension have members of one label,
--- and members stay in order.
+-- States that differ in contents alone: names stand for the same ones, over the same domains, sets
+-- of one dimension have members of one label, and members stay in order.
 use Rattle.std.proofs.Common.{◌≡◌, ℕ, Bool, true, false, not, ◌||◌, ◌==◌, List, [], ◌∷◌, ◌++◌, map, filter, reverse, length, refl, sym, ap, subst, ◌∙◌, cond, Option, Some, None, unwrap_or, is_some, inl, inr}
 use Rattle.std.specs.List.{All, fold}
 use Rattle.std.specs.FinMap as finite
@@ -26,7 +26,8 @@ use Rattle.gms_exec.proofs.Levels.{behind-fitted, fits-either}
 abbrev pub AreSingles : List (List ℕ) → Type 0
 AreSingles tuples = All (λ (t : List ℕ). length t ≡ 1) tuples
 
--- A symbol after another: what it stands for has changed, but for its domain, the set behind an alias, and members of one label.
+-- A symbol whose content has changed, where its domain, the set of an alias, and that members have
+-- one label are kept.
 pub record Follows (old new : Symbol) : Type 0 where
   pub domain : new.domain ≡ old.domain
   pub alike : (n : ℕ) → behind n new.content ≡ behind n old.content

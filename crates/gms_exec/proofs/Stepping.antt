@@ -1,4 +1,5 @@
--- How far a statement that is a loop has come: what its calls did so far, joined, and what is left to do.
+-- How far a statement that is a loop has run: what its calls did so far, joined, and what remains
+-- to be done.
 use Rattle.std.proofs.Common.{◌≡◌, ℕ, List, ◌++◌, length, map, refl, subst}
 use Rattle.gq_number.specs.Number.{Number}
 use Rattle.gms_ast.specs.declared.program.Stmt.{Stmt}
@@ -12,7 +13,8 @@ use Rattle.gms_exec.proofs.Keeping.{Keeps}
 use Rattle.gms_exec.proofs.Standings.{standing-nothing, standing-both}
 
 module _ {S F : Type 0} (value : F → Number) (limit : ℕ) (name : S → List ℕ) (rule : S → SolverRule) (paths : S → List (List Pivot)) (statements : List (Stmt F)) where
-  -- what calls did from an old point to a new one, but for the run: what solvers answered, that what was shown stands, and what is kept
+  -- what calls did from an old point to a new one, apart from the run: what solvers answered, that
+  -- what was shown is valid, and what is kept
   pub record Left (old_solvers new_solvers : List S) (old new : Seen F) : Type 0 where
     pub answered : Answered value limit name rule paths old_solvers new_solvers old new
     pub standing : ShowsStanding value limit (map rule old_solvers) new.answers old.events new.events

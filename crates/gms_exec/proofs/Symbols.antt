@@ -3,7 +3,7 @@ use Rattle.std.proofs.Common.{◌≡◌, ◌⊎◌, ℕ, zero, suc, ◌<◌, Boo
 use Rattle.std.proofs.lemmas.Bool.{eqb-true, eq-eqb, both_ways}
 use Rattle.gms_store.specs.State.{Symbol, State, no_symbol, symbol_at, behind, base_of, symbol_of, with_symbol}
 
--- what is read of a list after a write at a place: at this place the new element, elsewhere what was there
+-- what is read of a list after a write at a place: there the new element, elsewhere the old one
 get-set_here : (xs : List Symbol) (i : ℕ) (v : Symbol) → i < length xs → slice_get (set xs i v) i ≡ Some v
 get-set_here [] i v within = absurd (omega arith)
 get-set_here (x ∷ xs) zero v within = refl
@@ -22,7 +22,7 @@ get-set_elsewhere (x ∷ xs) (suc i) zero v apart = refl
 get-set_elsewhere (x ∷ xs) (suc i) (suc j) v apart = get-set_elsewhere xs i j v (λ e. apart (ap suc e))
 
 module _ (state : State) (name : ℕ) (new : Symbol) where
-  -- what stands at a number is as before, or it is the new symbol at the changed name
+  -- the symbol at a number is as before, or it is the new symbol at the changed name
   pub at-after : (n : ℕ) → (symbol_at (with_symbol state name new) n ≡ symbol_at state n) ⊎ ((n ≡ base_of state name) × (symbol_at (with_symbol state name new) n ≡ new))
   at-after n = by (base_of state name == n) refl
     where

@@ -1,4 +1,5 @@
--- That each solve of a run is answered: the answer is one of its linear program (Chvatal, "Linear Programming", chapters 2, 3 and 8).
+-- That each solve of a run is answered: the answer is one of its linear program (Chvatal, "Linear
+-- Programming", chapters 2, 3 and 8).
 use Rattle.std.specs.Prelude.{◌≡◌, ℕ, List, slice_get, Some, All}
 use Rattle.gq_number.specs.Number.{Number}
 use Rattle.gms_event.specs.Events.{Event, solves}
@@ -9,8 +10,9 @@ use Rattle.lp_slot.specs.declared.solver.SolverRule.{SolverRule}
 use Rattle.lp_core.specs.declared.program.Lp.{Lp}
 use Rattle.gms_event.specs.Events.{Solved}
 
--- Solvers give answers by these rules. The answer at the place that a solve names is one of its linear program, with at most the pivots of the
--- settings' limit, under the rule of the solver that the settings choose.
+-- Solvers give answers by these rules. The answer at the place that a solve names is one of its
+-- linear program, with at most the pivots of the settings' limit, under the rule of the solver that
+-- the settings choose.
 pub record IsSolved {F : Type 0} (value : F → Number) (limit : ℕ) (rules : List SolverRule) (answers : List (Answer F)) (solved : Solved) : Type 0 where
   pub lp : Lp F
   pub shows : lp_numbers value lp ≡ solved.lp

@@ -1,6 +1,7 @@
--- The state after an assignment: a new state made of the old one, in which all values are taken (GAMS User's Guide, "Data Manipulations
--- with Parameters", indexed assignments; "Conditional Expressions, Assignments and Equations", dollar on the left; "Sets as Sequences:
--- Ordered Sets", lags and leads in assignments; "Dynamic Sets"). In which order faults come is this project's own rule.
+-- The state after an assignment. All values are computed in the old state (GAMS User's Guide, "Data
+-- Manipulations with Parameters", indexed assignments; "Conditional Expressions, Assignments and
+-- Equations", dollar on the left; "Sets as Sequences: Ordered Sets", lags and leads in assignments;
+-- "Dynamic Sets"). The order in which faults are found is this project's own rule.
 use Rattle.std.specs.Prelude.{ℕ, Bool, true, false, List, [], ◌∷◌, map, Option, Some, None, is_none, Ok, Err, if◌then◌else◌, filter}
 use Rattle.gms_labels.specs.declared.place.Place.{Place}
 use Rattle.gq_number.specs.Number.{Number}
@@ -30,8 +31,9 @@ newly_controlled binding indices = filter (λ set. is_none (label_of binding set
 
 -- ---- what an element is given
 
--- whether a name takes a value with a suffix: a lower bound is a number or minus infinity, an upper bound a number or infinity, a level,
--- a marginal and what fixes a variable are numbers; a parameter takes each
+-- whether a name takes a value with a suffix: a lower bound is a number or minus infinity, an upper
+-- bound a number or infinity; a level, a marginal and the value that fixes a variable are numbers;
+-- a parameter takes any value
 abbrev pub takes : Suffix → Extended → Bool
 takes suffix.Lo plus_infinity = false
 takes suffix.Lo na = false
@@ -45,12 +47,12 @@ takes suffix.Fx (number x) = true
 takes suffix.Fx x = false
 takes other x = true
 
--- the value, where the name takes it; Undefined at the right side where it does not
+-- the value, if the name takes it; otherwise Undefined at the right side
 abbrev pub where_taken : Suffix → Place → Pairs → Extended → Answer Given
 where_taken suffix right_at binding x =
     if takes suffix x then Ok (value_is x) else Err (faulted Undefined right_at binding x nothing)
 
--- whether a content is that of a set, or of another name of one
+-- whether a content is that of a set, or of an alias of one
 abbrev pub is_set : Content → Bool
 is_set (set_of members) = true
 is_set (alias_of base) = true
@@ -69,20 +71,22 @@ module _ {F : Type 0} (number_of : F → Number) (limit : ℕ) (state : State) w
       membership number_of limit state binding right and_then (λ x. Ok (member x)) else
       value number_of limit state binding right and_then where_taken target.suffix right_at binding
 
-  -- the element of the left side under a binding with what it is given; where a lag goes past the ends of its set there is none
+  -- the element of the left side under a binding with what it is given; none where a lag goes past
+  -- the ends of its set
   abbrev pub element_under : Target F → Place → tree.Tree F → Pairs → Answer (Option (List ℕ × Given))
   element_under target right_at right binding =
       in_order (labels number_of limit state binding target.indices) and_then λ those.
       elim (tuple_of those) [ None ↦ Ok None | Some t ↦ given_under target right_at right binding and_then λ given. Ok (Some (t, given)) ]
 
-  -- the elements that are there
+  -- the elements that exist
   abbrev pub those_there : List (Option (List ℕ × Given)) → AllGiven
   those_there [] = []
   those_there (None ∷ rest) = those_there rest
   those_there (Some given ∷ rest) = given ∷ those_there rest
 
-  -- the elements that an assignment gives something, in the order of the left side's sets, all in the old state; or the first fault:
-  -- of the left side's domain, and then element by element of a lag, of the right side, and of what it gives
+  -- the elements that an assignment gives something, in the order of the left side's sets, all in
+  -- the old state; or the first fault: of the left side's domain, and then, for each element, of a
+  -- lag, of the right side, and of what it gives
   abbrev pub given_by : Place → Pairs → Target F → Option (tree.Tree F) → Place → tree.Tree F → Answer AllGiven
   given_by at binding target condition right_at right =
       let sets = newly_controlled binding target.indices in

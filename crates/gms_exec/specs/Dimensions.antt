@@ -1,5 +1,6 @@
--- Programs whose definitions are over labels and sets of one dimension, as those of an accepted program are (GAMS User's Guide, "Equations",
--- "Set Definition"). Statements keep that so: they change the members of a set, and not how it is declared.
+-- Programs whose definitions are over labels and sets of one dimension, as those of an accepted
+-- program are (GAMS User's Guide, "Equations", "Set Definition"). Statements preserve this: they
+-- change the members of a set, and not how it is declared.
 use Rattle.std.specs.Prelude.{◌≡◌, List, All, length}
 use Rattle.gms_ast.specs.declared.program.Stmt.{Stmt}
 use Rattle.gms_ast.specs.Trees as tree
@@ -14,7 +15,8 @@ AreOverOne state (tree.label label rest) = AreOverOne state rest
 AreOverOne state (tree.set set rest) = (length (symbol_of state set).domain ≡ 1) × AreOverOne state rest
 AreOverOne state (tree.lagged set op at amount rest) = (length (symbol_of state set).domain ≡ 1) × AreOverOne state rest
 
--- The definitions of a program have plain indices, and the sets among these are declared over one position.
+-- The definitions of a program have plain indices, and the sets among these are declared over one
+-- position.
 pub record AreOneDimensional {F : Type 0} (state : State) (statements : List (Stmt F)) : Type 0 where
   pub plain : HasPlainDefinitions state statements
   pub declared : All (λ (d : Definition F). AreOverOne state d.indices) (definitions statements)

@@ -1,5 +1,5 @@
--- The elements of a linear program in the state of a run, by which the laws say what a solve leaves there (GAMS User's Guide, "Model and Solve
--- Statements"; "Variables"; "Equations").
+-- The elements of a linear program in the state of a run. With them the laws say what a solve
+-- leaves there (GAMS User's Guide, "Model and Solve Statements"; "Variables"; "Equations").
 use Rattle.std.specs.Prelude.{◌≡◌, ℕ, ◌<◌, Bool, true, false, not, ◌==◌, List, ◌++◌, length, slice_get, Option, Some, None, if◌then◌else◌}
 use Rattle.gq_number.specs.Number.{Number}
 use Rattle.gms_tuple.specs.TupleOrder.{same_tuple}
@@ -10,7 +10,8 @@ use Rattle.lp_core.specs.declared.answer.End.TheVariants.{Infeasible, Unbounded,
 use Rattle.lp_form.specs.declared.key.Key.{Key}
 use Rattle.gms_exec.specs.Solved.{column_keys, row_keys}
 
--- An element of a state: one of a variable or an equation that is declared, with as many labels as that has positions.
+-- An element of a state: of a declared variable or equation, with as many labels as it has
+-- positions.
 pub record IsElement (state : State) (key : Key) : Type 0 where
   pub declared : base_of state key.symbol < length state.symbols
   pub kind : has_attributes (symbol_of state key.symbol).content ≡ true
@@ -20,7 +21,7 @@ pub record IsElement (state : State) (key : Key) : Type 0 where
 abbrev pub IsNot : State → Key → ℕ → List ℕ → Type 0
 IsNot state key name t = base_of state name ≡ base_of state key.symbol → same_tuple key.tuple t ≡ false
 
--- Keys are elements of the state, no two of them the same.
+-- Keys are elements of the state, and all different.
 pub record AreElements (state : State) (keys : List Key) : Type 0 where
   pub each : (i : ℕ) (key : Key) → slice_get keys i ≡ Some key → IsElement state key
   pub differ : (i j : ℕ) (key other : Key) → slice_get keys i ≡ Some key → slice_get keys j ≡ Some other → (i ≡ j → ⊥) → IsNot state key other.symbol other.tuple
@@ -29,13 +30,14 @@ pub record AreElements (state : State) (keys : List Key) : Type 0 where
 abbrev pub elements : Lp Number → List Key
 elements lp = column_keys lp ++ row_keys lp
 
--- the levels of columns and those of rows at the feasible point with which an end comes that is not optimal, where it comes with one
+-- the levels of columns and of rows at the feasible point of an end that is not optimal, if it has
+-- one
 abbrev pub feasible_levels : End Number → Option (List Number × List Number)
 feasible_levels (Unbounded levels row_levels ray) = Some (levels, row_levels)
 feasible_levels (Interrupted phase levels row_levels) = if phase == 2 then Some (levels, row_levels) else None
 feasible_levels end = None
 
--- whether an end comes without a feasible point: there is none, none was found yet, or a number did not fit
+-- whether an end has no feasible point: none exists, none was found yet, or a number did not fit
 abbrev pub has_no_point : End Number → Bool
 has_no_point (Infeasible duals crossed) = true
 has_no_point (Interrupted phase levels row_levels) = not (phase == 2)

@@ -1,5 +1,6 @@
--- What an assignment gives elements, and the state that has it (GAMS User's Guide, "Data Manipulations with Parameters", "Variables",
--- "Dynamic Sets"). Each element that is given something has it in place of what it had, and all else stays.
+-- What an assignment gives elements, and the state after it (GAMS User's Guide, "Data Manipulations
+-- with Parameters", "Variables", "Dynamic Sets"). Each element that is given something has it in
+-- place of its old value; all else stays.
 use Rattle.std.specs.Prelude.{ℕ, pos, Bool, true, false, not, ◌==◌, List, [], ◌∷◌, ◌++◌, length, map, filter, flat_map, reverse, Option, Some, None, unwrap_or, option_map}
 use Rattle.std.specs.List.{list_any}
 use Rattle.std.specs.FinMap as finite
@@ -23,25 +24,25 @@ AllGiven = List (List ℕ × Given)
 
 -- ---- sets
 
--- an element that is given to be a member or not, where one is
+-- an element that is made a member or not, if it is
 abbrev pub member_given : List ℕ × Given → List (List ℕ × Bool)
 member_given (t, member on) = (t, on) ∷ []
 member_given (t, value_is x) = []
 
--- the elements that are given to be members or not
+-- the elements that are made members or not
 abbrev pub members_given : AllGiven → List (List ℕ × Bool)
 members_given all = flat_map member_given all
 
--- whether an element is one of those that are given to be a member or not
+-- whether an element is one of those that are made members or not
 abbrev pub is_among : List (List ℕ × Bool) → List ℕ → Bool
 is_among given t = list_any (λ one. same_tuple one.0 t) given
 
--- tuples in their order, each once
+-- tuples in ascending order, without repetition
 abbrev pub ordered : List (List ℕ) → List (List ℕ)
 ordered tuples = finite.keys (finite.from_entries {R = tuple_cmp} (map (λ t. (t, true)) tuples))
 
--- The members of a set of which some elements are given to be members or not; the others stay as they were. Of an element that is given
--- twice, as no accepted program gives one, the later counts.
+-- The members of a set of which some elements are made members or not; the others stay as they
+-- were. If an element is given twice, which no accepted program does, the later counts.
 abbrev pub with_members : List (List ℕ × Bool) → List (List ℕ) → List (List ℕ)
 with_members given members =
     let last = finite.from_entries {R = tuple_cmp} (reverse given) in
@@ -49,7 +50,7 @@ with_members given members =
 
 -- ---- values
 
--- an element that is given a value, where one is
+-- an element that is given a value, if it is
 abbrev pub value_given : List ℕ × Given → List (List ℕ × Extended)
 value_given (t, member on) = []
 value_given (t, value_is x) = (t, x) ∷ []
@@ -58,8 +59,9 @@ value_given (t, value_is x) = (t, x) ∷ []
 abbrev pub values_given : AllGiven → List (List ℕ × Extended)
 values_given all = flat_map value_given all
 
--- A map in which some entries are new: at each of their tuples the new entry stands, and at every other tuple what stood there. Only
--- entries that differ from an absent one are kept. Of two new entries at one tuple, which no accepted program has, the later counts.
+-- A map in which some entries are new: each of their tuples has the new entry, and every other
+-- tuple its old one. Only entries that differ from an absent one are kept. Of two new entries at
+-- one tuple, which no accepted program has, the later counts.
 abbrev pub overlaid : {X : Type 0} → (X → Bool) → List (List ℕ × X) → Entries X → Entries X
 overlaid differs new entries =
     let all = finite.from_entries {R = tuple_cmp} (reverse new ++ finite.entries entries) in
@@ -67,7 +69,7 @@ overlaid differs new entries =
 
 -- ---- variables and equations
 
--- the number that a value is; 0 for another, which no bound, level or marginal is given
+-- the number that a value is; 0 for any other value, which is given to no bound, level or marginal
 abbrev pub number_of_value : Extended → Number
 number_of_value (number x) = x
 number_of_value value = whole (pos 0)
@@ -77,11 +79,11 @@ abbrev pub bound_of_value : Extended → Option Number
 bound_of_value (number x) = Some x
 bound_of_value value = None
 
--- both bounds and the level at a number
+-- attributes whose bounds and level are all this number
 abbrev pub fixed : Number → Attributes → Attributes
 fixed x a = record { lower = Some x; upper = Some x; level = x; marginal = a.marginal }
 
--- what an element has after one of its values was given
+-- the attributes of an element after one of them was given
 abbrev pub with_attribute : Suffix → Attributes → Extended → Attributes
 with_attribute suffix.Lo a value = with_lower a (bound_of_value value)
 with_attribute suffix.Up a value = with_upper a (bound_of_value value)
@@ -90,7 +92,7 @@ with_attribute suffix.M a value = with_marginal a (number_of_value value)
 with_attribute suffix.Fx a value = fixed (number_of_value value) a
 with_attribute other a value = a
 
--- what the elements have that are given values, by what each had
+-- the attributes of the elements that are given values, from their old ones
 abbrev pub attributes_given : Suffix → Content → AllGiven → List (List ℕ × Attributes)
 attributes_given suffix content all =
     map (λ given. (given.0, with_attribute suffix (attributes_in content given.0) given.1)) (values_given all)
@@ -102,7 +104,7 @@ abbrev pub plain_values : Suffix → AllGiven → List (List ℕ × Extended)
 plain_values suffix.None all = values_given all
 plain_values other all = []
 
--- what a name stands for where its elements are given something
+-- the content of a name after its elements were given something
 abbrev pub with_given : Suffix → AllGiven → Content → Content
 with_given suffix all (set_of members) = set_of (with_members (members_given all) members)
 with_given suffix all (parameter_of entries) = parameter_of (overlaid is_given (plain_values suffix all) entries)
@@ -112,11 +114,13 @@ with_given suffix all (equation_of entries) =
     equation_of (overlaid (λ a. not (same_attributes a unbounded)) (attributes_given suffix (equation_of entries) all) entries)
 with_given suffix all content = content
 
--- those elements that have as many labels as a name has positions, which in an accepted program is each
+-- those elements that have as many labels as a name has positions, which in an accepted program are
+-- all
 abbrev pub fitting : Symbol → AllGiven → AllGiven
 fitting symbol all = filter (λ given. length given.0 == length symbol.domain) all
 
--- the state in which elements of a name have what they are given: one entry of one name is new for each of them, and all else stays
+-- the state in which elements of a name have what they are given: one entry of the name is new for
+-- each of them, and all else stays
 abbrev pub after_given : Suffix → ℕ → AllGiven → State → State
 after_given suffix name all state =
     let symbol = symbol_of state name in

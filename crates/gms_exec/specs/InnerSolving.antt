@@ -1,4 +1,4 @@
--- What a solve leaves, as the pieces of the code promise it to each other.
+-- What a solve leaves: the contracts of the code that solves.
 use Rattle.std.specs.Prelude.{◌≡◌, ℕ, ◌==◌, List, [], ◌∷◌, ◌++◌, length, slice_get, slice_index_or, Some, option_map, if◌then◌else◌}
 use Rattle.gq_number.specs.Number.{Number}
 use Rattle.gms_store.specs.declared.settings.Settings.{Settings}
@@ -14,22 +14,23 @@ use Rattle.lp_core.specs.Numbers.{lp_numbers, end_numbers}
 use Rattle.gms_exec.specs.Solved.{after_end}
 use Rattle.gms_exec.specs.Stepping.{Seen}
 
--- A list that has grown at its end.
+-- A list that was extended at its end.
 pub record Grown {A : Type 0} (old new : List A) : Type 0 where
   pub fresh : List A
   pub is : new ≡ old ++ fresh
 
--- Solvers give answers by these rules; the answer is one of a program under the rule of the solver of a place.
+-- Solvers give answers by these rules; the answer is one of a program, under the rule of the solver
+-- at a place.
 pub record AnswersAt {F : Type 0} (value : F → Number) (limit : ℕ) (rules : List SolverRule) (place : ℕ) (lp : Lp F) (iterlim : ℕ) (answer : Answer F) : Type 0 where
   pub rule : SolverRule
   pub chosen : slice_get rules place ≡ Some rule
   pub is_answer : IsAnswerUnder value limit lp iterlim rule answer
 
--- the pivots that the solver of a place took for an answer, where it is that solver's
+-- the pivots of an answer, if it is one of the solver at a place
 abbrev pub path_at : ℕ → List Pivot → ℕ → List (List Pivot)
 path_at place pivots k = if place == k then pivots ∷ [] else []
 
--- What a solve is shown as, but for the level of its objective.
+-- What a solve is shown as, except for the level of its objective.
 pub record SolveShown (F : Type 0) : Type 0 where
   pub line : ℕ
   pub model : ℕ
@@ -41,7 +42,8 @@ pub record SolveShown (F : Type 0) : Type 0 where
   pub settings : Settings
 
 module _ {F : Type 0} (value : F → Number) where
-  -- A solve was shown in a state: its answer stands behind the answers, and its event behind the events.
+  -- A solve was shown in a state: its answer was appended to the answers, and its event to the
+  -- events.
   pub record ShowsSolve (solve : SolveShown F) (state : State) (old_answers new_answers : List (Answer F)) (old_events new_events : List (Event F)) : Type 0 where
     pub level : F
     pub is_level : value level ≡ (attributes_of state solve.objective []).level
@@ -49,7 +51,8 @@ module _ {F : Type 0} (value : F → Number) where
     pub events : new_events ≡ old_events ++ event.Solve solve.line solve.model solve.equations solve.lp (length old_answers) solve.solver solve.settings level ∷ []
 
 module _ {F : Type 0} (value : F → Number) (limit : ℕ) where
-  -- A linear program was solved: the chosen solver answered it, its answer went into the state, and the solve was shown.
+  -- A linear program was solved: the chosen solver answered it, its answer was put into the state,
+  -- and the solve was shown.
   pub record Solves (names : List (List ℕ)) (rules : List SolverRule) (old_paths new_paths : List (List (List Pivot))) (line model : ℕ) (equations : List ℕ) (objective : ℕ) (lp : Lp F) (old new : Seen F) : Type 0 where
     pub answer : Answer F
     pub is_answer : AnswersAt value limit rules old.state.settings.solver lp old.state.settings.iterlim answer

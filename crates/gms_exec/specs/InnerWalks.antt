@@ -1,4 +1,4 @@
--- What the pieces of the code promise each other.
+-- The contracts of assignments, displays and solves.
 use Rattle.std.specs.Prelude.{◌≡◌, ℕ, ◌==◌, Bool, true, not, is_none, List, [], ◌∷◌, ◌++◌, map, Option, Some, None, option_map, Result, Ok, Err, if◌then◌else◌}
 use Rattle.std.specs.List.{list_any}
 use Rattle.gq_number.specs.Number.{Number}
@@ -29,21 +29,21 @@ use Rattle.gms_exec.specs.declared.given.Given.TheVariants as own
 use Rattle.gms_exec.specs.Given.{Given, member, value_is, AllGiven}
 
 module _ {F : Type 0} (value : F → Number) where
-  -- what an element is given, over numbers
+  -- what an element is given, by the numbers that its values mean
   abbrev pub given_in : OwnGiven F → Given
   given_in (own.Member on) = member on
   given_in (own.Value x) = value_is (extended value x)
 
-  -- the same of all elements
+  -- what all elements are given, by the numbers that their values mean
   abbrev pub all_given_in : List (List ℕ × OwnGiven F) → AllGiven
   all_given_in all = map (λ given. (given.0, given_in given.1)) all
 
-  -- entries over numbers
+  -- entries, by the numbers that their values mean
   abbrev pub entries_in : List (List ℕ × Ext F) → List (List ℕ × Extended)
   entries_in entries = map (λ entry. (entry.0, extended value entry.1)) entries
 
-  -- The state is the one that an assignment makes of the old one, or a stop has its fault and the state is as it was; want of memory says
-  -- nothing.
+  -- The state is the one that an assignment makes of the old one; or a stop has its fault, and the
+  -- state is unchanged. Out of memory makes no claim.
   abbrev pub Assigns : {A : Type 0} → Result A (StopOrMemory F) → State → State → Evaluated State → Type 0
   Assigns (Ok x) old new answer = answer ≡ Ok new
   Assigns (Err Memory) old new answer = Unit {0}
@@ -71,31 +71,31 @@ pub record ShowsNoSolve {F : Type 0} (old new : List (Event F)) : Type 0 where
 
 -- ---- what the left side of an assignment controls, and what its elements are given
 
--- the set of the first of some indices, where it is no label
+-- the set of the first of some indices, if it is a set
 abbrev pub first_set : {N : Type 0} → tree.Indices N → Option ℕ
 first_set (tree.set set rest) = Some set
 first_set (tree.lagged set op at amount rest) = Some set
 first_set indices = None
 
--- sets, and one more where it is not among them
+-- sets, and one more if it is not among them
 abbrev pub behind_others : List ℕ → ℕ → List ℕ
 behind_others done set = if list_any (λ one. one == set) done then done else done ++ set ∷ []
 
--- sets, and one more where there is one that is not among them and that no loop controls
+-- sets, and one more, if it is not among them and no loop controls it
 abbrev pub noted : Pairs → List ℕ → Option ℕ → List ℕ
 noted binding done None = done
 noted binding done (Some set) = if is_none (label_of binding set) then behind_others done set else done
 
--- elements with what they are given, and one more where it is there
+-- elements with what they are given, and one more if there is one
 abbrev pub with_found : AllGiven → Option (List ℕ × Given) → AllGiven
 with_found done None = done
 with_found done (Some found) = done ++ found ∷ []
 
--- an element with what it is given, over numbers, where it is there
+-- an element, if any, with what it is given, by the numbers that its values mean
 abbrev pub found_in : {F : Type 0} → (F → Number) → Option (List ℕ × OwnGiven F) → Option (List ℕ × Given)
 found_in value found = option_map (λ one. (one.0, given_in value one.1)) found
 
--- an element with what the right side gives, where there is one
+-- an element, if any, with what the right side gives
 abbrev pub found_at : Evaluated Given → Option (List ℕ) → Evaluated (Option (List ℕ × Given))
 found_at given None = Ok None
 found_at given (Some t) = given and_then λ one. Ok (Some (t, one))
@@ -106,11 +106,11 @@ found_at given (Some t) = given and_then λ one. Ok (Some (t, one))
 abbrev pub is_kept : Bool → Extended → Bool
 is_kept indexed value = if indexed then is_so value else true
 
--- entries behind others
+-- entries appended to others
 abbrev pub with_entries : List (List ℕ × Extended) → List (List ℕ × Extended) → List (List ℕ × Extended)
 with_entries done more = done ++ more
 
--- the tuples at which a name is given something, or the empty one where it has no indices
+-- the tuples with data of a name; the empty one if it has no indices
 abbrev pub tuples_given : State → ℕ → List (List ℕ)
 tuples_given state name = if is_indexed state name then given_of state name else [] ∷ []
 

@@ -1,4 +1,5 @@
--- Which elements the right side of an assignment to a set makes members (GAMS User's Guide, "Dynamic Sets").
+-- Which elements the right side of an assignment to a set makes members (GAMS User's Guide,
+-- "Dynamic Sets").
 use Rattle.std.specs.Prelude.{ℕ, Bool, true, false, not, ◌&&◌, ◌||◌, List, [], ◌∷◌, Ok, if◌then◌else◌}
 use Rattle.gq_number.specs.Number.{Number}
 use Rattle.gms_ast.specs.Trees.{Mark, signed}
@@ -10,7 +11,7 @@ use Rattle.gms_eval.specs.Faults.{Answer, ◌and_then◌}
 use Rattle.gms_eval.specs.Holds.{holds}
 use Rattle.gms_eval.specs.Value.{values}
 
--- how the next part of a chain joins what stands before it
+-- how the next part of a chain is joined to the result so far
 abbrev pub Join : Type 0
 Join = Mark → Bool → Bool → Bool
 
@@ -23,15 +24,16 @@ in_sum mark x y = x || y
 abbrev pub in_product : Join
 in_product mark x y = x && y
 
--- parts joined to what stands before them, from the left; each is taken
+-- parts joined to the result so far, from the left; each is evaluated
 abbrev pub joined : Join → Bool → List (Mark × Answer Bool) → Answer Bool
 joined join so_far [] = Ok so_far
 joined join so_far (part ∷ parts) = part.1 and_then λ x. joined join (join part.0 so_far x) parts
 
 module _ {F : Type 0} (number_of : F → Number) (limit : ℕ) (state : State) (binding : Pairs) where
   abbrev mutual
-    -- Whether the right side is in the set under a binding: `not` is not in it, a false guard is not in it, and a sign that does not
-    -- stand between two parts changes nothing. What else stands there is a reference to a set, or an error of the program.
+    -- Whether the right side is in the set under a binding. `not` and a false guard are not in it,
+    -- and a sign that is not between two parts has no effect. Anything else is a reference to a
+    -- set, or an error of the program.
     pub membership : tree.Tree F → Answer Bool
     membership tree.yes = Ok true
     membership tree.no = Ok false
@@ -43,7 +45,7 @@ module _ {F : Type 0} (number_of : F → Number) (limit : ℕ) (state : State) (
         each_holds (unmarked (values number_of limit state binding guards)) and_then λ hold. if hold then membership operand else Ok false
     membership other = holds number_of limit state binding other
 
-    -- the same of parts, each with its mark
+    -- the answers of parts, each with its mark
     pub memberships : tree.Parts F → List (Mark × Answer Bool)
     memberships tree.no_part = []
     memberships (tree.part mark part rest) = (mark, membership part) ∷ memberships rest

@@ -1,5 +1,6 @@
--- That an assignment gives no element twice (GAMS User's Guide, "Data Manipulations with Parameters", indexed assignments; "Sets as Sequences:
--- Ordered Sets", lags and leads in assignments).
+-- That an assignment gives no element twice (GAMS User's Guide, "Data Manipulations with
+-- Parameters", indexed assignments; "Sets as Sequences: Ordered Sets", lags and leads in
+-- assignments).
 use Rattle.std.specs.Prelude.{◌≡◌, ℕ, Bool, true, false, List}
 use Rattle.std.specs.List.{IsDistinct}
 use Rattle.gms_ast.specs.declared.expression.Suffix.TheVariants as suffix
@@ -9,13 +10,14 @@ use Rattle.gms_store.specs.State.{State}
 use Rattle.gms_eval.specs.InnerLeading.{IsSimple}
 use Rattle.gms_exec.specs.Given.{Given, AllGiven}
 
--- whether an amount of a lag is a number or a scalar, which is the same whatever the sets stand for
+-- whether an amount of a lag is a number or a scalar, which does not depend on what sets stand for
 abbrev pub is_fixed : {F : Type 0} → tree.Tree F → Bool
 is_fixed (tree.number n) = true
 is_fixed (tree.reference at name suffix.None tree.no_index) = true
 is_fixed e = false
 
--- The indices of a left side as they are in an accepted program: each set has one dimension, and the amount of each lag is a number or a scalar.
+-- The indices of a left side as they are in an accepted program: each set has one dimension, and
+-- the amount of each lag is a number or a scalar.
 abbrev pub AreLeft : {F : Type 0} → State → tree.Indices F → Type 0
 AreLeft state tree.no_index = Unit {0}
 AreLeft state (tree.label label rest) = AreLeft state rest

@@ -17,29 +17,29 @@ abbrev pub size_of : ℤ → ℕ
 size_of (pos n) = n
 size_of (negsuc n) = 0
 
--- whether a whole number is from 0 to another
+-- whether an integer is from 0 to `most`
 abbrev pub is_from_zero : ℕ → ℤ → Bool
 is_from_zero most (pos n) = nat_le n most
 is_from_zero most (negsuc n) = false
 
--- whether a number is whole and from 0 to another
+-- whether a number is an integer from 0 to `most`
 abbrev pub is_count : ℕ → Number → Bool
 is_count most x = (x.denominator == 1) && is_from_zero most x.numerator
 
--- the number of rows, columns, pivots or decimals that an option is set to; where it is set to another thing, which is an error of the
--- program, the number stays
+-- the number of rows, columns, pivots or decimals that an option is set to; the old number if it is
+-- set to anything else, which is an error of the program
 abbrev pub count_set : {F : Type 0} → (F → Number) → ℕ → ℕ → Setting F → ℕ
 count_set value most old (setting.Number at x) =
     if is_count most (value x) then size_of (value x).numerator else old
 count_set value most old (setting.Name word) = old
 
--- whether a switch is set on or off; it stays where it is set to another thing
+-- whether a switch is set on or off; it stays if it is set to anything else
 abbrev pub switch_set : {F : Type 0} → Bool → Setting F → Bool
 switch_set old (setting.Number at x) = old
 switch_set old (setting.Name word) =
     if is_word (codes "on") word.text then true else if is_word (codes "off") word.text then false else old
 
--- the place of the first solver with a name, letter case ignored; the choice stays where there is none
+-- the place of the first solver with a name, letter case ignored; without one the choice stays
 abbrev pub solver_set : {F : Type 0} → List (List ℕ) → ℕ → Setting F → ℕ
 solver_set solvers old (setting.Number at x) = old
 solver_set solvers old (setting.Name word) = unwrap_or (position (is_word word.text) solvers) old

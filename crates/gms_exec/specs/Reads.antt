@@ -1,4 +1,4 @@
--- What an assignment leaves to be read: at each element what it is given there, or else what was there.
+-- What is read after an assignment: at each element what it was given, or else its old value.
 use Rattle.std.specs.Prelude.{ℕ, Bool, List, reverse, find, Option, Some, None, option_map}
 use Rattle.gq_extended.specs.Extended.{Extended}
 use Rattle.gms_tuple.specs.TupleOrder.{same_tuple}
@@ -10,15 +10,15 @@ use Rattle.gms_exec.specs.Given.{AllGiven, values_given, members_given, with_att
 abbrev pub last_at : {A : Type 0} → List (List ℕ × A) → List ℕ → Option A
 last_at {A} pairs t = option_map (λ (p : List ℕ × A). p.1) (find (λ (p : List ℕ × A). same_tuple p.0 t) (reverse pairs))
 
--- the value that an element is given
+-- the value that an element is given, if any
 abbrev pub value_at : AllGiven → List ℕ → Option Extended
 value_at all t = last_at (values_given all) t
 
--- whether an element is given to be a member
+-- whether an element is made a member or not, if it is given that
 abbrev pub membership_at : AllGiven → List ℕ → Option Bool
 membership_at all t = last_at (members_given all) t
 
--- what an element has that had these attributes, and is given a value or nothing
+-- the attributes of an element that had these and is given a value or nothing
 abbrev pub attributes_with : Suffix → Attributes → Option Extended → Attributes
 attributes_with suffix a None = a
 attributes_with suffix a (Some x) = with_attribute suffix a x

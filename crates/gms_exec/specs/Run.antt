@@ -1,5 +1,6 @@
--- The run of a program: statement by statement, what each shows and the state after it (GAMS User's Guide, "GAMS Programs", "Programming
--- Flow Control Features", "The Display Statement", "The Option Statement", "Model and Solve Statements").
+-- The run of a program: statement by statement, what each shows and the state after it (GAMS User's
+-- Guide, "GAMS Programs", "Programming Flow Control Features", "The Display Statement", "The Option
+-- Statement", "Model and Solve Statements").
 use Rattle.std.specs.Prelude.{ℕ, ◌+◌, Bool, List, [], ◌∷◌, ◌++◌, length, map, slice_index_or, Option, Some, None, option_map, Ok, Err, if◌then◌else◌}
 use Rattle.std.specs.List.{fold}
 use Rattle.gms_labels.specs.declared.place.Place.{Place}
@@ -28,17 +29,17 @@ use Rattle.gms_exec.specs.Options.{after_options}
 use Rattle.gms_exec.specs.Showing.{all_shown}
 use Rattle.gms_exec.specs.Solved.{after_end}
 
--- ---- where a run stands
+-- ---- the course of a run
 
--- Why a run does not go on.
+-- Why a run halts.
 pub data Halt : Type 0 where
   -- a fault stopped it
   stopped : Fault → Halt
-  -- it waits at a solve for which no answer is left
+  -- it waits at a solve for which no answer remains
   waiting : Halt
 
--- How far a run has come: the state, what was shown so far, the answers that no solve has taken yet and how many were taken, and why it does
--- not go on, where it does not.
+-- How far a run has come: the state, what was shown so far, the answers that no solve has taken
+-- yet, how many were taken, and why the run has halted, if it has.
 pub record Course : Type 0 where
   pub state : State
   pub events : List Event
@@ -58,18 +59,18 @@ with_event course event = record course { events = course.events ++ event ∷ []
 abbrev pub stopped_by : Course → Fault → Course
 stopped_by course fault = record course { halted = Some (stopped fault) }
 
--- a run goes on where nothing has halted it
+-- a run continues where nothing has halted it
 abbrev pub while_it_runs : (Course → Course) → Course → Course
 while_it_runs next course = elim course.halted [ None ↦ next course | Some halt ↦ course ]
 
--- a run goes on with a value, and is stopped by a fault
+-- a run continues with a value, and is stopped by a fault
 abbrev pub with_value : {A : Type 0} → Evaluated A → (A → Course) → Course → Course
 with_value (Ok x) next course = next x
 with_value (Err fault) next course = stopped_by course fault
 
 -- ---- statements
 
--- What a run goes on in: the program, and the names of the solvers.
+-- What does not change in a run: the program, and the names of the solvers.
 pub record World (F : Type 0) : Type 0 where
   pub program : Program F
   pub solvers : List (List ℕ)
@@ -78,15 +79,15 @@ pub record World (F : Type 0) : Type 0 where
 abbrev pub labels_in : {F : Type 0} → World F → ℕ
 labels_in world = length world.program.labels
 
--- what a statement makes of a run, under the labels of the sets that loops control
+-- what a statement does to a run, under the labels of the sets that loops control
 abbrev pub OfStatement : Type 0
 OfStatement = Pairs → Course → Course
 
--- what an act makes of a run, by the place of its statement
+-- what an act does to a run, by the place of its statement
 abbrev pub OfAct : Type 0
 OfAct = Place → Pairs → Course → Course
 
--- statements one after another, while nothing stops the run
+-- statements in sequence, while nothing stops the run
 abbrev pub one_after_another : List OfStatement → OfStatement
 one_after_another statements binding course =
     fold (λ course statement. while_it_runs (statement binding) course) course statements
@@ -108,7 +109,7 @@ module _ {F : Type 0} (number_of : F → Number) (limit : ℕ) where
       with_value (all_shown labels course.state binding items)
       (λ shown. stopped_by (with_event course (aborts at.line shown)) (faulted Aborted at binding nothing nothing)) course
 
-  -- an abort acts where it has no condition, or its condition holds
+  -- an abort acts if it has no condition, or its condition holds
   abbrev pub abort_where : ℕ → Option (tree.Tree F) → List Show → OfAct
   abort_where labels None items at binding course = abort labels items at binding course
   abort_where labels (Some condition) items at binding course =
@@ -119,7 +120,7 @@ module _ {F : Type 0} (number_of : F → Number) (limit : ℕ) where
   over_elements control body at binding course =
       with_value (domain number_of limit course.state binding at control) (λ elements. for_each (sets_of control) body elements binding course) course
 
-  -- a solve takes the next answer for its linear program; where none is left the run waits
+  -- a solve takes the next answer for its linear program; if none remains the run waits
   abbrev pub answered : List (List ℕ) → ℕ → List ℕ → ℕ → Place → Course → Lp Number → Course
   answered solvers model equations objective at course lp =
       elim course.left [
@@ -150,7 +151,7 @@ module _ {F : Type 0} (number_of : F → Number) (limit : ℕ) where
   solve (solver ∷ solvers) statements model objective maximize at binding course =
       with_value (program_lp number_of limit course.state statements model objective maximize at) (answered (solver ∷ solvers) model (equations_of statements model) objective at course) course
 
-  -- one act, with each statement of a loop's body already seen as what it makes of a run
+  -- one act, where the statements of a loop's body are already given by what they do to a run
   abbrev pub act_step : World F → Act-F F OfAct OfStatement → OfAct
   act_step world (Act-F.Assign target condition right_at (Value right)) at binding course =
       with_value (after_assignment number_of limit course.state at binding (target_of target) (option_map tree_of condition) right_at (tree_of right)) (in_state course) course
@@ -169,7 +170,7 @@ module _ {F : Type 0} (number_of : F → Number) (limit : ℕ) where
   abbrev pub statement_step : Stmt-F F OfAct OfStatement → OfStatement
   statement_step statement binding course = statement.act statement.at binding course
 
-  -- what a statement makes of a run
+  -- what a statement does to a run
   abbrev pub of_statement : World F → Stmt F → OfStatement
   of_statement world = fold-Stmt F OfAct OfStatement (act_step world) statement_step
 

@@ -1,5 +1,6 @@
--- What a `display` or an `abort` shows of its items (GAMS User's Guide, "The Display Statement"). That the bounds of a variable are shown
--- over all elements of its domain, and how many these may be, is this project's own rule.
+-- What a `display` or an `abort` shows of its items (GAMS User's Guide, "The Display Statement").
+-- That the bounds of a variable are shown over all elements of its domain, and how many these may
+-- be, is this project's own rule.
 use Rattle.std.specs.Prelude.{ℕ, pos, min, nat_le, length, Bool, true, not, List, [], ◌∷◌, map, filter, Option, Some, None, Ok, if◌then◌else◌, ◌==◌}
 use Rattle.std.specs.List.{range_with_len}
 use Rattle.gq_number.specs.Number.{whole}
@@ -20,7 +21,7 @@ use Rattle.gms_eval.specs.Faults.{Answer, nothing, ◌and_then◌}
 use Rattle.gms_eval.specs.References.{plain_value, lower_value, upper_value}
 use Rattle.gms_event.specs.Events.{Shown}
 
--- a status as a value; none is above 127, up to which each field has all whole numbers
+-- a status as a value; none is above 127, and each field has all integers up to that
 abbrev pub status_shown : ℕ → Extended
 status_shown status = number (whole (pos (min status 127)))
 
@@ -41,12 +42,14 @@ is_bound suffix.Lo = true
 is_bound suffix.Up = true
 is_bound other = not true
 
--- the labels that may stand at a position: those of its set, and without a set all of the program, of which there are so many
+-- the labels that may occur at a position: those of its set, or, without a set, all `labels` labels
+-- of the program
 abbrev pub labels_at : ℕ → State → Option ℕ → List ℕ
 labels_at labels state None = range_with_len 0 labels
 labels_at labels state (Some set) = labels_of state set
 
--- the elements of a domain; an element has at most 10 labels, so a domain of more positions, which no accepted program has, has none
+-- the elements of a domain; an element has at most 10 labels, so a domain with more positions,
+-- which no accepted program has, has none
 abbrev pub elements_at : ℕ → State → List (Option ℕ) → List (List ℕ)
 elements_at labels state positions = if nat_le (length positions) 10 then product (map (labels_at labels state) positions) else []
 
@@ -54,14 +57,14 @@ elements_at labels state positions = if nat_le (length positions) 10 then produc
 abbrev pub is_indexed : State → ℕ → Bool
 is_indexed state name = not (length (symbol_of state name).domain == 0)
 
--- The tuples at which a name is looked at: for a bound all elements of its domain, of which there may be 16,777,216; for a name without
--- indices the empty tuple; else those at which something is given.
+-- The tuples at which a name is shown: for a bound all elements of its domain, at most 16,777,216;
+-- for a name without indices the empty tuple; otherwise those with data.
 abbrev pub tuples_looked_at : ℕ → State → Pairs → Named → Suffix → Answer (List (List ℕ))
 tuples_looked_at labels state binding named suffix =
     if is_bound suffix then sized named.at binding (elements_at labels state (symbol_of state named.name).domain) else
     Ok (if is_indexed state named.name then given_of state named.name else [] ∷ [])
 
--- the entries of a name at tuples; those that are 0 are left out where the name has indices
+-- the entries of a name at tuples; if the name has indices, those that are 0 are left out
 abbrev pub entries_shown : State → ℕ → Suffix → List (List ℕ) → List (List ℕ × Extended)
 entries_shown state name suffix tuples =
     filter (λ entry. if is_indexed state name then is_so entry.1 else true) (map (λ t. (t, value_shown state name suffix t)) tuples)

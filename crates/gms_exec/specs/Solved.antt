@@ -1,5 +1,6 @@
--- The state after a solve was answered (GAMS User's Guide, "Model and Solve Statements", model and solver status, levels and marginals).
--- Which answers leave levels and marginals as they were is this project's own rule.
+-- The state after a solve was answered (GAMS User's Guide, "Model and Solve Statements", model and
+-- solver status, levels and marginals). Which answers leave levels and marginals as they were is
+-- this project's own rule.
 use Rattle.std.specs.Prelude.{ℕ, pos, ◌==◌, if◌then◌else◌, List, [], ◌∷◌, ◌++◌, map}
 use Rattle.std.specs.List.{fold}
 use Rattle.gq_number.specs.Number.{Number, whole}
@@ -17,12 +18,12 @@ use Rattle.lp_form.specs.declared.key.Key.{Key}
 abbrev pub statuses_of : {F : Type 0} → End F → ℕ × ℕ
 statuses_of end = (model_number (solve_status end), solver_number (solve_status end))
 
--- the first of some numbers, 0 where there is none
+-- the first of some numbers; 0 if there are none
 abbrev pub first_or_zero : List Number → Number
 first_or_zero [] = whole (pos 0)
 first_or_zero (x ∷ xs) = x
 
--- the numbers behind the first
+-- the numbers after the first
 abbrev pub behind_first : List Number → List Number
 behind_first [] = []
 behind_first (x ∷ xs) = xs
@@ -33,7 +34,7 @@ pub record Point : Type 0 where
   pub level : Number
   pub marginal : Number
 
--- elements with their levels and marginals, in order; a marginal that is not there is 0
+-- elements with their levels and marginals, in order; a missing marginal is 0
 abbrev pub points : List Key → List Number → List Number → List Point
 points [] levels marginals = []
 points (key ∷ keys) levels marginals =
@@ -47,8 +48,8 @@ column_keys lp = map (λ (column : Column Number). column.key) lp.columns
 abbrev pub row_keys : Lp Number → List Key
 row_keys lp = map (λ (row : Row Number). row.key) lp.rows
 
--- what an answer puts: levels and marginals of all columns and rows where it is optimal, their levels with marginals 0 where there is a
--- feasible point that is not optimal, and else nothing
+-- what an answer writes: levels and marginals of all columns and rows if it is optimal, their
+-- levels with marginals 0 if it has a feasible point that is not optimal, and otherwise nothing
 abbrev pub points_of : Lp Number → End Number → List Point
 points_of lp (Optimal levels row_levels duals reduced) = points (column_keys lp) levels reduced ++ points (row_keys lp) row_levels duals
 points_of lp (Unbounded levels row_levels ray) = points (column_keys lp) levels [] ++ points (row_keys lp) row_levels []
@@ -61,7 +62,8 @@ abbrev pub with_point : State → Point → State
 with_point state point =
     after_attributes state point.key.symbol point.key.tuple (with_marginal (with_level (attributes_of state point.key.symbol point.key.tuple) point.level) point.marginal)
 
--- the state after an end of a model's linear program: the two statuses, and the points that it puts; all else stays
+-- the state after an end of a model's linear program: the two statuses and the points are written,
+-- and all else stays
 abbrev pub after_end : State → ℕ → Lp Number → End Number → State
 after_end state model lp end =
     fold with_point (after_statuses state model (statuses_of end).0 (statuses_of end).1) (points_of lp end)

@@ -1,4 +1,5 @@
--- What the events that a call showed are, so that they can be listed: displays of at most 8 decimals, and solves that are answered.
+-- Which events of a call are valid, so that they can be listed: displays of at most 8 decimals, and
+-- solves that are answered.
 use Rattle.std.specs.Prelude.{◌≡◌, ◌≤◌, ℕ, List, ◌++◌, slice_get, Some, All}
 use Rattle.gq_number.specs.Number.{Number}
 use Rattle.gms_store.specs.declared.settings.Settings.{Settings}
@@ -12,7 +13,8 @@ use Rattle.lp_slot.specs.Under.{IsAnswerUnder}
 use Rattle.lp_core.specs.WellFormed.{IsWellFormed}
 
 module _ {F : Type 0} (value : F → Number) (limit : ℕ) (rules : List SolverRule) (answers : List (Answer F)) where
-  -- A solve that was shown has a well-formed program, and the answer at its place is one of it, by the rule of the solver that its settings choose.
+  -- A solve that was shown has a well-formed program, and the answer at its place is one of it, by
+  -- the rule of the solver that its settings choose.
   pub record IsStandingSolve (lp : Lp F) (place : ℕ) (settings : Settings) : Type 0 where
     pub formed : IsWellFormed value lp
     pub given : Answer F
@@ -28,7 +30,7 @@ module _ {F : Type 0} (value : F → Number) (limit : ℕ) (rules : List SolverR
   IsStanding (event.Fault stop) = Unit {0}
   IsStanding (event.Solve line model equations lp answer solver settings level) = IsStandingSolve lp answer settings
 
-  -- What was shown behind other events stands.
+  -- The events that were appended to others are valid.
   pub record ShowsStanding (old new : List (Event F)) : Type 0 where
     pub shown : List (Event F)
     pub events : new ≡ old ++ shown

@@ -1,5 +1,6 @@
--- What `step` promises: how far a statement takes a run, what its solvers did, and what stays (GAMS User's Guide, "GAMS Programs",
--- "Programming Flow Control Features", "Model and Solve Statements").
+-- The contract of `step`: how far a statement takes a run, what its solvers did, and what stays
+-- (GAMS User's Guide, "GAMS Programs", "Programming Flow Control Features", "Model and Solve
+-- Statements").
 use Rattle.std.specs.Prelude.{◌≡◌, ℕ, ◌<◌, ◌≤◌, ◌==◌, List, [], ◌∷◌, ◌++◌, length, map, slice_get, None, option_map, option_to_list, Result, Ok, Err, if◌then◌else◌}
 use Rattle.gq_number.specs.Number.{Number}
 use Rattle.gms_store.specs.declared.settings.Settings.{Settings}
@@ -17,13 +18,13 @@ use Rattle.lp_core.specs.Numbers.{answer_numbers}
 use Rattle.gms_exec.specs.Answering.{AreAnswered}
 use Rattle.gms_exec.specs.Run.{Course, stopped_by}
 
--- What is seen of a run: its state, what it showed, and the answers that its solves took.
+-- The view of a run: its state, what it showed, and the answers that its solves took.
 pub record Seen (F : Type 0) : Type 0 where
   pub state : State
   pub events : List (Event F)
   pub answers : List (Answer F)
 
--- what a call leaves, unless it wanted memory
+-- what holds after a call, unless memory ran out
 abbrev pub UnlessMemory : {F A : Type 0} → Result A (StopOrMemory F) → Type 0 → Type 0
 UnlessMemory (Ok x) P = P
 UnlessMemory (Err Memory) P = Unit {0}
@@ -32,20 +33,19 @@ UnlessMemory (Err (Stop stop)) P = P
 -- ---- the run
 
 module _ {F : Type 0} (value : F → Number) where
-  -- how far a run has come, where these answers are left
+  -- the view of a run as a course, with these answers remaining
   abbrev pub come_to : Seen F → List (Answer Number) → Course
   come_to seen left =
       record { state = seen.state; events = events_in value seen.events; left = left; taken = length seen.answers; halted = None }
 
-  -- A run has come to a state with these events and no answer left but those that were there at its end; or a stop has stopped it there.
-  -- Want of memory says nothing.
+  -- A run has reached this point; or a stop has stopped it there. Out of memory makes no claim.
   abbrev pub Comes : {A : Type 0} → Result A (StopOrMemory F) → Course → Course → Type 0
   Comes (Ok x) course now = course ≡ now
   Comes (Err Memory) course now = Unit {0}
   Comes (Err (Stop stop)) course now = course ≡ stopped_by now (fault_of value stop)
 
-  -- A call did to a run what statements do: it showed events and took answers behind those that were there, and came to the state and the end
-  -- that they come to with these answers, whichever are left behind them.
+  -- A call did to a run what statements do. It appended events and answers, and reached the state
+  -- and the end that the statements lead to with these answers, whichever answers follow them.
   pub record Runs {A : Type 0} (result : Result A (StopOrMemory F)) (does : Course → Course) (old new : Seen F) : Type 0 where
     pub shown : List (Event F)
     pub events : new.events ≡ old.events ++ shown
@@ -55,15 +55,15 @@ module _ {F : Type 0} (value : F → Number) where
 
 -- ---- the solvers
 
--- the pivots of the answers at solves by the solver of a place
+-- the pivots of the answers at solves by the solver at a place
 abbrev pub paths_taken : {F : Type 0} → ℕ → List (Answer F) → List (Event F) → List (List Pivot)
 paths_taken {F} k answers [] = []
 paths_taken {F} k answers (event.Solve line model equations lp answer solver settings level ∷ events) =
     (if settings.solver == k then option_to_list (option_map (λ (a : Answer F). a.pivots) (slice_get answers answer)) else []) ++ paths_taken k answers events
 paths_taken {F} k answers (other ∷ events) = paths_taken k answers events
 
--- Solvers after a call: they are as many, in the same order, with the same names and rules, and the paths of each are those that it had,
--- followed by the pivots of the answers that it gave. Each solve that was shown is answered.
+-- Solvers after a call: their number, order, names and rules are unchanged, and to the paths of
+-- each the pivots of the answers that it gave are appended. Each solve that was shown is answered.
 pub record Answered {S F : Type 0} (value : F → Number) (limit : ℕ) (name : S → List ℕ) (rule : S → SolverRule) (paths : S → List (List Pivot)) (old new : List S) (before after : Seen F) : Type 0 where
   pub names : map name new ≡ map name old
   pub rules : map rule new ≡ map rule old
@@ -74,7 +74,7 @@ pub record Answered {S F : Type 0} (value : F → Number) (limit : ℕ) (name : 
 
 -- ---- what stays
 
--- the settings show at most 8 decimals, and choose one of so many solvers where there are some
+-- the settings show at most 8 decimals, and choose one of `solvers` solvers, if there are any
 pub record AreKept (solvers : ℕ) (settings : Settings) : Type 0 where
   pub decimals : settings.decimals ≤ 8
   pub chosen : 0 < solvers → settings.solver < solvers

@@ -1,4 +1,4 @@
-//! Assignments: all values are taken in the old state, and then put.
+//! Assignments: all values are computed in the old state, and then written.
 ghost use Rattle.std.specs.Prelude.{◌≡◌, ◌==◌, Some, Ok, map, option_map, option_copied, IfOk, OnOk};
 ghost use Rattle.std.specs.List.{list_any};
 ghost use Rattle.gq_extended.specs.Meaning.{extended};
@@ -24,7 +24,7 @@ use gq_extended::Ext;
 use gq_field::ExactField;
 use std::alloc::{AllocError, Global};
 
-/// The set of an index, where it is no label.
+/// The set of an index, if it is one.
 fn index_set<F: ExactField>(index: &Index<F>) -> Option<u32>
     ensures { result ≡ first_set (index_tree index.now no_index) }
 {
@@ -46,7 +46,7 @@ fn is_one_of(sets: &[u32], set: u32) -> bool
     false
 }
 
-/// Puts a set behind others, where it is not among them.
+/// Appends a set to others, if it is not among them.
 fn put_behind(sets: &mut Vec<u32>, set: u32) -> Result<(), AllocError>
     ensures { OnOk result (sets.new.items ≡ behind_others sets.old.items set) }
 {
@@ -57,7 +57,7 @@ fn put_behind(sets: &mut Vec<u32>, set: u32) -> Result<(), AllocError>
     Ok(())
 }
 
-/// Notes a set behind others, where it is not among them and no loop controls it.
+/// Appends a set to others, if it is not among them and no loop controls it.
 fn note(sets: &mut Vec<u32>, set: u32, b: &Binding) -> Result<(), AllocError>
     ensures { OnOk result (sets.new.items ≡ noted b.now sets.old.items (Some set)) }
 {
@@ -67,7 +67,7 @@ fn note(sets: &mut Vec<u32>, set: u32, b: &Binding) -> Result<(), AllocError>
     }
 }
 
-/// Notes the set of an index, where it is no label.
+/// Notes the set of an index, if it is one.
 fn note_index<F: ExactField>(
     sets: &mut Vec<u32>,
     index: &Index<F>,
@@ -81,7 +81,7 @@ fn note_index<F: ExactField>(
     }
 }
 
-/// The sets among the indices of a left side that no loop controls, each once, in order.
+/// The sets among the indices of a left side that no loop controls, in order, without repetition.
 fn newly_controlled<F: ExactField>(
     alloc: Global,
     indices: &[Index<F>],
@@ -96,7 +96,7 @@ fn newly_controlled<F: ExactField>(
     Ok(sets)
 }
 
-/// Whether a value is a number, as a level, a marginal and what fixes a variable are.
+/// Whether a value is a number, as a level, a marginal and the value that fixes a variable are.
 fn is_number<F: ExactField>(value: Ext<F>) -> bool
     ensures level { result ≡ takes L (extended F.value value) }
     ensures marginal { result ≡ takes M (extended F.value value) }
@@ -134,7 +134,7 @@ fn is_upper<F: ExactField>(value: Ext<F>) -> bool
     }
 }
 
-/// Whether a name takes a value with a suffix; a parameter takes each.
+/// Whether a name takes a value with a suffix; a parameter takes any value.
 fn takes<F: ExactField>(suffix: Suffix, value: Ext<F>) -> bool
     ensures { result ≡ takes suffix (extended F.value value) }
 {
@@ -150,14 +150,14 @@ fn takes<F: ExactField>(suffix: Suffix, value: Ext<F>) -> bool
     }
 }
 
-/// 0, which stands where a step has no right operand.
+/// 0, in place of a right operand that a step does not have.
 fn zero<F: ExactField>() -> Ext<F>
     ensures { extended F.value result ≡ nothing }
 {
     Ext::Number(F::zero())
 }
 
-/// The value as what is given, where the name takes it; else the stop `Undefined`.
+/// The value as what is given, if the name takes it; otherwise the stop `Undefined`.
 fn where_taken<F: ExactField>(
     alloc: Global,
     suffix: Suffix,
@@ -185,7 +185,7 @@ fn is_set<F: ExactField>(store: &Store<F>, name: u32) -> bool
     }
 }
 
-/// Adds an element with what it is given behind others, where it is there.
+/// Appends an element, if there is one, with what it is given.
 fn add<F: ExactField>(
     all: &mut Vec<(Tuple, Given<F>)>,
     found: Option<(Tuple, Given<F>)>,
@@ -201,7 +201,7 @@ fn add<F: ExactField>(
     }
 }
 
-/// An assignment, but for its condition.
+/// An assignment, except for its condition.
 #[derive(Clone, Copy)]
 pub(crate) struct Assignment<'s, F: ExactField> {
     /// What is assigned.
@@ -213,7 +213,8 @@ pub(crate) struct Assignment<'s, F: ExactField> {
 }
 
 impl<'s, F: ExactField> Assignment<'s, F> {
-    /// What the right side gives under a binding. `Undefined` where the name does not take the value.
+    /// What the right side gives under a binding. `Undefined` where the name does not take the
+    /// value.
     fn given(
         &self,
         alloc: Global,
@@ -230,7 +231,7 @@ impl<'s, F: ExactField> Assignment<'s, F> {
         where_taken(alloc, self.target.suffix, self.right_at, value, b)
     }
 
-    /// The element of a tuple with what it is given, where there is one.
+    /// The element of a tuple, if there is one, with what it is given.
     fn given_at(
         &self,
         alloc: Global,
@@ -250,7 +251,8 @@ impl<'s, F: ExactField> Assignment<'s, F> {
         }
     }
 
-    /// The element of the left side under a binding with what it is given; none where a lag goes past the ends of its set.
+    /// The element of the left side under a binding with what it is given; none where a lag goes
+    /// past the ends of its set.
     fn element(
         &self,
         alloc: Global,
@@ -265,7 +267,8 @@ impl<'s, F: ExactField> Assignment<'s, F> {
         self.given_at(alloc, store, t, b)
     }
 
-    /// Those of the left side under a binding with each of some elements, with what they are given.
+    /// The elements of the left side under a binding with each of some elements, with what they are
+    /// given.
     fn each_given(
         &self,
         alloc: Global,
@@ -288,7 +291,8 @@ impl<'s, F: ExactField> Assignment<'s, F> {
         Ok(all)
     }
 
-    /// The elements that the assignment gives something, each with what it gives, all in the state as it is.
+    /// The elements that the assignment gives something, each with what it gives, all in the old
+    /// state.
     fn all_given(
         &self,
         alloc: Global,
@@ -308,11 +312,11 @@ impl<'s, F: ExactField> Assignment<'s, F> {
         self.each_given(alloc, store, those, elements, b)
     }
 
-    /// Assigns: every value is taken in the state as it is, and then all are put.
+    /// Assigns: every value is computed in the old state, and then all are written.
     ///
-    /// A stop is the first fault of the left side's domain, or, element by element, of the amounts of its lags, of the right side, and
-    /// `Undefined` for a value that the name does not take. After it the state is as it was. GAMS User's Guide, "Data Manipulations with
-    /// Parameters".
+    /// A stop is the first fault of the left side's domain, or, for each element, of the amounts of
+    /// its lags, of the right side, and `Undefined` for a value that the name does not take. After
+    /// a stop the state is unchanged. GAMS User's Guide, "Data Manipulations with Parameters".
     pub(crate) fn run(
         &self,
         alloc: Global,

@@ -1,4 +1,4 @@
-//! What an assignment gives an element, and how it is put into the state.
+//! What an assignment gives an element, and how it is written into the state.
 ghost use Rattle.std.specs.Prelude.{◌≡◌, ◌∷◌, [], option_map, OnOk};
 ghost use Rattle.gq_extended.specs.Meaning.{extended};
 ghost use Rattle.gms_ast.specs.declared.expression.Suffix.TheVariants.{Fx};
@@ -21,7 +21,8 @@ pub(crate) enum Given<F> {
     Value(Ext<F>),
 }
 
-/// The number that a value is; 0 for another, which no bound, level or marginal is given.
+/// The number that a value is; 0 for any other value, which is given to no bound, level or
+/// marginal.
 fn number<F: ExactField>(value: Ext<F>) -> F
     ensures { F.value result ≡ number_of_value (extended F.value value) }
 {
@@ -41,7 +42,7 @@ fn bound<F: ExactField>(value: Ext<F>) -> Option<F>
     }
 }
 
-/// Puts both bounds and the level of an element.
+/// Writes both bounds and the level of an element.
 fn put_fixed<F: ExactField>(
     alloc: Global,
     store: &mut Store<F>,
@@ -58,7 +59,7 @@ fn put_fixed<F: ExactField>(
     store.put_level(alloc, name, t, x)
 }
 
-/// Puts a value of an element, by the suffix. A status, which no assignment gives, stays.
+/// Writes a value of an element, by the suffix. A status, which no assignment gives, stays.
 fn put_value<F: ExactField>(
     alloc: Global,
     store: &mut Store<F>,
@@ -82,7 +83,7 @@ fn put_value<F: ExactField>(
     }
 }
 
-/// Puts what an element is given, in place of what it had.
+/// Writes what an element is given, in place of its old value.
 fn put_given<F: ExactField>(
     alloc: Global,
     store: &mut Store<F>,
@@ -100,7 +101,7 @@ fn put_given<F: ExactField>(
     }
 }
 
-/// Puts what elements are given, each in place of what it had.
+/// Writes what elements are given, in place of their old values.
 pub(crate) fn put_all<F: ExactField>(
     alloc: Global,
     store: &mut Store<F>,

@@ -1,4 +1,5 @@
-//! Laws of assignments and solves: what is read after one, and that an assignment gives no element twice.
+//! Laws of assignments and solves: what is read after one, and that an assignment gives no element
+//! twice.
 ghost use Rattle.std.specs.Prelude.{◌≡◌, ◌<◌, ℕ, pos, true, List, Option, Some, Ok, All, length, slice_get, unwrap_or};
 ghost use Rattle.gq_number.specs.Number.{Number, whole};
 ghost use Rattle.gq_extended.specs.Extended.{Extended};
@@ -23,9 +24,10 @@ ghost use Rattle.gms_exec.specs.Elements.{AreElements, IsNot, elements, feasible
 
 use gq_field::ExactField;
 
-/// What is read after an assignment, which gives elements of one name values or membership: at each element what it was given, or what was
-/// there where it was given nothing, where each that is given something has as many labels as the name has positions. Other names stay as
-/// they were, and so do the settings.
+/// What is read after an assignment, which gives elements of one name values or membership. Each
+/// element has what it was given, or its old value if it was given nothing; each that is given
+/// something has as many labels as the name has positions. Other names and the settings stay as
+/// they were.
 pub fn assignment_laws()
     ensures values { (state : State) (name : ℕ) (all : AllGiven) (entries : Entries Extended) (t : List ℕ) →
         base_of state name < length state.symbols →
@@ -50,9 +52,10 @@ pub fn assignment_laws()
         (after_given kind name all state).settings ≡ state.settings }
 {}
 
-/// An assignment gives no element twice, where its left side is as in an accepted program: each set among the indices has one dimension,
-/// and each amount of a lag is a number or a scalar. So of what an element is given nothing is lost, and the order in which
-/// elements are given counts nothing (GAMS User's Guide, "Data Manipulations with Parameters", indexed assignments).
+/// An assignment gives no element twice, if its left side is as in an accepted program: each set
+/// among the indices has one dimension, and each amount of a lag is a number or a scalar. So
+/// nothing that an element is given is lost, and the order in which elements are given has no
+/// effect (GAMS User's Guide, "Data Manipulations with Parameters", indexed assignments).
 pub fn once_laws<F: ExactField>()
     ensures { (state : State) (at : Place) (binding : Pairs) (target : Target F) (condition : Option (Tree F)) (right_at : Place) (right : Tree F) (given : AllGiven) →
         AreLeft state target.indices →
@@ -60,10 +63,11 @@ pub fn once_laws<F: ExactField>()
         IsOnce given }
 {}
 
-/// What is read after a solve whose columns and rows are elements of the state. An optimum gives the element of a column
-/// its level and its reduced cost, that of a row its level and its dual value; an end with a feasible point that is not
-/// optimal gives levels, and marginals 0; any other end leaves both. The model has the two statuses of the end. All other
-/// elements and names stay as they were, and so do the settings (GAMS User's Guide, "Model and Solve Statements").
+/// What is read after a solve whose columns and rows are elements of the state. An optimum gives
+/// the element of a column its level and its reduced cost, that of a row its level and its dual
+/// value; an end with a feasible point that is not optimal gives levels, and marginals 0; any other
+/// end leaves both. The model has the two statuses of the end. All other elements and names stay as
+/// they were, and so do the settings (GAMS User's Guide, "Model and Solve Statements").
 pub fn solve_laws()
     ensures optimal_column { (state : State) (model : ℕ) (lp : Lp Number) (levels row_levels duals reduced : List Number) (j : ℕ) (key : Key) (x d : Number) →
         AreElements state (elements lp) →

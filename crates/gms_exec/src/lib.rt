@@ -1,4 +1,4 @@
-//! Floor 5, the run. The execution of statements: what each shows, and the state after it.
+//! Layer 5, the run. The execution of statements: what each shows, and the state after it.
 #![tactic(auto)]
 
 mod assignment;

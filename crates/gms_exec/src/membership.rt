@@ -26,8 +26,9 @@ fn with_part(subtracts: bool, so_far: bool, part: bool) -> bool
 
 /// Whether the right side of an assignment to a set is in the set, under a binding.
 ///
-/// `+` is in either, `-` in the left and not the right, `*` in both, `not` not in it, and what stands under a guard that does not hold is
-/// not in it; every part is taken, from the left. GAMS User's Guide, "Dynamic Sets".
+/// `+` is in either, `-` in the left and not the right, `*` in both, `not` not in it, and an
+/// operand under a guard that does not hold is not in it. Every part is evaluated, from the left.
+/// GAMS User's Guide, "Dynamic Sets".
 #[cycle(membership)]
 pub(crate) fn membership<F: ExactField>(
     alloc: Global,

@@ -20,7 +20,8 @@ fn is_word(word: &str, text: &[u8]) -> bool
     text.eq_ignore_ascii_case(word.as_bytes())
 }
 
-/// The whole number up to another that an option is set to; where it is set to another thing the old one stays.
+/// The whole number, at most `most`, that an option is set to; if it is set to anything else, the
+/// old one.
 fn count<F: ExactField>(most: u32, old: u32, setting: &Setting<F>) -> u32
     ensures { result ≡ count_set F.value most old setting.now }
 {
@@ -35,7 +36,7 @@ fn count<F: ExactField>(most: u32, old: u32, setting: &Setting<F>) -> u32
     }
 }
 
-/// Whether a switch is set on or off; it stays where it is set to another thing.
+/// Whether a switch is set on or off; it stays if it is set to anything else.
 fn switch<F>(old: bool, setting: &Setting<F>) -> bool
     ensures { result ≡ switch_set old setting.now }
 {
@@ -59,7 +60,8 @@ fn has_name(solver: &Box<dyn LpSolver>, word: &[u8]) -> bool
     solver.name().as_bytes().eq_ignore_ascii_case(word)
 }
 
-/// The place of the first solver with the name that an option is set to; the choice stays where there is none.
+/// The place of the first solver with the name that an option is set to; without one the choice
+/// stays.
 fn chosen<F>(old: u32, setting: &Setting<F>, solvers: &[Box<dyn LpSolver>]) -> u32
     requires { length solvers.now < 2 ^ 32 }
     ensures { result ≡ solver_set (map name solvers.now) old setting.now }
@@ -121,7 +123,8 @@ fn after_option<F: ExactField>(
     }
 }
 
-/// The settings after the options of a statement, in order. GAMS User's Guide, "The Option Statement".
+/// The settings after the options of a statement, in order. GAMS User's Guide, "The Option
+/// Statement".
 pub(crate) fn after_options<F: ExactField>(
     settings: Settings,
     options: &[(Word, Setting<F>)],

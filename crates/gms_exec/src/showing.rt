@@ -24,7 +24,7 @@ use std::alloc::{AllocError, Global};
 /// How many elements the domain of a variable may have whose bounds are shown.
 const MOST_ELEMENTS: u64 = 16_777_216;
 
-/// A lower bound, or minus infinity where there is none.
+/// A lower bound; minus infinity if there is none.
 fn lower<F: ExactField>(bound: Option<F>) -> Ext<F>
     ensures { extended F.value result ≡ lower_value (option_map F.value bound) }
 {
@@ -34,7 +34,7 @@ fn lower<F: ExactField>(bound: Option<F>) -> Ext<F>
     }
 }
 
-/// An upper bound, or infinity where there is none.
+/// An upper bound; infinity if there is none.
 fn upper<F: ExactField>(bound: Option<F>) -> Ext<F>
     ensures { extended F.value result ≡ upper_value (option_map F.value bound) }
 {
@@ -55,7 +55,8 @@ fn truth<F: ExactField>(holds: bool) -> Ext<F>
     }
 }
 
-/// What a name without a suffix has at a tuple: a set has 1 at its members and 0 at other tuples.
+/// The value of a name without a suffix at a tuple: a set has 1 at its members and 0 at other
+/// tuples.
 fn plain<F: ExactField>(store: &Store<F>, name: u32, t: &Tuple) -> Ext<F>
     ensures { extended F.value result ≡ plain_value store.now name (symbol_of store.now name).content t.now }
 {
@@ -82,7 +83,7 @@ fn value<F: ExactField>(store: &Store<F>, name: u32, suffix: Suffix, t: &Tuple) 
     }
 }
 
-/// A status as a value: no status is above 127, up to which each field has all whole numbers.
+/// A status as a value: no status is above 127, and each field has all integers up to that.
 fn status<F: ExactField>(status: u8) -> Ext<F>
     ensures { extended F.value result ≡ status_shown status }
 {
@@ -90,7 +91,7 @@ fn status<F: ExactField>(status: u8) -> Ext<F>
     Ext::Number(F::from_int(shown as i64))
 }
 
-/// Whether a value is another than the number 0.
+/// Whether a value is not the number 0.
 fn is_shown<F: ExactField>(value: Ext<F>) -> bool
     ensures { result ≡ is_so (extended F.value value) }
 {
@@ -139,7 +140,7 @@ fn is_left_out<F: ExactField>(indexed: bool, value: Ext<F>) -> bool
     false
 }
 
-/// Adds the entry of a name at a tuple, where it is not left out.
+/// Adds the entry of a name at a tuple, unless it is left out.
 fn add<F: ExactField>(
     entries: &mut Entries<F>,
     store: &Store<F>,
@@ -179,7 +180,8 @@ fn over_all<F: ExactField>(
     Ok(entries)
 }
 
-/// The entries of a bound that are not 0, over all elements of the domain. `DomainSize` where these are more than 16,777,216.
+/// The entries of a bound that are not 0, over all elements of the domain. `DomainSize` where these
+/// are more than 16,777,216.
 fn bounds<F: ExactField>(
     alloc: Global,
     store: &Store<F>,
@@ -200,7 +202,7 @@ fn bounds<F: ExactField>(
     Ok(entries)
 }
 
-/// The entries that are not 0 among those that are given.
+/// The entries that are not 0, at the tuples with data.
 fn given<F: ExactField>(
     alloc: Global,
     store: &Store<F>,
@@ -233,7 +235,7 @@ fn single<F: ExactField>(
     Ok(entries)
 }
 
-/// The entries of a name that are given, or its one entry where it has no indices.
+/// The entries of a name at the tuples with data, or its one entry if it has no indices.
 fn looked_at<F: ExactField>(
     alloc: Global,
     store: &Store<F>,
@@ -337,8 +339,9 @@ fn shown<F: ExactField>(
 
 /// What is shown for the items of a `display` or an `abort`, in order, in the state as it is.
 ///
-/// `labels` is how many labels the program has: they may stand at a position without a set. A stop is `DomainSize` at the first item that
-/// shows a bound over more than 16,777,216 elements. GAMS User's Guide, "The Display Statement".
+/// `labels` is how many labels the program has: all of them may occur at a position without a set.
+/// A stop is `DomainSize` at the first item that shows a bound over more than 16,777,216 elements.
+/// GAMS User's Guide, "The Display Statement".
 pub(crate) fn all_shown<F: ExactField>(
     alloc: Global,
     store: &Store<F>,

@@ -1,4 +1,5 @@
-//! Solves: the linear program goes to the chosen solver, and its answer into the state.
+//! Solves: the linear program is passed to the chosen solver, and its answer is written into the
+//! state.
 ghost use Rattle.std.specs.Prelude.{◌≡◌, ◌<◌, ◌^◌, ◌-◌, ◌∷◌, ◌++◌, ℕ, [], pos, length, map, slice_get, slice_index_or, option_map, IfOk, OnOk};
 ghost use Rattle.std.specs.List.{fold};
 ghost use Rattle.gq_number.specs.Number.{whole};
@@ -29,7 +30,7 @@ use lp_form::Key;
 use lp_slot::LpSolver;
 use std::alloc::{AllocError, Global};
 
-/// What a solve is of.
+/// The parts of a solve statement.
 #[derive(Clone, Copy)]
 pub(crate) struct Solve {
     /// The model.
@@ -50,7 +51,7 @@ fn statuses<F>(end: &End<F>) -> (u8, u8)
     (status.model_number(), status.solver_number())
 }
 
-/// Puts the level and the marginal of an element.
+/// Writes the level and the marginal of an element.
 fn put_point<F: ExactField>(
     alloc: Global,
     store: &mut Store<F>,
@@ -64,7 +65,7 @@ fn put_point<F: ExactField>(
     store.put_marginal(alloc, key.symbol, &key.tuple, marginal)
 }
 
-/// The number at a place, and 0 where there is none.
+/// The number at a place; 0 if there is none.
 fn number_at<F: ExactField>(numbers: &[F], place: usize) -> F
     ensures { F.value result ≡ slice_index_or (map F.value numbers.now) place (whole (pos 0)) }
 {
@@ -74,7 +75,7 @@ fn number_at<F: ExactField>(numbers: &[F], place: usize) -> F
     }
 }
 
-/// Puts the levels and marginals of columns. Without marginals these are 0.
+/// Writes the levels and marginals of columns. Missing marginals are 0.
 fn put_columns<F: ExactField>(
     alloc: Global,
     store: &mut Store<F>,
@@ -92,7 +93,7 @@ fn put_columns<F: ExactField>(
     Ok(())
 }
 
-/// Puts the levels and marginals of rows. Without marginals these are 0.
+/// Writes the levels and marginals of rows. Missing marginals are 0.
 fn put_rows<F: ExactField>(
     alloc: Global,
     store: &mut Store<F>,
@@ -110,8 +111,8 @@ fn put_rows<F: ExactField>(
     Ok(())
 }
 
-/// Puts what an answer says into the state: the statuses of the model, and, where there is a feasible point, levels and marginals of all
-/// columns and rows. Other elements keep what they have.
+/// Writes what an answer says into the state: the statuses of the model, and, if there is a
+/// feasible point, levels and marginals of all columns and rows. Other elements keep their values.
 fn put_answer<F: ExactField>(
     alloc: Global,
     store: &mut Store<F>,
@@ -191,7 +192,8 @@ fn solve_at(
     solve_one(alloc, &mut solvers[place], lp, iterlim)
 }
 
-/// Shows a solve, and keeps its answer behind the answers. `settings` are those at the solve, and the state is the one after it.
+/// Shows a solve, and appends its answer to the answers. `settings` are those at the solve, and the
+/// state is the one after it.
 fn show_solve<F: ExactField>(
     alloc: Global,
     store: &Store<F>,
@@ -234,7 +236,8 @@ fn show_solve<F: ExactField>(
     Ok(())
 }
 
-/// Solves a linear program: the solver that the settings choose answers it, the answer goes into the state, and the solve is shown.
+/// Solves a linear program: the solver that the settings choose answers it, the answer is written
+/// into the state, and the solve is shown.
 fn solve_program(
     alloc: Global,
     store: &mut Store<Frac>,
@@ -265,10 +268,11 @@ fn solve_program(
     )
 }
 
-/// Solves a model: the chosen solver answers the linear program that it means in the state as it is, and the answer goes into the state.
+/// Solves a model: the chosen solver answers the linear program that it means in the present state,
+/// and the answer is written into the state.
 ///
-/// A stop is `NoSolver` exactly where there is no solver, and else the fault of the linear program. GAMS User's Guide, "Model and Solve
-/// Statements".
+/// A stop is `NoSolver` exactly where there is no solver, and otherwise the fault of the linear
+/// program. GAMS User's Guide, "Model and Solve Statements".
 pub(crate) fn solve_model(
     alloc: Global,
     store: &mut Store<Frac>,

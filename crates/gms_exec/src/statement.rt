@@ -33,13 +33,16 @@ use lp_core::Answer;
 use lp_slot::LpSolver;
 use std::alloc::Global;
 
-/// Executes a statement of a checked program: what it shows goes to the end of the events, the answers that it takes to the end of the
-/// answers, and the state is the one after it. A loop goes over the elements that its domain has where it begins.
+/// Executes a statement of a checked program: what it shows is appended to the events, the answers
+/// that it takes to the answers, and the state is the one after it. A loop goes over the elements
+/// that its domain has where it begins.
 ///
-/// A stop is the first fault of the statement; what it showed and took before stays, and the state is the one that it had come to. The kinds
-/// are those of its expressions, domains and rows, `DomainSize` also of a display of bounds, `NoSolver` exactly where a solve is met and there
-/// is no solver, and `Aborted` exactly where an `abort` is met that has no condition or whose condition holds, and what it shows has no fault.
-/// After want of memory the store is not to be used again. GAMS User's Guide, "GAMS Programs", "Programming Flow Control Features".
+/// A stop is the first fault of the statement. What it showed and took before stays, and the state
+/// is the one that it had reached. The kinds are those of its expressions, domains and rows;
+/// `DomainSize` also of a display of bounds; `NoSolver` exactly where a solve is met and there is
+/// no solver; and `Aborted` exactly where an `abort` is met that has no condition or whose
+/// condition holds, and what it shows has no fault. After out of memory the store is not to be used
+/// again. GAMS User's Guide, "GAMS Programs", "Programming Flow Control Features".
 pub fn step(
     alloc: Global,
     store: &mut Store<Frac>,
@@ -255,7 +258,7 @@ fn abort<F: ExactField>(
     Err(stopped(alloc, StopKind::Aborted, at, b))
 }
 
-/// Shows the items of an `abort` and stops, where it has no condition or its condition holds.
+/// Shows the items of an `abort` and stops, if it has no condition or its condition holds.
 fn abort_where<F: ExactField>(
     alloc: Global,
     store: &Store<F>,
@@ -283,7 +286,7 @@ fn abort_where<F: ExactField>(
     }
 }
 
-/// The stop of a statement that no step of its values is to blame for.
+/// The stop of a statement whose cause is no step on values.
 pub(crate) fn stopped<F: ExactField>(
     alloc: Global,
     kind: StopKind,

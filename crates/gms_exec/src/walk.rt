@@ -29,7 +29,8 @@ fn label_numbered(labels: u32, number: usize) -> u32
     number as u32
 }
 
-/// The domain of a name: the set of each position, or none where any label of the program may stand.
+/// The domain of a name: the set of each position, or none where any label of the program may
+/// occur.
 #[derive(Clone, Copy)]
 pub(crate) struct Walk<'s, F: ExactField> {
     store: &'s Store<F>,
@@ -38,7 +39,7 @@ pub(crate) struct Walk<'s, F: ExactField> {
 }
 
 impl<'s, F: ExactField> Walk<'s, F> {
-    /// The domain of a name of a program that has so many labels.
+    /// The domain of a name of a program that has `labels` labels.
     pub(crate) fn new(store: &'s Store<F>, labels: u32, name: u32) -> Walk<'s, F>
         ensures store { result.store.now ≡ store.now }
         ensures labels { result.labels ≡ labels }
@@ -51,7 +52,7 @@ impl<'s, F: ExactField> Walk<'s, F> {
         }
     }
 
-    /// How many labels may stand at a position.
+    /// How many labels may occur at a position.
     fn count_at(&self, position: Option<u32>) -> usize
         ensures { result ≡ length (labels_at self.now.labels self.now.store.now position) }
     {
@@ -61,7 +62,7 @@ impl<'s, F: ExactField> Walk<'s, F> {
         }
     }
 
-    /// The label of a number among those that may stand at a position.
+    /// The label of a number among those that may occur at a position.
     fn label_at(&self, position: Option<u32>, number: usize) -> u32
         requires { number < length (labels_at self.now.labels self.now.store.now position) }
         ensures { result ≡ slice_index_or (labels_at self.now.labels self.now.store.now position) number 0 }
@@ -72,7 +73,7 @@ impl<'s, F: ExactField> Walk<'s, F> {
         }
     }
 
-    /// How many elements there are, or the greatest number of a `u64` where they pass it.
+    /// How many elements there are, at most the greatest `u64`.
     pub(crate) fn count(&self) -> u64
         ensures { result ≡ min (length (elements_at self.now.labels self.now.store.now self.now.positions.now)) most_counted }
     {

@@ -17,11 +17,11 @@ some_blanks few many old new fewer e =
     let n : few + (many - few) ≡ many = omega arith in
     (blanks few, blanks (many - few), sym (ap blanks n) ∙ sym (replicate-append-replicate few (many - few) 32), e)
 
--- a front of a first text is one of both
+-- a prefix of a first text is a prefix of both
 pub begins_first : (old new first second : List ℕ) → BeginsWith old first new → BeginsWith old (first ++ second) new
 begins_first old new first second b = (b.0, b.1 ++ second, ap (λ t. t ++ second) b.2 ∙ append_assoc b.0 b.1 second, b.3)
 
--- all of a first text, and a front of the second
+-- all of a first text, and a prefix of the second
 pub begins_second : (old middle new first second : List ℕ) → middle ≡ old ++ first → BeginsWith middle second new → BeginsWith old (first ++ second) new
 begins_second old middle new first second e b =
     (first ++ b.0, b.1, ap (λ t. first ++ t) b.2 ∙ sym (append_assoc first b.0 b.1), b.3 ∙ ap (λ t. t ++ b.0) e ∙ append_assoc old first b.0)

@@ -1,23 +1,24 @@
--- Texts set in columns (GAMS User's Guide, "GAMS Output"). How wide a column is, is this project's own choice.
+-- Texts set in columns (GAMS User's Guide, "GAMS Output"). How wide a column is, is this project's
+-- own choice.
 use Rattle.std.specs.Prelude.{◌≡◌, ℕ, ◌-◌, List, ◌++◌, length, replicate, Result, Ok, Err}
 
--- so many blanks
+-- `count` blanks
 abbrev pub blanks : ℕ → List ℕ
 blanks count = replicate count 32
 
--- a text right in a column of a width; one that is longer stands whole
+-- a text right in a column of a width; a longer text is unchanged
 abbrev pub right_in : ℕ → List ℕ → List ℕ
 right_in width text = blanks (width - length text) ++ text
 
--- a text left in a column of a width; one that is longer stands whole
+-- a text left in a column of a width; a longer text is unchanged
 abbrev pub left_in : ℕ → List ℕ → List ℕ
 left_in width text = text ++ blanks (width - length text)
 
--- a text is an old one with the front of another behind it
+-- a text is an old one followed by a prefix of another
 abbrev pub BeginsWith : List ℕ → List ℕ → List ℕ → Type 0
 BeginsWith old more new = (front rest : List ℕ) × (more ≡ front ++ rest) × (new ≡ old ++ front)
 
--- a text was appended; after a failure its front was
+-- a text was appended; after a failure a prefix of it was
 abbrev pub Appends : {A E : Type 0} → Result A E → List ℕ → List ℕ → List ℕ → Type 0
 Appends (Ok x) old new text = new ≡ old ++ text
 Appends (Err e) old new text = BeginsWith old text new

@@ -1,4 +1,5 @@
--- Texts of elements (GAMS User's Guide, "GAMS Output"). Names and labels are as they were first written.
+-- Texts of elements (GAMS User's Guide, "GAMS Output"). Names and labels are as they were first
+-- written.
 use Rattle.std.specs.Prelude.{ℕ, List, [], ◌∷◌, ◌++◌, map, slice_index_or, codes}
 
 -- the text of this number in a table
@@ -15,7 +16,7 @@ joined_by between (text ∷ next ∷ texts) = text ++ between ++ joined_by betwe
 abbrev pub dotted_text : List (List ℕ) → List ℕ → List ℕ
 dotted_text labels t = joined_by (codes ".") (map (text_of labels) t)
 
--- the labels of a tuple in parentheses, and nothing where there are none: `(a,b)`
+-- the labels of a tuple in parentheses: `(a,b)`; nothing if there are none
 abbrev pub in_parentheses : List (List ℕ) → List ℕ → List ℕ
 in_parentheses labels [] = []
 in_parentheses labels (label ∷ t) = codes "(" ++ joined_by (codes ",") (map (text_of labels) (label ∷ t)) ++ codes ")"

@@ -3,7 +3,7 @@ ghost use Rattle.gms_fmt.specs.Columns.{blanks, right_in, left_in, Appends};
 
 use std::alloc::{AllocError, Global};
 
-/// Appends so many blanks.
+/// Appends `count` blanks.
 fn push_blanks(count: usize, into: &mut Vec<u8>) -> Result<(), AllocError>
     ensures { Appends result into.old.items into.new.items (blanks count) }
 {
@@ -13,9 +13,10 @@ fn push_blanks(count: usize, into: &mut Vec<u8>) -> Result<(), AllocError>
     Ok(())
 }
 
-/// Appends a text right in a column of a width, with blanks before it. A text that is longer is appended whole.
+/// Appends a text right in a column of a width, with blanks before it. A longer text is appended
+/// whole.
 ///
-/// After want of memory the front of it is appended. GAMS User's Guide, "GAMS Output".
+/// If memory runs out a prefix of it is appended. GAMS User's Guide, "GAMS Output".
 pub fn right(_alloc: Global, text: &str, width: usize, into: &mut Vec<u8>) -> Result<(), AllocError>
     ensures { Appends result into.old.items into.new.items (right_in width text.now) }
 {
@@ -23,9 +24,10 @@ pub fn right(_alloc: Global, text: &str, width: usize, into: &mut Vec<u8>) -> Re
     into.extend_from_slice(text.as_bytes())
 }
 
-/// Appends a text left in a column of a width, with blanks behind it. A text that is longer is appended whole.
+/// Appends a text left in a column of a width, with blanks after it. A longer text is appended
+/// whole.
 ///
-/// After want of memory the front of it is appended. GAMS User's Guide, "GAMS Output".
+/// If memory runs out a prefix of it is appended. GAMS User's Guide, "GAMS Output".
 pub fn left(_alloc: Global, text: &str, width: usize, into: &mut Vec<u8>) -> Result<(), AllocError>
     ensures { Appends result into.old.items into.new.items (left_in width text.now) }
 {

@@ -6,7 +6,8 @@ use gms_labels::Labels;
 use gms_tuple::Tuple;
 use std::alloc::{AllocError, Global};
 
-/// The text of this number in a table, as it was first written, and the empty text where the table ends before.
+/// The text of this number in a table, as it was first written; the empty text if the table has no
+/// such number.
 pub fn text_of(table: &Labels, n: u32) -> &str
     ensures { result.now ≡ text_of table.now n }
 {
@@ -33,8 +34,8 @@ fn push_labels(
     Ok(())
 }
 
-/// The text of an element: `x`, or with labels `x(a,b)`. Names and labels are as they were first written; a number behind its table has the
-/// empty text.
+/// The text of an element: `x`, or with labels `x(a,b)`. Names and labels are as they were first
+/// written; a number past the end of its table has the empty text.
 pub fn element(
     alloc: Global,
     names: &Labels,
@@ -53,8 +54,8 @@ pub fn element(
     Ok(text)
 }
 
-/// The text of a tuple: its labels with dots between them, as `a.b`. Labels are as they were first written; a number behind the table has the
-/// empty text.
+/// The text of a tuple: its labels with dots between them, as `a.b`. Labels are as they were first
+/// written; a number past the end of the table has the empty text.
 pub fn dotted(alloc: Global, labels: &Labels, t: &Tuple) -> Result<String, AllocError>
     ensures { IfOk result (λ text. string_bytes text ≡ dotted_text labels.now t.now) }
 {

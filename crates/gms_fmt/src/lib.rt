@@ -1,4 +1,4 @@
-//! Floor 6, listing. Texts of elements, and texts set in columns.
+//! Layer 6, listing. Texts of elements, and texts set in columns.
 #![tactic(auto)]
 
 mod columns;

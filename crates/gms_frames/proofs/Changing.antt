@@ -24,7 +24,7 @@ use Rattle.gms_frames.proofs.RowElements.{IsOver}
 
 -- ---- lists of symbols
 
--- the symbol of a number, where there is one
+-- the symbol of a number; without one, the empty symbol
 abbrev pub read : List Symbol → ℕ → Symbol
 read symbols n = unwrap_or (slice_get symbols n) no_symbol
 
@@ -77,20 +77,21 @@ chosen-undeclared x y is = ap (λ (b : Bool). cond b x y) is
 
 -- ---- one name changed
 
--- where another name has changed a name is as it was
+-- a change of another name leaves a name unchanged
 elsewhere : (state : State) (name : ℕ) (new : Symbol) (n : ℕ) → (n ≡ base_of state name → ⊥) → symbol_at (with_symbol state name new) n ≡ symbol_at state n
 elsewhere state name new n apart = elim (at-after state name new n) [
   | inl same ↦ same
   | inr changed ↦ absurd (apart changed.0)
 ]
 
--- What a change of a symbol keeps: whether it is declared, and what it stands for.
+-- What a change of a symbol keeps: whether it is declared, and the set that it stands for.
 pub record IsChange (f : Symbol → Symbol) : Type 0 where
   pub declared : (s : Symbol) → is_undeclared (f s).content ≡ is_undeclared s.content
   pub alike : (s : Symbol) (m : ℕ) → behind m (f s).content ≡ behind m s.content
 
 module _ (first base : State) where
-  -- A state has what another has of each name that the first declares, and of every other name what it began with.
+  -- A state has the symbols of another for each name that the first state declares, and for every
+  -- other name the symbol that it began with.
   pub record Over (a b : State) : Type 0 where
     pub same : (n : ℕ) → declares first n ≡ true → symbol_at b n ≡ symbol_at a n
     pub rest : (n : ℕ) → declares first n ≡ false → symbol_at b n ≡ symbol_at base n
@@ -129,7 +130,7 @@ module _ (first base : State) where
         here-b =
             set-here b.symbols (base_of b name) new_b (within b (base_of b name) (ap (λ (s : Symbol). not (is_undeclared s.content)) (over-agree.stands name is) ∙ over.declared (base_of a name) ∙ base-declared name is))
 
-        -- what is kept of a symbol is kept of each name
+        -- what a change of a symbol keeps is kept of each name
         kept : {X : Type 0} (what : ℕ → Symbol → X) → ((n : ℕ) (s : Symbol) → what n (f s) ≡ what n s) → (n : ℕ) → what n (symbol_at (with_symbol a name new_a) n) ≡ what n (symbol_at a n)
         kept what keeps n = elim (at-after a name new_a n) [
           | inl still ↦ ap (what n) still
@@ -252,7 +253,7 @@ module _ (first base : State) where
       count = over.count;
     }
 
-  -- ---- where it begins, and what it comes to
+  -- ---- where it begins, and how it ends
 
   pub over-first : HasAll base first → Over first base
   over-first has = record {

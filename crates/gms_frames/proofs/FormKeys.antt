@@ -1,4 +1,4 @@
--- The elements that stand in the form of an expression pass a test where those of its references do.
+-- The elements in the form of an expression pass a test where those of its references do.
 use Rattle.std.proofs.Common.{◌≡◌, ℕ, pos, zero, suc, Bool, true, false, not, ◌||◌, cond, List, [], ◌∷◌, ◌++◌, map, take, drop, Option, Some, None, is_some, Result, Ok, Err, refl, sym, ap, ◌∙◌}
 use Rattle.std.specs.Prelude.{if◌then◌else◌}
 use Rattle.std.specs.FinMap as finite
@@ -126,7 +126,7 @@ module _ (test : Key → Bool) where
       by q true same there = ap test (same_key-is q key same) ∙ is
       by q false same there = let e : false ≡ true = sym (ap is_some (finite.get-empty {X = Number} key_cmp q)) ∙ there in absurd (cc)
 
-  -- the element of a name at a tuple, where there is one
+  -- the element of a name at a tuple, if there is one
   abbrev pub IsElement : ℕ → Option (List ℕ) → Type 0
   IsElement name None = Unit {0}
   IsElement name (Some t) = test (record { symbol = name; tuple = t }) ≡ true
@@ -234,7 +234,7 @@ module _ (test : Key → Bool) where
   times-keyed limit binding mark a b one other =
       either-has (OkHas IsKeyed) (is_inverse mark) (quotient_of limit (place_of mark) binding a b.constant) (product_of limit (place_of mark) binding a b) (quotient-keyed limit (place_of mark) binding a b.constant one) (product-keyed limit (place_of mark) binding a b one other)
 
-  -- the form so far, where there is one
+  -- the form so far, if there is one
   abbrev pub SoFar : Option Form → Type 0
   SoFar None = Unit {0}
   SoFar (Some form) = IsKeyed form
@@ -271,7 +271,8 @@ module _ (test : Key → Bool) where
     constant_at-keyed at binding e = after-has IsKeyed (value v limit state binding e) (form_of at binding) (of-keyed at binding)
 
     abbrev mutual
-      -- under a binding the elements of the references pass, also under the labels of the elements of folds
+      -- under a binding the elements of the references pass, also under the labels of the elements
+      -- of folds
       pub Passes : Pairs → tree.Tree F → Type 0
       Passes binding (tree.reference place name suffix indices) =
           OkHas (λ those. IsElement name (tuple_of those)) (in_order (labels v limit state binding indices))

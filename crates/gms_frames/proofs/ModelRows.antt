@@ -1,4 +1,5 @@
--- In states that agree on the names in the definitions of a model it has the same linear program, and that is over elements of such names.
+-- In states that agree on the names in the definitions of a model it has the same linear program,
+-- which is over elements of such names.
 use Rattle.std.proofs.Common.{◌≡◌, ℕ, Bool, true, false, not, ◌==◌, cond, List, [], ◌∷◌, ◌++◌, map, filter, Option, Some, None, Ok, Err, refl, ap, ◌∙◌}
 use Rattle.std.specs.Prelude.{flat_map}
 use Rattle.std.proofs.Math.Path.{fun_ext}
@@ -74,7 +75,8 @@ parts-of test d all =
       right = each-right test (names d.left) (names d.right) two;
     }
 
--- the elements of a definition, and of the references in its sides, pass for each element of its domain
+-- the elements of a definition, and of the references in its sides, pass for each element of its
+-- domain
 module _ (ok : Key → Bool) {F : Type 0} (v : F → Number) (limit : ℕ) (state : State) where
   abbrev pub RowPasses : Definition F → Pairs → Type 0
   RowPasses d binding =
@@ -193,7 +195,8 @@ module _ (test : ℕ → Bool) {F : Type 0} (v : F → Number) (limit : ℕ) whe
       ap (λ (a : Attributes). record { key = key; lower = a.lower; upper = a.upper } ∷ map (column_of other) keys) (attributes-same test one other agree key.symbol all.0 key.tuple)
       ∙ ap (λ (columns : List (Column Number)). column_of one key ∷ columns) (columns-same one other agree keys all.1)
 
-  -- where an answer has something, what comes behind it may be looked at with that alone
+  -- if an answer has a property, the step after it may be replaced by one that is equal on that
+  -- property
   then-same : {A B : Type 0} (P : A → Type 0) (a : Answer A) (next after : A → Answer B) → OkHas P a → ((x : A) → P x → next x ≡ after x) → (a and_then next) ≡ (a and_then after)
   then-same P (Ok x) next after has each = each x has
   then-same P (Err fault) next after has each = refl

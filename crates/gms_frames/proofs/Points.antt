@@ -1,4 +1,5 @@
--- The points that an answer puts are at elements that pass a test where the columns and rows of the linear program are.
+-- The points that an answer writes are at elements that pass a test where the columns and rows of
+-- the linear program are.
 use Rattle.std.proofs.Common.{◌≡◌, ◌==◌, Bool, true, false, cond, List, [], ◌∷◌, ◌++◌}
 use Rattle.gq_number.specs.Number.{Number}
 use Rattle.lp_core.specs.declared.answer.End.{End}

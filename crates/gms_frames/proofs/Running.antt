@@ -1,4 +1,4 @@
--- Statements that name what a state declares alone do in each state that has all of it what they do there.
+-- Statements that name only what a state declares do the same in each state that has all of it.
 use Rattle.std.proofs.Common.{◌≡◌, ℕ, ◌+◌, Bool, true, false, List, [], ◌∷◌, ◌++◌, length, map, suc, Option, Some, None, option_map, Ok, Err, refl, sym, ap, ◌∙◌, subst, arith}
 use Rattle.std.specs.Prelude.{flat_map, if◌then◌else◌}
 use Rattle.gq_number.specs.Number.{Number}
@@ -44,10 +44,11 @@ use Rattle.gms_frames.proofs.RowElements.{IsOver}
 use Rattle.gms_frames.proofs.Values.{domain-same}
 
 module _ (first base : State) (behind : List (Answer Number)) (count : ℕ) where
-  -- ---- runs that have come alike
+  -- ---- runs that are alike so far
 
-  -- Two runs have come alike: the state of the second has all of that of the first, it has the answers left that the first has, and others behind them;
-  -- and the first has had so many answers in all.
+  -- Two runs are alike so far: the state of the second has all of that of the first; it has the
+  -- remaining answers of the first, followed by others; and the first has had `count` answers in
+  -- all.
   pub record Alike (a b : Course) : Type 0 where
     pub over : Over first base a.state b.state
     pub left : b.left ≡ a.left ++ behind
@@ -58,7 +59,7 @@ module _ (first base : State) (behind : List (Answer Number)) (count : ℕ) wher
   abbrev pub Comes : Course → Course → Type 0
   Comes a b = a.halted ≡ None → b.halted ≡ None → Alike a b
 
-  -- two statements take runs that have come alike to such runs, and two acts
+  -- two statements, or two acts, take runs that are alike to such runs
   abbrev pub Do : OfStatement → OfStatement → Type 0
   Do s t = (binding : Pairs) (a b : Course) → a.halted ≡ None → b.halted ≡ None → Alike a b → Comes (s binding a) (t binding b)
 
@@ -95,12 +96,12 @@ module _ (first base : State) (behind : List (Answer Number)) (count : ℕ) wher
   each-do sets ss ts each (element ∷ elements) binding a b comes =
       each-do sets ss ts each elements binding (one_after_another ss (controlled binding sets element) a) (one_after_another ts (controlled binding sets element) b) (all-do ss ts each (controlled binding sets element) a b comes)
 
-  -- a value that is taken in both runs, or a fault that stops both
+  -- a step with the same value in both runs, or a stop by the same fault
   taken-both : {A : Type 0} (r : Evaluated A) (next after : A → Course) (a b : Course) → ((x : A) → r ≡ Ok x → Comes (next x) (after x)) → Comes (with_value r next a) (with_value r after b)
   taken-both (Ok x) next after a b each = each x refl
   taken-both (Err fault) next after a b each = λ one other. halted-not (stopped fault) (Some (stopped fault)) refl one
 
-  -- values that are taken, whichever they are
+  -- a step with any two values
   taken-either : {A B : Type 0} (r : Evaluated A) (q : Evaluated B) (next : A → Course) (after : B → Course) (a b : Course) → ((x : A) (y : B) → Comes (next x) (after y)) → Comes (with_value r next a) (with_value q after b)
   taken-either (Ok x) (Ok y) next after a b each = each x y
   taken-either (Ok x) (Err fault) next after a b each = λ one other. halted-not (stopped fault) (Some (stopped fault)) refl other
@@ -255,12 +256,12 @@ module _ (first base : State) (behind : List (Answer Number)) (count : ℕ) wher
         does-is : (w : World F) → of_act w (roll-Act F x) ≡ act_step v limit w (map-Act F (Act F) (Stmt F) OfAct OfStatement (of_act w) (of_statement v limit w) x)
         does-is w = fold-roll-Act F OfAct OfStatement (act_step v limit w) (statement_step v limit) x
 
-        -- an act does so where what its layer comes to does
+        -- the claim for an act, from that for its unrolled form
         rolled : (f g : OfAct) (ns ms : List ℕ) → of_act world (roll-Act F x) ≡ f → of_act other (roll-Act F x) ≡ g → names_in (roll-Act F x) ≡ ns → solved_in (roll-Act F x) ≡ ms → (Each test ns → Defined ms → DoAct f g) → QAct (roll-Act F x)
         rolled f g ns ms one two named solved do_so all defined =
             subst (λ (h : OfAct). DoAct h (of_act other (roll-Act F x))) (sym one) (subst (DoAct f) (sym two) (do_so (subst (Each test) named all) (subst Defined solved defined)))
 
-      -- an act whose loop's statements do so
+      -- an act does, if the statements of its loop do
       by_layer : (y : Act-F F ((a : Act F) × QAct a) ((s : Stmt F) × Q s)) → QAct (roll-Act F (map-Act F ((a : Act F) × QAct a) ((s : Stmt F) × Q s) (Act F) (Stmt F) (λ e. e.0) (λ e. e.0) y))
       by_layer (Act-F.Declare kind items) =
           let x = Act-F.Declare kind items in
@@ -307,7 +308,7 @@ module _ (first base : State) (behind : List (Answer Number)) (count : ℕ) wher
           (subst (Do (statement_step v limit (map-Stmt F (Act F) (Stmt F) OfAct OfStatement (of_act world) (of_statement v limit world) z))) (sym (does other))
           (λ binding a b one two alike. y.act.1 (subst (Each test) named all) (subst Defined solved defined) y.at binding a b one two alike))
 
-      -- Each statement takes runs that have come alike to such runs.
+      -- Each statement takes runs that are alike to such runs.
       pub do-statement : (s : Stmt F) → Q s
       do-statement =
           ind-Stmt F QAct Q

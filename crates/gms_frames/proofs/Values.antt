@@ -143,7 +143,7 @@ module _ (test : ℕ → Bool) (one other : State) (agree : AgreeOn test one oth
     pub holds-same : (e : tree.Tree F) → Each test (names e) → (binding : Pairs) → holds v limit other binding e ≡ holds v limit one binding e
     holds-same e all binding = ap when_so (value-same e all binding)
 
-    -- the domain of sets with a condition, where there is one
+    -- the domain of sets with a condition, if there is one
     pub where-same : (sets : List ℕ) (condition : Option (tree.Tree F)) → Each test sets → Each test (condition_names condition) → (binding : Pairs) (at : Place) → domain v limit other binding at (control_over sets condition) ≡ domain v limit one binding at (control_over sets condition)
     where-same sets None all holds binding at = domain-same (tree.over sets) all binding at
     where-same sets (Some condition) all holds binding at =

@@ -1,5 +1,5 @@
--- The names on which what an expression or a statement means depends (GAMS User's Guide, "Data Manipulations with Parameters", "Model and Solve
--- Statements").
+-- The names on which the meaning of an expression or a statement depends (GAMS User's Guide, "Data
+-- Manipulations with Parameters", "Model and Solve Statements").
 use Rattle.std.specs.Prelude.{◌≡◌, ℕ, Bool, true, List, [], ◌∷◌, ◌++◌, flat_map, Option, Some, None, option_map}
 use Rattle.gms_ast.specs.declared.program.Act.TheOpen.{Act-F}
 use Rattle.gms_ast.specs.declared.program.Act.TheFolds.{fold-Stmt}
@@ -40,12 +40,12 @@ abbrev mutual
   names (tree.one_of parts) = part_names parts
   names (tree.guarded operand guards) = names operand ++ part_names guards
 
-  -- those in the parts of a node
+  -- the names in the parts of a node
   pub part_names : {F : Type 0} → tree.Parts F → List ℕ
   part_names tree.no_part = []
   part_names (tree.part mark part rest) = names part ++ part_names rest
 
-  -- those among indices, and in the amounts of their lags
+  -- the names among indices, and in the amounts of their lags
   pub index_names : {F : Type 0} → tree.Indices F → List ℕ
   index_names tree.no_index = []
   index_names (tree.label label rest) = index_names rest
@@ -57,18 +57,19 @@ abbrev mutual
   control_names (tree.over sets) = sets
   control_names (tree.over_where sets condition) = sets ++ names condition
 
--- the names in a condition, where there is one
+-- the names in a condition, if there is one
 abbrev pub condition_names : {F : Type 0} → Option (tree.Tree F) → List ℕ
 condition_names None = []
 condition_names (Some condition) = names condition
 
--- the names in a definition: its equation, and those in its indices, its condition and its two sides
+-- the names in a definition: its equation, and those in its indices, its condition and its two
+-- sides
 abbrev pub definition_names : {F : Type 0} → Definition F → List ℕ
 definition_names d = d.equation ∷ (index_names d.indices ++ (condition_names d.condition ++ (names d.left ++ names d.right)))
 
 module _ {F : Type 0} (world : World F) where
-  -- the names on which the state after an act depends: those that an assignment, a solve or a loop names, a solve also those in the definitions of its
-  -- model. What is shown changes no state.
+  -- the names on which the state after an act depends: those that an assignment, a solve or a loop
+  -- names, a solve also those in the definitions of its model. What is shown changes no state.
   abbrev pub names_step : Act-F F (List ℕ) (List ℕ) → List ℕ
   names_step (Act-F.Assign target condition right_at (Value right)) =
       target.name ∷ (index_names (target_of target).indices ++ (condition_names (option_map tree_of condition) ++ names (tree_of right)))

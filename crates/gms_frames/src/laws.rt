@@ -15,8 +15,9 @@ ghost use Rattle.lp_core.specs.declared.answer.Answer.{Answer};
 
 use gq_field::ExactField;
 
-/// What an expression means depends on the names in it alone: in two states in which each of them is the same it has the same value under
-/// every binding, or the same fault; and the same form, where it is linear in the variables.
+/// The meaning of an expression depends on the names in it alone. In two states in which each of
+/// them is the same it has the same value under every binding, or the same fault; and the same
+/// form, if it is linear in the variables.
 ///
 /// GAMS User's Guide, "Data Manipulations with Parameters", "Equations".
 pub fn value_laws<F: ExactField>()
@@ -26,10 +27,12 @@ pub fn value_laws<F: ExactField>()
         AgreeOn test one other → Each test (names e) → affine F.value F.limit other at binding e ≡ affine F.value F.limit one at binding e }
 {}
 
-/// Statements that name what a state declares alone, where what a name of it stands for is declared there too, do in each state that has all of
-/// it, with the same solvers and the same definitions of the models that they solve, what they do in that one, and change nothing of any other
-/// name: where both runs of them come to their end, the one ends in the state of the other put over the one that it began
-/// with, it took as many answers, and has those left that the other has left, with the answers behind them that were behind the other's.
+/// Statements that name only what a state declares do the same in each state that has all of it, if
+/// the state is closed (an alias stands for a declared set), and if the solvers and the definitions
+/// of the models that they solve are the same; they change no other name. If both runs of them end,
+/// the second ends in the state that it began with, overlaid with the state in which the first
+/// ends; it took as many answers; and its remaining answers are those of the first run, followed by
+/// the answers that it had in addition.
 ///
 /// GAMS User's Guide, "Save and Restart", "GAMS Programs".
 pub fn frame_laws<F: ExactField>()

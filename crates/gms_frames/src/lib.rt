@@ -1,4 +1,5 @@
-//! Floor 5, the run. Laws of states that agree on the names in an expression, a model or statements: what these do depends on nothing else.
+//! Layer 5, the run. Laws of states that agree on the names in an expression, a model or
+//! statements: what these do depends on nothing else.
 #![tactic(auto)]
 
 mod laws;

@@ -1,4 +1,5 @@
--- The program of a joint source has the names, the labels and the statements of the saved one in front.
+-- The program of a joint source begins with the names, the labels and the statements of the saved
+-- one.
 use Rattle.std.proofs.Common.{◌≡◌, ℕ, List, [], ◌∷◌, ◌++◌, Some, refl, sym, ap, ◌∙◌, subst, append_assoc, append-nil}
 use Rattle.gms_labels.specs.Labels.{is_same, place_of}
 use Rattle.gms_labels.proofs.Places.{position-push_kept}
@@ -36,7 +37,7 @@ followed_all no_statement b c = refl
 followed_all (statement at act a) b c = ap (λ (s : Statements Number). statement at act s) (followed_all a b c)
 
 module _ (source : List ℕ) (names labels : List (List ℕ)) where
-  -- semicolons with what stands behind each, and more of them
+  -- semicolons, each with the part after it, and more of them
   pub attached : (others tree : Derivation) → IsTree productions (many (token Semicolon · the Segment)) others → segments source names labels (attach others tree) ≡ followed_by (segments source names labels others) (segments source names labels tree)
   attached none tree h = refl
   attached (more (pair semicolon one) others) tree h =
@@ -45,7 +46,7 @@ module _ (source : List ℕ) (names labels : List (List ℕ)) where
   attached (more _ others) tree h = absurd h.0
   attached _ tree h = absurd h
 
-  -- a program whose derivation begins with that of another has its statements in front
+  -- a program whose derivation begins with that of another begins with its statements
   begun : (whole first : Derivation) → BeginsWith whole first → IsTree productions (the Program) first → (others : Statements Number) × (statements_of source names labels whole ≡ followed_by (statements_of source names labels first) others)
   begun whole first b h =
       let tree : Derivation = more (pair (leaf b.semicolon) b.next) b.last in

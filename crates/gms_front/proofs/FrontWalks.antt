@@ -1,4 +1,5 @@
--- What the tokens of a saved source leave is what they leave in a joint source, and others behind them only add names and labels.
+-- The result of the tokens of a saved source is the same in a joint source, and later tokens only
+-- add names and labels.
 use Rattle.std.proofs.Common.{◌≡◌, ℕ, suc, ◌+◌, ◌-◌, cond, take, Bool, true, false, not, ◌&&◌, ◌||◌, if◌then◌else◌, List, [], ◌∷◌, ◌++◌, map, reverse, take_while, All, Option, Some, None, refl, sym, ap, ap₂, ◌∙◌, subst, arith, append_assoc}
 use Rattle.std.specs.List.{prefix_len}
 use Rattle.std.proofs.lemmas.List.{map-append, reverse-append}
@@ -33,7 +34,7 @@ map_reverse f [] = refl
 map_reverse f (x ∷ xs) =
     ap (map f) (reverse-append (x ∷ []) xs) ∙ map-append f (reverse xs) (x ∷ []) ∙ ap (λ ys. ys ++ f x ∷ []) (map_reverse f xs) ∙ sym (reverse-append (f x ∷ []) (map f xs))
 
--- what passes in front, one by one
+-- the first elements that pass, one by one
 take_while_step : {A : Type 0} (test : A → Bool) (x : A) (xs : List A) → take_while test (x ∷ xs) ≡ (if test x then x ∷ take_while test xs else [])
 take_while_step {A} test x xs = by (test x)
   where
@@ -108,7 +109,7 @@ module _ (saved joint : List ℕ) where
       ap (λ (w : Walk). walk_behind joint w tokens ahead) (after_alike walk token (kind_ahead tokens ahead) a h.0)
       ∙ walk_alike (walk_after saved walk token (kind_ahead tokens ahead)) tokens ahead (h.0, a) h.1
 
--- ---- what stands ahead
+-- ---- the token ahead
 
 module _ (source : List ℕ) where
   list_ahead : (first : Option Token) (ahead : Terminal) (token : Token) → is terminal.Star ahead ≡ false → list_labels source first ahead token ≡ list_labels source first terminal.End token
@@ -156,7 +157,7 @@ own_alike : (source more : List ℕ) (own rest : List Token) → All (IsPlaced s
 own_alike source more [] rest all = tt
 own_alike source more (token ∷ own) rest all = (text_same source more token (All-head (IsPlaced source) token (own ++ rest) all), own_alike source more own rest (All-tail (IsPlaced source) token (own ++ rest) all))
 
--- what a list that ends in an element is, where it goes on from another
+-- `whole` is `front` followed by a list, and `behind` is that list followed by an element
 pub record Parted {T : Type 0} (front behind whole : List T) (x : T) : Type 0 where
   pub middle : List T
   pub whole_is : whole ≡ front ++ middle
@@ -184,7 +185,7 @@ IsQuiet kind = (is terminal.Star kind ≡ false) × (is terminal.TableLine kind 
 told : (kind other : Kind) (text : List ℕ) → kind ≡ other → IsQuiet (terminal_of other text) → IsQuiet (terminal_of kind text)
 told kind other text e h = (ap (λ (c : Kind). is terminal.Star (terminal_of c text)) e ∙ h.0, ap (λ (c : Kind). is terminal.TableLine (terminal_of c text)) e ∙ h.1)
 
--- the first token behind those of a saved source
+-- the first token after those of a saved source
 pub record FirstBehind (source : List ℕ) (behind : List Token) : Type 0 where
   pub first : Token
   pub others : List Token
@@ -209,7 +210,8 @@ quiet_ahead source behind f (y ∷ middle) x e =
     let same : see ≡ y = cc in
     subst (λ (s : Seen). IsQuiet s.0) same f.quiet
 
--- The tokens of a joint source as the grammar sees them: those of the saved source, and those behind them.
+-- The tokens of a joint source in the grammar's view: those of the saved source, and those after
+-- them.
 pub record FrontSeen (saved file : List ℕ) (first whole : List Seen) : Type 0 where
   pub middle : List Seen
   pub whole_is : whole ≡ first ++ middle
@@ -248,7 +250,7 @@ module _ (saved file : List ℕ) (first whole : List Seen) (f : FrontSeen saved 
   abbrev pub between : Walk
   between = walk_behind Joint start first (kind_ahead f.middle terminal.End)
 
-  -- is what they leave in their own
+  -- is what they leave in the saved source
   pub front_walk : between ≡ walk_behind saved start first terminal.End
   front_walk =
       walk_alike saved Joint start first (kind_ahead f.middle terminal.End) tt f.alike
@@ -257,7 +259,7 @@ module _ (saved file : List ℕ) (first whole : List Seen) (f : FrontSeen saved 
   last_walk : walk_behind Joint start whole terminal.End ≡ walk_behind Joint between f.middle terminal.End
   last_walk = ap (λ (ts : List Seen). walk_behind Joint start ts terminal.End) f.whole_is ∙ walk_append (walk_after Joint) start first f.middle terminal.End
 
-  -- the names and the labels of a joint source go on with those of the saved one
+  -- the names and the labels of a joint source begin with those of the saved one
   pub front_names : GoesOn (walk_behind saved start first terminal.End).names (walk_behind Joint start whole terminal.End).names
   front_names =
       subst (λ (w : Walk). GoesOn (walk_behind saved start first terminal.End).names w.names) (sym last_walk)

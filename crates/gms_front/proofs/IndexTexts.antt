@@ -1,5 +1,6 @@
--- Each text of an index in a derivation of a program is one that the walk over its tokens enters: it stands in parentheses of its statement. So it
--- has the same number where more labels were entered behind it.
+-- Each text of an index in a derivation of a program is one that the traversal of its tokens
+-- enters: it is in parentheses of its statement. So it has the same number if more labels were
+-- entered after it.
 use Rattle.std.proofs.Common.{◌≡◌, ℕ, ◌+◌, ◌-◌, ◌<◌, ◌≤◌, Bool, true, false, not, ◌&&◌, ◌||◌, ◌==◌, if◌then◌else◌, List, [], ◌∷◌, Option, Some, None, is_some, IsSome, refl, sym, ap, ◌∙◌, subst, inl, inr, arith}
 use Rattle.std.proofs.lemmas.Bool.{not-true, eqb-true}
 use Rattle.gms_lines.proofs.LineLemmas.{true_or_false}
@@ -30,7 +31,7 @@ use Rattle.gms_front.proofs.Throughouts.{Throughout, NoMore, Stands, stands_on, 
 
 -- ---- depths
 
--- How many parentheses of its statement a token stands in: none, one, or it is not known.
+-- How many parentheses of its statement a token is in: none, one, or it is not known.
 pub data Depth : Type 0 where
   even inside unknown : Depth
 
@@ -59,7 +60,7 @@ each_is f h even = left_and (f even) _ h
 each_is f h inside = left_and (f inside) _ (right_and (f even) _ h)
 each_is f h unknown = right_and (f inside) _ (right_and (f even) _ h)
 
--- behind a token within a statement
+-- after a token within a statement
 abbrev on : Depth → Terminal → Depth
 on even terminal.LeftParen = inside
 on even terminal.RightParen = unknown
@@ -72,7 +73,7 @@ on unknown _ = unknown
 abbrev next : Depth → Terminal → Depth
 next depth kind = if begins kind then even else on depth kind
 
--- a text of an index stands in a parenthesis
+-- a text of an index is in a parenthesis
 abbrev allowed : (Terminal → Bool) → Depth → Bool
 allowed test depth = not (is_text_test test) || is_inside depth
 
@@ -190,7 +191,7 @@ second_of : (a b : Bool) → (a || b) ≡ true → a ≡ false → b ≡ true
 second_of true b h k = cc
 second_of false b h k = h
 
--- in an expression texts stand in parentheses, which close
+-- in an expression texts are in parentheses, which close
 closing : (n : Nonterminal) (tree : Derivation) (depth : Depth) (w : Walk) → IsTree productions (productions n) tree → is_formula n ≡ true → entry n depth ≡ true → Has depth w → Closes w.level w.open_count (yield tree)
 closing n tree depth w k formula enters h = elim (true_or_false (is_deep n)) [
   | inl deep ↦
@@ -231,7 +232,7 @@ module _ (first second : List ℕ) (names labels larger : List (List ℕ)) (whol
   kept text other e (Some n) h s = h ∙ sym (ap (place_of larger) e ∙ keep text n h)
   kept text other e None h s = cc
 
-  -- what the walk has entered stays
+  -- what the traversal has entered stays
   pub stays : (w : Walk) (tokens : List Seen) (text : List ℕ) (o : Option ℕ) → Here w tokens → place_of w.labels text ≡ o → IsSome o → IsSome (place_of labels text)
   stays w tokens text (Some n) e h s = ap is_some (ap (λ (ls : List (List ℕ)). place_of ls text) e.labels_are ∙ labels_kept first w tokens terminal.End text n h)
   stays w tokens text None e h s = cc
@@ -252,7 +253,7 @@ module _ (first second : List ℕ) (names labels larger : List (List ℕ)) (whol
 
   -- ---- expressions
 
-  -- a reader is behind a part of an expression, which has left so many parentheses open
+  -- a reader is after a part of an expression, and `n` parentheses are open
   record Behind (least n : ℕ) (p : GamsPart) (tree : Derivation) (rest : List Seen) : Type 0 where
     walk : Walk
     level : walk.level ≡ least
@@ -260,7 +261,7 @@ module _ (first second : List ℕ) (names labels larger : List (List ℕ)) (whol
     stands : Here walk rest
     all : Throughout SameText NoMore p tree
 
-  -- parts of an expression in which each text stands in parentheses
+  -- parts of an expression in which each text is in parentheses
   within : {p : GamsPart} {tokens rest : List Seen} {tree : Derivation} → Reads productions look_ahead p tokens (read tree rest) → (least n : ℕ) (w : Walk) → w.level ≡ least → w.open_count ≡ n → AllPass is_inner (yield tree) → TextsAbove least n (yield tree) → Here w tokens →
       Behind least (depth_after n (yield tree)) p tree rest
   within (taken {test = test} {token = t} {rest = rest} h) least n w l o i d e = record {
@@ -293,7 +294,7 @@ module _ (first second : List ℕ) (names labels larger : List (List ℕ)) (whol
       let other = within x least (depth_after n (yield a)) one.walk one.level one.open_count (pass_rest is_inner (yield a) (yield b) i) (above_rest least n (yield a) (yield b) d) one.stands in
       record { walk = other.walk; level = other.level; open_count = other.open_count ∙ sym (depth_append n (yield a) (yield b)); stands = other.stands; all = (one.all, other.all) }
 
-  -- what is left behind one of an expression
+  -- what remains after a part of an expression
   of_formula : (n : Nonterminal) (tree : Derivation) (depth : Depth) (w : Walk) (tokens rest : List Seen) → is_formula n ≡ true → entry n depth ≡ true → Has depth w → Here w tokens → Reads productions look_ahead (productions n) tokens (read tree rest) →
       Passed each each_is next allowed entry exit is_formula first second names labels whole Has SameText NoMore (exit n depth) (productions n) tree rest
   of_formula n tree depth w tokens rest formula enters h e r =

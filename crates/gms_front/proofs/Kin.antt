@@ -1,4 +1,5 @@
--- An expression means the same in two sources in which its tokens have the same bytes, and its names and labels the same numbers.
+-- An expression means the same in two sources in which its tokens have the same bytes, and its
+-- names and labels the same numbers.
 use Rattle.std.proofs.Common.{◌≡◌, ℕ, Bool, false, if◌then◌else◌, List, [], ◌∷◌, codes, refl, ap, ap₂, ◌∙◌}
 use Rattle.gq_number.specs.Number.{Number as Rational}
 use Rattle.gms_labels.specs.Labels.{place_of}
@@ -27,14 +28,15 @@ abbrev pub lines_in : Derivation → List (Terminal × Token)
 lines_in statement = yield (second_in (second_in (second_in (inside statement))))
 
 module _ (first second : List ℕ) (names wider labels larger : List (List ℕ)) where
-  -- What single tokens do not tell: a range has the same members in both, with the same numbers, and a table the same items.
+  -- What single tokens do not determine: a range has the same members in both, with the same
+  -- numbers, and a table the same items.
   abbrev pub Alike : Nonterminal → Derivation → Type 0
   Alike Range tree = labels_in_range first labels tree ≡ labels_in_range second larger tree
   Alike TableStatement tree = items_given first labels (lines_in tree) ≡ items_given second larger (lines_in tree)
   Alike _ tree = Unit {0}
 
-  -- A derivation, of which each token has the same bytes in both sources, each name the same number, and each text of an index too; and
-  -- each range and each table is alike.
+  -- A derivation in which each token has the same bytes in both sources, each name the same number,
+  -- and each text of an index too; and each range and each table is alike.
   pub data Kin : GamsPart → Derivation → Type 0 where
     of_token : {test : Terminal → Bool} {t : Terminal × Token} → token_text first t.1 ≡ token_text second t.1 →
         (IsNameTest test → place_of names (token_text first t.1) ≡ place_of wider (token_text second t.1)) →
@@ -48,7 +50,8 @@ module _ (first second : List ℕ) (names wider labels larger : List (List ℕ))
     of_nil : {p : GamsPart} → Kin (many p) none
     of_more : {p : GamsPart} {a b : Derivation} → Kin p a → Kin (many p) b → Kin (many p) (more a b)
 
-  -- What is said of each nonterminal within a derivation, where something is said of trees of nonterminals.
+  -- The claim for each nonterminal within a derivation, where there is a claim for trees of
+  -- nonterminals.
   abbrev pub Within : (Nonterminal → Derivation → Type 0) → {p : GamsPart} {tree : Derivation} → Kin p tree → Type 0
   Within Says (of_token e n l) = Unit {0}
   Within Says (of_node {n = n} {tree = tree} k a) = Within Says k × Says n (node tree)
@@ -60,11 +63,11 @@ module _ (first second : List ℕ) (names wider labels larger : List (List ℕ))
   Within Says of_nil = Unit {0}
   Within Says (of_more a b) = Within Says a × Within Says b
 
-  -- A rule: what is said of a nonterminal follows from what is said within it.
+  -- A rule: the claim for a nonterminal follows from the claims within it.
   abbrev pub Rule : (Nonterminal → Derivation → Type 0) → Type 0
   Rule Says = (n : Nonterminal) (tree : Derivation) (k : Kin (productions n) tree) → Alike n (node tree) → Within Says k → Says n (node tree)
 
-  -- by a rule it is said everywhere
+  -- by a rule the claim holds everywhere
   pub everywhere : (Says : Nonterminal → Derivation → Type 0) → Rule Says → {p : GamsPart} {tree : Derivation} (k : Kin p tree) → Within Says k
   everywhere Says rule (of_token e n l) = tt
   everywhere Says rule (of_node {n = n} {tree = tree} k a) = let inner = everywhere Says rule k in (inner, rule n tree k a inner)
@@ -76,7 +79,7 @@ module _ (first second : List ℕ) (names wider labels larger : List (List ℕ))
   everywhere Says rule of_nil = tt
   everywhere Says rule (of_more a b) = (everywhere Says rule a, everywhere Says rule b)
 
-  -- what is said: the nonterminal means the same in both
+  -- the claim: the nonterminal means the same in both
   abbrev pub Same : Nonterminal → Derivation → Type 0
   Same Expression tree = expression first names labels tree ≡ expression second wider larger tree
   Same Conjunction tree = conjunction first names labels tree ≡ conjunction second wider larger tree

@@ -21,7 +21,7 @@ use Rattle.gms_parse.specs.Declarations.{items_in, further_items, variable_kind,
 use Rattle.gms_front.proofs.Kin.{ap₃, Derivation, GamsPart, Kin, of_node, of_both, of_left, of_right, of_none, of_some, of_nil, of_more, Within, Rule, everywhere, text_kin, name_kin}
 use Rattle.gms_front.proofs.KinLists.{item_at, list_kin, SaysData, data_same}
 
--- a name that stands here
+-- a name at a place
 abbrev pub named_at : Place → ℕ → Named
 named_at at name = record { at = at; name = name }
 
@@ -40,11 +40,11 @@ module _ (first second : List ℕ) (names wider labels larger : List (List ℕ))
   abbrev Inside : (Nonterminal → Derivation → Type 0) → {p : GamsPart} {tree : Derivation} → K p tree → Type 0
   Inside Says k = Within first second names wider labels larger Says k
 
-  -- what is said of the data within
+  -- the claims for the data within
   abbrev Data : {p : GamsPart} {tree : Derivation} → K p tree → Type 0
   Data k = Within first second names wider labels larger (SaysData first second names wider labels larger) k
 
-  -- ---- what is said of declarations
+  -- ---- claims for declarations
 
   abbrev pub SaysDeclared : Nonterminal → Derivation → Type 0
   SaysDeclared DomainPosition tree = position_in first names labels tree ≡ position_in second wider larger tree
@@ -80,7 +80,7 @@ module _ (first second : List ℕ) (names wider labels larger : List (List ℕ))
   more_named of_nil = refl
   more_named (of_more (of_both sign it) others) = ap₂ (λ x xs. x ∷ xs) (named_kin it) (more_named others)
 
-  -- items behind an item
+  -- items after an item
   further_kin : {A : Type 0} {again : Nonterminal} (f g : Derivation → A) → ((t : Derivation) → SaysDeclared again t → items_in f t ≡ items_in g t) → {tree : Derivation} (k : K (opt (token terminal.Comma · the again ∣ token terminal.Break · opt (the again))) tree) → Inside SaysDeclared k → further_items f tree ≡ further_items g tree
   further_kin f g h of_none w = refl
   further_kin f g h (of_some (of_left (of_both comma (of_node k _)))) w = h _ w.1.1
@@ -165,7 +165,7 @@ module _ (first second : List ℕ) (names wider labels larger : List (List ℕ))
   of_model_list (of_left k) = (refl, refl)
   of_model_list (of_right (of_both it others)) = (refl, ap₂ (λ x xs. x ∷ xs) (named_kin it) (more_named others))
 
-  -- what stands between the slashes of a model
+  -- the part between the slashes of a model
   model_data : {tree : Derivation} (k : K (opt (token terminal.Slash · the ModelList · token terminal.Slash)) tree) → Inside SaysDeclared k →
       (optional_in false (λ list. has_all first names labels (inside (between list))) tree ≡ optional_in false (λ list. has_all second wider larger (inside (between list))) tree)
       × (optional_in [] (λ list. equations_in first names labels (inside (between list))) tree ≡ optional_in [] (λ list. equations_in second wider larger (inside (between list))) tree)

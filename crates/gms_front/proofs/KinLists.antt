@@ -1,4 +1,5 @@
--- Lists of data mean the same in two sources that a derivation is kin in: their elements, entries and values.
+-- Lists of data mean the same in two sources that a derivation is kin in: their elements, entries
+-- and values.
 use Rattle.std.proofs.Common.{◌≡◌, ℕ, Bool, not, if◌then◌else◌, List, [], ◌∷◌, map, Option, Some, None, refl, ap, ap₂}
 use Rattle.gq_number.specs.Number.{Number as Rational}
 use Rattle.gq_extended.specs.declared.extended.Ext.{Ext}
@@ -18,7 +19,7 @@ use Rattle.gms_parse.specs.DataLists.{each_in, listed_in, joined, any_true, sign
 use Rattle.gms_parse.specs.Tables.{items_given}
 use Rattle.gms_front.proofs.Kin.{ap₃, Derivation, GamsPart, lines_in, Kin, of_node, of_both, of_left, of_right, of_none, of_some, of_nil, of_more, Within, Rule, everywhere, text_kin}
 
--- an item of data that stands here
+-- an item of data at a place
 abbrev pub item_at : Place → List (List ℕ) → Option (Ext Rational) → Bool → Item Rational
 item_at at parts value bad = record { at = at; parts = parts; value = value; bad_range = bad }
 
@@ -31,7 +32,7 @@ module _ (first second : List ℕ) (names wider labels larger : List (List ℕ))
 
   -- ---- lists of any parts
 
-  -- parts behind separators mean the same, where each does
+  -- parts after separators mean the same, if each does
   pub each_kin : {A : Type 0} {test : Terminal → Bool} {n : Nonterminal} (Says : Nonterminal → Derivation → Type 0) (f g : Derivation → A) → ((t : Derivation) → Says n t → f t ≡ g t) → {tree : Derivation} (k : K (many (one test · the n)) tree) → Inside Says k → each_in (λ other. f (second_in other)) tree ≡ each_in (λ other. g (second_in other)) tree
   each_kin Says f g h of_nil w = refl
   each_kin Says f g h (of_more (of_both sign (of_node it _)) others) w = ap₂ (λ x xs. x ∷ xs) (h _ w.0.1.1) (each_kin Says f g h others w.1)
@@ -40,7 +41,7 @@ module _ (first second : List ℕ) (names wider labels larger : List (List ℕ))
   pub list_kin : {A : Type 0} {test : Terminal → Bool} {n : Nonterminal} (Says : Nonterminal → Derivation → Type 0) (f g : Derivation → A) → ((t : Derivation) → Says n t → f t ≡ g t) → {tree : Derivation} (k : K (the n · many (one test · the n)) tree) → Inside Says k → listed_in f tree ≡ listed_in g tree
   list_kin Says f g h (of_both (of_node it _) others) w = ap₂ (λ x xs. x ∷ xs) (h _ w.0.1) (each_kin Says f g h others w.1)
 
-  -- ---- what is said of lists of data
+  -- ---- claims for lists of data
 
   abbrev pub SaysData : Nonterminal → Derivation → Type 0
   SaysData Value tree = value_in first labels (inside tree) ≡ value_in second larger (inside tree)
@@ -69,7 +70,7 @@ module _ (first second : List ℕ) (names wider labels larger : List (List ℕ))
   bad_kin (of_both a of_none) = refl
   bad_kin (of_both a (of_some (of_both star b))) = ap₂ (λ x y. not (is_range (unquoted x) (unquoted y))) (text_kin first second names wider labels larger a) (text_kin first second names wider labels larger b)
 
-  -- the ranges behind commas
+  -- the ranges after commas
   range_labels_kin : {test : Terminal → Bool} {tree : Derivation} (k : K (many (one test · the Range)) tree) → Inside SaysData k → map (labels_in_range first labels) (each_in (λ other. second_in other) tree) ≡ map (labels_in_range second larger) (each_in (λ other. second_in other) tree)
   range_labels_kin of_nil w = refl
   range_labels_kin (of_more (of_both sign (of_node it _)) others) w = ap₂ (λ x xs. x ∷ xs) w.0.1.1.0 (range_labels_kin others w.1)

@@ -19,7 +19,7 @@ module _ (first second : List ℕ) (names wider labels larger : List (List ℕ))
   abbrev Inside : (Nonterminal → Derivation → Type 0) → {p : GamsPart} {tree : Derivation} → K p tree → Type 0
   Inside Says k = Within first second names wider labels larger Says k
 
-  -- what is said of the expressions, of the declarations and of the other statements within
+  -- the claims for the expressions, the declarations and the other statements within
   abbrev Terms : {p : GamsPart} {tree : Derivation} → K p tree → Type 0
   Terms k = Within first second names wider labels larger (Same first second names wider labels larger) k
 
@@ -29,7 +29,7 @@ module _ (first second : List ℕ) (names wider labels larger : List (List ℕ))
   abbrev Acted : {p : GamsPart} {tree : Derivation} → K p tree → Type 0
   Acted k = Within first second names wider labels larger (SaysActed first second names wider labels larger) k
 
-  -- ---- what is said of programs
+  -- ---- claims for programs
 
   abbrev pub SaysRun : Nonterminal → Derivation → Type 0
   SaysRun LoopStatement tree = loop_act first names labels tree ≡ loop_act second wider larger tree

@@ -1,4 +1,5 @@
--- Assignments, definitions and other statements mean the same in two sources that a derivation is kin in.
+-- Assignments, definitions and other statements mean the same in two sources that a derivation is
+-- kin in.
 use Rattle.std.proofs.Common.{◌≡◌, ℕ, Bool, List, [], Option, Some, None, refl, ap, ap₂, ◌∙◌}
 use Rattle.gq_number.specs.Number.{Number as Rational}
 use Rattle.gms_labels.specs.declared.place.Place.{Place}
@@ -40,14 +41,14 @@ defined_by aim condition sides = defines (record { at = aim.at; name = aim.name 
 abbrev word_at : Place → List ℕ → Word
 word_at at text = record { at = at; text = text }
 
--- the indices behind the first
+-- the indices after the first
 abbrev indices_after : trees.Indices Rational → trees.Indices Rational
 indices_after trees.no_index = trees.no_index
 indices_after (trees.label n others) = others
 indices_after (trees.set n others) = others
 indices_after (trees.lagged n op at amount others) = others
 
--- what stands behind an index of a head: further indices, and an act
+-- the part after an index of a head: further indices, and an act
 abbrev indices_behind : List ℕ → List (List ℕ) → List (List ℕ) → Derivation → trees.Indices Rational
 indices_behind source names labels tree = indices_after (head_indices source names labels (node (left (pair none tree))))
 
@@ -61,20 +62,20 @@ module _ (first second : List ℕ) (names wider labels larger : List (List ℕ))
   abbrev Inside : (Nonterminal → Derivation → Type 0) → {p : GamsPart} {tree : Derivation} → K p tree → Type 0
   Inside Says k = Within first second names wider labels larger Says k
 
-  -- what is said of the expressions within
+  -- the claims for the expressions within
   abbrev Terms : {p : GamsPart} {tree : Derivation} → K p tree → Type 0
   Terms k = Within first second names wider labels larger (Same first second names wider labels larger) k
 
-  -- ---- what is said of statements
+  -- ---- claims for statements
 
-  -- what stands behind a target gives the same act
+  -- the part after a target gives the same act
   abbrev pub BehindTarget : Derivation → Type 0
   BehindTarget tree = (a b : Aim Rational) → a ≡ b → after_target first names labels a tree ≡ after_target second wider larger b tree
 
   abbrev pub BehindHead : Derivation → Type 0
   BehindHead tree = (a b : Aim Rational) → a ≡ b → after_head first names labels a tree ≡ after_head second wider larger b tree
 
-  -- indices of a head are the same, and what stands behind them gives the same act
+  -- indices of a head are the same, and the part after them gives the same act
   abbrev pub InHead : Derivation → Type 0
   InHead tree =
       (head_indices first names labels tree ≡ head_indices second wider larger tree) × ((a b : Aim Rational) → a ≡ b → act_of_head first names labels a tree ≡ act_of_head second wider larger b tree)

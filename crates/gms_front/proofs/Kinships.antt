@@ -1,4 +1,5 @@
--- The derivation of a saved program is kin to itself in a joint source: each token has the same bytes, and what it names the same number.
+-- The derivation of a saved program is kin to itself in a joint source: each token has the same
+-- bytes, and what it names the same number.
 use Rattle.std.proofs.Common.{◌≡◌, ℕ, List, [], Some}
 use Rattle.gms_labels.specs.Labels.{place_of}
 use Rattle.gms_grammar.specs.Grammar.{one, the, ◌·◌, ◌∣◌, opt, many, leaf, pair, left, right, none, some, more, node, yield, IsTree}

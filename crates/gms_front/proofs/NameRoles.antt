@@ -1,5 +1,6 @@
--- Each name that a derivation of a program has is one that the walk over its tokens enters: it stands behind no dot and no `using`, and in no
--- option. So it has the same number where more names were entered behind it.
+-- Each name that a derivation of a program has is one that the traversal of its tokens enters: it
+-- comes after no dot and no `using`, and is in no option. So it has the same number if more names
+-- were entered after it.
 use Rattle.std.proofs.Common.{◌≡◌, ℕ, Bool, true, false, not, ◌&&◌, ◌||◌, if◌then◌else◌, List, [], ◌∷◌, Option, Some, None, is_some, IsSome, refl, sym, ap, ◌∙◌}
 use Rattle.gms_labels.specs.Labels.{place_of, entered}
 use Rattle.gms_labels.proofs.Places.{place_of-entered}
@@ -20,7 +21,8 @@ use Rattle.gms_parse.proofs.Walks.{names_kept}
 use Rattle.gms_front.proofs.Tests.{IsNameTest, is_name_test}
 use Rattle.gms_front.proofs.Throughouts.{Throughout, NoMore, Stands, is_right, passed}
 
--- what a name would be here: one that is entered, a suffix behind a dot, the word behind `using`, or a word of an option
+-- what a name would be here: one that is entered, a suffix after a dot, the word after `using`, or
+-- a word of an option
 pub data Role : Type 0 where
   bare dotted used opted : Role
 
@@ -45,14 +47,14 @@ each_is f h dotted = left_and (f dotted) _ (right_and (f bare) _ h)
 each_is f h used = left_and (f used) _ (right_and (f dotted) _ (right_and (f bare) _ h))
 each_is f h opted = right_and (f used) _ (right_and (f dotted) _ (right_and (f bare) _ h))
 
--- behind a keyword and a last token
+-- after a keyword and a last token
 abbrev role_by : Bool → Bool → Bool → Role
 role_by option dot using = if option then opted else (if dot then dotted else (if using then used else bare))
 
 abbrev role_of : Terminal → Terminal → Role
 role_of keyword last = role_by (is terminal.Option keyword) (is last terminal.Dot) (is last terminal.Using)
 
--- behind a token within a statement
+-- after a token within a statement
 abbrev within : Role → Terminal → Role
 within opted kind = opted
 within _ kind = role_by false (is kind terminal.Dot) (is kind terminal.Using)
@@ -60,7 +62,7 @@ within _ kind = role_by false (is kind terminal.Dot) (is kind terminal.Using)
 abbrev next : Role → Terminal → Role
 next role kind = if begins kind then role_by (is terminal.Option kind) false false else within role kind
 
--- ---- the walk
+-- ---- the traversal
 
 abbrev Has : Role → Walk → Type 0
 Has role w = role_of w.keyword (last_kind w.before) ≡ role
@@ -83,7 +85,7 @@ step first role w t ahead h = by (begins t.0) refl
     by true e = begun t.0 e
     by false e = on (is terminal.Option w.keyword) (is (last_kind w.before) terminal.Dot) (is (last_kind w.before) terminal.Using) t.0 ∙ ap (λ (r : Role). within r t.0) h
 
--- ---- the claims: behind `using` any word may stand, `using` itself too
+-- ---- the claims: after `using` any word may follow, `using` itself too
 
 abbrev allowed : (Terminal → Bool) → Role → Bool
 allowed test role = not (is_name_test test) || is_bare role

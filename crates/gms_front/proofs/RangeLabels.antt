@@ -1,5 +1,6 @@
--- Each range of labels in a derivation of a program has members that the walk over its tokens enters, and each table of a program has items: so they
--- mean the same where more labels were entered behind them.
+-- Each range of labels in a derivation of a program has members that the traversal of its tokens
+-- enters, and each table of a program has items. So they mean the same if more labels were entered
+-- after them.
 use Rattle.std.proofs.Common.{◌≡◌, ◌≢◌, ℕ, Bool, true, false, ◌&&◌, ◌||◌, if◌then◌else◌, List, [], ◌∷◌, ◌++◌, map, reverse, All, Option, Some, None, is_some, IsSome, refl, sym, ap, ap₂, ◌∙◌, subst, append_assoc}
 use Rattle.std.proofs.lemmas.List.Elements.{All-nil, All-cons}
 use Rattle.gq_number.specs.Number.{Number as Rational}
@@ -38,7 +39,7 @@ use Rattle.gms_front.proofs.Throughouts.{Throughout, Stands, stands_on, is_right
 
 -- ---- what the last tokens are
 
--- behind a label, behind a label and a `*`, or behind other tokens
+-- after a label, after a label and a `*`, or after other tokens
 pub data Mark : Type 0 where
   clear labelled starred : Mark
 
@@ -82,7 +83,7 @@ no_star : (t : Seen) (before : List Seen) → is terminal.Star t.0 ≡ false →
 no_star t [] h = refl
 no_star t (u ∷ before) h = ap (λ b. if b && is terminal.Label u.0 then Some u.1 else None) h
 
--- nor does one behind a token that is no label
+-- nor does one after a token that is no label
 no_label : (t : Seen) (before : List Seen) → is terminal.Label (last_kind before) ≡ false → range_start (t ∷ before) ≡ None
 no_label t [] h = refl
 no_label t (u ∷ before) h = ap (λ b. if is terminal.Star t.0 && b then Some u.1 else None) h ∙ by (is terminal.Star t.0)
@@ -148,7 +149,7 @@ label_enters first w t ahead begins e h =
     ∙ if_taken (is terminal.Label t.0) _ _ (ap (is terminal.Label) (sym e))
     ∙ ap (λ (o : Option Token). list_labels first o ahead t.1) h
 
--- no `*` stands behind a label alone
+-- no `*` comes after a label alone
 no_star_ahead : (rest : List Seen) → leads productions look_ahead (token terminal.Star · token terminal.Label) rest ≡ false → is terminal.Star (kind_of rest) ≡ false
 no_star_ahead [] h = refl
 no_star_ahead (u ∷ rest) h = by (is terminal.Star u.0) (false && is terminal.Label u.0) h
@@ -275,7 +276,7 @@ all_lines : {tokens rest : List Seen} {lines : Derivation} → Reads productions
 all_lines (no_more l) = All-nil (λ (t : Seen). t.0 ≡ terminal.TableLine)
 all_lines (again {b = b} l (taken {token = t} h) x) = All-cons (λ (t : Seen). t.0 ≡ terminal.TableLine) t (yield b) (sym (same_kind terminal.TableLine t.0 h)) (all_lines x)
 
--- they stand behind the parenthesis that closes the domain
+-- they come after the parenthesis that closes the domain
 table_of_lines : (whole front : List Seen) (closes : Seen) {tokens rest : List Seen} {lines : Derivation} → whole ≡ ((front ++ closes ∷ []) ++ yield lines) ++ rest → is terminal.RightParen closes.0 ≡ true → yield lines ≢ [] → Reads productions look_ahead Lines tokens (read lines rest) → IsTableOf whole (yield lines)
 table_of_lines whole front closes {rest = rest} parts h not_empty r = record {
   before = front ++ closes ∷ [];
@@ -326,7 +327,8 @@ module _ (limit : ℕ) (first second : List ℕ) (names wider labels larger : Li
   of_node TableStatement tree mark w tokens rest k h e (entered_by r) = of_table tree w e r
   of_node _ tree mark w tokens rest k h e r = tt
 
-  -- each token of a program that is read from its start has the same bytes in both, each range the same labels, and each table the same items
+  -- each token of a program that is read from its start has the same bytes in both, each range the
+  -- same labels, and each table the same items
   pub ranges_throughout : (tree : Derivation) → Reads productions look_ahead (productions Program) whole (read tree []) → Stood start whole → Throughout Bytes SameAt (productions Program) tree
   ranges_throughout tree r e =
       (passed each each_is next allowed entry exit atom first second names labels whole Has Bytes SameAt (step first) (λ test mark w t rest k h s x. sym x.alike.0) of_node

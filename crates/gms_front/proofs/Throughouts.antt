@@ -1,5 +1,6 @@
--- What is known of where a reader of a program stands, by the states of a small machine that goes from token to token: which states a part is
--- entered and left in is claimed of each nonterminal, and checked by computing.
+-- What is known at each point of reading a program, by the states of a small machine that goes from
+-- token to token. For each nonterminal it is claimed in which states it is entered and left, and
+-- the claims are checked by computing.
 use Rattle.std.proofs.Common.{◌≡◌, Bool, true, false, not, ◌&&◌, ◌||◌, List, [], ◌∷◌, ◌++◌, reverse, ℕ, sym, ap, ◌∙◌, inl, inr, append_assoc}
 use Rattle.std.proofs.lemmas.List.{reverse-append}
 use Rattle.gms_lines.proofs.LineLemmas.{true_or_false}
@@ -16,7 +17,7 @@ use Rattle.gms_parse.specs.Walks.{Seen, Walk, walk_after, walk_behind, kind_of}
 use Rattle.gms_parse.specs.Readings.{Derivation, GamsPart}
 use Rattle.gms_front.proofs.FrontWalks.{AreAlike}
 
--- something is said of each token of a derivation, and of each nonterminal
+-- a claim for each token of a derivation, and one for each nonterminal
 abbrev pub Throughout : ((Terminal → Bool) → Seen → Type 0) → (Nonterminal → Derivation → Type 0) → GamsPart → Derivation → Type 0
 Throughout L M (one test) (leaf t) = L test t
 Throughout L M (the n) (node tree) = Throughout L M (productions n) tree × M n (node tree)
@@ -27,19 +28,20 @@ Throughout L M (opt p) (some tree) = Throughout L M p tree
 Throughout L M (many p) (more a b) = Throughout L M p a × Throughout L M (many p) b
 Throughout L M _ _ = Unit {0}
 
--- nothing is said of a nonterminal
+-- no claim for a nonterminal
 abbrev pub NoMore : Nonterminal → Derivation → Type 0
 NoMore n tree = Unit {0}
 
--- Where a reader stands among all tokens of a source: behind what it has walked over, and before these tokens, which leave these names and labels
--- in the end, and have the same bytes in another source.
+-- The point of a reader among all tokens of a source: after the tokens that it has traversed, and
+-- before these tokens, which lead to these names and labels at the end, and have the same bytes in
+-- another source.
 pub record Stands (first second : List ℕ) (names labels : List (List ℕ)) (whole : List Seen) (w : Walk) (tokens : List Seen) : Type 0 where
   pub names_are : names ≡ (walk_behind first w tokens End).names
   pub labels_are : labels ≡ (walk_behind first w tokens End).labels
   pub parts : whole ≡ reverse w.before ++ tokens
   pub alike : AreAlike first second tokens
 
--- behind the next token
+-- after the next token
 pub stands_on : (first second : List ℕ) (names labels : List (List ℕ)) (whole : List Seen) (w : Walk) (t : Seen) (rest : List Seen) → Stands first second names labels whole w (t ∷ rest) → Stands first second names labels whole (walk_after first w t (kind_of rest)) rest
 stands_on first second names labels whole w t rest s = record {
   names_are = s.names_are;
@@ -50,14 +52,15 @@ stands_on first second names labels whole w t rest s = record {
 
 -- ---- machines
 
--- A machine has states of which each can be asked, and goes on by the kinds of tokens; some tests of tokens are allowed in some states. A part
--- may be an atom: of it only what it leaves is said.
+-- A machine whose states are finitely many, and which moves by the kinds of tokens; some tests of
+-- tokens are allowed in some states. A part may be an atom: of it there is a claim only on what it
+-- leaves.
 module _ {S : Type 0} (each : (S → Bool) → Bool) (each_is : (f : S → Bool) → each f ≡ true → (s : S) → f s ≡ true) (next : S → Terminal → S) (allowed : (Terminal → Bool) → S → Bool) (entry : Nonterminal → S → Bool) (exit : Nonterminal → S → S → Bool) (atom : Nonterminal → Bool) where
   -- each state that passes one test passes another
   abbrev pub follows : (S → Bool) → (S → Bool) → Bool
   follows f g = each (λ s. not (f s) || g s)
 
-  -- a part that is begun in a state goes on as is claimed, and ends in one that passes a test
+  -- a part that is begun in a state moves as is claimed, and ends in one that passes a test
   abbrev pub passes : GamsPart → (S → Bool) → S → Bool
   passes (one test) ok s = allowed test s && implies test (λ kind. ok (next s kind))
   passes (the n) ok s = entry n s && follows (exit n s) ok
@@ -66,7 +69,7 @@ module _ {S : Type 0} (each : (S → Bool) → Bool) (each_is : (f : S → Bool)
   passes (opt p) ok s = ok s && passes p ok s
   passes (many p) ok s = ok s && follows ok (λ t. passes p ok t)
 
-  -- what is claimed of a nonterminal is so
+  -- the claims for a nonterminal hold
   abbrev pub is_right : Nonterminal → Bool
   is_right n = atom n || follows (entry n) (λ s. passes (productions n) (exit n s) s)
 
@@ -81,7 +84,7 @@ module _ {S : Type 0} (each : (S → Bool) → Bool) (each_is : (f : S → Bool)
     abbrev pub Here : Walk → List Seen → Type 0
     Here w tokens = Stands first second names labels whole w tokens
 
-    -- a reader is behind a part
+    -- a reader is after a part
     pub record Passed (ok : S → Bool) (p : GamsPart) (tree : Derivation) (rest : List Seen) : Type 0 where
       pub state : S
       pub walk : Walk
@@ -94,20 +97,20 @@ module _ {S : Type 0} (each : (S → Bool) → Bool) (each_is : (f : S → Bool)
     abbrev pub Steps : Type 0
     Steps = (s : S) (w : Walk) (t : Seen) (ahead : Terminal) → At s w → At (next s t.0) (walk_after first w t ahead)
 
-    -- what is said of a token holds where its test is allowed
+    -- the claim for a token holds where its test is allowed
     abbrev pub HoldsOfTokens : Type 0
     HoldsOfTokens = (test : Terminal → Bool) (s : S) (w : Walk) (t : Seen) (rest : List Seen) → allowed test s ≡ true → test t.0 ≡ true → At s w → Here w (t ∷ rest) → L test t
 
-    -- what is said of a nonterminal holds where it is entered
+    -- the claim for a nonterminal holds where it is entered
     abbrev pub HoldsOfNodes : Type 0
     HoldsOfNodes = (n : Nonterminal) (tree : Derivation) (s : S) (w : Walk) (tokens rest : List Seen) → entry n s ≡ true → At s w → Here w tokens → Reads productions look_ahead (the n) tokens (read (node tree) rest) → M n (node tree)
 
-    -- what is claimed of atoms is so
+    -- the claims for atoms hold
     abbrev pub HoldsOfAtoms : Type 0
     HoldsOfAtoms = (n : Nonterminal) (tree : Derivation) (s : S) (w : Walk) (tokens rest : List Seen) → atom n ≡ true → entry n s ≡ true → At s w → Here w tokens → Reads productions look_ahead (productions n) tokens (read tree rest) → Passed (exit n s) (productions n) tree rest
 
     module _ (step : Steps) (of_tokens : HoldsOfTokens) (of_nodes : HoldsOfNodes) (of_atoms : HoldsOfAtoms) (right_claims : (n : Nonterminal) → is_right n ≡ true) where
-      -- what is read is so throughout
+      -- the claims hold throughout what is read
       pub passed : {p : GamsPart} {tokens rest : List Seen} {tree : Derivation} → Reads productions look_ahead p tokens (read tree rest) → (ok : S → Bool) (s : S) (w : Walk) → passes p ok s ≡ true → At s w → Here w tokens → Passed ok p tree rest
       passed (taken {test = test} {token = t} {rest = rest} h) ok s w k a e = record {
         state = next s t.0;

@@ -1,12 +1,13 @@
--- What the program of a joint source has in front (GAMS User's Guide, "Save and Restart").
+-- What the program of a joint source begins with (GAMS User's Guide, "Save and Restart").
 use Rattle.std.specs.Prelude.{◌≡◌}
 use Rattle.gq_number.specs.Number.{Number}
 use Rattle.gms_ast.specs.StatementTrees.{Statements, followed_by}
 use Rattle.gms_table.specs.WordLabels.{GoesOn}
 use Rattle.gms_parse.specs.Outcomes.{ProgramView}
 
--- A program stands in front of another: the other has the same names and labels and perhaps more behind them, so that each has the same
--- number in both, and the same statements and perhaps others behind them.
+-- A program begins with another: it has the other's names and labels, perhaps followed by more, so
+-- that each has the same number in both; and it has the other's statements, perhaps followed by
+-- others.
 pub record IsFront (first whole : ProgramView) : Type 0 where
   pub names : GoesOn first.names whole.names
   pub labels : GoesOn first.labels whole.labels

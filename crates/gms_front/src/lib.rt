@@ -1,4 +1,4 @@
-//! Floor 2, source to tree. The program of a joint source: that of the saved source stands in front.
+//! Layer 2, source to tree. The program of a joint source begins with that of the saved source.
 #![tactic(auto)]
 
 mod laws;

@@ -10,7 +10,7 @@ sets-written plants markets between =
     ap (λ t. plants ++ 47 ∷ 59 ∷ 10 ∷ t) (sym (append_assoc (between ++ markets) end feed ∙ append_assoc between markets (end ++ feed)))
     ∙ sym (append_assoc (plants ++ end) feed rest ∙ append_assoc plants end (feed ++ rest))
 
--- a piece behind others
+-- a piece after others
 pub behind : (old new piece is : List ℕ) → new ≡ old ++ piece → old ≡ is → new ≡ is ++ piece
 behind old new piece is more was = more ∙ ap (λ t. t ++ piece) was
 

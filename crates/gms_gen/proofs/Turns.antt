@@ -1,9 +1,9 @@
--- A turn of a loop: one number drawn, one line more.
+-- One turn of a loop: one number drawn, one more line.
 use Rattle.std.proofs.Common.{◌≡◌, ℕ, suc, ◌+◌, List, [], ◌∷◌, ◌++◌, refl, sym, ap, ◌∙◌, append_assoc}
 use Rattle.std.specs.Prelude.{decimal}
 use Rattle.gms_gen.specs.Generator.{next_state, state_after, drawn_by, drawn, texts_below, sum_below, datum}
 
--- the state behind one more draw
+-- the state after one more draw
 pub state-more : (seed n k old new : ℕ) → old ≡ state_after seed n → new ≡ next_state old → k ≡ suc n → new ≡ state_after seed k
 state-more seed n k old new was is more = is ∙ ap next_state was ∙ ap (state_after seed) (sym more)
 
@@ -12,7 +12,7 @@ pub drawn-more : (seed n k old new below value : ℕ) → old ≡ state_after se
 drawn-more seed n k old new below value was is gives same =
     gives ∙ ap (λ s. drawn_by s below) (is ∙ ap next_state was) ∙ ap (λ i. drawn seed i below) (sym same)
 
--- a line behind the lines so far
+-- a line after the lines so far
 pub line-more : (before : List ℕ) (text : ℕ → List ℕ) (n k : ℕ) (line old new : List ℕ) → old ≡ before ++ texts_below n text → new ≡ old ++ line → line ≡ text n → k ≡ suc n → new ≡ before ++ texts_below k text
 line-more before text n k line old new was is says more =
     is ∙ ap (λ t. t ++ line) was ∙ append_assoc before (texts_below n text) line
@@ -22,7 +22,7 @@ line-more before text n k line old new was is says more =
 pub sum-more : (number : ℕ → ℕ) (n k old value : ℕ) → old ≡ sum_below n number → value ≡ number n → k ≡ suc n → old + value ≡ sum_below k number
 sum-more number n k old value was is more = ap (λ s. s + value) was ∙ ap (λ v. sum_below n number + v) is ∙ ap (λ i. sum_below i number) (sym more)
 
--- a line of data as it is written at once
+-- a line of data, written at once
 pub line-of : (element : List ℕ) (value written : ℕ) → written ≡ value → element ++ 32 ∷ (decimal written ++ 10 ∷ []) ≡ datum element value
 line-of element value written same =
     ap (λ n. element ++ 32 ∷ (decimal n ++ 10 ∷ [])) same

@@ -1,6 +1,7 @@
--- A transport model of any size, made out of a seed: as many plants and markets as are asked for, with demands, supplies and costs that a
--- sequence of draws gives. The sequence is a linear congruential generator (Knuth, "The Art of Computer Programming", volume 2, section 3.2.1);
--- the model is the transport model of the GAMS User's Guide, "A GAMS Tutorial by Richard E. Rosenthal".
+-- A transport model of any size, made from a seed: the requested numbers of plants and markets,
+-- with demands, supplies and costs from a sequence of draws. The sequence is a linear congruential
+-- generator (Knuth, "The Art of Computer Programming", volume 2, section 3.2.1); the model is the
+-- transport model of the GAMS User's Guide, "A GAMS Tutorial by Richard E. Rosenthal".
 use Rattle.std.specs.Prelude.{ℕ, zero, suc, ◌+◌, ◌*◌, ◌/◌, ◌%◌, ◌^◌, List, [], ◌∷◌, ◌++◌, codes, decimal}
 
 -- ---- draws
@@ -13,27 +14,27 @@ first_state seed = seed % 2 ^ 31
 abbrev pub next_state : ℕ → ℕ
 next_state state = (1103515245 * state + 12345) % 2 ^ 31
 
--- the number of the sequence after so many draws
+-- the number of the sequence after `n` draws
 abbrev pub state_after : ℕ → ℕ → ℕ
 state_after seed zero = first_state seed
 state_after seed (suc n) = next_state (state_after seed n)
 
--- what is drawn by a number of the sequence: a number below another
+-- the draw of a number of the sequence: a number below another
 abbrev pub drawn_by : ℕ → ℕ → ℕ
 drawn_by state below = (state / 65536) % below
 
--- the draw after so many others
+-- the draw after `n` others
 abbrev pub drawn : ℕ → ℕ → ℕ → ℕ
 drawn seed n below = drawn_by (state_after seed (suc n)) below
 
 -- ---- lines
 
--- the first so many of some texts, one after another
+-- the first `n` of some texts, joined
 abbrev pub texts_below : ℕ → (ℕ → List ℕ) → List ℕ
 texts_below zero text = []
 texts_below (suc n) text = texts_below n text ++ text n
 
--- the sum of the first so many numbers
+-- the sum of the first `n` numbers
 abbrev pub sum_below : ℕ → (ℕ → ℕ) → ℕ
 sum_below zero number = 0
 sum_below (suc n) number = sum_below n number + number n
@@ -46,11 +47,11 @@ line text = text ++ codes "\n"
 abbrev pub element : List ℕ → ℕ → List ℕ
 element letter n = letter ++ decimal (n + 1)
 
--- a line of data
+-- a line of data: an element and its value
 abbrev pub datum : List ℕ → ℕ → List ℕ
 datum element value = line (element ++ codes " " ++ decimal value)
 
--- Of this seed, these plants and these markets.
+-- The model of this seed, these plants and these markets.
 module _ (seed plants markets : ℕ) where
   -- the demand of a market: from 10 to 99
   abbrev pub demand : ℕ → ℕ
@@ -60,11 +61,11 @@ module _ (seed plants markets : ℕ) where
   abbrev pub total : ℕ
   total = sum_below markets demand
 
-  -- the supply of a plant: its part of all demand, and from 1 to 10 more
+  -- the supply of a plant: its share of the total demand, and from 1 to 10 more
   abbrev pub supply : ℕ → ℕ
   supply plant = total / plants + 1 + drawn seed (markets + plant) 10
 
-  -- the cost of the way from a plant to a market: from 1 to 50
+  -- the cost of the route from a plant to a market: from 1 to 50
   abbrev pub cost : ℕ → ℕ → ℕ
   cost plant market = 1 + drawn seed (markets + plants + plant * markets + market) 50
 
@@ -78,7 +79,7 @@ module _ (seed plants markets : ℕ) where
   abbrev pub supply_lines : List ℕ
   supply_lines = texts_below plants (λ plant. datum (element (codes "p") plant) (supply plant))
 
-  -- the costs from a plant
+  -- the costs of the routes from a plant
   abbrev pub costs_from : ℕ → List ℕ
   costs_from plant = texts_below markets (λ market. datum (element (codes "p") plant ++ codes "." ++ element (codes "m") market) (cost plant market))
 

@@ -1,4 +1,4 @@
-//! Floor 7, outside. The generator: a transport model of any size out of nothing, as a source text.
+//! Layer 7, outside. The generator: the source text of a transport model of any size.
 #![tactic(auto)]
 
 mod draws;

@@ -17,7 +17,7 @@ option iterlim = 100000, limrow = 0, limcol = 0;
 solve t using lp minimizing z;
 ";
 
-/// Draws the demand of each market, lists them, and tells their sum.
+/// Draws the demand of each market, lists them, and answers their sum.
 fn push_demands(
     alloc: Global,
     draws: &mut Draws,
@@ -40,7 +40,7 @@ fn push_demands(
     Ok(total)
 }
 
-/// Draws the supply of each plant, where the markets demand so much in all, and lists them.
+/// Draws the supply of each plant, by the total demand, and lists them.
 fn push_supplies(
     alloc: Global,
     draws: &mut Draws,
@@ -61,7 +61,7 @@ fn push_supplies(
     Ok(())
 }
 
-/// Draws the costs of the ways from a plant to each market, and lists them.
+/// Draws the costs of the routes from a plant to each market, and lists them.
 fn push_costs_from(
     alloc: Global,
     draws: &mut Draws,
@@ -83,7 +83,7 @@ fn push_costs_from(
     Ok(())
 }
 
-/// Draws the costs of all ways, and lists them.
+/// Draws the costs of all routes, and lists them.
 fn push_costs(
     alloc: Global,
     draws: &mut Draws,
@@ -99,9 +99,11 @@ fn push_costs(
     Ok(())
 }
 
-/// The source text of a transport model of so many plants and markets, with data drawn from a seed. It asks for the cheapest shipments.
+/// The source text of a transport model with this many plants and markets, and data drawn from a
+/// seed. It minimizes the cost of the shipments.
 ///
-/// A seed gives the same text each time. GAMS User's Guide, "A GAMS Tutorial by Richard E. Rosenthal".
+/// A seed gives the same text each time. GAMS User's Guide, "A GAMS Tutorial by Richard E.
+/// Rosenthal".
 pub fn generate(alloc: Global, seed: u64, plants: u32, markets: u32) -> Result<String, AllocError>
     ensures { IfOk result (λ text. string_bytes text ≡ model_text seed plants markets) }
 {

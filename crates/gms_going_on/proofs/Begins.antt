@@ -1,4 +1,4 @@
--- A program that goes on behind a saved one begins with all that the saved one begins with.
+-- A program that continues a saved one begins with all that the saved one begins with.
 use Rattle.std.proofs.Common.{◌≡◌, ℕ, ◌≤◌, Bool, true, false, not, List, ◌++◌, length, refl, sym, ap, ap₂, ◌∙◌, subst}
 use Rattle.std.specs.Prelude.{flat_map}
 use Rattle.std.specs.List.{fold}
@@ -18,7 +18,8 @@ use Rattle.gms_going_on.specs.GoingOn.{DeclaresItsOwn, TypesNone}
 use Rattle.gms_going_on.proofs.Keeping.{Keeps, keep-behind}
 use Rattle.gms_going_on.proofs.Padding.{padded-after}
 
--- a state that has each declared name of another as it is there, and its settings, has all of it
+-- a state has all of another, if it has the other's symbol for each name that the other declares,
+-- and its settings
 has-all : (state other : State) → length other.symbols ≤ length state.symbols → state.settings ≡ other.settings → ((n : ℕ) → declares other n ≡ true → symbol_at state n ≡ symbol_at other n) → HasAll state other
 has-all state other many settings keeps = record {
   many = many;
@@ -33,7 +34,8 @@ has-all state other many settings keeps = record {
         by false none = sym (chosen-undeclared (read state.symbols n) (read other.symbols n) (is-undeclared (is_undeclared (read other.symbols n).content) none))
 
 module _ {F : Type 0} (v : F → Number) (saved joint : World F) (firsts others : List (Stmt F)) (accepted : IsAccepted v joint.program) where
-  -- The joint program begins with all that the saved one begins with, where its first statements lead to the same states.
+  -- The joint program begins with all that the saved one begins with, where its first statements
+  -- lead to the same states.
   pub begins-with : length saved.program.names ≤ length joint.program.names → DeclaresItsOwn saved.program → joint.program.statements.items ≡ firsts ++ others → ((count : ℕ) → state_after v count (sound firsts) ≡ state_after v count (sound saved.program.statements.items)) → TypesNone (loaded v saved.program) others → HasAll (loaded v joint.program) (loaded v saved.program)
   begins-with few own statements states types =
       let first = loaded v saved.program in

@@ -86,7 +86,7 @@ module _ {F : Type 0} (known : Known F) where
         (left-clean rest around all.1 (clean-right known (uses as_number at around amount) (shift_uses around rest) clean.1)),
   )
 
-  -- a condition, where there is one
+  -- a condition, if there is one
   pub condition-clean : (condition : Option (tree.Tree F)) (at : Place) (around : List ℕ) → AreClean known (condition_uses at around condition) → Each test (condition_names condition)
   condition-clean None at around clean = tt
   condition-clean (Some condition) at around clean = names-clean condition as_condition at around clean

@@ -53,7 +53,8 @@ module _ (state : State) (name : ℕ) (new : Symbol) (gains : Gains (symbol_at s
     | inr changed ↦ ap (λ (s : Symbol). not (is_undeclared s.content)) changed.1 ∙ ap not (gains.declared (old-declared name (subst (λ m. declares state m ≡ true) changed.0 is)))
   ]
 
-  -- a state stays closed where a name changes that stood for something, or now stands for itself or for what is declared
+  -- a state stays closed where a declared name changes, or a new one stands for itself or for a
+  -- declared name
   closed-put : IsClosed state → (is_undeclared (symbol_at state name).content ≡ true → StandsWell state name new) → IsClosed next
   closed-put closed fresh n is = elim (put-at state name new n) [
     | inl same ↦ subst (λ m. declares next m ≡ true) (sym (ap (λ (s : Symbol). behind n s.content) same)) (stays-declared (base_of state n) (closed n (sym (ap (λ (s : Symbol). not (is_undeclared s.content)) same) ∙ is)))

@@ -214,14 +214,14 @@ abbrev pub AllEquations : {F : Type 0} → (ℕ → Bool) → List (Stmt F) → 
 AllEquations test [] = Unit {0}
 AllEquations test (s ∷ statements) = (Each test (declared_by s.act) × AllListed test (models_of s.act)) × AllEquations test statements
 
--- ---- the equations of a model, by both words
+-- ---- the equations of a model, by both definitions
 
--- what each element of a list has, each once too
+-- what holds of each element of a list holds of each after repetitions are removed
 once-each : (test : ℕ → Bool) (ns : List ℕ) → Each test ns → Each test (each_once ns)
 once-each test [] all = tt
 once-each test (n ∷ ns) all = (all.0, filter-each test (λ m. not (m == n)) (each_once ns) (once-each test ns all.1))
 
--- where all pass a test, a filter by it leaves all
+-- filtering by a test that all pass changes nothing
 all-left : (p : ℕ → Bool) (ns : List ℕ) → Each p ns → filter p ns ≡ ns
 all-left p [] all = refl
 all-left p (n ∷ ns) all = ap (λ (b : Bool). cond b (n ∷ filter p ns) (filter p ns)) all.0 ∙ ap (λ (ms : List ℕ). n ∷ ms) (all-left p ns all.1)
@@ -292,7 +292,8 @@ module _ (names : ℕ) (is : ℕ → Bool) (ok : ℕ → Bool) (m : ℕ) (below 
               ap (λ (b : Bool). if b then filter is (equations_listed declared true model) else equations_of (known_models (map (entry declared) models ++ rest)) m) same ∙ next none
           table false = next none
 
-  -- What holds of the equations that the check knows of a model holds of the model's equations, whatever stands behind.
+  -- What holds of the equations that the check knows of a model holds of the model's equations,
+  -- also with statements after them.
   pub model-equations : {F : Type 0} (declared : List ℕ) (statements others : List (Stmt F)) → declares_model m statements ≡ true → Each is declared → AllEquations is statements → Each ok (equations_of (known_models (models_after declared (sound statements))) m) → Each ok (equations_from declared m (statements ++ others))
   model-equations declared [] others there all each oks = absurd (cc)
   model-equations declared (s ∷ statements) others there all each oks =

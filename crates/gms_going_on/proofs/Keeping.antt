@@ -1,4 +1,5 @@
--- The statements behind those of a saved program change nothing of what these declare, where they type none of its variables.
+-- The statements after those of a saved program change nothing that these declare, if they type
+-- none of its variables.
 use Rattle.std.proofs.Common.{◌≡◌, ℕ, ◌≤◌, Bool, true, false, not, ◌&&◌, cond, if◌then◌else◌, List, [], ◌∷◌, ◌++◌, length, map, Option, None, Some, Ok, Err, Result, refl, sym, ap, ◌∙◌, subst, append_assoc, inl, inr}
 use Rattle.std.specs.Prelude.{flat_map}
 use Rattle.std.specs.List.{fold}
@@ -99,7 +100,7 @@ module _ (first : State) where
   as-many : (s : State) (i : ℕ) (new : Symbol) → length first.symbols ≤ length s.symbols → length first.symbols ≤ length (put_at s i new).symbols
   as-many s i new many = subst (λ (n : ℕ). length first.symbols ≤ n) (sym (length-set s.symbols i new)) many
 
-  -- a name that the first state does not declare may be put
+  -- a name that the first state does not declare may be written
   keep-put : (s : State) (i : ℕ) (new : Symbol) → declares first i ≡ false → Keeps s → Keeps (put_at s i new)
   keep-put s i new none keeps = record {
     kept = λ n is. elim (put-at s i new n) [
@@ -319,7 +320,7 @@ module _ (first : State) where
       state-then before statement =
           ap (state_after v count) (map-append {B = Stmt F × Bool} (λ (statement : Stmt F). (statement, true)) before (statement ∷ [])) ∙ fold-append (after_statement v) (blank_state count) (sound before) ((statement, true) ∷ [])
 
-      -- What stands behind keeps it, up to the state in which the joint program begins.
+      -- Later statements keep it, up to the state in which the joint program begins.
       pub keep-behind : (before rest : List (Stmt F)) → joint.statements.items ≡ before ++ rest → NoVariables (flat_map (λ (statement : Stmt F). typed_by statement.act) rest) → Keeps (state_after v count (sound before)) → Keeps (loaded v joint)
       keep-behind before [] is typed keeps =
           subst (λ (statements : List (Stmt F)). Keeps (state_after v count (sound statements))) (sym (is ∙ append-nil before)) keeps

@@ -1,4 +1,5 @@
--- A model that is solved in an accepted program is declared in it, so that statements behind it change none of its equations.
+-- A model that is solved in an accepted program is declared in it, so that later statements change
+-- none of its equations.
 use Rattle.std.proofs.Common.{◌≡◌, ℕ, Bool, true, false, not, ◌||◌, ◌&&◌, ◌==◌, cond, if◌then◌else◌, List, [], ◌∷◌, ◌++◌, map, length, Some, None, Option, Ok, Err, Result, refl, sym, ap, ◌∙◌, subst, inl, inr}
 use Rattle.std.specs.List.{fold, list_any}
 use Rattle.std.proofs.lemmas.Bool.{both_ways, eq-eqb}
@@ -104,9 +105,10 @@ second-holds : (a b : Bool) → (a && b) ≡ true → b ≡ true
 second-holds true b e = e
 second-holds false b e = absurd (cc)
 
--- ---- what a test of kinds makes of each step of a load
+-- ---- a test of kinds at each step of a load
 
--- A test of kinds that fails at a name still does, where the kind that the name gets when it is declared fails it, or what is not declared passes it.
+-- A test of kinds that fails at a name still does, if the kind that the name gets when it is
+-- declared fails it, or an undeclared name passes it.
 module _ (test : SymbolKind → Bool) (m : ℕ) where
   abbrev pub Fails : State → Type 0
   Fails s = test (kind_of s m) ≡ false
@@ -250,7 +252,7 @@ module _ (m : ℕ) where
     abbrev pub declares_model : List (Stmt F) → Bool
     declares_model statements = list_any (λ (s : Stmt F). has_model (models_of s.act)) statements
 
-    -- What stands behind statements that declare a model changes none of its equations.
+    -- Statements after those that declare a model change none of its equations.
     pub equations-front : (declared : List ℕ) (statements others : List (Stmt F)) → declares_model statements ≡ true → equations_from declared m (statements ++ others) ≡ equations_from declared m statements
     equations-front declared [] others there = absurd (cc)
     equations-front declared (s ∷ statements) others there =

@@ -43,7 +43,7 @@ below-of n k is = grind (arith, nat_tests)
 pub test-of : (n k : ℕ) → n < k → nat_lt n k ≡ true
 test-of n k below = grind (arith, nat_tests)
 
--- ---- one name put
+-- ---- one name is written
 
 abbrev read : List Symbol → ℕ → Symbol
 read symbols n = unwrap_or (slice_get symbols n) no_symbol
@@ -60,7 +60,7 @@ put-elsewhere (x ∷ xs) zero (suc n) s apart = refl
 put-elsewhere (x ∷ xs) (suc i) zero s apart = refl
 put-elsewhere (x ∷ xs) (suc i) (suc n) s apart = put-elsewhere xs i n s (λ e. apart (ap suc e))
 
--- past the end nothing is put
+-- a write past the end changes nothing
 put-past : (xs : List Symbol) (i : ℕ) (s : Symbol) → length xs ≤ i → set xs i s ≡ xs
 put-past [] i s past = refl
 put-past (x ∷ xs) zero s past = absurd (omega arith)
@@ -116,7 +116,7 @@ module _ (count : ℕ) where
   named : (s : State) (i : ℕ) (new : Symbol) → length s.symbols ≡ count → IsName i ≡ true → length s.symbols ≤ i → new ≡ no_symbol
   named s i new many is past = absurd (let below = below-of i count is in omega (arith, many, past, below))
 
-  -- a name put as a function of what is there
+  -- a name whose symbol becomes a function of the old one
   padded-change : (s t : State) (i : ℕ) (f : Symbol → Symbol) → (length s.symbols ≤ i → f (symbol_at s i) ≡ no_symbol) → Padded count s t → Padded count (put_at s i (f (symbol_at s i))) (put_at t i (f (symbol_at t i)))
   padded-change s t i f none padded =
       subst (λ (x : Symbol). Padded count (put_at s i (f (symbol_at s i))) (put_at t i (f x))) (sym (padded.same i)) (padded-put s t i (f (symbol_at s i)) none padded)
@@ -258,7 +258,7 @@ module _ (count : ℕ) where
         padded-sound statements (after_act v s statement.act) (after_act v t statement.act) (each-right IsName (names_declared statement.act) (flat_map (λ (statement : Stmt F). names_declared statement.act) statements) all)
         (padded-act s t padded statement.act (each-left IsName (names_declared statement.act) (flat_map (λ (statement : Stmt F). names_declared statement.act) statements) all))
 
-    -- Statements that declare names of a table of so many give the same with a longer table.
+    -- Statements that declare names of a table of `count` names give the same with a longer table.
     pub padded-after : (more : ℕ) → count ≤ more → (statements : List (Stmt F)) → Each IsName (flat_map (λ (statement : Stmt F). names_declared statement.act) statements) → Padded count (state_after v count (sound statements)) (state_after v more (sound statements))
     padded-after more few statements all =
         padded-sound statements (blank_state count) (blank_state more) all (record {

@@ -1,4 +1,5 @@
--- The models that a saved program solves have the same definitions in an accepted program that goes on behind it.
+-- The models that a saved program solves have the same definitions in an accepted program that
+-- continues it.
 use Rattle.std.proofs.Common.{◌≡◌, ℕ, ◌<◌, ◌≤◌, nat_lt, Bool, true, false, not, ◌||◌, ◌&&◌, ◌==◌, cond, if◌then◌else◌, List, [], ◌∷◌, ◌++◌, map, length, Option, option_map, refl, sym, ap, ap₂, ◌∙◌, subst, append_assoc, arith}
 use Rattle.std.specs.Prelude.{flat_map}
 use Rattle.std.specs.List.{list_any}
@@ -80,7 +81,7 @@ none-missing test [] none = tt
 none-missing test (n ∷ ns) none =
     (not-false (test n) (neither-first (not (test n)) (list_any (λ n. not (test n)) ns) none), none-missing test ns (neither-second (not (test n)) (list_any (λ n. not (test n)) ns) none))
 
--- ---- definitions behind others
+-- ---- definitions after others
 
 module _ {F : Type 0} where
   -- whether an equation is defined among statements
@@ -130,7 +131,7 @@ module _ {F : Type 0} where
   all-front test ds es none (q ∷ qs) all =
       ap₂ (λ (one rest : List (Definition F)). one ++ rest) (definition-front ds es q (none q all.0)) (all-front test ds es none qs all.1)
 
--- ---- what a joint program defines behind
+-- ---- what the later statements of a joint program define
 
 module _ {F : Type 0} (v : F → Number) (joint : Program F) (accepted : IsAccepted v joint) where
   abbrev known_there : List (Stmt F) → Known F

@@ -9,12 +9,13 @@ ghost use Rattle.gms_going_on.specs.GoingOn.{GoesOn};
 
 use gq_field::ExactField;
 
-/// The statements of an accepted program name what its first state declares alone, also in the definitions of the models that
-/// they solve (`names`), and what a name of that state stands for is declared there too (`closed`). Where an accepted program
-/// has the statements of another first, and further ones after them, it begins with all that the other begins with (`begins`),
-/// and the models that the other solves have the same definitions in it (`solves`).
+/// The statements of an accepted program name only what its first state declares, also in the
+/// definitions of the models that they solve (`names`), and an alias of that state stands for a
+/// declared set (`closed`). If an accepted program has the statements of another first, and further
+/// ones after them, it begins with all that the other begins with (`begins`), and the models that
+/// the other solves have the same definitions in it (`solves`).
 ///
-/// On these a restarted run rests (GAMS User's Guide, "Save and Restart").
+/// A restarted run rests on these laws (GAMS User's Guide, "Save and Restart").
 pub fn going_on_laws<F: ExactField>()
     ensures names { (world : World F) →
         IsAccepted F.value world.program → NameDeclared world (loaded F.value world.program) world.program.statements.items }

@@ -1,4 +1,5 @@
-//! Floor 5, the run. What a program keeps that has the statements of another first: the ground of restarted runs.
+//! Layer 5, the run. What a program that begins with the statements of another keeps of it: the
+//! basis of restarted runs.
 #![tactic(auto)]
 
 mod laws;

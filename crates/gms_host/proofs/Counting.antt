@@ -1,4 +1,4 @@
--- Counts of faults through one piece of work that is done behind another.
+-- Counts of faults through two pieces of work in sequence.
 use Rattle.std.proofs.Common.{◌≡◌, ℕ, ◌≤◌, true, refl, ap, ◌∙◌, arith, Result, Ok, Err}
 use Rattle.std.specs.Prelude.{OnOk, IsErrOf}
 use Rattle.gms_host.specs.declared.host.Failed.{Failed}
@@ -32,7 +32,7 @@ both_stay : {B : Type 0} (r : Result B Failed) (a b c : ℕ) → b ≡ a → OnO
 both_stay (Ok y) a b c p q = q ∙ p
 both_stay (Err failed) a b c p q = tt
 
--- one count behind another
+-- two counts in sequence
 own_more : {A B : Type 0} (x : A) (r : Result B Failed) (sure precise later_sure later_precise : Type 0) (a b c : ℕ) → (sure → later_sure) → (precise → later_precise) →
     IsCounted (done_with x) sure precise a b → IsCounted r later_sure later_precise b c → IsCounted r sure precise a c
 own_more x r sure precise later_sure later_precise a b c s d p q =
@@ -48,7 +48,7 @@ own_more x r sure precise later_sure later_precise a b c s d p q =
 pub writing_none : {A : Type 0} (x : A) (c : Counts) → CountsWriting (done_with x) c c
 writing_none x c = record { rest = refl; own = own_none x (c.reliable ≡ true) (c.precise ≡ true) c.write_faults }
 
--- one piece of work that writes, behind another
+-- two pieces of work that write, in sequence
 pub writing_more : {A B : Type 0} {r : Result B Failed} {a b c : Counts} (x : A) → CountsWriting (done_with x) a b → CountsWriting r b c → CountsWriting r a c
 writing_more {A} {B} {r} {a} {b} {c} x p q =
     record {
@@ -60,7 +60,7 @@ writing_more {A} {B} {r} {a} {b} {c} x p q =
 pub reading_none : {A : Type 0} (x : A) (there : Type 0) (c : Counts) → CountsReading (done_with x) there c c
 reading_none x there c = record { rest = refl; own = own_none x ((c.reliable ≡ true) × there) (c.precise ≡ true) c.read_faults }
 
--- one piece of work that reads, behind another
+-- two pieces of work that read, in sequence
 pub reading_more : {A B : Type 0} {r : Result B Failed} {there later : Type 0} {a b c : Counts} (x : A) → (there → later) → CountsReading (done_with x) there a b → CountsReading r later b c → CountsReading r there a c
 reading_more {A} {B} {r} {there} {later} {a} {b} {c} x t p q =
     record {

@@ -1,15 +1,15 @@
--- One text that goes out over a host behind another.
+-- Texts that are written over a host in sequence.
 use Rattle.std.proofs.Common.{◌≡◌, ℕ, ◌-◌, List, [], ◌++◌, length, take, drop, Option, Some, None, refl, sym, ap, ◌∙◌, append_assoc, append-nil, arith, length-drop, take-append-drop}
 use Rattle.std.proofs.lemmas.List.{take_all}
 use Rattle.gms_host.specs.Meaning.{Outside}
 use Rattle.gms_host.specs.Rules.{told_with, with_output, with_said}
 use Rattle.gms_host.specs.Spooling.{Passes, Speaks, WritesFront}
 
--- what stands behind a place, taken as a slice
+-- the part after a place, as a slice
 pub rest_from : {X : Type 0} (xs : List X) (k : ℕ) → take (length xs - k) (drop k xs) ≡ drop k xs
 rest_from xs k = take_all (length xs - k) (drop k xs) (simp length-drop (omega arith))
 
--- a text in two at a place, where what is behind it is taken as a slice
+-- a text in two parts at a place, where the second is taken as a slice
 split_at : (text : List ℕ) (k : ℕ) → text ≡ take k text ++ take (length text - k) (drop k text)
 split_at text k = sym (take-append-drop k text) ∙ ap (λ (r : List ℕ). take k text ++ r) (sym (rest_from text k))
 
@@ -39,7 +39,7 @@ said-both a b c x y p q =
 
 -- ---- the output
 
--- Nothing went out of what is due.
+-- Nothing of the expected text was written.
 pub passes_none : (o : Outside) (due : List ℕ) → Passes o o due due
 passes_none o due = record { bytes = []; written = output-none o; split = refl }
 
@@ -52,11 +52,11 @@ pub passes_on : (old mid new : Outside) (due pending left : List ℕ) → Passes
 passes_on old mid new due pending left p q =
     record { bytes = p.bytes ++ q.bytes; written = output-both old mid new p.bytes q.bytes p.written q.written; split = p.split ∙ ap (λ (r : List ℕ). p.bytes ++ r) q.split ∙ sym (append_assoc p.bytes q.bytes left) }
 
--- Behind what is due and behind what is pending stands more.
+-- More may be appended to the expected text and to what is pending.
 pub passes_behind : {old new : Outside} {due pending : List ℕ} (more : List ℕ) → Passes old new due pending → Passes old new (due ++ more) (pending ++ more)
 passes_behind {old} {new} {due} {pending} more p = record { bytes = p.bytes; written = p.written; split = ap (λ (r : List ℕ). r ++ more) p.split ∙ append_assoc p.bytes pending more }
 
--- So many bytes of what is pending were written.
+-- The first `k` bytes of what is pending were written.
 pub passes_write : (old now next : Outside) (due rest : List ℕ) (k : ℕ) → Passes old now due rest → next ≡ with_output now (take k rest) → Passes old next due (take (length rest - k) (drop k rest))
 passes_write old now next due rest k p w = passes_on old now next due rest _ p (record { bytes = take k rest; written = w; split = split_at rest k })
 
@@ -64,21 +64,22 @@ passes_write old now next due rest k p w = passes_on old now next due rest _ p (
 pub passes_whole : (old mid new : Outside) (due pending : List ℕ) → Passes old mid due pending → new ≡ with_output mid pending → new ≡ with_output old due
 passes_whole old mid new due pending p w = output-both old mid new p.bytes pending p.written w ∙ ap (λ (r : List ℕ). with_output old r) (sym p.split)
 
--- The front of what was pending was written, and so the front of what was due, no less than what had gone out.
+-- A prefix of what was pending was written, and so a prefix of the expected text, no shorter than
+-- what was written before.
 pub front_on : (old mid new : Outside) (due pending : List ℕ) → Passes old mid due pending → WritesFront mid new pending → WritesFront old new due
 front_on old mid new due pending p f = (f.0, passes_on old mid new due pending f.0 p f.1)
 
--- The front of a text is one of a longer text.
+-- A prefix of a text is one of a longer text.
 pub front_longer : {old new : Outside} {due : List ℕ} (more : List ℕ) → WritesFront old new due → WritesFront old new (due ++ more)
 front_longer more f = (f.0 ++ more, passes_behind more f.1)
 
 -- ---- standard output
 
--- Nothing of a line was said.
+-- Nothing of a line was printed.
 pub speaks_none : (o : Outside) (line : List ℕ) → Speaks o o line line
 speaks_none o line = record { bytes = []; said = said-none o; split = refl }
 
--- So many bytes of what is left were said.
+-- The next `k` bytes of a line were printed.
 pub speaks_say : (old now next : Outside) (line rest : List ℕ) (k : ℕ) → Speaks old now line rest → next ≡ with_said now (take k rest) → Speaks old next line (take (length rest - k) (drop k rest))
 speaks_say old now next line rest k p w =
     record {
@@ -87,6 +88,6 @@ speaks_say old now next line rest k p w =
       split = p.split ∙ ap (λ (r : List ℕ). p.bytes ++ r) (split_at rest k) ∙ sym (append_assoc p.bytes (take k rest) (take (length rest - k) (drop k rest)));
     }
 
--- The whole line was said.
+-- The whole line was printed.
 pub speaks_all : (old new : Outside) (line rest : List ℕ) → Speaks old new line rest → rest ≡ [] → new ≡ with_said old line
 speaks_all old new line rest p none = p.said ∙ ap (λ (r : List ℕ). with_said old r) (sym (p.split ∙ ap (λ (r : List ℕ). p.bytes ++ r) none ∙ append-nil p.bytes))

@@ -1,4 +1,5 @@
--- What a spool makes of an output: bytes that went out, those that are pending, and the rest of a text that is put.
+-- What a spool does to an output: bytes that were written, those that are pending, and the rest of
+-- a text that is put.
 use Rattle.std.proofs.Common.{◌≡◌, ℕ, ◌-◌, List, [], ◌++◌, length, take, drop, sym, ap, ◌∙◌, subst, append_assoc, append-nil, Result, Err}
 use Rattle.std.proofs.lemmas.List.{take-append-drop}
 use Rattle.gms_host.specs.declared.host.Failed.{Failed}
@@ -7,7 +8,7 @@ use Rattle.gms_host.specs.Rules.{with_output}
 use Rattle.gms_host.specs.Spooling.{Passes, PutsThrough, WritesAll, WritesFront}
 use Rattle.gms_host.proofs.Fronts.{passes_on, passes_behind, front_on, front_longer, rest_from}
 
--- room was made, and so much of the rest is pending too
+-- space was made, and `k` more bytes of the rest are pending
 pub put_more : (old now next : Outside) (due pending left rest new : List ℕ) (k : ℕ) → Passes old now due (pending ++ rest) → Passes now next pending left → new ≡ left ++ take k rest → Passes old next due (new ++ take (length rest - k) (drop k rest))
 put_more old now next due pending left rest new k so p e =
     let behind : List ℕ = take (length rest - k) (drop k rest) in
@@ -19,15 +20,15 @@ put_more old now next due pending left rest new k so p e =
 pub put_all : {old now : Outside} {due pending rest : List ℕ} → Passes old now due (pending ++ rest) → rest ≡ [] → Passes old now due pending
 put_all {old} {now} {due} {pending} {rest} so e = subst (Passes old now due) (ap (λ (r : List ℕ). pending ++ r) e ∙ append-nil pending) so
 
--- room was not made
+-- space could not be made
 pub put_short : {A : Type 0} (old now next : Outside) (due pending left rest : List ℕ) (r : Result A Failed) (failed : Failed) → r ≡ Err failed → Passes old now due (pending ++ rest) → WritesFront now next pending × (left ≡ []) → PutsThrough r old next due left
 put_short {A} old now next due pending left rest r failed is so f =
     subst (λ (x : Result A Failed). PutsThrough x old next due left) (sym is) (front_on old now next due (pending ++ rest) so (front_longer rest f.0), f.1)
 
--- what was not written whole was written in front
+-- if not all was written, a prefix was
 pub written_front : {A : Type 0} (old new : Outside) (due left : List ℕ) (r : Result A Failed) (failed : Failed) → r ≡ Err failed → Passes old new due left → WritesAll r old new due
 written_front {A} old new due left r failed is p = subst (λ (x : Result A Failed). WritesAll x old new due) (sym is) (left, p)
 
--- where nothing is left all was written
+-- if nothing remains all was written
 pub written_all : (old new : Outside) (due left : List ℕ) → Passes old new due left → left ≡ [] → new ≡ with_output old due
 written_all old new due left p none = p.written ∙ ap (λ (r : List ℕ). with_output old r) (sym (p.split ∙ ap (λ (r : List ℕ). p.bytes ++ r) none ∙ append-nil p.bytes))

@@ -1,4 +1,4 @@
--- A host of files in memory: what its caller may know of it, and what each of its calls leaves.
+-- A host of files in memory: its view, and what each of its calls does to it.
 use Rattle.std.specs.Prelude.{ℕ, Bool, true, false, List, [], ◌∷◌, ◌++◌, length, ◌==◌, map, take, drop, unwrap_or, min, Option, Some, None, Result, Ok, Err, String, Vec, string_bytes, Contains, refl}
 use Rattle.std.specs.declared.alloc.Global.{Global}
 use Rattle.std.specs.Coded.{Coded, code_by, coded×, coded_ℕ, coded_bool, coded_list, coded_option}
@@ -8,13 +8,13 @@ use Rattle.gms_host.specs.declared.host.Failed.TheVariants.{Fault, Memory}
 use Rattle.gms_host.specs.Meaning.{Meaning, Files}
 use Rattle.gms_host.specs.Counts.{one_more}
 
--- What the caller of such a host may know of it.
+-- The view of such a host.
 pub record MemoryState : Type 0 where
   -- its files
   pub files : Files
   -- the numbers of the calls that are to fail
   pub failing : List ℕ
-  -- how many bytes a call reads, writes or says at most, where there is a bound
+  -- how many bytes a call reads, writes or prints at most, if there is a bound
   pub most : Option ℕ
   -- the number of the next call
   pub calls : ℕ
@@ -72,7 +72,7 @@ state_code =
 abbrev pub file_of : String Global × Vec ℕ Global → List ℕ × List ℕ
 file_of file = (string_bytes file.0, file.1.items)
 
--- the files of a list of names and bytes, of which the first counts where several have one name
+-- the files of a list of names and bytes; the first counts if several have one name
 abbrev pub files_of : List (String Global × Vec ℕ Global) → Files
 files_of files = finite.from_entries (map file_of files)
 
@@ -95,15 +95,16 @@ at_start files failing = record {
   write_faults = 0;
 }
 
--- the same, of which each call reads, writes or says at most so many bytes
+-- the same host, where each call reads, writes or prints at most `most` bytes
 abbrev pub in_pieces_of : ℕ → MemoryState → MemoryState
 in_pieces_of most m = record m { most = Some most }
 
--- how many of so many bytes go in one call
+-- how many of `count` bytes go in one call
 abbrev pub piece : MemoryState → ℕ → ℕ
 piece m count = elim m.most [ None ↦ count | Some most ↦ min count most ]
 
--- a host of files in memory tells all of itself, counts precisely, and is reliable exactly where no call is to fail
+-- a host of files in memory exposes all, counts precisely, and is reliable exactly where no call is
+-- to fail
 abbrev pub meaning_of : MemoryState → Meaning
 meaning_of m = record {
   outside = record {
@@ -125,7 +126,7 @@ meaning_of m = record {
   };
 }
 
--- the call that comes now is among those that are to fail
+-- the next call is among those that are to fail
 abbrev pub IsToFail : MemoryState → Type 0
 IsToFail m = Contains m.failing m.calls
 
@@ -157,13 +158,15 @@ after_read m (Err Memory) = numbered m
 abbrev pub emptied : MemoryState → MemoryState
 emptied m = record m { output = []; writing = false }
 
--- what an `open_out` of that name leaves, by its answer: an empty output, which is open where it is done
+-- what an `open_out` of that name leaves, by its answer: an empty output, which is open if it
+-- succeeded
 abbrev pub after_open_out : MemoryState → List ℕ → Result (Unit {0}) Failed → MemoryState
 after_open_out m name (Ok _) = record (numbered m) { named = name; output = []; asked = m.asked ++ name ∷ []; writing = true }
 after_open_out m name (Err Fault) = emptied (with_write_fault (numbered m))
 after_open_out m name (Err Memory) = emptied (numbered m)
 
--- what a `write` of these bytes leaves, by its answer: as many of them as it says are at the end of the output
+-- what a `write` of these bytes leaves, by its answer: the counted number of bytes is added to the
+-- output
 abbrev pub after_write : MemoryState → List ℕ → Result ℕ Failed → MemoryState
 after_write m bytes (Ok count) = record (numbered m) { output = m.output ++ take count bytes }
 after_write m bytes (Err Fault) = with_write_fault (numbered m)
@@ -175,7 +178,8 @@ after_close_out m (Ok _) = record (numbered m) { kept = m.kept ++ (m.named, m.ou
 after_close_out m (Err Fault) = record (with_write_fault (numbered m)) { writing = false }
 after_close_out m (Err Memory) = record (numbered m) { writing = false }
 
--- what a `say` of these bytes leaves, by its answer: as many of them as it says are at the end of standard output
+-- what a `say` of these bytes leaves, by its answer: the counted number of bytes is added to
+-- standard output
 abbrev pub after_say : MemoryState → List ℕ → Result ℕ Failed → MemoryState
 after_say m bytes (Ok count) = record (numbered m) { said = m.said ++ take count bytes }
 after_say m bytes (Err Fault) = with_write_fault (numbered m)

@@ -1,8 +1,8 @@
--- A host over real files and standard output: what its caller may know of it.
+-- A host over real files and standard output: its view.
 use Rattle.std.specs.Prelude.{ℕ, Bool, false, None}
 use Rattle.gms_host.specs.Meaning.{Meaning}
 
--- What the caller of such a host may know of it.
+-- The view of such a host.
 pub record RealState : Type 0 where
   -- an input is open
   pub reading : Bool
@@ -22,7 +22,8 @@ untouched = record {
   write_faults = 0;
 }
 
--- such a host tells no files, no names and no bytes, any call can fail, and one that succeeds can count a fault
+-- such a host exposes no files, no names and no bytes; any call can fail, and one that succeeds can
+-- count a fault
 abbrev pub meaning_of : RealState → Meaning
 meaning_of r = record {
   outside = record {

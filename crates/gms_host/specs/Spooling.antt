@@ -1,36 +1,38 @@
--- What a spool makes of the output: bytes go out in order, and those that are pending stand behind those that went out.
+-- What a spool does to the output: bytes are written in order, and those that are pending come
+-- after those that were written.
 use Rattle.std.specs.Prelude.{◌≡◌, ℕ, List, [], ◌++◌, Result, Ok, Err}
 use Rattle.gms_host.specs.declared.host.Failed.{Failed}
 use Rattle.gms_host.specs.Meaning.{Outside}
 use Rattle.gms_host.specs.Rules.{with_output, with_said}
 
--- Of the bytes that are due some were added to the output, and those behind them are pending.
+-- Of the bytes `due` the first were added to the output, and the rest is pending.
 pub record Passes (old new : Outside) (due pending : List ℕ) : Type 0 where
   pub bytes : List ℕ
   pub written : new ≡ with_output old bytes
   pub split : due ≡ bytes ++ pending
 
--- The front of these bytes was added to the output, and what is behind it is lost.
+-- A prefix of these bytes was added to the output, and the rest is lost.
 abbrev pub WritesFront : Outside → Outside → List ℕ → Type 0
 WritesFront old new due = (lost : List ℕ) × Passes old new due lost
 
--- What writing all of these bytes does: they are added to the output. Where it fails the front of them is.
+-- What writing all of these bytes does: they are added to the output. If it fails a prefix of them
+-- is.
 abbrev pub WritesAll : {A : Type 0} → Result A Failed → Outside → Outside → List ℕ → Type 0
 WritesAll (Ok _) old new due = new ≡ with_output old due
 WritesAll (Err _) old new due = WritesFront old new due
 
--- What putting bytes through a spool does: of what is due some goes out, and the rest is pending. Where it fails the front of it goes out, and
--- nothing is pending.
+-- What putting bytes through a spool does: of the bytes `due` some are written, and the rest is
+-- pending. If it fails a prefix of them is written, and nothing is pending.
 abbrev pub PutsThrough : {A : Type 0} → Result A Failed → Outside → Outside → List ℕ → List ℕ → Type 0
 PutsThrough (Ok _) old new due pending = Passes old new due pending
 PutsThrough (Err _) old new due pending = WritesFront old new due × (pending ≡ [])
 
--- Of a line some was added to standard output, and this is left of it.
+-- A part of a line was printed, and this remains of it.
 pub record Speaks (old new : Outside) (line left : List ℕ) : Type 0 where
   pub bytes : List ℕ
   pub said : new ≡ with_said old bytes
   pub split : line ≡ bytes ++ left
 
--- The front of a line was added to standard output, and what is behind it is lost.
+-- A prefix of a line was added to standard output, and the rest is lost.
 abbrev pub SaysFront : Outside → Outside → List ℕ → Type 0
 SaysFront old new line = (lost : List ℕ) × Speaks old new line lost

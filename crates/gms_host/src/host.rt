@@ -34,26 +34,31 @@ impl<T: Drop> From<AllocFailed<T>> for Failed {
     }
 }
 
-/// The outside: named files, of which one can be read and one written at a time, and standard output.
+/// The outside: named files, of which one can be read and one written at a time, and standard
+/// output.
 ///
-/// What a host tells of itself is its `Meaning`: what stands outside, and the counts of faults. Which parts it tells never changes.
-/// Each call has one clause that says what it makes of what stands outside, by its answer, and the same two on the counts: a fault is
-/// answered only where the count of that kind rose in the call, and no call touches the other count; want of memory raises none.
+/// What a host exposes is its `Meaning`: its outside state, and the counts of faults. Which parts
+/// it exposes never changes. Each call has one clause on what it does to the outside state, by its
+/// answer, and the same two on the counts: a fault is answered only where the count of that kind
+/// rose in the call, and no call changes the other count; out of memory raises none.
 ///
-/// A host may promise of itself, for good, that it is reliable: then no call fails of itself. The only fault is an
-/// `open_in` of a name that no file has, where the host tells its files, and no other call counts a fault. Memory
-/// may be wanting all the same. And it may promise that it is precise: a fault is counted only in a call that answers it.
+/// A host may promise, for good, that it is reliable: then no call fails by itself. The only fault
+/// is an `open_in` of a name that no file has, if the host exposes its files, and no other call
+/// counts a fault. Memory may run out all the same. A host may also promise that it is precise: a
+/// fault is counted only in a call that answers it.
 pub trait Host {
     /// What the host means to its caller.
     ghost meaning: { Self → Meaning };
 
-    /// Opens the file of that name, from which `read` then reads. A name that no file has is a failure.
+    /// Opens the file of that name, from which `read` then reads. A name that no file has is a
+    /// failure.
     fn open_in(&mut self, name: &str) -> Result<(), Failed>
         ensures outside { OpensInput result (meaning self.old).outside (meaning self.new).outside name.now }
         ensures counts { CountsReading result (IsThere (meaning self.old).outside name.now) (meaning self.old).counts (meaning self.new).counts }
         ensures memory { CountsNothing result (meaning self.old).counts (meaning self.new).counts };
 
-    /// Reads the next bytes of the input into the front of the buffer, and answers how many; 0 is the end of the input.
+    /// Reads the next bytes of the input into the beginning of the buffer, and answers how many; 0
+    /// is the end of the input.
     fn read(&mut self, into: &mut [u8]) -> Result<usize, Failed>
         requires open { (meaning self.old).outside.reading ≡ true }
         requires room { 0 < length into.old }
@@ -62,7 +67,7 @@ pub trait Host {
         ensures counts { CountsReading result (Unit {0}) (meaning self.old).counts (meaning self.new).counts }
         ensures memory { CountsNothing result (meaning self.old).counts (meaning self.new).counts };
 
-    /// Opens an output of that name, which is empty then, also where the call fails.
+    /// Opens an output of that name, which is then empty, also if the call fails.
     fn open_out(&mut self, name: &str) -> Result<(), Failed>
         ensures outside { OpensOutput result (meaning self.old).outside (meaning self.new).outside name.now }
         ensures counts { CountsWriting result (meaning self.old).counts (meaning self.new).counts }
@@ -78,7 +83,7 @@ pub trait Host {
         ensures counts { CountsWriting result (meaning self.old).counts (meaning self.new).counts }
         ensures memory { CountsNothing result (meaning self.old).counts (meaning self.new).counts };
 
-    /// Closes the output, which is kept then. It is closed also where the call fails; its bytes stand.
+    /// Closes the output, which is kept then. It is closed also if the call fails; its bytes stay.
     fn close_out(&mut self) -> Result<(), Failed>
         requires { (meaning self.old).outside.writing ≡ true }
         ensures outside { ClosesOutput result (meaning self.old).outside (meaning self.new).outside }
@@ -94,6 +99,7 @@ pub trait Host {
         ensures counts { CountsWriting result (meaning self.old).counts (meaning self.new).counts }
         ensures memory { CountsNothing result (meaning self.old).counts (meaning self.new).counts };
 
-    /// A host that tells its files tells the input, and one that tells the closed outputs tells the opened one.
+    /// A host that exposes its files exposes the input, and one that exposes the closed outputs
+    /// exposes the opened one.
     ghost tells_whole: { (h : Self) → TellsWhole (meaning h).outside };
 }

@@ -1,4 +1,5 @@
-//! Floor 7, outside. The outside as a program sees it: one input, one output and standard output, behind a trait with a written meaning.
+//! Layer 7, outside. The outside as a program accesses it: one input, one output and standard
+//! output, by a trait with a written meaning.
 #![tactic(auto)]
 
 mod host;

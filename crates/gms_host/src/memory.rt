@@ -1,4 +1,4 @@
-//! A host over files in memory, whose calls fail where its maker says so.
+//! A host over files in memory, some of whose calls are to fail.
 ghost use Rattle.std.specs.Prelude.{◌≡◌, ◌≢◌, ◌<◌, ◌↔◌, ◌⊎◌, ◌++◌, [], true, IsSome, map, min, take, drop, length, option_map, string_bytes, Contains, IsNone, IsTrue, IfOk, OnOk, OnErr, IsErrOf};
 ghost use Rattle.std.specs.FinMap as finite;
 ghost use Rattle.gms_host.specs.MemoryState.{file_of, files_of, at_start, in_pieces_of, piece, numbered, with_read_fault, with_write_fault, meaning_of, IsToFail, after_open_in, after_read, after_open_out, after_write, after_close_out, after_say};
@@ -7,11 +7,11 @@ use crate::host::{Failed, Host};
 use std::alloc::Global;
 use std::marker::Model;
 
-/// A host over files in memory, which tells all of itself.
+/// A host over files in memory, which exposes all.
 ///
-/// It numbers its calls from 0, and a call whose number was given to fail is a fault. So is an `open_in` of a
-/// name that no file has, and no other call is one: the host is reliable exactly where no number was given. The
-/// number and both counts of faults stand still at the greatest number of their type.
+/// It numbers its calls from 0, and a call whose number is in `fail` is a fault. So is an `open_in`
+/// of a name that no file has, and no other call is one: the host is reliable exactly if `fail` is
+/// empty. The number and both counts of faults stop at the greatest number of their type.
 #[derive(Debug, Drop)]
 pub struct MemHost {
     alloc: Global,
@@ -61,8 +61,8 @@ impl Model for MemHost {
 }
 
 impl MemHost {
-    /// A host of these files, of which the first counts where several have one name. Nothing is open, and
-    /// the calls whose numbers stand in `fail` are to fail.
+    /// A host of these files, of which the first counts if several have one name. Nothing is open,
+    /// and the calls whose numbers are in `fail` are to fail.
     pub fn new(alloc: Global, files: Vec<(String, Vec<u8>)>, fail: Vec<u64>) -> MemHost
         ensures { result ≡ at_start (files_of files.items) fail.items }
     {
@@ -86,7 +86,7 @@ impl MemHost {
         }
     }
 
-    /// A host as `new` makes it, that reads, writes and says at most so many bytes a call.
+    /// A host as `new` makes it, that reads, writes and prints at most `most` bytes a call.
     pub fn in_pieces(
         alloc: Global,
         files: Vec<(String, Vec<u8>)>,
@@ -147,7 +147,7 @@ impl MemHost {
         self.failing.contains(&number)
     }
 
-    /// How many of so many bytes go in one call.
+    /// How many of `count` bytes go in one call.
     fn piece(&self, count: usize) -> usize
         ensures { result ≡ piece self.now count }
     {
@@ -181,10 +181,10 @@ impl Host for MemHost {
 
     ghost tells_whole = { λ _. record { input = λ told. told; output = λ told. (told, told) } };
 
-    /// Opens the file of that name, and notes the name among those asked for.
+    /// Opens the file of that name, and notes the name among the requested ones.
     ///
-    /// It is a fault where the call is to fail or no file has the name. Where it fails no input is open, and the
-    /// name is not noted.
+    /// It is a fault if the call is to fail or no file has the name. If it fails no input is open,
+    /// and the name is not noted.
     fn open_in(&mut self, name: &str) -> Result<(), Failed>
         ensures after { self.new ≡ after_open_in self.old name.now result }
         ensures found { OnOk result (IsSome (finite.get self.old.files name.now)) }
@@ -205,7 +205,8 @@ impl Host for MemHost {
         Ok(())
     }
 
-    /// Gives as many bytes as are left and fit, and go in one call, and leaves the rest of the buffer.
+    /// Gives as many bytes as remain, fit and go in one call, and leaves the rest of the buffer
+    /// unchanged.
     ///
     /// It is a fault exactly where the call is to fail, and takes no memory. Then nothing is given.
     fn read(&mut self, into: &mut [u8]) -> Result<usize, Failed>
@@ -230,10 +231,10 @@ impl Host for MemHost {
         Ok(count)
     }
 
-    /// Opens an empty output, and notes the name among those asked for.
+    /// Opens an empty output, and notes the name among the requested ones.
     ///
-    /// It is a fault exactly where the call is to fail. Where it fails the output is empty and not open, and the
-    /// name is not noted.
+    /// It is a fault exactly where the call is to fail. If it fails the output is empty and not
+    /// open, and the name is not noted.
     fn open_out(&mut self, name: &str) -> Result<(), Failed>
         ensures after { self.new ≡ after_open_out self.old name.now result }
         ensures exact { IsErrOf result Failed.Fault ↔ IsToFail self.old }
@@ -269,9 +270,10 @@ impl Host for MemHost {
         Ok(count)
     }
 
-    /// Closes the output, whose bytes stand, and keeps a copy of it with its name.
+    /// Closes the output, whose bytes stay, and keeps a copy of it with its name.
     ///
-    /// It is a fault exactly where the call is to fail. Where it fails the output is closed too, and no copy is kept.
+    /// It is a fault exactly where the call is to fail. If it fails the output is closed too, and
+    /// no copy is kept.
     fn close_out(&mut self) -> Result<(), Failed>
         requires { self.old.writing ≡ true }
         ensures after { self.new ≡ after_close_out self.old result }

@@ -1,4 +1,4 @@
-//! The host over real files and standard output, which is where proofs end.
+//! The host over real files and standard output, below which nothing is proved.
 ghost use Rattle.std.specs.Prelude.{◌≡◌, ◌≢◌, ◌<◌, ◌≤◌, ◌↔◌, length, IfOk, OnErr, OnOk, IsErrOf};
 ghost use Rattle.std.specs.IoError.{error_kind};
 ghost use Rattle.gms_host.specs.Meaning.{Rose};
@@ -16,9 +16,9 @@ const TRIES: u32 = 64;
 
 /// A host over real files and standard output.
 ///
-/// It tells no files, no names and no bytes, and does not promise to be reliable. Each error of std is counted as
-/// a fault, but for want of memory, and so is a write that takes nothing. An interrupted read or write is made
-/// again, up to 64 times in all.
+/// It exposes no files, no names and no bytes, and does not promise to be reliable. Each error of
+/// std is counted as a fault, except out of memory, and so is a write that takes nothing. An
+/// interrupted read or write is made again, up to 64 times in all.
 #[derive(Drop)]
 pub struct RealHost<R: Files> {
     runtime: R,
@@ -113,7 +113,7 @@ impl<R: Files + Print> Host for RealHost<R> {
     }
 }
 
-/// Counts an error of std, unless it is want of memory, and says which of the two it is.
+/// Counts an error of std, unless memory ran out, and says which of the two it is.
 fn counted(faults: &mut u64, error: &io::Error) -> Failed
     ensures memory { (result ≡ Failed.Memory) ↔ (error_kind error.now ≡ ErrorKind.OutOfMemory) }
     ensures same { result ≡ Failed.Memory → faults.new ≡ faults.old }
@@ -128,7 +128,7 @@ fn counted(faults: &mut u64, error: &io::Error) -> Failed
 
 /// Reads some bytes. An interrupted read is made again, and each error is counted.
 ///
-/// Where memory is wanting no error is counted, so that the count says what the answer says.
+/// If memory runs out no error is counted, so that the count agrees with the answer.
 fn read_some<F: Read>(file: &mut F, faults: &mut u64, into: &mut [u8]) -> Result<usize, Failed>
     ensures room { IfOk result (λ count. count ≤ length into.new) }
     ensures rose { IsErrOf result Failed.Fault → Rose faults.old faults.new }
@@ -156,10 +156,10 @@ fn read_some<F: Read>(file: &mut F, faults: &mut u64, into: &mut [u8]) -> Result
     Err(Failed::Fault)
 }
 
-/// Writes some bytes, at least one. An interrupted write is made again, and each error is counted, as is a
-/// write that takes nothing.
+/// Writes some bytes, at least one. An interrupted write is made again, and each error is counted,
+/// as is a write that takes nothing.
 ///
-/// Where memory is wanting no error is counted, so that the count says what the answer says.
+/// If memory runs out no error is counted, so that the count agrees with the answer.
 fn write_some<F: Write>(file: &mut F, faults: &mut u64, from: &[u8]) -> Result<usize, Failed>
     ensures count { IfOk result (λ count. count ≤ length from.now) }
     ensures progress { IfOk result (λ count. 0 < count) }

@@ -1,4 +1,4 @@
-//! A buffer through which a text goes out to a host.
+//! A buffer through which a text is written to a host.
 ghost use Rattle.std.specs.Prelude.{◌≡◌, ◌<◌, ◌≤◌, ◌+◌, ◌++◌, [], true, length, IfOk, OnOk};
 ghost use Rattle.gms_host.specs.Rules.{CountsWriting};
 ghost use Rattle.gms_host.specs.Spooling.{WritesAll, PutsThrough};
@@ -10,15 +10,16 @@ use std::marker::Model;
 /// How many bytes are pending at most.
 const ROOM: usize = 4096;
 
-/// Bytes that are still to be written, at most 4,096 of them. Their room is taken when the spool is made.
+/// Bytes that are still to be written, at most 4,096 of them. Their memory is taken when the spool
+/// is made.
 ///
-/// What stands in the output of a host, followed by what is pending, is the text that was put so far.
+/// The output of a host, followed by what is pending, is the text that was put so far.
 #[derive(Debug)]
 pub struct Spool {
     pending: Vec<u8>,
 }
 
-// Written out, so that it is proved here alone, and not in each crate that lets one go.
+// Written out, so that it is proved once, and not in each crate that drops one.
 impl Drop for Spool {
     fn drop(self) {
         let Self { pending: _ } = self;
@@ -60,11 +61,12 @@ impl Spool {
         })
     }
 
-    /// Puts a text behind what is pending, and writes what does not find room.
+    /// Appends a text to what is pending, and writes what does not fit.
     ///
-    /// The output followed by what is pending then is what it was, followed by the text. The error is that of a `write` of the host; a fault
-    /// comes only where one of writing was counted. Then the output begins with what it was, and goes on with the front of what was pending
-    /// and of the text, and nothing is pending. All of the host stays but its output and its count of faults of writing.
+    /// The output followed by what is pending then is what it was, followed by the text. The error
+    /// is that of a `write` of the host; a fault comes only where one of writing was counted. Then
+    /// the output is what it was, followed by a prefix of what was pending and of the text, and
+    /// nothing is pending. Only the output of the host and its count of faults of writing change.
     pub fn put<H: Host>(&mut self, host: &mut H, text: &[u8]) -> Result<(), Failed>
         requires { (H.meaning host.old).outside.writing ≡ true }
         ensures outside { PutsThrough result (H.meaning host.old).outside (H.meaning host.new).outside (self.old ++ text.now) self.new }
@@ -78,12 +80,12 @@ impl Spool {
             self.append(&rest[..count]);
             rest = &rest[count..];
         }
-        // No more is pending than there is room for.
+        // No more is pending than fits.
         let _ = &self.pending;
         Ok(())
     }
 
-    /// Writes what is pending where there is no room behind it.
+    /// Writes what is pending if the spool is full.
     fn make_room<H: Host>(&mut self, host: &mut H) -> Result<(), Failed>
         requires { (H.meaning host.old).outside.writing ≡ true }
         ensures outside { PutsThrough result (H.meaning host.old).outside (H.meaning host.new).outside self.old self.new }
@@ -97,7 +99,7 @@ impl Spool {
         }
     }
 
-    /// Puts a text for which there is room behind what is pending.
+    /// Appends a text that fits to what is pending.
     fn append(&mut self, text: &[u8])
         requires { length self.old + length text.now ≤ 4096 }
         ensures { self.new ≡ self.old ++ text.now }
@@ -109,9 +111,10 @@ impl Spool {
 
     /// Writes what is pending.
     ///
-    /// The output then is what it was, followed by what was pending, and nothing is pending. The error is that of a `write` of the host; a
-    /// fault comes only where one of writing was counted. Then the output begins with what it was, and goes on with the front of what was
-    /// pending, and nothing is pending. All of the host stays but its output and its count of faults of writing.
+    /// The output then is what it was, followed by what was pending, and nothing is pending. The
+    /// error is that of a `write` of the host; a fault comes only where one of writing was counted.
+    /// Then the output is what it was, followed by a prefix of what was pending, and nothing is
+    /// pending. Only the output of the host and its count of faults of writing change.
     pub fn flush<H: Host>(&mut self, host: &mut H) -> Result<(), Failed>
         requires { (H.meaning host.old).outside.writing ≡ true }
         ensures outside { WritesAll result (H.meaning host.old).outside (H.meaning host.new).outside self.old }

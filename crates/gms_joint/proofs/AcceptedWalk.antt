@@ -1,4 +1,5 @@
--- What each declaration of an accepted program keeps, with its data, holds of the state in which its run begins.
+-- What each declaration of an accepted program keeps, with its data, holds of the state in which
+-- its run begins.
 use Rattle.std.proofs.Common.{◌≡◌, ℕ, Bool, true, if◌then◌else◌, List, [], ◌∷◌, ◌++◌, length, None, refl, sym, ap, ◌∙◌, subst, append_assoc}
 use Rattle.std.specs.List.{fold}
 use Rattle.std.proofs.lemmas.List.{map-append, append-nil}

@@ -1,4 +1,5 @@
--- The names that are declared where a statement of a program stands are of the same kind in each state of its run, over the same domain.
+-- A name that is declared before a statement of a program has the same kind and the same domain in
+-- each state of its run.
 use Rattle.std.proofs.Common.{◌≡◌, ◌<◌, ℕ, zero, suc, Bool, true, false, ◌&&◌, ◌==◌, List, [], ◌∷◌, length, map, slice_get, unwrap_or, refl, sym, ap, ◌∙◌, subst, arith}
 use Rattle.std.proofs.lemmas.Bool.{eqb-true}
 use Rattle.gq_number.specs.Number.{Number}

@@ -1,4 +1,5 @@
--- What holds of each definition that a statement of a program makes holds of all its definitions, and so of those of a model.
+-- What holds of each definition that a statement of a program makes holds of all its definitions,
+-- and so of those of a model.
 use Rattle.std.proofs.Common.{◌≡◌, ℕ, Bool, true, false, cond, List, [], ◌∷◌, ◌++◌, Option, refl, sym, ◌∙◌, subst, append_assoc}
 use Rattle.std.specs.Prelude.{flat_map, ◌==◌}
 use Rattle.std.specs.List.{All}

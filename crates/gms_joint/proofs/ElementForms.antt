@@ -1,5 +1,5 @@
--- The elements that stand in the forms and rows of the definitions of an accepted program are elements of the state: those of forms are of
--- variables, those of rows of equations.
+-- The elements in the forms and rows of the definitions of an accepted program are elements of the
+-- state: those of forms are of variables, those of rows of equations.
 use Rattle.std.proofs.Common.{◌≡◌, ℕ, suc, pos, Bool, true, false, if◌then◌else◌, List, [], ◌∷◌, ◌++◌, length, map, Option, Some, None, option_map, Ok, Err, refl, sym, ap, ◌∙◌}
 use Rattle.std.specs.Prelude.{nat_le, ◌==◌}
 use Rattle.std.proofs.lemmas.Bool.{eq-eqb}
@@ -41,7 +41,7 @@ either-known : {A : Type 0} (P : A → Type 0) (b : Bool) (x y : A) → (b ≡ t
 either-known P true x y p q = p refl
 either-known P false x y p q = q
 
--- where it holds of what is made of anything it holds of each that is made
+-- a property of all images holds of each image
 map-has : {A B : Type 0} (P : B → Type 0) (f : A → B) → ((x : A) → P (f x)) → (xs : List A) → EachHas P (map f xs)
 map-has P f each [] = tt
 map-has P f each (x ∷ xs) = (each x, map-has P f each xs)

@@ -1,4 +1,5 @@
--- In an accepted program each name has at most 10 positions, so that what is given of it has at most 10 labels.
+-- In an accepted program each name has at most 10 positions, so each tuple with data has at most 10
+-- labels.
 use Rattle.std.proofs.Common.{◌≡◌, ◌≤◌, ℕ, Bool, true, false, ◌==◌, cond, List, [], ◌∷◌, length, Option, Some, None, Result, Ok, Err, sym, ap, subst, inl, inr, arith}
 use Rattle.std.specs.List.{All, fold}
 use Rattle.gq_number.specs.Number.{Number}
@@ -102,7 +103,8 @@ few-loaded : {F : Type 0} (v : F → Number) (program : Program F) → IsAccepte
 few-loaded v program accepted =
     over-accepted program AreFew (λ k. few-item k program) few-alias few-model v accepted (λ n. subst (λ (s : Symbol). length s.domain ≤ 10) (sym (none-declared (length program.names) n)) none-few)
 
--- what is given of a name has at most 10 labels, wherever what an accepted program begins with lasts
+-- each tuple with data of a name has at most 10 labels, in each state that keeps what an accepted
+-- program begins with
 pub few-lasting : {F : Type 0} (v : F → Number) (program : Program F) (state : State) (name : ℕ) → IsAccepted v program → IsLasting v program state → All (λ (t : List ℕ). length t ≤ 10) (given_in (symbol_at state name).content)
 few-lasting v program state name accepted lasts k d below =
     let long = (lasts.later.given name).long k d below in

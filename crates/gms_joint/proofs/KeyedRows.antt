@@ -1,4 +1,5 @@
--- Rows, and linear programs, whose forms are over elements that pass a test, and of whose own elements something holds.
+-- Rows, and linear programs, whose forms are over elements that pass a test, and whose own elements
+-- have a property.
 use Rattle.std.proofs.Common.{◌≡◌, ℕ, nat_lt, Bool, true, false, List, [], ◌∷◌, ◌++◌, map, Option, Some, None, Ok, Err, sym, ◌∙◌}
 use Rattle.std.specs.Prelude.{flat_map, if◌then◌else◌}
 use Rattle.std.specs.FinMap as finite
@@ -80,7 +81,7 @@ module _ (test : Key → Bool) (Q : Key → Type 0) where
   -- ---- the rows of a model
 
   module _ {F : Type 0} (v : F → Number) (limit : ℕ) (state : State) where
-    -- it holds of each row of a definition, under whatever labels its sets stand for
+    -- it holds of each row of a definition, under any labels of its sets
     abbrev pub HasRows : Definition F → Type 0
     HasRows d = (binding : Pairs) → OkHas MayHaveKeys (row_under v limit state d binding)
 

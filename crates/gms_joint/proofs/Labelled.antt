@@ -1,4 +1,5 @@
--- Where each controlled set has a label, so has each set among the indices of a reference of an accepted program.
+-- Where each controlled set has a label, so has each set among the indices of a reference of an
+-- accepted program.
 use Rattle.std.proofs.Common.{◌≡◌, ◌≤◌, ℕ, ◌+◌, ℤ, Bool, true, false, ◌||◌, ◌==◌, List, [], ◌∷◌, ◌++◌, length, get_or, Option, Some, None, is_some, option_map, option_and_then, Ok, refl, sym, ap, ◌∙◌, subst, if◌then◌else◌, eq-eqb, inl, inr, arith}
 use Rattle.std.specs.Prelude.{nat_le, ok_or}
 use Rattle.std.specs.List.{All}
@@ -45,7 +46,7 @@ sets-stand b within sets stand all = λ k d below. among-stands b within (get_or
 
 -- ---- the labels of an element
 
--- a set that stands for a label does so besides others
+-- a set that stands for a label also does so with more pairs
 stands-first : (b more : Pairs) (set : ℕ) → is_some (label_of b set) ≡ true → is_some (label_of (b ++ more) set) ≡ true
 stands-first [] more set is = absurd (cc)
 stands-first (p ∷ b) more set is = by (p.0 == set) (stands-first b more set) is
@@ -140,7 +141,7 @@ module _ {F : Type 0} (v : F → Number) (limit : ℕ) (state : State) (b : Pair
       by None here xs later none = inl (here refl)
       by (Some l) here xs later none = inr (later (none-later l (all_there xs) none))
 
-  -- at most 10 labels are a tuple where each is there
+  -- at most 10 labels are a tuple if each exists
   pub tuple-past : (indices : tree.Indices F) (those : List (Option ℕ)) → StandForLabels b (index_sets indices) → index_count indices ≤ 10 → in_order (labels v limit state b indices) ≡ Ok those → tuple_of those ≡ None → SomeGoesPast v limit state b indices
   tuple-past indices those stand few e none =
       missing indices those stand e (by (nat_le (length those) 10) (within (length those) (index_count indices) (labels-count indices those e) few) none)

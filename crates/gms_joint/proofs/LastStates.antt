@@ -1,4 +1,5 @@
--- Each state of a run declares what the first did, keeps what is given tidy, leaves alone the sets that are not assigned, and has settings in range.
+-- Each state of a run declares what the first did, keeps its data tidy, leaves alone the sets that
+-- are not assigned, and has settings in range.
 use Rattle.std.proofs.Common.{◌≡◌, ℕ, Bool, true, false, ◌&&◌, ◌==◌, cond, if◌then◌else◌, List, [], ◌∷◌, length, pos, negsuc, ℤ, refl, sym, ap, ◌∙◌, subst, inl, inr}
 use Rattle.std.specs.Prelude.{nat_le, codes}
 use Rattle.std.specs.List.{fold}

@@ -1,4 +1,5 @@
--- What a run showed before, and how many answers it took, changes nothing of what statements do: they put what they show behind it, and take the answers behind those.
+-- What a run showed before, and how many answers it took, has no effect on what statements do: they
+-- append what they show, and take the next answers.
 use Rattle.std.proofs.Common.{◌≡◌, ℕ, ◌+◌, Bool, true, false, List, [], ◌∷◌, ◌++◌, map, Option, Some, None, Ok, Err, refl, sym, ap, ap₂, ◌∙◌, subst, append_assoc, append-nil, arith}
 use Rattle.std.proofs.lemmas.List.{map-append}
 use Rattle.std.specs.Prelude.{if◌then◌else◌, option_map, slice_index_or}
@@ -31,7 +32,7 @@ use Rattle.lp_core.specs.declared.answer.Answer.{Answer}
 use Rattle.gms_exec.specs.Run.{Course, Halt, World, OfAct, OfStatement, in_state, with_event, stopped_by, while_it_runs, with_value, one_after_another, for_each, display, abort, abort_where, over_elements, answered, solve, act_step, statement_step, of_statement, labels_in, run_from}
 use Rattle.gms_joint.specs.JointRun.{later_event, later, behind_run}
 
--- a statement, and an act, do the same behind events that were shown before
+-- a statement, or an act, does the same after events that were shown before
 abbrev pub IsLater : OfStatement → Type 0
 IsLater s = (k : ℕ) (front : List Event) (binding : Pairs) (c : Course) → s binding (later k front c) ≡ later k front (s binding c)
 
@@ -44,12 +45,12 @@ shows_later k front c e =
     ap (λ (es : List Event). record { state = c.state; events = es; left = c.left; taken = k + c.taken; halted = c.halted })
     (append_assoc front (map (later_event k) c.events) (later_event k e ∷ []) ∙ ap (λ (es : List Event). front ++ es) (sym (map-append (later_event k) c.events (e ∷ []))))
 
--- a value is taken, or a fault stops the run
+-- a step with a value, or a stop by a fault
 later_value : {A : Type 0} (k : ℕ) (front : List Event) (r : Evaluated A) (next other : A → Course) (c : Course) → ((x : A) → other x ≡ later k front (next x)) → with_value r other (later k front c) ≡ later k front (with_value r next c)
 later_value k front (Ok x) next other c same = same x
 later_value k front (Err fault) next other c same = refl
 
--- what goes on only where nothing halts the run
+-- a step that is taken only where nothing halts the run
 later_runs : (k : ℕ) (front : List Event) (next : Course → Course) (c : Course) → next (later k front c) ≡ later k front (next c) → while_it_runs next (later k front c) ≡ later k front (while_it_runs next c)
 later_runs k front next c same = by_halt c.halted
   where
@@ -57,12 +58,12 @@ later_runs k front next c same = by_halt c.halted
     by_halt None = same
     by_halt (Some halt) = refl
 
--- each of some statements does so
+-- each of some statements does the same
 abbrev pub AreLater : List OfStatement → Type 0
 AreLater [] = Unit {0}
 AreLater (s ∷ ss) = IsLater s × AreLater ss
 
--- statements one after another
+-- statements in sequence
 pub later_all : (ss : List OfStatement) → AreLater ss → IsLater (one_after_another ss)
 later_all [] are k front binding c = refl
 later_all (s ∷ ss) are k front binding c =
@@ -123,12 +124,12 @@ module _ {F : Type 0} (number_of : F → Number) (limit : ℕ) (world : World F)
   abbrev Q : Stmt F → Type 0
   Q s = IsLater (of_statement number_of limit world s)
 
-  -- statements that do so, each with the proof of it
+  -- the statements of a body do, from a proof for each
   body_behind : (body : List ((s : Stmt F) × Q s)) → AreLater (map (of_statement number_of limit world) (map (λ e. e.0) body))
   body_behind [] = tt
   body_behind (e ∷ body) = (e.1, body_behind body)
 
-  -- an act does so where what its layer comes to does
+  -- the claim for an act, from that for its unrolled form
   rolled : (x : Act-F F (Act F) (Stmt F)) (f : OfAct) → of_act (roll-Act F x) ≡ f → IsLaterAct f → IsLaterAct (of_act (roll-Act F x))
   rolled x f e q = subst IsLaterAct (sym e) q
 
@@ -140,7 +141,7 @@ module _ {F : Type 0} (number_of : F → Number) (limit : ℕ) (world : World F)
   later_assign target condition right_at right k front at binding c =
       later_value k front (after_assignment number_of limit c.state at binding (target_of target) (option_map tree_of condition) right_at (tree_of right)) (in_state c) (in_state (later k front c)) c (λ state. refl)
 
-  -- an act whose loop's statements do so
+  -- an act does, if the statements of its loop do
   by_layer : (y : Act-F F ((a : Act F) × IsLaterAct (of_act a)) ((s : Stmt F) × Q s)) → IsLaterAct (of_act (roll-Act F (map-Act F ((a : Act F) × IsLaterAct (of_act a)) ((s : Stmt F) × Q s) (Act F) (Stmt F) (λ e. e.0) (λ e. e.0) y)))
   by_layer (Act-F.Declare kind items) = rolled (Act-F.Declare kind items) _ (fold-roll-Act F OfAct OfStatement (act_step number_of limit world) (statement_step number_of limit) (Act-F.Declare kind items)) later_nothing
   by_layer (Act-F.Alias first second) = rolled (Act-F.Alias first second) _ (fold-roll-Act F OfAct OfStatement (act_step number_of limit world) (statement_step number_of limit) (Act-F.Alias first second)) later_nothing
@@ -153,25 +154,25 @@ module _ {F : Type 0} (number_of : F → Number) (limit : ℕ) (world : World F)
   by_layer (Act-F.Solve model word objective maximize) = rolled (Act-F.Solve model word objective maximize) _ (fold-roll-Act F OfAct OfStatement (act_step number_of limit world) (statement_step number_of limit) (Act-F.Solve model word objective maximize)) (later_solve world.solvers world.program.statements.items model.name objective.name maximize)
   by_layer (Act-F.Loop control body) = rolled (map-Act F ((a : Act F) × IsLaterAct (of_act a)) ((s : Stmt F) × Q s) (Act F) (Stmt F) (λ e. e.0) (λ e. e.0) (Act-F.Loop control body)) _ (fold-roll-Act F OfAct OfStatement (act_step number_of limit world) (statement_step number_of limit) (map-Act F ((a : Act F) × IsLaterAct (of_act a)) ((s : Stmt F) × Q s) (Act F) (Stmt F) (λ e. e.0) (λ e. e.0) (Act-F.Loop control body))) (later_loop (control_tree control) _ (body_behind body.items))
 
-  -- a statement whose act does so
+  -- a statement does, if its act does
   by_statement : (y : Stmt-F F ((a : Act F) × IsLaterAct (of_act a)) ((s : Stmt F) × Q s)) → Q (roll-Stmt F (map-Stmt F ((a : Act F) × IsLaterAct (of_act a)) ((s : Stmt F) × Q s) (Act F) (Stmt F) (λ e. e.0) (λ e. e.0) y))
   by_statement y =
       let z = map-Stmt F ((a : Act F) × IsLaterAct (of_act a)) ((s : Stmt F) × Q s) (Act F) (Stmt F) (λ e. e.0) (λ e. e.0) y in
       subst IsLater (sym (fold-roll-Stmt F OfAct OfStatement (act_step number_of limit world) (statement_step number_of limit) z)) (λ k front binding c. y.act.1 k front y.at binding c)
 
-  -- Each statement does the same behind what was shown before.
+  -- Each statement does the same after what was shown before.
   pub later_statement : (s : Stmt F) → Q s
   later_statement =
       ind-Stmt F (λ act. IsLaterAct (of_act act)) Q
       (λ x y is. subst (λ z. IsLaterAct (of_act (roll-Act F z))) is (by_layer y))
       (λ x y is. subst (λ z. Q (roll-Stmt F z)) is (by_statement y))
 
-  -- and so do statements one after another
+  -- and so do statements in sequence
   are_later : (statements : List (Stmt F)) → AreLater (map (of_statement number_of limit world) statements)
   are_later [] = tt
   are_later (s ∷ ss) = (later_statement s, are_later ss)
 
-  -- where a run has come to, not halted, is a beginning there, behind it
+  -- the point that a run has reached, unless halted, is the beginning of a run after it
   begins_there : (c : Course) → c.halted ≡ None → c ≡ later c.taken c.events (record { state = c.state; events = []; left = c.left; taken = 0; halted = None })
   begins_there c none =
       ap (λ (h : Option Halt). record { state = c.state; events = c.events; left = c.left; taken = c.taken; halted = h }) none
@@ -181,7 +182,7 @@ module _ {F : Type 0} (number_of : F → Number) (limit : ℕ) (world : World F)
   fold-append [] others binding c = refl
   fold-append (s ∷ first) others binding c = fold-append first others binding (while_it_runs (s binding) c)
 
-  -- The run of statements and of others behind them goes on where that of the first ended.
+  -- The run of statements followed by others continues where that of the first ended.
   pub joined : (state : State) (answers : List (Answer Number)) (first others : List (Stmt F)) → (run_from number_of limit world state answers first).halted ≡ None → run_from number_of limit world state answers (first ++ others) ≡ behind_run (run_from number_of limit world state answers first) (run_from number_of limit world (run_from number_of limit world state answers first).state (run_from number_of limit world state answers first).left others)
   joined state answers first others none =
       let of = of_statement number_of limit world in

@@ -64,7 +64,7 @@ module _ {F : Type 0} (v : F → Number) (limit : ℕ) (world : World F) (accept
   abbrev known_before : List (Stmt F) → Known F
   known_before before = known_after v program accepted.0 (sound before)
 
-  -- a name that is declared then is a variable just where it is one now
+  -- a name that is declared then is a variable exactly where it is one now
   kinds : (before : List (Stmt F)) (statement : Stmt F) → StandsAfter program before statement → (n : ℕ) → is_unknown (known_before before).state n ≡ false → is_variable (symbol_at state n).content ≡ checked_names.is_variable (symbol_at (known_before before).state n).content
   kinds before statement stands n declared =
       same-variables state (loaded v program) lasts.later.declares n

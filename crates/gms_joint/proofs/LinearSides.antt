@@ -1,4 +1,5 @@
--- The sides of the definitions of an accepted program are linear in the variables, in each state of its run.
+-- The sides of the definitions of an accepted program are linear in the variables, in each state of
+-- its run.
 use Rattle.std.proofs.Common.{◌≡◌, ℕ, Bool, true, false, not, ◌&&◌, ◌||◌, if◌then◌else◌, List, [], ◌∷◌, ◌++◌, refl, sym, ap, ◌∙◌}
 use Rattle.std.specs.List.{list_any}
 use Rattle.std.proofs.lemmas.Bool.{both_ways}
@@ -59,7 +60,7 @@ summed : (has sums linear : Bool) → (has ≡ true → sums ≡ true) → linea
 summed true sums linear is so = and-made sums linear (is refl) so
 summed false sums linear is so = refl
 
--- a sum is one by both words
+-- the check's test of a sum implies this one
 sum-too : (op : FoldOp) → checking.is_sum op ≡ true → is_sum op ≡ true
 sum-too Sum e = refl
 sum-too Prod e = absurd (cc)
@@ -93,7 +94,7 @@ module _ {F : Type 0} (known : Known F) (state : State) (kinds : (n : ℕ) → i
   -- ---- factors
 
   module _ (standing : Standing) (variables : standing.variables ≡ true) (at : Place) (around : List ℕ) where
-    -- the right operand of a step behind a factor with variables has none
+    -- after a factor with variables the right operand of a step has none
     no-step : (operation : Operation) (earlier : List (Tree F)) (e : Tree F) → list_any (has_variable known) earlier ≡ true → nonlinear known (stepping standing operation earlier e) ≡ false → has_variable known e ≡ false
     no-step multiplies earlier e some none =
         third-fails standing.variables (list_any (has_variable known) earlier) (has_variable known e) variables some none
@@ -107,7 +108,7 @@ module _ {F : Type 0} (known : Known F) (state : State) (kinds : (n : ℕ) → i
     abbrev rest_uses : tree.Parts F → Uses F
     rest_uses rest = part_uses (as_part standing) at around rest
 
-    -- one with variables that the step before it leaves none
+    -- a part with variables, after which the check finds none
     not-there : (mark : Mark) (e : Tree F) → AreClean known (own_uses mark e) → has_variable known e ≡ false → has_variables state e ≡ false
     not-there mark e clean none =
         false-from (has_variables state e) (λ has. both_ways (has_variable known e) none (has-there e (as_part standing) (place_of mark at) around clean has))
@@ -120,7 +121,7 @@ module _ {F : Type 0} (known : Known F) (state : State) (kinds : (n : ℕ) → i
     some-last earlier e has =
         list_any-append (has_variable known) earlier (e ∷ []) ∙ or-right (list_any (has_variable known) earlier) (has_variable known e || false) (ap (λ (x : Bool). x || false) has)
 
-    -- behind a factor with variables none has some
+    -- after a factor with variables no other has some
     none-later : (earlier : List (Tree F)) (rest : tree.Parts F) → list_any (has_variable known) earlier ≡ true → AreClean known (later_steps standing at earlier rest) → AreClean known (rest_uses rest) → some_has_variables state rest ≡ false
     none-later earlier tree.no_part some clean there = refl
     none-later earlier (tree.part mark e rest) some clean there =

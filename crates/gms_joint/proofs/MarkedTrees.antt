@@ -34,7 +34,7 @@ module _ (F : Type 0) where
   abbrev Q : Expr F → Type 0
   Q e = IsMarked (tree_of e)
 
-  -- parts of which each tree is so
+  -- parts whose trees are all marked
   signed-marked : (parts : List (Place × Bool × ((e : Expr F) × Q e))) → AreMarked (signed_parts (map {B = Place × Bool × Tree F} (λ p. (p.0, p.1, tree_of p.2)) (map {B = Place × Bool × Expr F} (λ p. (p.0, p.1, p.2.0)) parts)))
   signed-marked [] = tt
   signed-marked (p ∷ parts) = (refl, (p.2.1, signed-marked parts))
@@ -77,6 +77,6 @@ module _ (F : Type 0) where
       (λ x y is. tt)
       (λ x y is. tt)
 
--- the tree of an expression is so
+-- the tree of an expression is marked
 pub tree-marked : {F : Type 0} (e : Expr F) → IsMarked (tree_of e)
 tree-marked {F} e = every-tree F e

@@ -46,12 +46,12 @@ simple-set old new stays set over =
     let members = over-one old new stays set over in
     (members.0, λ member there. All-contains (λ (t : List ℕ). length t ≡ 1) (members_of new set) member members.1 (Contains-has (members_of new set) member there))
 
--- the members of a set that is an index set where a statement stands, in each state of a run
+-- the members of a set that is an index set before a statement, in each state of a run
 pub index-members : {F : Type 0} (v : F → Number) (limit : ℕ) (world : World F) (before : List (Stmt F)) (statement : Stmt F) (set : ℕ) (state : State) → StandsAfter world.program before statement → is_index_set (state_after v (length world.program.names) (sound before)) set ≡ true → IsLasting v world.program state → IsOrdered (members_of state set) × AreSingles (members_of state set)
 index-members v limit world before statement set state stands one lasts =
     over-one (loaded v world.program) state lasts.stays set (index-set-loaded v world.program before statement stands set one)
 
--- a set that is an index set where a statement stands is one in each state of a run
+-- a set that is an index set before a statement is one in each state of a run
 pub index-simple : {F : Type 0} (v : F → Number) (limit : ℕ) (world : World F) (before : List (Stmt F)) (statement : Stmt F) (set : ℕ) (state : State) → StandsAfter world.program before statement → is_index_set (state_after v (length world.program.names) (sound before)) set ≡ true → IsLasting v world.program state → IsSimple state set
 index-simple v limit world before statement set state stands one lasts =
     simple-set (loaded v world.program) state lasts.stays set (index-set-loaded v world.program before statement stands set one)

@@ -34,7 +34,7 @@ use Rattle.gms_exec.specs.Run.{Course, Halt, World, OfAct, OfStatement, in_state
 use Rattle.gms_exec.specs.Showing.{all_shown}
 use Rattle.gms_exec.specs.Solved.{after_end}
 
--- ---- statements one after another
+-- ---- statements in sequence
 
 module _ (P : State → Type 0) where
   -- a statement keeps it, and an act
@@ -102,7 +102,7 @@ module _ {F : Type 0} (v : F → Number) (limit : ℕ) (world : World F) (P : St
   body_keeps (e ∷ body) all =
       (e.1 (allowed-left (assigned e.0) (flat_map (λ (names : List ℕ). names) (map assigned (map (λ e. e.0) body))) all), body_keeps body (allowed-right (assigned e.0) (flat_map (λ (names : List ℕ). names) (map assigned (map (λ e. e.0) body))) all))
 
-  -- an act keeps it where what its layer comes to does
+  -- the claim for an act, from that for its unrolled form
   rolled : (x : Act-F F (Act F) (Stmt F)) (f : OfAct) (names : List ℕ) → of_act (roll-Act F x) ≡ f → names_in (roll-Act F x) ≡ names → (AreAllowed names → KeepsAct P f) → QAct (roll-Act F x)
   rolled x f names e same keeps all = subst (KeepsAct P) (sym e) (keeps (subst AreAllowed same all))
 

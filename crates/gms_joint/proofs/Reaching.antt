@@ -14,7 +14,7 @@ use Rattle.gms_joint.specs.Reached.{IsStatementOf, IsReached, at_first, after}
 use Rattle.gms_joint.proofs.Persisting.{EachKeeps, all-keep, AreAllowed, keeps-statement}
 
 module _ {F : Type 0} (v : F → Number) (limit : ℕ) (world : World F) (first : State) where
-  -- statements of the program, behind others of it
+  -- statements of the program, after others of it
   each-reaches : (before statements : List (Stmt F)) → world.program.statements.items ≡ before ++ statements → EachKeeps (IsReached v limit world first) (map (of_statement v limit world) statements)
   each-reaches before [] is = tt
   each-reaches before (s ∷ statements) is =
@@ -34,7 +34,7 @@ module _ {F : Type 0} (v : F → Number) (limit : ℕ) (world : World F) (first 
   all-allowed [] = tt
   all-allowed (n ∷ names) = (tt, all-allowed names)
 
-  -- each name of a reached state follows its own of the first
+  -- each name of a reached state follows the name of the first
   pub reached-stays : (state : State) → IsReached v limit world first state → Stays first state
   reached-stays state at_first = stays-itself first
   reached-stays state (after {state = before} s binding c of_program same reached) =

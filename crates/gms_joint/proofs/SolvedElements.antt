@@ -1,4 +1,5 @@
--- The columns and the rows of the linear program of a solve of an accepted program are elements of the state, and no two of them are the same.
+-- The columns and the rows of the linear program of a solve of an accepted program are elements of
+-- the state, and no two of them are the same.
 use Rattle.std.proofs.Common.{◌≡◌, ◌≢◌, ℕ, zero, suc, Bool, true, false, ◌&&◌, cond, List, [], ◌∷◌, ◌++◌, length, map, get_or, slice_get, Option, Some, option_map, Ok, Err, refl, sym, ap, ◌∙◌, subst}
 use Rattle.std.specs.Prelude.{nat_lt, if◌then◌else◌, ◌==◌}
 use Rattle.std.specs.List.{All, AllPairs, list_any}
@@ -198,7 +199,7 @@ sized-one at made lp e = by (nat_lt 1500 (standard_rows made)) (nat_lt 3000 (sta
 -- ---- sets of definitions
 
 module _ {F : Type 0} where
-  -- the sets among indices by both words
+  -- the sets among indices, by both definitions
   among-same : (indices : tree.Indices F) → index_sets indices ≡ sets_among indices
   among-same tree.no_index = refl
   among-same (tree.label label rest) = among-same rest

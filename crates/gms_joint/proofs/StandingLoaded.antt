@@ -1,4 +1,5 @@
--- In the state in which an accepted program's run begins each label of what is given stands at its position.
+-- In the state in which an accepted program's run begins each label of a tuple with data fits its
+-- position.
 use Rattle.std.proofs.Common.{◌≡◌, ◌⊎◌, ℕ, ◌+◌, Bool, true, false, not, ◌||◌, ◌&&◌, ◌==◌, cond, if◌then◌else◌, List, [], ◌∷◌, ◌++◌, length, map, Option, Some, None, is_some, Result, Ok, Err, refl, sym, ap, ◌∙◌, subst, inl, inr}
 use Rattle.std.specs.FinMap as finite
 use Rattle.std.specs.Prelude.{flat_map, nat_lt}
@@ -108,7 +109,7 @@ gaining old new each set u there = elim (each set).alike [
   | inr alike ↦ subst (λ n. has (members_in (symbol_at new n).content) u ≡ true) (sym (alike set)) ((each (base_of old set)).members u there)
 ]
 
--- what is given of a symbol stands in its domain
+-- each tuple with data of a symbol is in its domain
 abbrev IsStanding : State → Symbol → Type 0
 IsStanding state symbol = (t : List ℕ) → has (given_in symbol.content) t ≡ true → StandAt state symbol.domain t
 
@@ -139,7 +140,8 @@ nothing-there : (X : Type 0) (t : List ℕ) → has (finite.keys (finite.empty {
 nothing-there X t there =
     both_ways (has (finite.keys (finite.empty {X = X} {R = tuple_cmp})) t) (has-keys (finite.empty {X = X} {R = tuple_cmp}) t ∙ ap is_some (finite.get-empty tuple_cmp t)) there
 
--- A content later: no member less, the same behind it, and nothing more given.
+-- A content after a change: no member is removed, an alias stands for the same set, and no tuple
+-- with data is added.
 record IsQuiet (old new : Content) : Type 0 where
   members : (u : List ℕ) → has (members_in old) u ≡ true → has (members_in new) u ≡ true
   behind_same : (n : ℕ) → behind n new ≡ behind n old
@@ -239,7 +241,8 @@ is_deaf (set_of members) = false
 is_deaf (parameter_of entries) = false
 is_deaf content = true
 
--- A content after a datum of a tuple: no member less, the same behind it, and of what data change only the tuple more.
+-- A content after a datum of a tuple: no member is removed, an alias stands for the same set, and
+-- of tuples with data only this one is added.
 pub record IsWithDatum (t : List ℕ) (old new : Content) : Type 0 where
   members : (u : List ℕ) → has (members_in old) u ≡ true → has (members_in new) u ≡ true
   behind_same : (n : ℕ) → behind n new ≡ behind n old
@@ -273,7 +276,7 @@ datum-member t (variable_of type entries) = datum-none t (variable_of type entri
 datum-member t (equation_of entries) = datum-none t (equation_of entries)
 datum-member t (model_with m s) = datum-none t (model_with m s)
 
--- a write leaves what stands at other tuples
+-- a write leaves the entries at other tuples
 written-other : {X : Type 0} (b : Bool) (m : Entries X) (t : List ℕ) (x : X) (u : List ℕ) → same_tuple t u ≡ false → finite.get (after_write b m t x) u ≡ finite.get m u
 written-other true m t x u apart =
     finite.get-insert tuple_cmp-total m t x u ∙ ap (λ b. cond b (Some x) (finite.get m u)) (tie-sym u t ∙ sym (same-tie t u) ∙ apart)
@@ -300,7 +303,8 @@ datum-value t x (variable_of type entries) = datum-none t (variable_of type entr
 datum-value t x (equation_of entries) = datum-none t (equation_of entries)
 datum-value t x (model_with m s) = datum-none t (model_with m s)
 
--- a tuple that may be given of a name: its labels stand in the name's domain, or data change nothing of the name
+-- a tuple at which data of a name may be given: its labels are in the name's domain, or data change
+-- nothing of the name
 abbrev IsReady : State → ℕ → List ℕ → Type 0
 IsReady state name t = (is_deaf (symbol_of state name).content ≡ true) ⊎ StandAt state (symbol_of state name).domain t
 
@@ -426,7 +430,7 @@ stand-product state (set ∷ domain) (labels ∷ rest) inside =
     stand-pieces state set domain (product rest) labels (neither-first (list_any (is_outside state set) labels) (has_outside state domain rest) inside) (stand-product state domain rest (neither-second (list_any (is_outside state set) labels) (has_outside state domain rest) inside))
 
 module _ {F : Type 0} (state : State) (domain : List (Option ℕ)) where
-  -- each tuple of data stands at these positions
+  -- each tuple of data fits these positions
   abbrev AreThere : Given F → Type 0
   AreThere [] = Unit {0}
   AreThere (d ∷ ds) = StandAt state domain d.0 × AreThere ds
@@ -487,7 +491,7 @@ deaf-undeclared (variable_of type entries) e = refl
 deaf-undeclared (equation_of entries) e = refl
 deaf-undeclared (model_with m s) e = refl
 
--- A content of which data change nothing, and which stands for its own name.
+-- A content that data do not change, and which stands for its own name.
 record IsDeaf (c : Content) : Type 0 where
   deaf : is_deaf c ≡ true
   own : (n : ℕ) → behind n c ≡ n
@@ -519,7 +523,7 @@ module _ (k : DeclKind) (domain : List (Option ℕ)) (state : State) (name : ℕ
   abbrev named : State
   named = declare k domain state name
 
-  -- what stands for its own name
+  -- the symbol of a name that stands for itself
   own-symbol : (s : Symbol) → symbol_at named name ≡ s → behind name s.content ≡ name → symbol_of named name ≡ s
   own-symbol s is own =
       ap (λ n. symbol_at named n) (ap (λ (s : Symbol). behind name s.content) is ∙ own) ∙ is
@@ -596,7 +600,7 @@ all-from_has P (u ∷ tuples) each =
     or-second true b e = refl
     or-second false b e = e
 
--- each label of what is given stands at its position
+-- each label of a tuple with data fits its position
 pub loaded-stands : {F : Type 0} (v : F → Number) (program : Program F) (name : ℕ) → IsAccepted v program → All (StandAt (loaded v program) (symbol_at (loaded v program) name).domain) (given_in (symbol_at (loaded v program) name).content)
 loaded-stands v program name accepted =
     let blank = blank_state (length program.names) in

@@ -1,4 +1,4 @@
--- What a state has that keeps what the state has in which a program's run begins: all that lasts in the run.
+-- A state that keeps the state in which a program's run begins has all that lasts in the run.
 use Rattle.std.proofs.Common.{◌≡◌, ℕ, Bool, List, length, unwrap_or, slice_get, refl, sym, ap, ◌∙◌}
 use Rattle.std.specs.List.{All}
 use Rattle.std.proofs.lemmas.List.Elements.{All-nil}

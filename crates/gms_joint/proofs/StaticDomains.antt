@@ -1,4 +1,5 @@
--- In an accepted program each set of a position is declared, and no statement of the program assigns it.
+-- In an accepted program each set of a position is declared, and no statement of the program
+-- assigns it.
 use Rattle.std.proofs.Common.{◌≡◌, ◌⊎◌, ℕ, Bool, true, false, cond, List, [], ◌∷◌, length, Option, Some, None, Result, Ok, Err, refl, sym, ap, ◌∙◌, subst, inl, inr}
 use Rattle.std.specs.Prelude.{flat_map}
 use Rattle.std.specs.List.{fold, list_any}

@@ -127,7 +127,7 @@ module _ (domain : List (Option ℕ)) where
 
 -- ---- states
 
--- What is kept while a program is declared and its data are given.
+-- The invariant while a program is declared and its data are given.
 pub record BeginsWell (state : State) : Type 0 where
   pub tidy : AreTidy state
   pub settings : state.settings ≡ first_settings

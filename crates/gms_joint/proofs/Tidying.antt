@@ -1,4 +1,4 @@
--- What is given of a name stays tidy: after an assignment, a level and a marginal, and statuses.
+-- The data of a name stay tidy: after an assignment, a level and a marginal, and statuses.
 use Rattle.std.proofs.Common.{◌≡◌, ℕ, Bool, true, false, not, ◌||◌, ◌==◌, cond, List, [], ◌∷◌, map, reverse, length, pos, Option, Some, None, unwrap_or, is_some, refl, sym, ap, ◌∙◌, subst}
 use Rattle.std.specs.FinMap as finite
 use Rattle.std.specs.List.{All}
@@ -29,7 +29,7 @@ use Rattle.gms_exec.proofs.Overlays as overlays
 use Rattle.gms_exec.proofs.Staying.{members-ordered}
 use Rattle.gms_joint.specs.LastStates.{IsTidy}
 
--- tuples of one length, of which all that are there are
+-- tuples are all of one length if all members are
 pub long-from_has : (n : ℕ) (tuples : List (List ℕ)) → ((t : List ℕ) → has tuples t ≡ true → length t ≡ n) → All (λ (t : List ℕ). length t ≡ n) tuples
 long-from_has n [] long = All-nil (λ (t : List ℕ). length t ≡ n)
 long-from_has n (u ∷ tuples) long =
@@ -65,7 +65,8 @@ module _ {X : Type 0} (n : ℕ) where
       found-long (reverse new) q (All-map-IsPermutation (λ (e : List ℕ × X). e.0) (λ (t : List ℕ). length t ≡ n) new (reverse new) (IsPermutation-reverse new) all) there
 
 module _ {X : Type 0} (differs : X → Bool) (absent : X) (nothing : differs absent ≡ false) (n : ℕ) where
-  -- A map that has entries at tuples of one length, just where what is read differs from an absent entry.
+  -- A map that has entries at tuples of one length, exactly where the value differs from an absent
+  -- entry.
   pub record IsTidyMap (entries : Entries X) : Type 0 where
     pub long : All (λ (t : List ℕ). length t ≡ n) (finite.keys entries)
     pub reads : (t : List ℕ) → has (finite.keys entries) t ≡ differs (unwrap_or (finite.get entries t) absent)
@@ -103,7 +104,7 @@ module _ {X : Type 0} (differs : X → Bool) (absent : X) (nothing : differs abs
       subst IsTidyMap (overlaid-one differs t x entries (all-kept differs absent nothing entries tidy.reads))
       (tidy-overlaid ((t, x) ∷ []) entries (All-cons (λ (t : List ℕ). length t ≡ n) t [] long (All-nil (λ (t : List ℕ). length t ≡ n))) tidy)
 
--- ---- what is given fits
+-- ---- numbers of data fit
 
 module _ (symbol : Symbol) where
   abbrev AsLong : List ℕ → Type 0
@@ -126,7 +127,7 @@ module _ (symbol : Symbol) where
   plain-long suffix.None all long = long
   plain-long kind all long = All-nil AsLong
 
-  -- elements with new attributes stand where those with values do
+  -- elements with new attributes have the same tuples as those with values
   same-tuples : (kind : Suffix) (content : Content) (pairs : List (List ℕ × Extended)) → map (λ (p : List ℕ × Attributes). p.0) (map (λ (given : List ℕ × Extended). (given.0, with_attribute kind (attributes_in content given.0) given.1)) pairs) ≡ map (λ (p : List ℕ × Extended). p.0) pairs
   same-tuples kind content [] = refl
   same-tuples kind content (p ∷ pairs) = ap (λ ts. p.0 ∷ ts) (same-tuples kind content pairs)

@@ -1,5 +1,6 @@
--- Bindings that give each controlled set a label, and lags that go past the ends of their sets (GAMS User's Guide, "Data Manipulations with
--- Parameters", controlled indices; "Sets as Sequences: Ordered Sets").
+-- Bindings that give each controlled set a label, and lags that go past the ends of their sets
+-- (GAMS User's Guide, "Data Manipulations with Parameters", controlled indices; "Sets as Sequences:
+-- Ordered Sets").
 use Rattle.std.specs.Prelude.{◌≡◌, ◌⊎◌, ℕ, ℤ, true, List, [], ◌∷◌, is_some, Some, None, Ok, All}
 use Rattle.gq_number.specs.Number.{Number}
 use Rattle.gq_extended.specs.Extended.{Extended}
@@ -32,7 +33,7 @@ module _ {F : Type 0} (number_of : F → Number) (limit : ℕ) (state : State) (
     pub whole : whole_number given ≡ Some places
     pub past : lagged_label (members_of state set) op places label ≡ None
 
-  -- some lag among indices does
+  -- some lag among indices goes past the ends of its set
   abbrev pub SomeGoesPast : tree.Indices F → Type 0
   SomeGoesPast tree.no_index = ⊥
   SomeGoesPast (tree.label label rest) = SomeGoesPast rest

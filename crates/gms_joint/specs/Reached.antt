@@ -1,4 +1,5 @@
--- The states of a program's run (GAMS User's Guide, "GAMS Programs", "Programming Flow Control Features").
+-- The states of a program's run (GAMS User's Guide, "GAMS Programs", "Programming Flow Control
+-- Features").
 use Rattle.std.specs.Prelude.{◌≡◌, ℕ, List}
 use Rattle.gq_number.specs.Number.{Number}
 use Rattle.gms_ast.specs.declared.program.Program.{Program}
@@ -9,7 +10,7 @@ use Rattle.gms_check.specs.LeftSides.{StandsIn}
 use Rattle.gms_eval.specs.Bindings.{Pairs}
 use Rattle.gms_exec.specs.Run.{Course, World, of_statement}
 
--- A statement of a program, or one that stands in its loops.
+-- A statement of a program, or one in its loops.
 pub record IsStatementOf {F : Type 0} (program : Program F) (statement : Stmt F) : Type 0 where
   pub before : List (Stmt F)
   pub outer : Stmt F
@@ -17,10 +18,11 @@ pub record IsStatementOf {F : Type 0} (program : Program F) (statement : Stmt F)
   pub depth : ℕ
   pub inside : StandsIn depth statement outer
 
--- A state that statements of the program lead to from another, under any labels that sets stand for.
+-- A state that statements of the program lead to from another, under any labels that sets stand
+-- for.
 pub data IsReached {F : Type 0} (number_of : F → Number) (limit : ℕ) (world : World F) (first : State) : State → Type 0 where
-  -- the first one
+  -- the first state
   at_first : IsReached number_of limit world first first
-  -- what a statement makes of one
+  -- the state that a statement leads to
   after : {state : State} (statement : Stmt F) (binding : Pairs) (course : Course) → IsStatementOf world.program statement → course.state ≡ state →
       IsReached number_of limit world first state → IsReached number_of limit world first (of_statement number_of limit world statement binding course).state

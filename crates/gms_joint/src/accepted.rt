@@ -46,14 +46,16 @@ ghost use Rattle.lp_core.specs.declared.program.Lp.{Lp};
 
 use gq_field::ExactField;
 
-/// The labels of a reference of an accepted program, under a binding in which each set that is controlled where it stands has a label:
-/// so has each set among its indices, and there are at most 10 indices; so that in every state in which no amount of a lag has a
-/// fault it has a tuple, but where a lag goes past the ends of its set or begins at a label that is none of its members. No reference reads 0
-/// for want of a label otherwise. And with the labels of an element of its sets a
-/// fold, a loop or a left side gives each of them a label, besides those that have one; where the sets are over one position, these
-/// labels are members of them.
+/// The labels of a reference of an accepted program, under a binding in which each set that is
+/// controlled at the reference has a label. Each set among its indices has a label, and there are
+/// at most 10 indices. So in every state in which no amount of a lag has a fault it has a tuple,
+/// unless a lag goes past the ends of its set or begins at a label that is none of its members. In
+/// no other case does a reference read 0 because a label is missing. With the labels of an element
+/// of its sets a fold, a loop or a left side gives each of them a label, in addition to those that
+/// have one; if the sets are over one position, these labels are members of them.
 ///
-/// GAMS User's Guide, "Data Manipulations with Parameters", controlled indices; "Sets as Sequences: Ordered Sets".
+/// GAMS User's Guide, "Data Manipulations with Parameters", controlled indices; "Sets as Sequences:
+/// Ordered Sets".
 pub fn label_laws<F: ExactField>()
     ensures stand { (program : Program F) (before : List (Stmt F)) (statement : Stmt F) (depth : ℕ) (within : List ℕ) (name : ℕ) (suffix : Suffix) (indices : Indices F) (binding : Pairs) →
         IsAccepted F.value program → StandsAfter program before statement → InStatement depth within (reads name suffix indices) [] statement →
@@ -72,10 +74,11 @@ pub fn label_laws<F: ExactField>()
         All (IsSimple state) sets → has (elements state sets) element ≡ true → AreMembers state sets element }
 {}
 
-/// The last state of a program's run is one that its statements lead to. In each state that the statements lead to from one in which a run
-/// may begin, from the start or from a save, also in the midst of a loop, a set that is an index set where a statement stands is one over one position; and where the program is
-/// accepted, no assignment of the program gives an element twice (GAMS User's Guide, "Data Manipulations with Parameters", indexed
-/// assignments).
+/// The last state of a program's run is one that its statements lead to. Take any state that the
+/// statements lead to from one in which a run may begin, from the start or from a save, also inside
+/// a loop. There a set that is an index set before a statement is one over one position; and if the
+/// program is accepted, no assignment of it gives an element twice (GAMS User's Guide, "Data
+/// Manipulations with Parameters", indexed assignments).
 pub fn run_laws<F: ExactField>()
     ensures last { (world : World F) (state : State) (answers : List (Answer Number)) →
         IsReached F.value F.limit world state (run_from F.value F.limit world state answers world.program.statements.items).state }
@@ -90,13 +93,18 @@ pub fn run_laws<F: ExactField>()
         IsOnce given }
 {}
 
-/// What each state of a program's run keeps of the one in which the program's own run begins, also in the midst of a loop, where what the
-/// run begins in keeps it (`kept`), as that state does (`own`) and a state that is resumed from a save: it declares the same; what is
-/// given of each name is in order, with as many labels as the name has positions, and is what differs from an absent entry; a model
-/// has the statuses of before a solve or of after one; the members of a set that the program does not assign are as they were; and the
-/// settings are in the ranges of their options. So the last state, which is saved, is such a state. Of an accepted program each tuple
-/// has at most 10 labels, and in the state in which the run begins each label is a member of the set of its position, which is
-/// declared and which no statement of the program assigns; there no model has been solved, and the settings are the first ones.
+/// What each state of a program's run keeps, also inside a loop, of the state in which the
+/// program's own run begins. It declares the same names in the same way. The tuples with data of
+/// each name are in order, have as many labels as the name has positions, and are those whose entry
+/// differs from an absent one. A model has the statuses of before a solve or of after one. The
+/// members of a set that the program does not assign are as they were. The settings are in the
+/// ranges of their options. A run may begin in any state that keeps all this; then each of its
+/// states does (`kept`). The state of the program's own run does (`own`), and so does one that is
+/// resumed from a save. So the last state, which is saved, is such a state.
+///
+/// In an accepted program each tuple has at most 10 labels. In the state in which its run begins
+/// each label is a member of the set of its position, which is declared and which no statement of
+/// the program assigns; no model has been solved, and the settings are the first ones.
 ///
 /// GAMS User's Guide, "Save and Restart", "Set Definition", "Variables", "The Option Statement".
 pub fn last_laws<F: ExactField>()
@@ -117,9 +125,11 @@ pub fn last_laws<F: ExactField>()
         AreFixed (of_program program (is_among (dynamic_sets program))) (loaded F.value program) (symbol_at (loaded F.value program) name).domain }
 {}
 
-/// In each state of an accepted program's run, from its start or from a save, both sides of each definition of a model are linear in the variables: of a product one
-/// factor may have some and no divisor, and of the folds over what has some there are sums alone. So there the points that keep the
-/// model are exactly the feasible points of the linear program that a solve means (`point_laws` of gms_rows).
+/// In each state of an accepted program's run, from its start or from a save, both sides of each
+/// definition of a model are linear in the variables: of a product at most one factor, and no
+/// divisor, has variables, and the only folds over an expression with variables are sums. So there
+/// the points that satisfy the model are exactly the feasible points of the linear program that a
+/// solve means (`point_laws` of gms_rows).
 ///
 /// GAMS User's Guide, "Equations", "Model and Solve Statements".
 pub fn linear_laws<F: ExactField>()
@@ -128,9 +138,11 @@ pub fn linear_laws<F: ExactField>()
         All (IsLinearDefinition state) (definitions_of_model world.program.statements.items model) }
 {}
 
-/// The columns and the rows of the linear program of a solve of an accepted program are elements of the state in which it is solved: of
-/// variables and of equations that are declared there, each with as many labels as its name has positions, and no two of them are the
-/// same. So what a solve leaves is what `solve_laws` of gms_exec says, in each state of the program's run, from its start or from a save, also in the midst of a loop.
+/// The columns and the rows of the linear program of a solve of an accepted program are elements of
+/// the state in which it is solved: of declared variables and equations, each with as many labels
+/// as its name has positions, and no two of them are the same. So what a solve leaves is what
+/// `solve_laws` of gms_exec says, in each state of the program's run, from its start or from a
+/// save, also inside a loop.
 ///
 /// GAMS User's Guide, "Model and Solve Statements", "Equations".
 pub fn element_laws<F: ExactField>()

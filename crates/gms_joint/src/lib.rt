@@ -1,4 +1,5 @@
-//! Floor 5, the run. Laws of whole runs: of those that go on where another ended, and of those of accepted programs.
+//! Layer 5, the run. Laws of whole runs: of those that continue where another ended, and of those
+//! of accepted programs.
 #![tactic(auto)]
 
 mod accepted;

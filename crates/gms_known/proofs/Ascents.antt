@@ -10,7 +10,7 @@ abbrev pub is_there : Option ℕ → Bool
 is_there None = false
 is_there (Some n) = true
 
--- the labels after others go on from what these leave
+-- the labels after others continue from the least label that those leave
 abbrev pub go_on : Option ℕ → List ℕ → Option ℕ
 go_on None labels = None
 go_on (Some least) labels = least_after least labels

@@ -67,7 +67,7 @@ long-by n (t ∷ ts) h = (h t (rw (same_tuple_refl t) refl), long-by n ts (λ q 
 read-at : (state : State) (n : ℕ) → symbol_at state n ≡ slice_index_or state.symbols n no_symbol
 read-at state n = unwrap_or-slice_get state.symbols n no_symbol
 
--- what a name stands for, put once more, changes nothing
+-- writing the symbol of a name once more changes nothing
 same-symbol : (state : State) (name : ℕ) → with_symbol state name (symbol_of state name) ≡ state
 same-symbol state name =
     ap (λ (s : List Symbol). record { symbols = s; settings = state.settings }) (ap (set state.symbols (base_of state name)) (read-at state (base_of state name)) ∙ set-get_or state.symbols (base_of state name) no_symbol)

@@ -108,7 +108,7 @@ pub order-there : (nodes : List Node) (name order : ℕ) → order ≡ order_of 
 order-there nodes name order e some =
     let m = order-most (names_in nodes) name in let l = names-length nodes in omega arith
 
--- ---- what is kept of one name more
+-- ---- the invariant after one more name
 
 -- the first places after one name more, where it is new
 pub places-new : (first names : List ℕ) (name : ℕ) → ((other : ℕ) → slice_index_or first other 0 ≡ order_of names other) → name < length first → slice_index_or first name 0 ≡ 0 → (other : ℕ) → slice_index_or (set first name (length names + 1)) other 0 ≡ order_of (names ++ name ∷ []) other

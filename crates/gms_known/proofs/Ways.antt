@@ -56,11 +56,11 @@ within-le (suc n) nodes i j h = by (i == j) refl (nat_lt (node_at nodes i).above
         let k = rest h in omega arith
     by false _ false _ rest h = absurd cc
 
--- what is above stands at an earlier place
+-- what is above has an earlier place
 pub under-le : (nodes : List Node) (i j : ℕ) → is_under nodes i j ≡ true → j ≤ i
 under-le nodes i j h = within-le i nodes i j h
 
--- from a node on the way nothing changes for what is above that
+-- what is above a node on the path up is the same from each node of the path
 step_over : (n : ℕ) (nodes : List Node) (i k j : ℕ) → i ≤ n → is_under nodes i k ≡ true → j ≤ k → is_under nodes i j ≡ is_under nodes k j
 step_over zero nodes i k j most way below =
     let l = under-le nodes i k way in

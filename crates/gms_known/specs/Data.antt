@@ -1,5 +1,5 @@
--- Data that are given to a name or taken out again, and the order of labels.
--- GAMS User's Guide, "Data Entry: Parameters, Scalars and Tables"; "Sets as Sequences: Ordered Sets".
+-- Data that are given to a name or taken out again, and the order of labels (GAMS User's Guide,
+-- "Data Entry: Parameters, Scalars and Tables"; "Sets as Sequences: Ordered Sets").
 use Rattle.std.specs.Prelude.{ℕ, ◌+◌, Bool, true, false, ◌&&◌, nat_lt, List, [], ◌∷◌, fold, flat_map, Option, Some, None, if◌then◌else◌}
 use Rattle.std.specs.FinMap as finite
 use Rattle.gq_number.specs.Number.{Number}
@@ -24,7 +24,8 @@ is_ascending [] = true
 is_ascending (n ∷ []) = true
 is_ascending (n ∷ m ∷ ns) = nat_lt n m && is_ascending (m ∷ ns)
 
--- the least number that may come after some that ascend from a least number on; none where they do not
+-- the least number that may follow some numbers that ascend from a least one; none if they do not
+-- ascend
 abbrev pub least_after : ℕ → List ℕ → Option ℕ
 least_after least [] = Some least
 least_after least (n ∷ ns) = if nat_lt n least then None else least_after (n + 1) ns

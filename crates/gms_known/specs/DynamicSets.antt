@@ -1,5 +1,6 @@
--- Dynamic sets: those that some statement of the program assigns, wherever it stands.
--- GAMS User's Guide, "Dynamic Sets". That one assignment anywhere makes a set dynamic is this project's own choice.
+-- Dynamic sets: those that some statement of the program assigns, wherever it is (GAMS User's
+-- Guide, "Dynamic Sets"). One assignment anywhere makes a set dynamic; this is the project's own
+-- choice.
 use Rattle.std.specs.Prelude.{ℕ, List, [], ◌∷◌, map, flat_map}
 use Rattle.gms_ast.specs.declared.program.Program.{Program}
 use Rattle.gms_ast.specs.declared.program.Stmt.{Stmt}
@@ -9,7 +10,7 @@ use Rattle.gms_store.specs.State.{base_of}
 use Rattle.gms_store.specs.Declarations.{declared_state}
 
 module _ {F : Type 0} where
-  -- the name that an act assigns, or those that its body does
+  -- the names that an act assigns; a loop those that its body assigns
   abbrev pub assigned_step : Act-F F (List ℕ) (List ℕ) → List ℕ
   assigned_step (Act-F.Assign target condition right_at right) = target.name ∷ []
   assigned_step (Act-F.Loop control body) = flat_map (λ names. names) body.items

@@ -1,9 +1,10 @@
--- The names that are declared, in order, each with the set that it is directly below.
--- GAMS User's Guide, "Set Definition", domain checking.
+-- The names that are declared, in order, each with the set that it is directly below (GAMS User's
+-- Guide, "Set Definition", domain checking).
 use Rattle.std.specs.Prelude.{ℕ, Bool, true, false, ◌==◌, nat_lt, List, [], ◌∷◌, map, Option, Some, None, if◌then◌else◌}
 use Rattle.std.specs.List.{list_any}
 
--- names in the order of their declarations, each as often as it is declared, with the set that it is directly below
+-- names in the order of their declarations, repeated for each declaration, with the set that each
+-- is directly below
 abbrev pub Entries : Type 0
 Entries = List (ℕ × Option ℕ)
 
@@ -20,11 +21,12 @@ above_of (first ∷ entries) name = if first.0 == name then first.1 else above_o
 abbrev pub is_entered : Entries → ℕ → Bool
 is_entered entries name = list_any (λ (e : ℕ × Option ℕ). e.0 == name) entries
 
--- a set, where it is declared
+-- a set, if it is declared
 abbrev pub among : Entries → Option ℕ → Option ℕ
 among entries None = None
 among entries (Some name) = if is_entered entries name then Some name else None
 
--- what the declaration of a name adds, where it is directly below a set that is declared, and where there are so many names
+-- what the declaration of a name adds, in a program of `names` names; the name is directly below
+-- `above` only if that is declared
 abbrev pub entry : ℕ → Entries → ℕ → Option ℕ → Entries
 entry names entries name above = if nat_lt name names then (name, among entries above) ∷ [] else []

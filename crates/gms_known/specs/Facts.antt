@@ -1,5 +1,5 @@
--- What is known before a statement, and what each statement adds to it.
--- GAMS User's Guide, "Set Definition"; "Dynamic Sets"; "Equations"; "Model and Solve Statements".
+-- What is known before a statement, and what each statement adds to it (GAMS User's Guide, "Set
+-- Definition"; "Dynamic Sets"; "Equations"; "Model and Solve Statements").
 use Rattle.std.specs.Prelude.{◌≡◌, ℕ, Bool, true, false, not, ◌&&◌, ◌==◌, nat_lt, List, [], ◌∷◌, ◌++◌, length, fold, replicate, slice_index_or, slice_set, Option, Some, None, if◌then◌else◌, refl}
 use Rattle.std.specs.List.{list_any}
 use Rattle.std.specs.Coded.{Coded, code_by, coded×, coded_ℕ, coded_bool, coded_list, coded_option}
@@ -21,7 +21,8 @@ use Rattle.gms_known.specs.DynamicSets.{dynamic_sets}
 pub record Facts : Type 0 where
   -- what is declared, with the data that are given
   pub state : State
-  -- the names that are declared, in order, each as often as it is declared, with the set that it is directly below
+  -- the names that are declared, in order, repeated for each declaration, with the set that each is
+  -- directly below
   pub declared : Entries
   -- the sets that some statement of the program assigns
   pub dynamic : List Bool
@@ -31,10 +32,10 @@ pub record Facts : Type 0 where
   pub defined : List Bool
   -- the equations that are declared, in order
   pub equations : List ℕ
-  -- the models with their equations, in order, each as often as it is declared
+  -- the models with their equations, in order, repeated for each declaration
   pub models : List (ℕ × List ℕ)
 
--- facts are known by their seven parts
+-- facts are determined by their seven parts
 abbrev pub facts_code : Coded Facts
 facts_code =
     code_by (State × (Entries × (List Bool × (List Bool × (List Bool × (List ℕ × List (ℕ × List ℕ))))))) (coded× state_code (coded× (coded_list (coded× coded_ℕ (coded_option coded_ℕ))) (coded× (coded_list coded_bool) (coded× (coded_list coded_bool) (coded× (coded_list coded_bool) (coded× (coded_list coded_ℕ) (coded_list (coded× coded_ℕ (coded_list coded_ℕ)))))))))
@@ -54,7 +55,8 @@ with_marks marks names = fold (λ marks name. slice_set marks name true) marks n
 abbrev pub is_dynamic : Facts → ℕ → Bool
 is_dynamic facts name = marked facts.dynamic (base_of facts.state name)
 
--- whether a set is ordered: one-dimensional and not dynamic, and its labels are given in the order of all labels
+-- whether a set is ordered: one-dimensional, not dynamic, and its labels are given in the order of
+-- all labels
 abbrev pub is_ordered : Facts → ℕ → Bool
 is_ordered facts name =
     is_index_set facts.state name && (not (is_dynamic facts name) && not (marked facts.unordered (base_of facts.state name)))
@@ -79,21 +81,21 @@ has_undefined facts name =
 
 -- ---- changes
 
--- what the declaration of a name that is directly below a set adds
+-- what the declaration of a name adds to the entries, where the name is directly below `above`
 abbrev pub entry_in : Facts → ℕ → Option ℕ → Entries
 entry_in facts name above = entry (length facts.defined) facts.declared name above
 
--- the set that a name is directly below after its declaration, where it was new before
+-- the set that a name is directly below after its declaration, if it was new
 abbrev pub above_new : Bool → State → ℕ → Option ℕ
 above_new true state name = base_above state name
 above_new false state name = None
 
--- the equation that a declaration of this kind adds, where the name is one then
+-- the equation that a declaration of this kind adds, if the name then is one
 abbrev pub equation_in : DeclKind → State → ℕ → List ℕ
 equation_in Equation state name = if is_equation (kind_of state name) then name ∷ [] else []
 equation_in kind state name = []
 
--- after a name was declared, without its data
+-- what is known after a name was declared, without its data
 abbrev pub with_declared : DeclKind → List (Option ℕ) → Facts → ℕ → Facts
 with_declared kind domain facts name =
     record facts { state = declare kind domain facts.state name; declared = facts.declared ++ entry_in facts name (above_new (is_unknown facts.state name) (declare kind domain facts.state name) name); equations = facts.equations ++ equation_in kind (declare kind domain facts.state name) name }
@@ -103,38 +105,38 @@ abbrev pub with_two : Facts → ℕ → ℕ → Entries
 with_two facts first second =
     (facts.declared ++ entry_in facts first None) ++ entry_in facts second None
 
--- after one of two names was made another name of the other
+-- what is known after one of two names was made an alias of the other
 abbrev pub with_alias : Facts → ℕ → ℕ → Facts
 with_alias facts first second =
     record facts { state = declare_alias facts.state first second; declared = with_two facts first second }
 
--- after the name of a model was declared
+-- what is known after the name of a model was declared
 abbrev pub with_model_name : Facts → ℕ → Facts
 with_model_name facts name =
     record facts { state = declare_model facts.state name; declared = facts.declared ++ entry_in facts name None }
 
--- a model with its equations, where there are so many names
+-- a model with its equations, in a program of `names` names
 abbrev pub model_entry : ℕ → ℕ → List ℕ → List (ℕ × List ℕ)
 model_entry names name equations = if nat_lt name names then (name, equations) ∷ [] else []
 
--- after the equations of a model were listed
+-- what is known after the equations of a model were listed
 abbrev pub with_model : Facts → ℕ → List ℕ → Facts
 with_model facts name equations =
     record facts { models = facts.models ++ model_entry (length facts.defined) name equations }
 
--- after the data of a name were given
+-- what is known after the data of a name were given
 abbrev pub with_data : {F : Type 0} → (F → Number) → Facts → ℕ → List (List ℕ × Option (Ext F)) → Facts
 with_data value facts name given = record facts { state = given_to value name facts.state given }
 
--- after all data of a name were taken out
+-- what is known after all data of a name were removed
 abbrev pub without_data : Facts → ℕ → Facts
 without_data facts name = record facts { state = emptied facts.state name }
 
--- after a set was found to have its labels in another order than that of all labels
+-- what is known after a set was found to have its labels in another order than that of all labels
 abbrev pub with_unordered : Facts → ℕ → Facts
 with_unordered facts name = record facts { unordered = slice_set facts.unordered name true }
 
--- after an equation was defined
+-- what is known after an equation was defined
 abbrev pub with_definition : Facts → ℕ → Facts
 with_definition facts name = record facts { defined = slice_set facts.defined name true }
 

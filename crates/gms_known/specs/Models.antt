@@ -1,4 +1,4 @@
--- How the models that are declared are kept.
+-- How the models that are declared are stored.
 use Rattle.std.specs.Prelude.{◌≡◌, ◌<◌, ◌≤◌, ℕ, suc, zero, Bool, true, false, ◌==◌, List, [], ◌∷◌, length, map, take, slice_index_or, if◌then◌else◌}
 use Rattle.std.specs.List.{list_any}
 use Rattle.gms_known.specs.declared.model.Equations.{Equations}
@@ -8,7 +8,7 @@ use Rattle.gms_known.specs.declared.model.Models.{Models}
 use Rattle.gms_known.specs.Facts.{is_missing}
 use Rattle.gms_known.specs.Order.{order_of}
 
--- the equations of a model, where these are all that are declared
+-- the equations of a model, where `declared` are all that are declared
 abbrev pub equations_within : List ℕ → Equations → List ℕ
 equations_within declared (All count) = take count declared
 equations_within declared (Listed equations) = equations.items
@@ -25,7 +25,7 @@ model_at models place = slice_index_or models place (record { name = 0; equation
 abbrev pub recounted : Model → ℕ → Model
 recounted model count = record { name = model.name; equations = model.equations; defined = count }
 
--- the models with their equations, where these are all that are declared
+-- the models with their equations, where `declared` are all that are declared
 abbrev pub models_within : List ℕ → List Model → List (ℕ × List ℕ)
 models_within declared models = map (λ (model : Model). (model.name, equations_within declared model.equations)) models
 
@@ -33,32 +33,32 @@ models_within declared models = map (λ (model : Model). (model.name, equations_
 abbrev pub models_in : Models → List (ℕ × List ℕ)
 models_in models = models_within models.equations.items models.models.items
 
--- so many equations are there
+-- the first `count` declared equations exist
 abbrev pub AreThere : List ℕ → Equations → Type 0
 AreThere declared (All count) = count ≤ length declared
 AreThere declared (Listed equations) = Unit {0}
 
--- each model's equations are there
+-- each model's equations exist
 abbrev pub AreAllThere : List ℕ → List Model → Type 0
 AreAllThere declared [] = Unit {0}
 AreAllThere declared (model ∷ models) = AreThere declared model.equations × AreAllThere declared models
 
--- each name's first place is kept, and models are of equations that are there
+-- each name's first place is stored, and the equations of models exist
 pub record IsListed (models : Models) : Type 0 where
   pub places : (name : ℕ) → slice_index_or models.places.items name 0 ≡ order_of (model_names models.models.items) name
   pub there : AreAllThere models.equations.items models.models.items
 
--- the first equations of a model, as many as it says, are not missing
+-- the first `model.defined` equations of a model are defined
 pub record IsCountedModel (defined : List Bool) (declared : List ℕ) (model : Model) : Type 0 where
   pub most : model.defined ≤ length (equations_within declared model.equations)
   pub known : list_any (is_missing defined) (take model.defined (equations_within declared model.equations)) ≡ false
 
--- the same of each model
+-- the counts of these models are right
 abbrev pub AreCounted : List Bool → List ℕ → List Model → Type 0
 AreCounted defined declared [] = Unit {0}
 AreCounted defined declared (model ∷ models) =
     IsCountedModel defined declared model × AreCounted defined declared models
 
--- the same of all models
+-- the counts of all models are right
 abbrev pub IsCounted : List Bool → Models → Type 0
 IsCounted defined models = AreCounted defined models.equations.items models.models.items

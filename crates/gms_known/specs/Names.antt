@@ -1,5 +1,4 @@
--- What a name is declared as.
--- GAMS User's Guide, "Set Definition"; "Language Items".
+-- What a name is declared as (GAMS User's Guide, "Set Definition"; "Language Items").
 use Rattle.std.specs.Prelude.{ℕ, Bool, true, false, ◌==◌, ◌&&◌, List, length, Option}
 use Rattle.gms_store.specs.declared.kind.SymbolKind.{SymbolKind}
 use Rattle.gms_store.specs.declared.kind.SymbolKind.TheVariants as kind
@@ -36,6 +35,7 @@ positions state name = (symbol_of state name).domain
 abbrev pub has_one_position : State → ℕ → Bool
 has_one_position state name = length (positions state name) == 1
 
--- whether a name is that of a one-dimensional set, which can be an index, be controlled and be in a domain
+-- whether a name is that of a one-dimensional set, which can be an index, be controlled and be in a
+-- domain
 abbrev pub is_index_set : State → ℕ → Bool
 is_index_set state name = is_set_name state name && has_one_position state name

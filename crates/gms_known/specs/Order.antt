@@ -1,4 +1,5 @@
--- The names that are declared in order, and the way from each to the sets that it is below, by places in that order.
+-- The names that are declared in order, and the path from each to the sets that it is below, by
+-- places in that order.
 use Rattle.std.specs.Prelude.{◌≡◌, ◌<◌, ◌≤◌, ℕ, zero, suc, Bool, true, false, ◌==◌, ◌&&◌, ◌||◌, nat_lt, List, [], ◌∷◌, ◌++◌, length, map, Option, Some, None, Vec, slice_index_or, if◌then◌else◌}
 use Rattle.gms_known.specs.declared.order.Node.{Node}
 use Rattle.gms_known.specs.Entries.{Entries}
@@ -8,20 +9,20 @@ use Rattle.gms_known.specs.declared.order.Order.{Order}
 abbrev pub names_in : List Node → List ℕ
 names_in nodes = map (λ (node : Node). node.name) nodes
 
--- what contracts see of a node
+-- the view of a node
 abbrev pub entry_of : Node → ℕ × Option ℕ
 entry_of node = (node.name, node.below)
 
--- what contracts see of nodes
+-- the views of nodes
 abbrev pub entries_in : List Node → Entries
 entries_in nodes = map entry_of nodes
 
--- one place later, where there is one
+-- one place later; 0, which stands for no place, stays
 abbrev pub later : ℕ → ℕ
 later zero = zero
 later (suc n) = suc (suc n)
 
--- the how-manieth a name is among names, from 1; 0 where it is none of them
+-- the position of a name among names, from 1; 0 if it is none of them
 abbrev pub order_of : List ℕ → ℕ → ℕ
 order_of [] name = 0
 order_of (first ∷ names) name = if first == name then 1 else later (order_of names name)
@@ -30,7 +31,7 @@ order_of (first ∷ names) name = if first == name then 1 else later (order_of n
 abbrev pub node_at : List Node → ℕ → Node
 node_at nodes place = slice_index_or nodes place (record { name = 0; below = None; depth = 0; above = place; far = place })
 
--- whether a node is another, or is below it by so many steps up at most
+-- whether a node is another, or is below it by at most `n` steps up
 abbrev pub is_under_within : ℕ → List Node → ℕ → ℕ → Bool
 is_under_within zero nodes place other = place == other
 is_under_within (suc n) nodes place other =
@@ -45,25 +46,26 @@ abbrev pub IsAbove : List ℕ → Option ℕ → ℕ → ℕ → Type 0
 IsAbove names None place above = above ≡ place
 IsAbove names (Some name) place above = (order_of names name ≡ suc above) × (above < place)
 
--- a node at a place goes up to earlier places alone: the one that it is directly below, and one above that
+-- a node goes up only to earlier places: the one that it is directly below, and one above that
 pub record IsStep (nodes : List Node) (place : ℕ) (node : Node) : Type 0 where
   pub above : node.above ≤ place
   pub below : IsAbove (names_in nodes) node.below place node.above
   pub far : node.far ≤ node.above
   pub under : is_under nodes node.above node.far ≡ true
 
--- each name's first place is kept, and each node goes up
+-- each name's first place is stored, and each node goes up
 pub record IsOrder (order : Order) : Type 0 where
   pub places : (name : ℕ) → slice_index_or order.first.items name 0 ≡ order_of (names_in order.nodes.items) name
   pub steps : (place : ℕ) → place < length order.nodes.items → IsStep order.nodes.items place (node_at order.nodes.items place)
 
--- whether an order is one, and before another, or the other is none
+-- whether a position exists, and comes before another or the other does not exist
 abbrev pub is_earlier : ℕ → ℕ → Bool
 is_earlier zero other = false
 is_earlier (suc order) zero = true
 is_earlier (suc order) (suc other) = nat_lt order other
 
--- the order of a name after one name more, that is this one or not: it is new where there was none
+-- the position of a name after one more name was appended: if it had none and is that name, the
+-- last
 abbrev pub new_order : ℕ → Bool → ℕ → ℕ
 new_order zero true last = suc last
 new_order zero false last = zero

@@ -1,4 +1,5 @@
-//! The data of a declaration: the positions at which they stand, and the order of their labels.
+//! The data of a declaration: the positions for which they are given, and the order of their
+//! labels.
 ghost use Rattle.std.specs.Prelude.{◌≡◌, ℕ, List, true, flat_map, length, IfOk, OnOk};
 ghost use Rattle.gms_tuple.specs.TupleSet.{has};
 ghost use Rattle.gms_store.specs.State.{given_of, symbol_of};
@@ -15,8 +16,8 @@ use std::alloc::{AllocError, Global};
 /// Elements with their values.
 pub type Data<F> = Vec<(Tuple, Option<Ext<F>>)>;
 
-/// The set of each position of a name that is declared: a set has one position, of any label, where none is written
-/// (GAMS User's Guide, "Set Definition").
+/// The set of each position of a name that is declared: a set has one position, of any label, if
+/// none is written (GAMS User's Guide, "Set Definition").
 pub fn positions(
     alloc: Global,
     kind: DeclKind,
@@ -43,8 +44,8 @@ fn names(alloc: Global, domain: &[Option<Named>]) -> Result<Vec<Option<u32>>, Al
     Ok(sets)
 }
 
-/// Puts the data of a name into a state: a set has the elements, a parameter has the values at them (GAMS User's Guide,
-/// "Data Entry: Parameters, Scalars and Tables").
+/// Puts the data of a name into a state: a set gets the elements, a parameter the values at them
+/// (GAMS User's Guide, "Data Entry: Parameters, Scalars and Tables").
 pub fn put_data<F: ExactField>(
     alloc: Global,
     store: &mut Store<F>,
@@ -62,7 +63,7 @@ pub fn put_data<F: ExactField>(
     Ok(())
 }
 
-/// Takes all data of a name out of a state.
+/// Removes all data of a name from a state.
 pub(crate) fn take_out_data<F: ExactField>(
     alloc: Global,
     store: &mut Store<F>,
@@ -78,7 +79,7 @@ pub(crate) fn take_out_data<F: ExactField>(
     Ok(())
 }
 
-/// The tuples that are given of a name.
+/// The tuples with data of a name.
 fn given_tuples<F: ExactField>(
     alloc: Global,
     store: &Store<F>,
@@ -96,8 +97,8 @@ fn given_tuples<F: ExactField>(
     Ok(tuples)
 }
 
-/// Whether the labels of items ascend, in the order in which they are written, ranges written out (GAMS User's Guide, "Sets
-/// as Sequences: Ordered Sets").
+/// Whether the labels of items ascend, in the order in which they are written, ranges written out
+/// (GAMS User's Guide, "Sets as Sequences: Ordered Sets").
 pub fn are_ascending<F>(items: &[Item<F>]) -> bool
     ensures { result ≡ is_ascending (labels_of items.now) }
 {
@@ -111,8 +112,8 @@ pub fn are_ascending<F>(items: &[Item<F>]) -> bool
     true
 }
 
-/// The least number that may come after the labels of some parts that ascend from a least number on; `None` where they do
-/// not.
+/// The least number that may follow the labels of some parts that ascend from a least number;
+/// `None` if they do not ascend.
 fn least_after_parts(least: u64, parts: &[Sequence<u32>]) -> Option<u64>
     ensures { result ≡ least_after least (flat_map (λ labels. labels) parts.now) }
 {
@@ -126,7 +127,8 @@ fn least_after_parts(least: u64, parts: &[Sequence<u32>]) -> Option<u64>
     Some(least)
 }
 
-/// The least number that may come after some labels that ascend from a least number on; `None` where they do not.
+/// The least number that may follow some labels that ascend from a least number; `None` if they do
+/// not ascend.
 fn least_after(least: u64, labels: &[u32]) -> Option<u64>
     ensures { result ≡ least_after least labels.now }
 {

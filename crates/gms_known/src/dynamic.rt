@@ -10,7 +10,8 @@ use gms_store::Store;
 use gq_field::ExactField;
 use std::alloc::{AllocError, Global};
 
-/// A mark for each name that some statement of a program assigns, an alias as its set: a set with a mark is dynamic.
+/// A mark for each name that some statement of a program assigns, an alias as its set: a set with a
+/// mark is dynamic.
 pub fn dynamic_sets<F: ExactField>(alloc: Global, program: &Program<F>) -> Result<Marks, AllocError>
     ensures { IfOk result (λ marks. marks ≡ with_marks (replicate (length program.now.names) false) (dynamic_sets program.now)) }
 {
@@ -30,8 +31,8 @@ fn mark_assigned<F: ExactField>(statements: &[Stmt<F>], store: &Store<F>, marks:
     }
 }
 
-/// Marks the name that a statement assigns, or those that its body does (GAMS User's Guide, "Dynamic Sets"), an alias as its
-/// set in a state, besides what is marked.
+/// Marks the name that a statement assigns, or those that its body assigns (GAMS User's Guide,
+/// "Dynamic Sets"), an alias as its set in a state. Earlier marks stay.
 #[cycle(assigned)]
 pub fn mark_statement<F: ExactField>(statement: &Stmt<F>, store: &Store<F>, marks: &mut Marks)
     ensures { marks.new ≡ with_marks marks.old (map (base_of store.now) (assigned statement.now)) }

@@ -20,9 +20,9 @@ use gq_field::ExactField;
 use std::alloc::{AllocError, Global};
 use std::marker::Model;
 
-/// What is known before a statement: the state that the statements before it make, and beside it which names are declared
-/// in which order, which equations are defined, which sets are dynamic, which are not in the order of the labels, and the
-/// equations of the models.
+/// What is known before a statement: the state after the statements before it; which names are
+/// declared, in which order; which equations are defined; which sets are dynamic; which are not in
+/// the order of the labels; and the equations of the models.
 ///
 /// Names are numbers in the program's table. A name that the program does not have is not declared.
 pub struct Known<F: ExactField> {
@@ -34,7 +34,7 @@ pub struct Known<F: ExactField> {
     models: Models,
 }
 
-// Written out, so that it is proved here alone, and not in each crate that lets one go.
+// Written out, so that it is proved once, and not in each crate that drops one.
 impl<F: ExactField> Drop for Known<F> {
     fn drop(self) {
         let Self {
@@ -65,7 +65,8 @@ impl<F: ExactField> Model for Known<F> {
 }
 
 impl<F: ExactField> Known<F> {
-    /// What is known before the first statement of a program: which sets some statement of it assigns.
+    /// What is known before the first statement of a program: which sets some statement of it
+    /// assigns.
     pub fn new(alloc: Global, program: &Program<F>) -> Result<Known<F>, AllocError>
         ensures { IfOk result (λ known. known ≡ first_facts program.now) }
     {
@@ -115,7 +116,7 @@ impl<F: ExactField> Known<F> {
         self.store.domain_of(name).len()
     }
 
-    /// The set of a position of a name, where the name has that position.
+    /// The set of a position of a name, if the name has that position.
     pub fn position(&self, name: u32, place: usize) -> Option<Option<u32>>
         ensures { result ≡ slice_get (positions self.now.state name) place }
     {
@@ -129,15 +130,16 @@ impl<F: ExactField> Known<F> {
         self.is_set(name) && self.position_count(name) == 1
     }
 
-    /// Whether a set is dynamic: some statement of the program assigns it (GAMS User's Guide, "Dynamic Sets").
+    /// Whether a set is dynamic: some statement of the program assigns it (GAMS User's Guide,
+    /// "Dynamic Sets").
     pub fn is_dynamic(&self, set: u32) -> bool
         ensures { result ≡ is_dynamic self.now set }
     {
         self.dynamic.is_set(self.store.base(set))
     }
 
-    /// Whether a set is ordered: one-dimensional and not dynamic, with its labels in the order of all labels (GAMS User's
-    /// Guide, "Sets as Sequences: Ordered Sets").
+    /// Whether a set is ordered: one-dimensional and not dynamic, with its labels in the order of
+    /// all labels (GAMS User's Guide, "Sets as Sequences: Ordered Sets").
     pub fn is_ordered(&self, set: u32) -> bool
         ensures { result ≡ is_ordered self.now set }
     {
@@ -146,15 +148,17 @@ impl<F: ExactField> Known<F> {
             && !self.unordered.is_set(self.store.base(set))
     }
 
-    /// Whether a set in the domain of a name counts: it is one-dimensional, and declared before the name.
+    /// Whether a set in the domain of a name counts: it is one-dimensional, and declared before the
+    /// name.
     fn bounds(&self, name: u32, domain_set: u32) -> bool
         ensures { result ≡ bounds self.now.state (names self.now) name domain_set }
     {
         self.is_index_set(domain_set) && self.order.is_before(domain_set, self.store.base(name))
     }
 
-    /// Whether a set may be the index of a position of a name: the position is of any label, or the set is below the
-    /// position's set, which is declared before the name (GAMS User's Guide, "Set Definition", domain checking).
+    /// Whether a set may be the index of a position of a name: the position is of any label, or the
+    /// set is below the position's set, which is declared before the name (GAMS User's Guide, "Set
+    /// Definition", domain checking).
     pub fn fits(&self, name: u32, position: Option<u32>, index: u32) -> bool
         ensures { result ≡ fits self.now.state (names self.now) (above_of self.now.declared) name position index }
     {
@@ -169,8 +173,8 @@ impl<F: ExactField> Known<F> {
         }
     }
 
-    /// Whether a label may be the index of a position of a name: the position is of any label, or its set, which is
-    /// declared before the name, has the label.
+    /// Whether a label may be the index of a position of a name: the position is of any label, or
+    /// its set, which is declared before the name, has the label.
     pub fn holds(
         &self,
         alloc: Global,
@@ -195,7 +199,7 @@ impl<F: ExactField> Known<F> {
         self.defined.is_set(equation)
     }
 
-    /// Whether all equations of a model are defined. Of other names it is so.
+    /// Whether all equations of a model are defined; true for any other name.
     pub fn all_defined(&mut self, model: u32) -> bool
         ensures answer { result ≡ not (has_undefined self.old model) }
         ensures unchanged { self.new ≡ self.old }
@@ -206,8 +210,8 @@ impl<F: ExactField> Known<F> {
         self.models.all_defined(model, &self.defined)
     }
 
-    /// Declares a name of a kind with its domain, without data. Of several declarations of one name the first counts, but
-    /// for the type of a free variable (GAMS User's Guide, "Variables").
+    /// Declares a name of a kind with its domain, without data. Of several declarations of one name
+    /// the first counts, except for the type of a free variable (GAMS User's Guide, "Variables").
     pub fn declare(
         &mut self,
         alloc: Global,
@@ -227,7 +231,8 @@ impl<F: ExactField> Known<F> {
         Ok(())
     }
 
-    /// The set that a one-dimensional set is directly below, an alias as its set, where the set of its domain counts.
+    /// The set that a one-dimensional set is directly below, an alias as its set, if the set of its
+    /// domain counts.
     fn superset(&self, set: u32) -> Option<u32>
         ensures { result ≡ base_above self.now.state set }
     {
@@ -242,8 +247,8 @@ impl<F: ExactField> Known<F> {
         }
     }
 
-    /// Makes one of two names another name of the other, which is a set, or where neither can be, declares both as sets (GAMS User's
-    /// Guide, "Set Definition", aliases).
+    /// Makes one of two names another name of the other, which is a set; if neither can be,
+    /// declares both as sets (GAMS User's Guide, "Set Definition", aliases).
     pub fn declare_alias(
         &mut self,
         alloc: Global,
@@ -257,7 +262,8 @@ impl<F: ExactField> Known<F> {
         self.order.declare(second, None)
     }
 
-    /// Declares a model, of which no equations are known yet (GAMS User's Guide, "Model and Solve Statements").
+    /// Declares a model, of which no equations are known yet (GAMS User's Guide, "Model and Solve
+    /// Statements").
     pub fn declare_model(&mut self, alloc: Global, name: u32) -> Result<(), AllocError>
         ensures { OnOk result (self.new ≡ with_model_name self.old name) }
     {
@@ -279,8 +285,8 @@ impl<F: ExactField> Known<F> {
         self.models.declare_listed(model, equations)
     }
 
-    /// Gives the data of a name: a set has the elements, a parameter has the values at them (GAMS User's Guide, "Data
-    /// Entry: Parameters, Scalars and Tables").
+    /// Gives the data of a name: a set gets the elements, a parameter the values at them (GAMS
+    /// User's Guide, "Data Entry: Parameters, Scalars and Tables").
     pub fn give(
         &mut self,
         alloc: Global,
@@ -292,7 +298,7 @@ impl<F: ExactField> Known<F> {
         put_data(alloc, &mut self.store, name, given)
     }
 
-    /// Takes out all data of a name.
+    /// Removes all data of a name.
     pub fn take_out(&mut self, alloc: Global, name: u32) -> Result<(), AllocError>
         ensures { OnOk result (self.new ≡ without_data self.old name) }
     {

@@ -1,4 +1,5 @@
-//! Floor 3, state and checks. What is known before a statement of a program: what the statements before it declare, define and give.
+//! Layer 3, state and checks. What is known before a statement of a program: what the statements
+//! before it declare, define and give.
 #![tactic(auto)]
 
 mod data;

@@ -20,7 +20,7 @@ impl Model for Marks {
 }
 
 impl Marks {
-    /// So many names, none of which is marked.
+    /// `names` names, none of which is marked.
     pub fn new(alloc: Global, names: u32) -> Result<Marks, AllocError>
         ensures { IfOk result (λ marks. marks ≡ replicate names false) }
     {
@@ -31,7 +31,7 @@ impl Marks {
         Ok(Marks { marks })
     }
 
-    /// Marks a name, where the program has it.
+    /// Marks a name, if the program has it.
     pub fn set(&mut self, name: u32)
         ensures { self.new ≡ slice_set self.old name true }
     {

@@ -10,13 +10,13 @@ use std::alloc::{AllocError, Global};
 
 /// The equations of a model.
 pub enum Equations {
-    /// So many of the first that are declared.
+    /// The first of the declared ones; how many.
     All(usize),
-    /// These.
+    /// The listed ones.
     Listed(Vec<u32>),
 }
 
-// Written out, so that it is proved here alone, and not in each crate that lets one go.
+// Written out, so that it is proved once, and not in each crate that drops one.
 impl Drop for Equations {
     fn drop(self) {
         match self {
@@ -27,7 +27,7 @@ impl Drop for Equations {
 }
 
 impl Equations {
-    /// The equations, where these are all that are declared.
+    /// The equations, where `declared` are all that are declared.
     fn within<'a>(&'a self, declared: &'a [u32]) -> &'a [u32]
         ensures { result.now ≡ equations_within declared.now self.now }
     {
@@ -38,7 +38,7 @@ impl Equations {
     }
 }
 
-/// So many of the first of some equations.
+/// The first `count` of some equations.
 fn first_of(equations: &[u32], count: usize) -> &[u32]
     ensures { result.now ≡ take count equations.now }
 {
@@ -55,11 +55,11 @@ pub struct Model {
     pub name: u32,
     /// Its equations.
     pub equations: Equations,
-    /// How many of the first equations are known to be defined. What is defined stays so.
+    /// How many of the first equations are known to be defined. A defined equation stays so.
     pub defined: usize,
 }
 
-// Written out, so that it is proved here alone, and not in each crate that lets one go.
+// Written out, so that it is proved once, and not in each crate that drops one.
 impl Drop for Model {
     fn drop(self) {
         let Self {
@@ -74,13 +74,13 @@ impl Drop for Model {
 pub struct Models {
     /// The names that are declared as equations, in order.
     pub equations: Vec<u32>,
-    /// The models, in order, each as often as it is declared.
+    /// The models, in order, repeated for each declaration.
     pub models: Vec<Model>,
-    /// By the number of a name: the place of its first model, plus 1; 0 where it is none.
+    /// By the number of a name: the place of its first model, plus 1; 0 if it is none.
     pub places: Vec<usize>,
 }
 
-// Written out, so that it is proved here alone, and not in each crate that lets one go.
+// Written out, so that it is proved once, and not in each crate that drops one.
 impl Drop for Models {
     fn drop(self) {
         let Self {
@@ -92,7 +92,7 @@ impl Drop for Models {
 }
 
 impl Models {
-    /// No models, of so many names.
+    /// No models, of `names` names.
     pub fn new(alloc: Global, names: u32) -> Result<Models, AllocError>
         ensures { IfOk result (λ models. IsListed models × (models.equations.items ≡ []) × (models.models.items ≡ []) × (length models.places.items ≡ names)) }
     {
@@ -175,7 +175,7 @@ impl Models {
 }
 
 impl Models {
-    /// Whether all equations of a model are defined. What is found is remembered.
+    /// Whether all equations of a model are defined. The result is remembered.
     pub fn all_defined(&mut self, model: u32, defined: &Marks) -> bool
         requires listed { IsListed self.old }
         requires counted { IsCounted defined.now self.old }
@@ -195,7 +195,7 @@ impl Models {
         all
     }
 
-    /// The place of the first model of a name, plus 1; 0 where it is none.
+    /// The place of the first model of a name, plus 1; 0 if it is none.
     fn order(&self, model: u32) -> usize
         requires { IsListed self.now }
         ensures { result ≡ order_of (model_names self.now.models.items) model }
@@ -230,7 +230,7 @@ impl Models {
     }
 }
 
-/// How many of the first equations are defined, where so many are known to be.
+/// How many of the first equations are defined, where the first `known` are known to be.
 fn defined_from(equations: &[u32], known: usize, defined: &Marks) -> usize
     requires most { known ≤ length equations.now }
     requires known { list_any (is_missing defined.now) (take known equations.now) ≡ false }

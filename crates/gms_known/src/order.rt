@@ -11,25 +11,26 @@ use std::alloc::{AllocError, Global};
 pub struct Node {
     /// The name, by its number.
     pub name: u32,
-    /// The set that it is directly below, where there is one.
+    /// The set that it is directly below, if any.
     pub below: Option<u32>,
     /// How many sets it is below.
     pub depth: usize,
     /// The place of the set that it is directly below, or its own.
     pub above: usize,
-    /// The place of a set farther above, by which the one at a place is found in a few steps, or its own.
+    /// The place of a set farther above, by which the one at a place is found in a few steps, or
+    /// its own.
     pub far: usize,
 }
 
 /// The names that are declared, in order.
 pub struct Order {
-    /// The names that are declared, in order, each as often as it is declared.
+    /// The names that are declared, in order, repeated for each declaration.
     pub nodes: Vec<Node>,
-    /// By the number of a name: the place of its first node, plus 1; 0 where nothing declares it.
+    /// By the number of a name: the place of its first node, plus 1; 0 if nothing declares it.
     pub first: Vec<usize>,
 }
 
-// Written out, so that it is proved here alone, and not in each crate that lets one go.
+// Written out, so that it is proved once, and not in each crate that drops one.
 impl Drop for Order {
     fn drop(self) {
         let Self { nodes: _, first: _ } = self;
@@ -37,7 +38,7 @@ impl Drop for Order {
 }
 
 impl Order {
-    /// So many names, none of which is declared.
+    /// `names` names, none of which is declared.
     pub fn new(alloc: Global, names: u32) -> Result<Order, AllocError>
         ensures { IfOk result (λ order. IsOrder order × (order.nodes.items ≡ []) × (length order.first.items ≡ names)) }
     {
@@ -53,7 +54,7 @@ impl Order {
 }
 
 impl Order {
-    /// The place of the first node of a name, plus 1; 0 where nothing declares it.
+    /// The place of the first node of a name, plus 1; 0 if nothing declares it.
     fn order(&self, name: u32) -> usize
         requires { IsOrder self.now }
         ensures { result ≡ order_of (names_in self.now.nodes.items) name }
@@ -80,8 +81,8 @@ impl Order {
         }
     }
 
-    /// Puts a name last among those that are declared, where the program has it. Where a name above is declared, this one
-    /// is put below it.
+    /// Puts a name last among those that are declared, if the program has it. If a name above is
+    /// declared, this one is put below it.
     pub fn declare(&mut self, name: u32, above: Option<u32>) -> Result<(), AllocError>
         requires { IsOrder self.old }
         ensures order { IsOrder self.new }
@@ -101,7 +102,7 @@ impl Order {
         Ok(())
     }
 
-    /// The node of a name that is put last, below another where there is one and it is declared.
+    /// The node of a name that is put last, below another name, if there is one and it is declared.
     fn new_node(&self, name: u32, above: Option<u32>) -> Node
         requires { IsOrder self.now }
         ensures entry { entry_of result ≡ (name, among (entries_in self.now.nodes.items) above) }
@@ -131,7 +132,8 @@ impl Order {
         }
     }
 
-    /// The place farther above that a node directly below this one is to know: two equal steps make one.
+    /// The place farther above that a node directly below this one stores: two equal steps make
+    /// one.
     fn far_from(&self, above: usize) -> usize
         requires order { IsOrder self.now }
         requires there { above < length self.now.nodes.items }
@@ -169,7 +171,7 @@ impl Order {
         self.reaches(order - 1, others - 1)
     }
 
-    /// Whether a node is below another, or is it: the other is the one that a way up reaches at its place.
+    /// Whether a node is below another, or is it: the path up from it reaches the other's place.
     fn reaches(&self, node: usize, other: usize) -> bool
         requires order { IsOrder self.now }
         requires there { node < length self.now.nodes.items }
@@ -182,7 +184,8 @@ impl Order {
         place == other
     }
 
-    /// The farther node that a node knows, where it is not above a place, and else the one that it is directly below.
+    /// The farther node that a node stores, unless it is above a place; otherwise the one that it
+    /// is directly below.
     fn step_up(&self, node: usize, place: usize) -> usize
         requires order { IsOrder self.now }
         requires there { node < length self.now.nodes.items }

@@ -31,7 +31,7 @@ pub data IsAfterElement : Shape → Mode → Type 0 where
   after_blank : (shape : Shape) → IsAfterElement shape (Element shape 0 Spaced)
   in_tail : (shape : Shape) → IsAfterElement shape (Tail shape)
 
--- a label is expected: an element begins, or a dot, a star or a parenthesis goes before
+-- a label is expected: an element begins, or a dot, a star or a parenthesis comes before
 pub data IsLabelExpected : Stage → Type 0 where
   at_element : IsLabelExpected Fresh
   after_mark : IsLabelExpected Due

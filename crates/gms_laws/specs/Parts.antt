@@ -16,7 +16,7 @@ use Rattle.gms_expressions.specs.ExpressionTrees as trees
 use Rattle.gms_expressions.specs.Calls.{IsRead}
 use Rattle.gms_expressions.specs.Outcomes.{Walk, IsPart}
 
--- tokens as the grammar sees them
+-- tokens in the grammar's view
 abbrev pub Tokens : Type 0
 Tokens = List (Terminal × Token)
 
@@ -24,7 +24,7 @@ Tokens = List (Terminal × Token)
 abbrev pub Derivation : Type 0
 Derivation = Tree (Terminal × Token)
 
--- two readings leave the same, and end before the same tokens
+-- two readings leave the same state, and end before the same tokens
 abbrev pub EndAlike : Walk → Walk → Tokens → Tokens → Type 0
 EndAlike after later rest others = (after ≡ later) × (rest ≡ others)
 

@@ -15,9 +15,9 @@ use gq_field::ExactField;
 /// Reading an expression, an operand, a control or a target from tokens has one result or one first
 /// fault: never both, and never neither (GAMS User's Guide, "GAMS Output", compilation errors).
 ///
-/// `n` is a nonterminal of the grammar, as that of one of the four calls. `before` says what the
-/// tokens before the part left, and `after` what those of the part leave; `rest` are the tokens
-/// after it. A result is taken with the numbers that it means, in whatever field they are stored.
+/// `n` is a nonterminal of the grammar, as that of one of the four calls. `before` is the state
+/// after the tokens before the part, and `after` the one after its tokens; `rest` are the tokens
+/// after it. A result is compared by the numbers that it means, in whatever field they are stored.
 pub fn part_laws<F: ExactField>()
     ensures one_part { (limit : ℕ) (source : List ℕ) (n : Nonterminal) (before after later : Walk) (tokens rest others : Tokens) (one other : Derivation) →
         IsPart limit source n before after tokens rest one → IsPart limit source n before later tokens others other →

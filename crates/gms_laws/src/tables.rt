@@ -12,7 +12,7 @@ use gq_field::ExactField;
 /// The lines of a table have one list of entries or one first fault: never both, and never neither
 /// (GAMS User's Guide, "Data Entry: Parameters, Scalars and Tables").
 ///
-/// An entry is taken with the number that it means, in whatever field it is stored. `before` and
+/// An entry is compared by the number that it means, in whatever field it is stored. `before` and
 /// `after` are the labels of the source before the table and after it.
 pub fn table_laws<F: ExactField>()
     ensures seen { (lines : List TableLine) (before after : List (List ℕ)) (entries : List (Entry F)) →

@@ -1,4 +1,5 @@
--- The line of the bound that duals give: the bound where each step fits, and else the first step that does not.
+-- The line of the bound that duals give: the bound if each step fits, otherwise the first step that
+-- does not.
 use Rattle.std.proofs.Common.{◌≡◌, ℕ, ◌+◌, Bool, true, false, List, [], ◌∷◌, ◌++◌, map, Option, Some, None, refl, sym, ap, ap₂, ◌∙◌, subst, codes, decimal, arith}
 use Rattle.std.specs.Prelude.{option_map}
 use Rattle.std.specs.List.{enumerate_from}
@@ -43,7 +44,7 @@ unfit_at n (true ∷ fits) name (step ∷ before) behind e all =
 unfit_at n (false ∷ fits) name (step ∷ before) behind e all =
     absurd (let fit : step.1 ≡ true = All-head (λ (due : Due). due.1 ≡ true) step before all in let is : (Check n, false) ≡ step = cc in let unfit : false ≡ step.1 = ap (λ (due : Due). due.1) is in cc)
 
--- two pieces behind a word
+-- two pieces after a word
 behind_word : (x a p n : List ℕ) → x ++ ((a ++ p) ++ n) ≡ (x ++ a ++ p) ++ n
 behind_word x a p n = simp append_assoc
 

@@ -1,4 +1,5 @@
--- The bound that duals give: taken over the numbers of a program it has the same steps and the same value as over the program's own values.
+-- The bound that duals give: over the numbers of a program it has the same steps and the same value
+-- as over the program's own values.
 use Rattle.std.proofs.Common.{◌≡◌, ℕ, ◌+◌, ◌==◌, pos, Bool, true, false, List, [], ◌∷◌, ◌++◌, map, Option, Some, None, refl, ap, ap₂, ◌∙◌, if◌then◌else◌}
 use Rattle.std.specs.List.{zip, enumerate_from}
 use Rattle.gq_number.specs.Number.{Number, whole, ◌+ℚ◌, ◌-ℚ◌, ◌*ℚ◌}
@@ -100,7 +101,7 @@ module _ {F : Type 0} (value : F → Number) where
       (ap (λ s. columns_steps itself limit above (reduced_cost itself (lp_numbers value lp) costs duals) s 0 (map (column_numbers value) lp.columns)) (rows_sum_same above (whole (pos 0)) lp.rows duals)
       ∙ columns_steps_same limit above (reduced_cost itself (lp_numbers value lp) costs duals) (reduced_cost value lp costs duals) (reduced_cost_same lp costs duals) (rows_sum value above (whole (pos 0)) lp.rows duals) 0 lp.columns)
 
-  -- whether each step by which the bound is taken fits, over the values themselves
+  -- whether each step of computing the bound fits, over the values themselves
   abbrev pub fits_over : ℕ → Bool → Lp F → List Number → List Bool
   fits_over limit true lp duals = steps_of_bound value limit lp.maximize (objective_costs lp) lp duals
   fits_over limit false lp duals = steps_of_bound value limit false no_costs lp duals

@@ -1,4 +1,5 @@
--- How many rows an equation has, and how many columns a variable has, counted over the rows and columns of the code.
+-- How many rows an equation has, and how many columns a variable has, counted over the rows and
+-- columns of the code.
 use Rattle.std.proofs.Common.{◌≡◌, ℕ, suc, ◌+◌, ◌==◌, Bool, true, false, List, [], ◌∷◌, length, map, filter, refl, ap, ◌∙◌, if◌then◌else◌}
 use Rattle.std.specs.List.{enumerate_from}
 use Rattle.gq_number.specs.Number.{Number}
@@ -8,7 +9,7 @@ use Rattle.lp_core.specs.declared.program.Lp.{Lp}
 use Rattle.lp_core.specs.Numbers.{lp_numbers, row_numbers, column_numbers}
 use Rattle.gms_list.specs.SolveText.{rows_of, columns_of, each_once, variables}
 
--- elements that are kept are as many as those with places and in another form that are kept
+-- as many elements are kept as are kept of their images
 kept_by : {X Y : Type 0} (b : Bool) (x : X) (y : Y) (xs : List X) (ys : List Y) → length xs ≡ length ys → length (if b then x ∷ xs else xs) ≡ length (if b then y ∷ ys else ys)
 kept_by true x y xs ys e = ap (λ n. suc n) e
 kept_by false x y xs ys e = e

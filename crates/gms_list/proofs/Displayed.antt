@@ -1,4 +1,4 @@
--- What stands behind the name of a symbol, case by case.
+-- The text after the name of a symbol, case by case.
 use Rattle.std.proofs.Common.{◌≡◌, ◌≢◌, ℕ, ◌==◌, ◌++◌, List, [], ◌∷◌, codes, decimal, length, flat_map, true, false, if◌then◌else◌, Some, None, Option, sym, ap, refl, ◌∙◌, arith, map}
 use Rattle.std.proofs.lemmas.Bool.Decides.{nat_tests}
 use Rattle.gms_store.specs.declared.kind.SymbolKind.{SymbolKind}
@@ -49,7 +49,7 @@ not_set labels Undeclared decimals entries k = refl
 pub other_entries : (labels : List (List ℕ)) (kind : SymbolKind) (decimals : ℕ) (entries : Entries) → entries ≢ [] → kind ≢ Set → flat_map (entry_text labels (width_of labels entries) decimals) entries ≡ lines_text labels kind decimals entries
 other_entries labels kind decimals entries h k = not_set labels kind decimals entries k ∙ some_entries labels kind decimals entries h
 
--- what is seen of entries is nothing just where they are none
+-- a mapped list is empty exactly where the list is
 pub seen_none : {X Y : Type 0} (f : X → Y) (xs : List X) → xs ≡ [] → map f xs ≡ []
 seen_none f xs e = ap (map f) e
 

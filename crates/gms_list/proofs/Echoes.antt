@@ -1,4 +1,4 @@
--- The lines of a source without their ends, from the first on, and a line behind its number.
+-- The lines of a source without their ends, from the first on, and a line after its number.
 use Rattle.std.proofs.Common.{◌≡◌, ℕ, zero, suc, ◌+◌, ◌-◌, ◌<◌, ◌≤◌, ◌==◌, ◌&&◌, ◌||◌, Bool, true, false, List, [], ◌∷◌, ◌++◌, length, take, drop, map, refl, sym, ap, ◌∙◌, arith, if◌then◌else◌, codes, decimal, length-drop, get_or, ◌≢◌}
 use Rattle.std.proofs.lemmas.Bool.Decides.{nat_tests}
 use Rattle.std.proofs.lemmas.List.{append_assoc, take_all}
@@ -60,7 +60,7 @@ ended b t e =
         ∙ ap (λ l. l ∷ map content (lines r)) (content_ended b (c ∷ []) e)
         ∙ ap (λ r. [] ∷ map content (lines r)) (sym (behind_end_return b (c ∷ r) other f))
 
--- the first line of a text that is there, by its first byte
+-- the first line of a text that is not empty, by its first byte
 record First (c : ℕ) (t : List ℕ) : Type 0 where
   pub rest : List ℕ
   pub others : List (List ℕ)
@@ -88,7 +88,7 @@ one_more b n t = grind (arith)
 one_less : (b n : ℕ) (t : List ℕ) → drop (1 + n) (b ∷ t) ≡ drop n t
 one_less b n t = grind (arith)
 
--- The lines without their ends: what stands before the first line end, and the lines behind it.
+-- The lines without their ends: the text before the first line end, and the lines after it.
 pub content_lines : (text : List ℕ) → 0 < length text →
     map content (lines text) ≡ take (before is_line_end text) text ∷ map content (lines (behind_end (drop (before is_line_end text) text)))
 content_lines [] h = absurd (omega arith)
@@ -113,7 +113,7 @@ content_lines (b ∷ t) h = either (is_line_end (b ∷ t)) _
         ∙ ap (λ l. l ∷ map content f.others) (line ∙ ap (λ l. b ∷ l) (head_of _ _ _ _ split) ∙ sym (one_more b (before is_line_end (c ∷ t)) (c ∷ t)))
         ∙ ap (λ ls. take (1 + before is_line_end (c ∷ t)) (b ∷ (c ∷ t)) ∷ ls) (tail_of _ _ _ _ split ∙ ap (λ r. map content (lines (behind_end r))) (sym (one_less b (before is_line_end (c ∷ t)) (c ∷ t))))
 
--- ---- what stands behind a line end
+-- ---- the text after a line end
 
 -- all of a slice from a place on
 rest_from : (xs : List ℕ) (k : ℕ) → take (length xs - k) (drop k xs) ≡ drop k xs
@@ -159,7 +159,7 @@ behind_lone (b ∷ (c ∷ t)) e f =
     let no : (c == 10) ≡ false = grind (arith, nat_tests) in
     sym (behind_end_none b (c ∷ t) other (grind (arith, nat_tests)))
 
--- the text behind the first line is shorter
+-- the text after the first line is shorter
 shorter : (t : List ℕ) → length (behind_end t) ≤ length t
 shorter [] = omega arith
 shorter (b ∷ t) =
@@ -193,7 +193,7 @@ behind_lines text rest k h e f =
 pub styled_decimal-right : (n : ℕ) → styled_decimal (format_spec 32 3 0 6 18446744073709551615) n ≡ right_in 6 (decimal n)
 styled_decimal-right n = padded_integral_right (format_spec 32 3 0 6 18446744073709551615) (decimal n) refl refl (λ h. cc) (λ h. cc) (omega arith)
 
--- a line behind its number, by its three pieces
+-- a line after its number, by its three pieces
 pub numbered : (head line : List ℕ) (n : ℕ) → head ≡ right_in 6 (decimal n) ++ codes "  " → head ++ (line ++ 10 ∷ []) ≡ numbered_line n line
 numbered head line n e = rw e (simp append_assoc)
 
@@ -202,7 +202,7 @@ pub no_lines : (n : ℕ) (text : List ℕ) → length text ≡ 0 → numbered_fr
 no_lines n [] h = refl
 no_lines n (b ∷ t) h = absurd (omega (arith, h))
 
--- the first line behind its number, and the lines behind it
+-- the first line after its number, and the later lines
 pub next_line : (n : ℕ) (text : List ℕ) (k : ℕ) → 0 < length text → k ≡ before is_line_end text →
     numbered_from n (map content (lines text)) ≡ numbered_line n (take k text) ++ numbered_from (n + 1) (map content (lines (behind_end (take (length text - k) (drop k text)))))
 next_line n text k h e = ap (numbered_from n) (behind_lines text (behind_end (take (length text - k) (drop k text))) k h e refl)

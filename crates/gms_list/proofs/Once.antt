@@ -1,4 +1,4 @@
--- Numbers each once, as they are gathered from the first on.
+-- Numbers without repetition, as they are gathered from the first on.
 use Rattle.std.proofs.Common.{◌≡◌, ℕ, ◌+◌, ◌<◌, ◌≤◌, ◌==◌, ◌||◌, ◌&&◌, not, ◌∙◌, ap, sym, refl, Bool, true, false, List, [], ◌∷◌, ◌++◌, map, filter, drop, length, get_or, if◌then◌else◌, arith}
 use Rattle.std.specs.List.{list_any}
 use Rattle.std.proofs.lemmas.Bool.Decides.{nat_tests}
@@ -84,7 +84,7 @@ all_of (x ∷ xs) = ap (λ ys. x ∷ ys) (all_of xs)
 pub gathered_none : (xs : List ℕ) → gathered [] xs ≡ each_once xs
 gathered_none xs = all_of (each_once xs)
 
--- a number that is there, and one that is not
+-- a number that is in the list, and one that is not
 pub once_has : (ns : List ℕ) (n : ℕ) → has ns n ≡ true → ns ≡ once_more ns n
 once_has ns n e = ap (λ b. if b then ns else ns ++ n ∷ []) (sym e)
 

@@ -1,4 +1,4 @@
--- What proves an end, as its pieces are appended one after another.
+-- The certificate of an end, as its pieces are appended in sequence.
 use Rattle.std.proofs.Common.{◌≡◌, ℕ, ◌++◌, List, [], ◌∷◌, Option, Some, None, true, false, codes, decimal, map, flat_map, refl, sym, ap, ◌∙◌}
 use Rattle.std.specs.Prelude.{slice_get, option_to_list, option_map}
 use Rattle.std.proofs.lemmas.List.{append_assoc, append-nil}
@@ -13,15 +13,15 @@ use Rattle.lp_core.specs.Numbers.{lp_numbers, column_numbers, end_numbers}
 use Rattle.gms_list.specs.Amounts.{line_of}
 use Rattle.gms_list.specs.SolveText.{column_numbers as column_texts, row_numbers as row_texts, bound_lines, crossed_line, infeasible_text, step_text, proof_text}
 
--- four pieces behind a line
+-- four pieces after a line
 four_behind : (w a b c d : List ℕ) → w ++ (a ++ (b ++ (c ++ d))) ≡ w ++ a ++ b ++ c ++ d
 four_behind w a b c d = simp append_assoc
 
--- two pieces behind a line
+-- two pieces after a line
 two_behind : (w a b : List ℕ) → w ++ (a ++ b) ≡ w ++ a ++ b
 two_behind w a b = simp append_assoc
 
--- two lines in one text, and what stands behind them
+-- two lines in one text, and the text after them
 two_lines : (w x p y q n t : List ℕ) → ((w ++ x) ++ (p ++ (y ++ (q ++ n)))) ++ t ≡ w ++ (x ++ p ++ y ++ q ++ n) ++ t
 two_lines w x p y q n t = simp append_assoc
 

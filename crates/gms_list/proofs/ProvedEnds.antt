@@ -1,4 +1,5 @@
--- What an end that is proved says of its duals: how many they are, and that the bound that they give is there.
+-- What an end with a certificate says of its duals: how many there are, and that their bound
+-- exists.
 use Rattle.std.proofs.Common.{◌≡◌, ◌≢◌, ℕ, List, Option, Some, None, true, false, map, length, sym, ◌∙◌}
 use Rattle.std.proofs.lemmas.List.{length-map}
 use Rattle.gq_number.specs.Number.{Number}

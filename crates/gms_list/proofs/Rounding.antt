@@ -17,7 +17,7 @@ use Rattle.gq_text.proofs.Texts.{one_rounded}
 use Rattle.gq_text.proofs.Exacts.{numeral_is, fitting, either}
 use Rattle.gms_list.specs.Amounts.{in_places, fixed_text, signed_text, rounded_text}
 
--- ---- decimals behind a point
+-- ---- decimals after a point
 
 AreDigits-replicate : (k : ℕ) → AreDigits (replicate k 48)
 AreDigits-replicate zero = tt
@@ -27,7 +27,7 @@ spelled-replicate : (k : ℕ) → spelled (replicate k 48) ≡ 0
 spelled-replicate zero = refl
 spelled-replicate (suc k) = let e = spelled-replicate k in omega (arith, e)
 
--- so many decimals, which spell the number
+-- `d` decimals, which spell the number
 record Places (d n : ℕ) (text : List ℕ) : Type 0 where
   pub digits : AreDigits text
   pub places : length text ≡ d

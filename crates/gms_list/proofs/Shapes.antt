@@ -1,4 +1,4 @@
--- Lines as their pieces are appended, one after another, and as their definitions put them together.
+-- Lines as their pieces are appended in sequence, and as their definitions put them together.
 use Rattle.std.proofs.Common.{◌≡◌, ℕ, ◌++◌, List, [], ◌∷◌, codes, decimal, refl, sym, ap, ap₂, ◌∙◌}
 use Rattle.std.proofs.lemmas.List.{append_assoc, append-nil}
 use Rattle.gms_fmt.specs.Columns.{right_in, left_in}
@@ -37,7 +37,7 @@ entry_line tuple value a b n e f = ap₂ (λ t v. (codes "  " ++ left_in n t) ++
 pub member_line : (made tuple a : List ℕ) → made ≡ codes "  " ++ (tuple ++ codes "\n") → tuple ≡ a → made ≡ line_of (codes "  " ++ a)
 member_line made tuple a e f = rw (e, f) (simp append_assoc)
 
--- a word, a name and what stands behind it
+-- a word, a name and the text after it
 pub head_of : (made word text behind a : List ℕ) → made ≡ word ++ (text ++ behind) → text ≡ a → made ≡ word ++ a ++ behind
 head_of made word text behind a e f = rw (e, f) (simp append_assoc)
 
@@ -70,7 +70,7 @@ column_line made key lower upper a b c e f g h = rw (e, f, g, h) (simp append_as
 pub three : (a b c : List ℕ) → a ++ (b ++ c) ≡ a ++ b ++ c
 three a b c = sym (append_assoc a b c)
 
--- a head and what stands behind its line feed
+-- a head and the text after its line feed
 pub headed : (word text a b : List ℕ) → (word ++ text ++ codes "\n") ++ (a ++ b) ≡ line_of (word ++ text) ++ a ++ b
 headed word text a b = simp append_assoc
 
@@ -121,7 +121,7 @@ summary_lines counts solver s m o statuses rows columns nonzeros pivots most e f
         (a ++ (b ++ (c ++ (d ++ (e ++ (f ++ (n ++ g))))))) ++ (h ++ ((i ++ j ++ k ++ l ++ n) ++ (s ++ (m ++ o)))) ≡ (a ++ b ++ c ++ d ++ e ++ f ++ n) ++ (g ++ h ++ i ++ j ++ k ++ l ++ n) ++ s ++ m ++ o
     pieces a b c d e f g h i j k l n s m o = simp append_assoc
 
--- what stands behind the name of a solver
+-- the text after the name of a solver
 pub statuses : (made solver model level a b c : List ℕ) (pivots most : ℕ) →
     made ≡ codes " PIVOTS " ++ (decimal pivots ++ (codes " LIMIT " ++ (decimal most ++ (codes "\n" ++ (solver ++ (model ++ (codes "OBJECTIVE " ++ (level ++ codes "\n")))))))) →
     solver ≡ a → model ≡ b → level ≡ c →
@@ -158,11 +158,11 @@ pair made before name element a b e f g = rw (e, f, g) (simp append_assoc)
 pub count_line : (made : List ℕ) (n : ℕ) → made ≡ codes " count " ++ (decimal n ++ codes "\n") → made ≡ line_of (codes " count " ++ decimal n)
 count_line made n e = rw e (simp append_assoc)
 
--- a word, a name and what stands behind it in the line, and what stands behind the line
+-- a word, a name and the text after it in the line, and the text after the line
 pub headed_line : (word text behind rest : List ℕ) → (word ++ text ++ (behind ++ codes "\n")) ++ rest ≡ line_of (word ++ text ++ behind) ++ rest
 headed_line word text behind rest = simp append_assoc
 
--- a line of a solution whose numbers and mark are told in another way
+-- a line of a solution, from equal numbers and an equal mark
 pub point_same : (names labels : List (List ℕ)) (width : ℕ) (key : Key) (lower a : Option Number) (level b : Number) (upper d : Option Number) (marginal e : Number) (mark m : List ℕ) →
     lower ≡ a → level ≡ b → upper ≡ d → marginal ≡ e → mark ≡ m → point_text names labels width key lower level upper marginal mark ≡ point_text names labels width key a b d e m
 point_same names labels width key lower a level b upper d marginal e mark m f g h i j = rw (f, g, h, i, j) refl

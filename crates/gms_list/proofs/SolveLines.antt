@@ -1,4 +1,5 @@
--- What a solve shows, piece by piece: the statuses, the counts, the levels where they are asked for, and the whole.
+-- What a solve shows, piece by piece: the statuses, the counts, the levels if they are requested,
+-- and the whole.
 use Rattle.std.proofs.Common.{◌≡◌, ℕ, ◌+◌, ◌++◌, ◌∙◌, Bool, true, false, List, [], ◌∷◌, length, map, sum, sum_by, codes, decimal, refl, sym, ap, ap₂, if◌then◌else◌, Option, Some, None, option_map}
 use Rattle.std.proofs.lemmas.List.{append_assoc, length-map}
 use Rattle.std.proofs.lemmas.List.Sums.{sum_by-cons, sum-map}
@@ -39,7 +40,7 @@ pub model_line_of : {F : Type 0} (value : F → Number) (end : End F) (made : Li
 model_line_of value end made status is e =
     e ∙ ap (λ (s : SolveStatus). line_of (codes "MODEL STATUS " ++ decimal (model_number s) ++ codes " " ++ model_text s)) (is ∙ sym (status-numbers value end))
 
--- the statuses, of an answer with so many pivots
+-- the statuses of an answer with `pivots` pivots
 pub statuses_of : {F : Type 0} (value : F → Number) (answer : Answer F) (made solver model level : List ℕ) (x : Number) (pivots most : ℕ) →
     made ≡ codes " PIVOTS " ++ (decimal pivots ++ (codes " LIMIT " ++ (decimal most ++ (codes "\n" ++ (solver ++ (model ++ (codes "OBJECTIVE " ++ (level ++ codes "\n")))))))) →
     solver ≡ line_of (solver_status_text (end_numbers value answer.end)) → model ≡ line_of (model_status_text (end_numbers value answer.end)) → level ≡ amount x → pivots ≡ length answer.pivots →
@@ -75,17 +76,17 @@ summary_of value place s answer counts made rows columns nonzeros e f g h m =
     summary_lines counts s.solver.now _ _ _ made (length (map (row_numbers value) s.lp.now.rows)) (length (map (column_numbers value) s.lp.now.columns)) (sum (map (λ (row : Row Number). length row.entries) (map (row_numbers value) s.lp.now.rows))) (length answer.pivots) s.settings.iterlim
     (e ∙ counts_same rows columns nonzeros _ _ _ (f ∙ sym (length-map s.lp.now.rows (row_numbers value))) (g ∙ sym (length-map s.lp.now.columns (column_numbers value))) (h ∙ entries_counted value s.lp.now.rows)) m
 
--- the levels are asked for, and there are some
+-- the levels are requested, and there are some
 pub levels_shown : {F : Type 0} (value : F → Number) (text : Option Solution → List ℕ) (asked : Bool) (own : Option (OwnSolution F)) (found : Option Solution) (s : OwnSolution F) →
     asked ≡ true → option_map (solution_in value) own ≡ found → own ≡ Some s → text (Some (solution_in value s)) ≡ (if asked then text found else [])
 levels_shown value text asked own found s a f e = ap (λ o. text (option_map (solution_in value) o)) (sym e) ∙ ap text f ∙ ap (λ b. if b then text found else []) (sym a)
 
--- the levels are asked for, and there are none
+-- the levels are requested, and there are none
 pub levels_missing : {F : Type 0} (value : F → Number) (text : Option Solution → List ℕ) (asked : Bool) (own : Option (OwnSolution F)) (found : Option Solution) →
     text None ≡ [] → asked ≡ true → option_map (solution_in value) own ≡ found → own ≡ None → [] ≡ (if asked then text found else [])
 levels_missing value text asked own found n a f e = sym n ∙ ap (λ o. text (option_map (solution_in value) o)) (sym e) ∙ ap text f ∙ ap (λ b. if b then text found else []) (sym a)
 
--- the levels are not asked for
+-- the levels are not requested
 pub levels_left : (text : List ℕ) (asked : Bool) → asked ≡ false → [] ≡ (if asked then text else [])
 levels_left text asked a = ap (λ b. if b then text else []) (sym a)
 

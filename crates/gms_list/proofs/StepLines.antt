@@ -4,7 +4,7 @@ use Rattle.std.proofs.lemmas.List.{append_assoc}
 use Rattle.lp_core.specs.declared.answer.StepName.TheVariants as step
 use Rattle.gms_list.specs.SolveText.{step_text}
 
--- two numbers, each behind its word
+-- two numbers, each after its word
 two_numbers : (a p b q : List ℕ) → a ++ (p ++ (b ++ q)) ≡ a ++ p ++ b ++ q
 two_numbers a p b q = simp append_assoc
 

@@ -7,13 +7,13 @@ use Rattle.std.proofs.lemmas.List.{append_assoc, append-nil, drop_all}
 use Rattle.gms_fmt.specs.Columns.{BeginsWith, Appends}
 use Rattle.gms_fmt.proofs.Appending.{failed, begins_first, begins_second, appended}
 
--- a text is an old one with the front of a whole behind it, of which this is left
+-- a text is an old one followed by a prefix of a whole, of which this remains
 pub record Walked (old whole now rest : List ℕ) : Type 0 where
   pub front : List ℕ
   pub now_is : now ≡ old ++ front
   pub whole_is : front ++ rest ≡ whole
 
--- nothing of the whole is there yet
+-- nothing of the whole was appended yet
 pub walk : {old whole : List ℕ} (text : List ℕ) → text ≡ whole → Walked old whole old text
 walk {old} {whole} text e = record { front = []; now_is = sym (append-nil old); whole_is = e }
 
@@ -22,7 +22,7 @@ pub step : {old whole now new : List ℕ} (t rest : List ℕ) → Walked old who
 step {old} {whole} {now} {new} t rest w e =
     record { front = w.front ++ t; now_is = e ∙ ap (λ x. x ++ t) w.now_is ∙ append_assoc old w.front t; whole_is = append_assoc w.front t rest ∙ w.whole_is }
 
--- a front of the next piece is a front of the whole
+-- a prefix of the next piece gives a prefix of the whole
 pub front_of_whole : {old whole now new : List ℕ} (t rest : List ℕ) → Walked old whole now (t ++ rest) → BeginsWith now t new → BeginsWith old whole new
 front_of_whole {old} {whole} {now} {new} t rest w b =
     subst (λ x. BeginsWith old x new) w.whole_is (begins_second old now new w.front (t ++ rest) w.now_is (begins_first now new t rest b))
@@ -36,7 +36,7 @@ pub stop : {A E : Type 0} {old whole now rest : List ℕ} (result : Result A E) 
 stop {A} {E} {old} {whole} {now} {rest} result is w =
     failed old now whole result is (w.front, rest, sym w.whole_is, w.now_is)
 
--- the last piece was appended, or its front
+-- the last piece was appended, or a prefix of it
 pub last : {A E : Type 0} {old whole now : List ℕ} (new t : List ℕ) (result : Result A E) → Walked old whole now t → Appends result now new t → Appends result old new whole
 last {A} {E} {old} {whole} {now} new t result w h =
     subst (Appends result old new) w.whole_is (appended old now new w.front t result w.now_is h)
@@ -45,7 +45,7 @@ last {A} {E} {old} {whole} {now} new t result w h =
 pub all : {old whole now : List ℕ} → Walked old whole now [] → now ≡ old ++ whole
 all {old} {whole} {now} w = w.now_is ∙ ap (λ x. old ++ x) (sym (append-nil w.front) ∙ w.whole_is)
 
--- what is left, written in another way
+-- what remains, written in another way
 pub rest_is : {old whole now rest : List ℕ} (text : List ℕ) → rest ≡ text → Walked old whole now rest → Walked old whole now text
 rest_is {old} {whole} {now} {rest} text e w = subst (Walked old whole now) e w
 
@@ -57,7 +57,7 @@ untouched old text result is = failed old old text result is ([], text, refl, sy
 pub reshaped : {A E : Type 0} (old new text shaped : List ℕ) (result : Result A E) → text ≡ shaped → Appends result old new text → Appends result old new shaped
 reshaped old new text shaped result e h = subst (Appends result old new) e h
 
--- ---- loops over a list: what is left is the texts of the elements from this place on
+-- ---- loops over a list: what remains is the texts of the elements from this place on
 
 pub drop_at : {X : Type 0} (xs : List X) (i : ℕ) (d : X) → i < length xs → drop i xs ≡ get_or xs i d ∷ drop (i + 1) xs
 drop_at xs i d h = drop-cons xs i d h ∙ ap (λ k. get_or xs i d ∷ drop k xs) (sym (add-one i))
@@ -65,7 +65,7 @@ drop_at xs i d h = drop-cons xs i d h ∙ ap (λ k. get_or xs i d ∷ drop k xs)
 pub drop_none : {X : Type 0} (xs : List X) → drop 0 xs ≡ xs
 drop_none xs = refl
 
--- the texts from a place on are that of the element there and those behind it
+-- the texts from a place on are that of the element there and those of the later elements
 pub texts_at : {X Y : Type 0} (f : Y → List ℕ) (v : X → Y) (xs : List X) (i : ℕ) (d : X) → i < length xs →
     flat_map f (map v (drop i xs)) ≡ f (v (get_or xs i d)) ++ flat_map f (map v (drop (i + 1) xs))
 texts_at f v xs i d h = ap (λ ys. flat_map f (map v ys)) (drop_at xs i d h)
@@ -84,12 +84,12 @@ pub loop_done : {X Y : Type 0} {old whole now : List ℕ} (f : Y → List ℕ) (
     Walked old whole now (flat_map f (map v (drop i xs))) → now ≡ old ++ whole
 loop_done f v xs i h w = all (rest_is [] (ap (λ ys. flat_map f (map v ys)) (drop_all i xs h)) w)
 
--- each element as it is
+-- mapping the identity changes nothing
 pub map_same : {X : Type 0} (xs : List X) → map (λ x. x) xs ≡ xs
 map_same [] = refl
 map_same (x ∷ xs) = ap (λ ys. x ∷ ys) (map_same xs)
 
--- an element that is there, whatever stands for one that is not
+-- an element that exists does not depend on the default
 pub same_at : {X : Type 0} (xs : List X) (i : ℕ) (d e : X) → i < length xs → get_or xs i d ≡ get_or xs i e
 same_at [] i d e h = absurd (omega (arith, h))
 same_at (x ∷ xs) zero d e h = refl
@@ -125,7 +125,7 @@ pub placed_end : {X Y : Type 0} {old whole now : List ℕ} (f : ℕ × Y → Lis
     Walked old whole now (flat_map f (placed v i xs)) → now ≡ old ++ whole
 placed_end f v xs i h w = all (rest_is [] (ap (flat_map f) (placed_done v xs i h)) w)
 
--- ---- the first so many of those that are kept
+-- ---- the first `left` of those that are kept
 
 -- how many may still be appended after an element
 abbrev pub left_after : Bool → ℕ → ℕ
@@ -148,7 +148,7 @@ taken_by f y ys true (suc n) =
     let less : suc n - 1 ≡ n = omega arith in
     sym (ap₂ (λ b k. (if b then [] else f y) ++ flat_map f (take k ys)) some less)
 
--- the texts of the first that are kept are that of the first element and those behind it
+-- the texts of the first that are kept are that of the first element and those of the later ones
 pub taken_at : {X Y : Type 0} (f : ℕ × Y → List ℕ) (q : ℕ × Y → Bool) (v : X → Y) (xs : List X) (i : ℕ) (x : X) (left : ℕ) → i < length xs → x ≡ get_or xs i x →
     flat_map f (take left (filter q (placed v i xs))) ≡ while_left (q (i, v x)) left (f (i, v x)) ++ flat_map f (take (left_after (q (i, v x)) left) (filter q (placed v (i + 1) xs)))
 taken_at f q v xs i x left h e =

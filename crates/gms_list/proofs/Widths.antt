@@ -7,7 +7,7 @@ use Rattle.gms_fmt.specs.ElementTexts.{dotted_text}
 use Rattle.gms_list.specs.ListingText.{Entries}
 use Rattle.gms_list.proofs.Walks.{drop_at}
 
--- the length of the longest of these, where it is so much at first
+-- the length of the longest of these, from an initial width
 abbrev pub width_from : List (List ℕ) → ℕ → Entries → ℕ
 width_from labels width entries = fold (λ width (entry : List ℕ × Extended). max (length (dotted_text labels entry.0)) width) width entries
 

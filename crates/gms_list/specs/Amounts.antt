@@ -1,25 +1,26 @@
--- Lines, and numbers as they stand in them (GAMS User's Guide, "The Display Statement").
+-- Lines, and the form of numbers in them (GAMS User's Guide, "The Display Statement").
 use Rattle.std.specs.Prelude.{ℕ, ◌+◌, ◌/◌, ◌%◌, ◌^◌, ◌-◌, ◌==◌, pos, negsuc, ℤ, List, [], ◌∷◌, ◌++◌, length, replicate, codes, decimal, if◌then◌else◌}
 use Rattle.gq_number.specs.Number.{Number, whole, ◌*ℚ◌, rounded}
 
--- a line: a text and a line feed behind it
+-- a line: a text followed by a line feed
 abbrev pub line_of : List ℕ → List ℕ
 line_of text = text ++ 10 ∷ []
 
--- a whole number in so many places, with zeros before it
+-- a whole number in `places` places, with zeros before it
 abbrev pub in_places : ℕ → ℕ → List ℕ
 in_places places n = replicate (places - length (decimal n)) 48 ++ decimal n
 
--- so many units of the last of some decimals: the whole part, a point, and the decimals; without decimals there is no point
+-- a number of units of the last decimal: the whole part, a point, and the decimals; without
+-- decimals there is no point
 abbrev pub fixed_text : ℕ → ℕ → List ℕ
 fixed_text decimals n =
     decimal (n / 10 ^ decimals) ++ (if decimals == 0 then [] else codes "." ++ in_places decimals (n % 10 ^ decimals))
 
--- the same with a sign
+-- a number of units with a sign, as a decimal text
 abbrev pub signed_text : ℕ → ℤ → List ℕ
 signed_text decimals (pos n) = fixed_text decimals n
 signed_text decimals (negsuc n) = codes "-" ++ fixed_text decimals (n + 1)
 
--- a number rounded to so many decimals, half away from zero
+-- a number rounded to a number of decimals, half away from zero
 abbrev pub rounded_text : ℕ → Number → List ℕ
 rounded_text decimals x = signed_text decimals (rounded (x *ℚ whole (pos (10 ^ decimals))))

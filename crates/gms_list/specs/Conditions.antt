@@ -1,4 +1,5 @@
--- What an event has to be so that it can be listed: a number's decimals, and for a solve a program that is formed well and an answer that is proved.
+-- When an event can be listed: a number's decimals are at most 8, and a solve has a well-formed
+-- program and an answer with a certificate.
 use Rattle.std.specs.Prelude.{◌≡◌, ◌≤◌, ℕ, List, map, slice_get, Some, None, All, IfSome, length}
 use Rattle.gq_number.specs.Number.{Number}
 use Rattle.gms_event.specs.declared.event.Event.{Event}
@@ -12,7 +13,7 @@ use Rattle.lp_core.specs.Proofs.{ProvesOptimal, ProvesInfeasible, ProvesCrossed,
 use Rattle.lp_core.specs.WellFormed.{IsWellFormed}
 
 module _ {F : Type 0} (value : F → Number) (lp : Lp F) where
-  -- an answer comes with what proves its end
+  -- an answer has a certificate of its end
   abbrev pub IsProved : End F → Type 0
   IsProved (Optimal levels row_levels duals reduced) = ProvesOptimal value lp (map value levels) (map value row_levels) (map value duals) (map value reduced)
   IsProved (Infeasible duals None) = ProvesInfeasible value lp (map value duals)
@@ -22,12 +23,13 @@ module _ {F : Type 0} (value : F → Number) (lp : Lp F) where
   IsProved (Refused step) = Unit {0}
 
 module _ {F : Type 0} (value : F → Number) (answers : List (Answer F)) where
-  -- a solve whose linear program is formed well, with an answer at this place that is proved, if there is one
+  -- a solve with a well-formed linear program, whose answer at this place, if there is one, has a
+  -- certificate
   pub record IsListableSolve (lp : Lp F) (answer : ℕ) : Type 0 where
     pub formed : IsWellFormed value lp
     pub stands : IfSome (slice_get answers answer) (λ a. IsProved value lp a.end)
 
-  -- an event whose numbers have few enough decimals, and whose solve is proved
+  -- an event whose numbers have few enough decimals, or a solve whose answer has a certificate
   abbrev pub IsListable : Event F → Type 0
   IsListable (Display line items) = All (λ (item : Shown F). item.decimals ≤ 8) items
   IsListable (Abort line items) = All (λ (item : Shown F). item.decimals ≤ 8) items

@@ -1,5 +1,5 @@
--- The text of a listing: the echo of the source, its errors or what the run shows, and the last line (GAMS User's Guide, "GAMS Output").
--- The form of the lines is this project's own.
+-- The text of a listing: the echo of the source, its errors or what the run shows, and the last
+-- line (GAMS User's Guide, "GAMS Output"). The form of the lines is this project's own.
 use Rattle.std.specs.Prelude.{ℕ, ◌+◌, ◌*◌, ◌/◌, ◌%◌, ◌^◌, ◌-◌, pos, negsuc, ℤ, nat_abs, nat_lt, Bool, true, false, not, ◌&&◌, ◌==◌, max, List, [], ◌∷◌, ◌++◌, length, map, flat_map, replicate, slice_get, option_to_list, Option, Some, None, codes, decimal, if◌then◌else◌}
 use Rattle.std.specs.List.{fold}
 use Rattle.gq_extended.specs.Extended.{Extended, number, plus_infinity, minus_infinity, na}
@@ -27,17 +27,17 @@ use Rattle.gms_list.specs.Amounts.{line_of, rounded_text}
 use Rattle.gms_list.specs.SolveText.{solve_text}
 use Rattle.gq_number.specs.Number.{Number}
 
--- where something is
+-- the text of a place
 abbrev pub place_text : Place → List ℕ
 place_text at = codes " at line " ++ decimal at.line ++ codes " column " ++ decimal at.column
 
 -- ---- the echo
 
--- a line behind its number, which stands right in 6 places, and two blanks
+-- a line after its number, which is right in 6 places, and two blanks
 abbrev pub numbered_line : ℕ → List ℕ → List ℕ
 numbered_line n line = line_of (right_in 6 (decimal n) ++ codes "  " ++ line)
 
--- lines behind their numbers, from this one on
+-- lines after their numbers, from this one on
 abbrev pub numbered_from : ℕ → List (List ℕ) → List ℕ
 numbered_from n [] = []
 numbered_from n (line ∷ others) = numbered_line n line ++ numbered_from (n + 1) others
@@ -69,7 +69,7 @@ compile_errors_text errors = flat_map compile_error_text errors
 
 -- ---- values
 
--- a value: a number rounded to so many decimals, or the word for another
+-- a value: a number rounded to a number of decimals, or the word for another
 abbrev pub value_text : ℕ → Extended → List ℕ
 value_text decimals (number x) = rounded_text decimals x
 value_text decimals plus_infinity = codes "+INF"
@@ -86,7 +86,7 @@ kind_text Variable indexed = codes "VARIABLE"
 kind_text Equation indexed = codes "EQUATION"
 kind_text kind indexed = codes "SCALAR"
 
--- a suffix as it stands behind a name
+-- a suffix after a name
 abbrev pub suffix_text : Suffix → List ℕ
 suffix_text suffix.None = []
 suffix_text suffix.Lo = codes ".lo"
@@ -106,24 +106,24 @@ abbrev pub nothing_text : SymbolKind → List ℕ
 nothing_text Set = line_of (codes "  (empty)")
 nothing_text kind = line_of (codes "  (all zero)")
 
--- the value of an entry
+-- the text of the value of an entry
 abbrev pub number_text : ℕ → List ℕ × Extended → List ℕ
 number_text decimals entry = value_text decimals entry.1
 
--- the value of a symbol without indices
+-- the text of the value of a symbol without indices
 abbrev pub single_text : Shown → List ℕ
 single_text item = line_of (codes " = " ++ flat_map (number_text item.decimals) item.entries)
 
 -- ---- the stop of a run
 
--- whether a stop says how many elements, rows or columns there are too many of
+-- whether a stop has a count: of elements, rows or columns that are too many
 abbrev pub has_count : StopKind → Bool
 has_count DomainSize = true
 has_count TooManyRows = true
 has_count TooManyColumns = true
 has_count kind = false
 
--- how many there are
+-- the text of the count
 abbrev pub count_text : StopKind → ℕ → List ℕ
 count_text kind count = if has_count kind then codes " count " ++ decimal count else []
 
@@ -138,7 +138,7 @@ module _ (labels : List (List ℕ)) where
   abbrev pub member_text : List ℕ × Extended → List ℕ
   member_text entry = line_of (codes "  " ++ dotted_text labels entry.0)
 
-  -- another entry: its tuple left in the width of the longest, and its value right in 14 places
+  -- any other entry: its tuple left in the width of the longest, and its value right in 14 places
   abbrev pub entry_text : ℕ → ℕ → List ℕ × Extended → List ℕ
   entry_text width decimals entry =
       line_of (codes "  " ++ left_in width (dotted_text labels entry.0) ++ codes " " ++ right_in 14 (value_text decimals entry.1))
@@ -148,7 +148,8 @@ module _ (labels : List (List ℕ)) where
   entries_text Set decimals entries = flat_map member_text entries
   entries_text kind decimals entries = flat_map (entry_text (width_of entries) decimals) entries
 
-  -- what stands behind the name: for a symbol without indices its value, and else the lines of its entries
+  -- the text after the name: for a symbol without indices its value, otherwise the lines of its
+  -- entries
   abbrev pub values_text : Shown → List ℕ
   values_text item =
       if item.indexed then
@@ -161,7 +162,7 @@ module _ (names labels : List (List ℕ)) where
   symbol_text name item =
       kind_text item.kind item.indexed ++ codes " " ++ text_of names name ++ suffix_text item.suffix ++ values_text labels item
 
-  -- what an item shows, behind the line of its statement: a text or a symbol
+  -- what an item shows, after the line of its statement: a text or a symbol
   abbrev pub item_text : ℕ → Shown → List ℕ
   item_text line item =
       codes "---- " ++ decimal line ++ codes " " ++ elim item.name [ None ↦ line_of item.text | Some name ↦ symbol_text name item ]
@@ -174,7 +175,7 @@ module _ (names labels : List (List ℕ)) where
   abbrev pub pair_text : ℕ × ℕ → List ℕ
   pair_text pair = text_of names pair.0 ++ codes "=" ++ text_of labels pair.1
 
-  -- pairs behind the first
+  -- pairs after the first
   abbrev pub further_pairs : Pairs → List ℕ
   further_pairs pairs = flat_map (λ pair. codes "," ++ pair_text pair) pairs
 
@@ -190,7 +191,7 @@ module _ (names labels : List (List ℕ)) where
 
   -- ---- events
 
-  -- what an event of a run shows that has these answers and numbers under this limit
+  -- what an event shows, in a run with these answers and with numbers under this limit
   abbrev pub event_text : ℕ → List (Answer Number) → Event → List ℕ
   event_text limit answers (displays line items) = items_text line items
   event_text limit answers (aborts line items) = items_text line items
@@ -201,14 +202,14 @@ module _ (names labels : List (List ℕ)) where
   abbrev pub events_text : ℕ → List (Answer Number) → List Event → List ℕ
   events_text limit answers events = flat_map (event_text limit answers) events
 
--- ---- the whole
+-- ---- the whole listing
 
 -- the last line
 abbrev pub end_text : ℕ → ℕ → List ℕ
 end_text status made = line_of (codes "END status " ++ decimal status ++ codes " solves " ++ decimal made)
 
--- the listing of a file whose run shows these events: the echo, what is shown, and the last line; the first line of the file
--- has this number
+-- the listing of a file whose run shows these events: the echo, what is shown, and the last line;
+-- `line` is the number of the file's first line
 abbrev pub run_listing : List (List ℕ) → List (List ℕ) → ℕ → ℕ → List ℕ → List (Answer Number) → List Event → ℕ → List ℕ
 run_listing names labels limit line file answers events status =
     echo_text line file ++ events_text names labels limit answers events ++ end_text status (length answers)

@@ -1,5 +1,5 @@
--- What a solve shows: rows and columns, counts and statuses, levels and marginals, and the proof (GAMS User's Guide, "GAMS Output"). The form of
--- the lines, and the proof, are this project's own.
+-- What a solve shows: rows and columns, counts and statuses, levels and marginals, and the proof
+-- (GAMS User's Guide, "GAMS Output"). The form of the lines, and the proof, are this project's own.
 use Rattle.std.specs.Prelude.{ℕ, ◌+◌, ◌-◌, ◌==◌, nat_lt, pos, negsuc, ℤ, Bool, true, false, not, ◌&&◌, max, List, [], ◌∷◌, ◌++◌, length, map, flat_map, filter, take, slice_get, slice_index_or, sum, Option, Some, None, option_to_list, Result, Ok, Err, codes, decimal, if◌then◌else◌}
 use Rattle.std.specs.List.{fold, enumerate_from, list_any}
 use Rattle.gq_number.specs.Number.{Number, whole, neg_ℚ}
@@ -51,11 +51,11 @@ is_below (negsuc n) = true
 abbrev pub magnitude : Number → Number
 magnitude x = if is_below x.numerator then neg_ℚ x else x
 
--- a number right in 12 places behind a blank; 0 is a dot
+-- a number right in 12 places after a blank; 0 is a dot
 abbrev pub cell : Number → List ℕ
 cell x = codes " " ++ right_in 12 (if is_zero x then codes "." else amount x)
 
--- a bound right in 12 places behind a blank, or the word for none
+-- a bound right in 12 places after a blank, or the word for none
 abbrev pub bound_cell : List ℕ → Option Number → List ℕ
 bound_cell none None = codes " " ++ right_in 12 none
 bound_cell none (Some x) = cell x
@@ -69,17 +69,18 @@ sense_text sense.N = codes " =N= "
 
 -- ---- statuses
 
--- the status of the model, by its number, which `.modelstat` has, and its text
+-- the status of the model: its number, as in `.modelstat`, and its text
 abbrev pub model_status_text : End Number → List ℕ
 model_status_text end = codes "MODEL STATUS " ++ decimal (model_number (solve_status end)) ++ codes " " ++ model_text (solve_status end)
 
--- the status of the solver, by its number, which `.solvestat` has, and its text
+-- the status of the solver: its number, as in `.solvestat`, and its text
 abbrev pub solver_status_text : End Number → List ℕ
 solver_status_text end = codes "SOLVER STATUS " ++ decimal (solver_number (solve_status end)) ++ codes " " ++ solver_text (solve_status end)
 
 -- ---- levels and marginals
 
--- What a solution lists: levels of columns and rows, marginals of rows and columns, 0 where there are none, and what stands behind a column.
+-- What a solution lists: levels of columns and rows, marginals of rows and columns, 0 if there are
+-- none, and the mark after a column.
 pub record Solution : Type 0 where
   pub levels : List Number
   pub row_levels : List Number
@@ -87,7 +88,7 @@ pub record Solution : Type 0 where
   pub reduced : List Number
   pub mark : ℕ → List ℕ
 
--- the number at a place, 0 where there is none
+-- the number at a place; 0 if there is none
 abbrev pub number_at : List Number → ℕ → Number
 number_at numbers place = slice_index_or numbers place (whole (pos 0))
 
@@ -124,18 +125,18 @@ step_text (step.Check part) = codes "Check part " ++ decimal part
 
 -- ---- the bound that duals give
 
--- whether each step by which the bound is taken fits: the bound of the objective, or of 0
+-- whether each step of computing the bound fits: the bound of the objective, or of 0
 abbrev pub bound_fits : ℕ → Lp Number → List Number → Bool → List Bool
 bound_fits limit lp duals true = steps_of_bound (λ x. x) limit lp.maximize (objective_costs lp) lp duals
 bound_fits limit lp duals false = steps_of_bound (λ x. x) limit false no_costs lp duals
 
--- a bound, or the step that keeps it from being shown
+-- the line of a bound, or of the step that does not fit
 abbrev pub bound_line : Option ℕ → Option Number → List ℕ
 bound_line (Some part) bound = line_of (codes "  bound not shown, Check part " ++ decimal part)
 bound_line None (Some bound) = line_of (codes "  bound " ++ exact_text bound)
 bound_line None None = []
 
--- the bound that duals give, or the step that keeps it from being shown
+-- the lines of the bound that duals give, or of the step that does not fit
 abbrev pub bound_lines : ℕ → Lp Number → List Number → Bool → List ℕ
 bound_lines limit lp duals with_objective =
     bound_line (first_unfit (bound_fits limit lp duals with_objective)) (bound_of (λ x. x) with_objective lp duals)
@@ -144,12 +145,12 @@ bound_lines limit lp duals with_objective =
 abbrev pub crossed_text : Number → List ℕ
 crossed_text bound = codes " " ++ exact_text bound
 
--- numbers of names, each where it stands first
+-- distinct numbers of names, each where it occurs first
 abbrev pub each_once : List ℕ → List ℕ
 each_once [] = []
 each_once (n ∷ ns) = n ∷ filter (λ m. not (m == n)) (each_once ns)
 
--- how many rows or columns are not shown
+-- the line that says how many rows or columns are not shown
 abbrev pub more_text : ℕ → ℕ → List ℕ → List ℕ
 more_text most count what =
     if nat_lt most count then line_of (codes " (" ++ decimal (count - most) ++ codes " more " ++ what ++ codes ")") else []
@@ -160,17 +161,17 @@ module _ (names labels : List (List ℕ)) where
   point_text width key lower level upper marginal mark =
       line_of (codes "  " ++ left_in width (element_text names labels key.symbol key.tuple) ++ bound_cell (codes "-INF") lower ++ cell level ++ bound_cell (codes "+INF") upper ++ cell marginal ++ mark)
 
-  -- the column whose bounds cross
+  -- the line of the column whose bounds cross
   abbrev pub crossed_line : Column Number → List ℕ
   crossed_line column =
       line_of (codes "  crossed " ++ element_text names labels column.key.symbol column.key.tuple ++ flat_map crossed_text (option_to_list column.lower ++ option_to_list column.upper))
 
 module _ (names labels : List (List ℕ)) (limit : ℕ) (lp : Lp Number) where
-  -- an element
+  -- the text of an element
   abbrev pub key_text : Key → List ℕ
   key_text key = element_text names labels key.symbol key.tuple
 
-  -- the element of a column
+  -- the text of the element of a column
   abbrev pub column_text : ℕ → List ℕ
   column_text j = flat_map (λ (column : Column Number). key_text column.key) (option_to_list (slice_get lp.columns j))
 
@@ -194,39 +195,39 @@ module _ (names labels : List (List ℕ)) (limit : ℕ) (lp : Lp Number) where
 
   -- ---- rows and columns
 
-  -- a term of a row
+  -- the text of a term of a row
   abbrev pub term_text : ℕ × Number → List ℕ
   term_text entry =
       (if is_below entry.1.numerator then codes " - " else codes " + ") ++ amount (magnitude entry.1) ++ codes "*" ++ column_text entry.0
 
-  -- the terms of a row
+  -- the text of the terms of a row
   abbrev pub terms_text : List (ℕ × Number) → List ℕ
   terms_text [] = codes " 0"
   terms_text (entry ∷ entries) = flat_map term_text (entry ∷ entries)
 
-  -- a row
+  -- the line of a row
   abbrev pub row_text : ℕ × Row Number → List ℕ
   row_text p =
       line_of (codes " " ++ key_text p.1.key ++ codes ".." ++ terms_text p.1.entries ++ sense_text p.1.sense ++ amount p.1.right)
 
-  -- the first rows of an equation
+  -- the lines of the first rows of an equation
   abbrev pub equation_text : ℕ → ℕ → List ℕ
   equation_text most equation =
       line_of (codes "EQUATION " ++ text_of names equation) ++ flat_map row_text (take most (rows_of equation))
       ++ (if length (rows_of equation) == 0 then line_of (codes " (no rows)") else more_text most (length (rows_of equation)) (codes "rows"))
 
-  -- an entry of a column, row by row
+  -- the line of an entry of a column, for each row that has one
   abbrev pub entry_line : ℕ → ℕ × Row Number → List ℕ
   entry_line j p =
       flat_map (λ (e : ℕ × Number). line_of (codes "  " ++ amount e.1 ++ codes " " ++ key_text p.1.key)) (filter (λ (e : ℕ × Number). e.0 == j) p.1.entries)
 
-  -- a column with its bounds and its entries
+  -- the lines of a column, with its bounds and its entries
   abbrev pub column_lines : ℕ × Column Number → List ℕ
   column_lines p =
       line_of (codes " " ++ key_text p.1.key ++ codes " lower " ++ bound_text (codes "-INF") p.1.lower ++ codes " upper " ++ bound_text (codes "+INF") p.1.upper)
       ++ flat_map (entry_line p.0) placed_rows
 
-  -- the first columns of a variable
+  -- the lines of the first columns of a variable
   abbrev pub variable_text : ℕ → ℕ → List ℕ
   variable_text most variable =
       line_of (codes "VARIABLE " ++ text_of names variable) ++ flat_map column_lines (take most (columns_of variable))
@@ -253,14 +254,14 @@ module _ (names labels : List (List ℕ)) (limit : ℕ) (lp : Lp Number) where
   column_point solution width p =
       point_text names labels width p.1.key p.1.lower (number_at solution.levels p.0) p.1.upper (number_at solution.reduced p.0) (solution.mark p.0)
 
-  -- the rows of an equation that has some
+  -- the lines of the rows of an equation, if it has some
   abbrev pub equation_points : Solution → ℕ → List ℕ
   equation_points solution equation =
       if length (rows_of equation) == 0 then [] else
       line_of (codes "EQU " ++ text_of names equation ++ codes " LOWER LEVEL UPPER MARGINAL")
       ++ flat_map (row_point solution (longest (map (λ (p : ℕ × Row Number). p.1.key) (rows_of equation)))) (rows_of equation)
 
-  -- the columns of a variable
+  -- the lines of the columns of a variable
   abbrev pub variable_points : Solution → ℕ → List ℕ
   variable_points solution variable =
       line_of (codes "VAR " ++ text_of names variable ++ codes " LOWER LEVEL UPPER MARGINAL")
@@ -272,7 +273,7 @@ module _ (names labels : List (List ℕ)) (limit : ℕ) (lp : Lp Number) where
 
   -- ---- the proof
 
-  -- an element with a number, where that is not 0
+  -- the line of an element with a number, unless that is 0
   abbrev pub number_line : List ℕ → Key → Number → List ℕ
   number_line word key x =
       if is_zero x then [] else line_of (codes "  " ++ word ++ codes " " ++ key_text key ++ codes " = " ++ exact_text x)
@@ -288,7 +289,7 @@ module _ (names labels : List (List ℕ)) (limit : ℕ) (lp : Lp Number) where
   infeasible_text duals (Some j) = flat_map (crossed_line names labels) (option_to_list (slice_get lp.columns j))
   infeasible_text duals None = row_numbers (codes "row") duals ++ bound_lines limit lp duals false
 
-  -- what proves an end, or what is known of one that has no proof, after so many pivots
+  -- what proves an end, or what is known of one that has no proof, after this many pivots
   abbrev pub proof_text : ℕ → End Number → List ℕ
   proof_text pivots (Optimal levels row_levels duals reduced) =
       line_of (codes "PROOF Optimal") ++ column_numbers (codes "level") levels ++ row_numbers (codes "marginal") duals
@@ -301,13 +302,13 @@ module _ (names labels : List (List ℕ)) (limit : ℕ) (lp : Lp Number) where
       ++ column_numbers (codes "point") levels
   proof_text pivots (Refused name) = line_of (codes "PROOF Refused") ++ line_of (codes "  step " ++ step_text name)
 
--- ---- the whole
+-- ---- the whole solve
 
 -- how many entries the rows have
 abbrev pub nonzeros : Lp Number → ℕ
 nonzeros lp = sum (map (λ (row : Row Number). length row.entries) lp.rows)
 
--- the direction of the objective
+-- the text of the direction of the objective
 abbrev pub direction : Bool → List ℕ
 direction true = codes " maximizing "
 direction false = codes " minimizing "

@@ -1,4 +1,4 @@
-//! Numbers of a solve as they stand in a listing: with three decimals, or exactly.
+//! Numbers of a solve in a listing: with three decimals, or exactly.
 ghost use Rattle.std.specs.Prelude.{◌≡◌, option_map};
 ghost use Rattle.gq_text.specs.ExactText.{exact_text};
 ghost use Rattle.gms_list.specs.SolveText.{amount, bound_text};
@@ -17,7 +17,7 @@ pub(crate) fn amount<F: ExactField>(x: F, digits: &mut Digits) -> &str
     digits.as_str()
 }
 
-/// A number exactly.
+/// An exact number.
 pub(crate) fn exact<F: ExactField>(x: F, digits: &mut Digits) -> &str
     ensures { result.now ≡ exact_text (F.value x) }
 {

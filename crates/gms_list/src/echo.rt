@@ -9,7 +9,7 @@ use crate::listing::Listing;
 use gms_lines::content_length;
 use std::alloc::{AllocError, Global};
 
-/// The text behind the line end with which it begins.
+/// The text after the line end with which it begins.
 fn behind_end(text: &[u8]) -> &[u8]
     ensures { result.now ≡ behind_end text.now }
 {
@@ -20,7 +20,7 @@ fn behind_end(text: &[u8]) -> &[u8]
     }
 }
 
-/// The text behind its first line, of which so many bytes stand before the line end.
+/// The text after its first line, which has `count` bytes before its line end.
 fn behind_line(text: &[u8], count: usize) -> &[u8]
     requires some { 0 < length text.now }
     requires end { count ≡ before is_line_end text.now }
@@ -31,22 +31,23 @@ fn behind_line(text: &[u8], count: usize) -> &[u8]
 }
 
 impl Listing {
-    /// Appends the lines of a source, each behind its number, from 1.
+    /// Appends the lines of a source, each after its number, from 1.
     pub fn echo(&mut self, alloc: Global, source: &[u8]) -> Result<(), AllocError>
         ensures { Appends result self.old self.new (echo_text 1 source.now) }
     {
         self.echo_from(alloc, source, 1)
     }
 
-    /// Appends the lines of a source, each behind its number, of which the first is `line`.
+    /// Appends the lines of a source, each after its number; `line` is that of the first.
     ///
-    /// A carriage return before a line feed is dropped, and a missing last line end is supplied; all other bytes stand as they are.
+    /// A carriage return before a line feed is dropped, and a missing last line end is supplied;
+    /// all other bytes are unchanged.
     pub fn echo_from(&mut self, alloc: Global, source: &[u8], line: u32) -> Result<(), AllocError>
         ensures { Appends result self.old self.new (echo_text line source.now) }
     {
         let first = line as u128;
         let mut rest = source;
-        // No more lines than bytes.
+        // There are no more lines than bytes.
         for number in first..first + source.len() as u128 {
             if rest.is_empty() {
                 break;
@@ -58,7 +59,7 @@ impl Listing {
         Ok(())
     }
 
-    /// Appends a line behind its number.
+    /// Appends a line after its number.
     fn push_line(&mut self, alloc: Global, number: u128, line: &[u8]) -> Result<(), AllocError>
         ensures { Appends result self.old self.new (numbered_line number line.now) }
     {

@@ -29,14 +29,14 @@ fn sense_text(sense: Sense) -> &'static str
     }
 }
 
-/// How many rows are of an equation.
+/// How many rows an equation has.
 pub(crate) fn rows_of<F>(rows: &[Row<F>], equation: u32) -> usize
     ensures { result ≡ length (filter (λ row. row.key.symbol == equation) rows.now) }
 {
     rows.iter().filter(|row| row.key.symbol == equation).count()
 }
 
-/// How many columns are of a variable.
+/// How many columns a variable has.
 fn columns_of<F>(columns: &[Column<F>], variable: u32) -> usize
     ensures { result ≡ length (filter (λ column. column.key.symbol == variable) columns.now) }
 {
@@ -57,7 +57,7 @@ fn push_once(numbers: &mut Vec<u32>, n: u32) -> Result<(), AllocError>
     Ok(())
 }
 
-/// The variables that have columns, each once, in order.
+/// The variables that have columns, in order, without repetition.
 pub(crate) fn variables_of<F>(alloc: Global, columns: &[Column<F>]) -> Result<Vec<u32>, AllocError>
     ensures { IfOk result (λ variables. variables.items ≡ each_once (map (λ column. column.key.symbol) columns.now)) }
 {
@@ -109,7 +109,7 @@ fn term_sign<F: ExactField>(x: F) -> &'static str
 }
 
 impl Listing {
-    /// Appends a word, a name and what stands behind it.
+    /// Appends a word, a name and the text after it.
     pub(crate) fn push_head<F: ExactField>(
         &mut self,
         alloc: Global,
@@ -185,7 +185,7 @@ impl Listing {
         self.push(end.as_str())
     }
 
-    /// Appends how many more than the most there are of something.
+    /// Appends how many things there are beyond the most that are listed.
     fn push_more(
         &mut self,
         alloc: Global,
@@ -203,7 +203,7 @@ impl Listing {
         self.push(text.as_str())
     }
 
-    /// Appends what stands behind the first rows of an equation that has so many.
+    /// Appends the text after the first rows of an equation, which says how many are left out.
     fn push_behind_rows(
         &mut self,
         alloc: Global,
@@ -219,7 +219,8 @@ impl Listing {
         }
     }
 
-    /// Appends a row that is of an equation while some may still be appended, and says how many may be after it.
+    /// Appends a row, if it is one of an equation and more may be appended. Answers how many more
+    /// may follow.
     fn push_row_of<F: ExactField>(
         &mut self,
         alloc: Global,
@@ -263,7 +264,7 @@ impl Listing {
         Ok(())
     }
 
-    /// Appends the first rows of an equation behind its name.
+    /// Appends the first rows of an equation after its name.
     fn push_equation<F: ExactField>(
         &mut self,
         alloc: Global,
@@ -316,7 +317,7 @@ impl Listing {
         self.push(line.as_str())
     }
 
-    /// Appends an entry that is in a column, as a line.
+    /// Appends an entry as a line, if it is in a column.
     fn push_entry_of<F: ExactField>(
         &mut self,
         alloc: Global,
@@ -394,7 +395,8 @@ impl Listing {
         self.push_column_entries(alloc, p, lp, j)
     }
 
-    /// Appends a column that is of a variable while some may still be appended, and says how many may be after it.
+    /// Appends a column, if it is one of a variable and more may be appended. Answers how many more
+    /// may follow.
     fn push_column_of<F: ExactField>(
         &mut self,
         alloc: Global,
@@ -439,7 +441,7 @@ impl Listing {
         Ok(())
     }
 
-    /// Appends the first columns of a variable behind its name.
+    /// Appends the first columns of a variable after its name.
     fn push_variable<F: ExactField>(
         &mut self,
         alloc: Global,

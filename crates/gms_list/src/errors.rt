@@ -23,7 +23,8 @@ impl Listing {
         self.push(line.as_str())
     }
 
-    /// Appends the line of the fault of a save that cannot be restored, by the fault's number and name.
+    /// Appends the line of the fault of a save that cannot be restored, by the fault's number and
+    /// name.
     pub fn save_fault(
         &mut self,
         alloc: Global,

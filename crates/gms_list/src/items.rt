@@ -21,7 +21,7 @@ use gq_field::ExactField;
 use gq_text::Digits;
 use std::alloc::{AllocError, Global};
 
-/// How wide the column of the values is.
+/// The width of the column of the values.
 const VALUE_WIDTH: usize = 14;
 
 /// The length of the longest text among those of the tuples of some entries.
@@ -84,7 +84,7 @@ impl Listing {
         }
     }
 
-    /// Appends a text behind the line of its statement.
+    /// Appends a text after the line of its statement.
     fn push_text(&mut self, alloc: Global, line: u32, text: &[u8]) -> Result<(), AllocError>
         ensures { Appends result self.old self.new (codes "---- " ++ decimal line ++ codes " " ++ line_of text.now) }
     {
@@ -94,7 +94,7 @@ impl Listing {
         self.push("\n")
     }
 
-    /// Appends a symbol and its values behind the line of the statement.
+    /// Appends a symbol and its values after the line of the statement.
     fn push_symbol<F: ExactField>(
         &mut self,
         alloc: Global,
@@ -114,7 +114,7 @@ impl Listing {
         self.push_values(alloc, &p.labels, item)
     }
 
-    /// Appends the values of a symbol, behind the name: in the same line, or in lines of their own.
+    /// Appends the values of a symbol, after the name: in the same line, or in separate lines.
     fn push_values<F: ExactField>(
         &mut self,
         alloc: Global,
@@ -132,7 +132,8 @@ impl Listing {
         }
     }
 
-    /// Appends the lines of a symbol with indices: one for each entry, or one that says that there is none.
+    /// Appends the lines of a symbol with indices: one for each entry, or one that says that there
+    /// is none.
     fn push_lines<F: ExactField>(
         &mut self,
         alloc: Global,
@@ -203,7 +204,8 @@ impl Listing {
         self.push(line.as_str())
     }
 
-    /// Appends entries, a line each: the tuple in the width of the longest, and the value right in its column.
+    /// Appends entries, a line each: the tuple in the width of the longest, and the value right in
+    /// its column.
     fn push_entries<F: ExactField>(
         &mut self,
         alloc: Global,

@@ -1,4 +1,4 @@
-//! Floor 6, listing. The text of a listing: the echo, errors, what a run shows, and the last line.
+//! Layer 6, listing. The text of a listing: the echo, errors, what a run shows, and the last line.
 #![tactic(auto)]
 
 mod amounts;

@@ -9,14 +9,14 @@ use std::marker::Model;
 
 /// The text of a listing so far.
 ///
-/// Each call appends the text of what it is given; after want of memory the front of that text is appended, and no more. GAMS User's
-/// Guide, "GAMS Output".
+/// Each call appends the text of its arguments; if memory runs out it appends a prefix of that
+/// text. GAMS User's Guide, "GAMS Output".
 #[derive(Debug)]
 pub struct Listing {
     pub(crate) text: Vec<u8>,
 }
 
-// Written out, so that it is proved here alone, and not in each crate that lets one go.
+// Written out, so that it is proved once, and not in each crate that drops one.
 impl Drop for Listing {
     fn drop(self) {
         let Self { text: _ } = self;
@@ -41,7 +41,7 @@ impl Listing {
         }
     }
 
-    /// Takes all of the text away, and keeps its room.
+    /// Removes all of the text, and keeps its capacity.
     pub fn clear(&mut self)
         ensures { self.new ≡ [] }
     {

@@ -22,7 +22,7 @@ use lp_core::{Column, End, Lp, StepName};
 use lp_form::Key;
 use std::alloc::{AllocError, Global};
 
-/// A bound behind a blank, and nothing where there is none.
+/// A bound after a blank, or nothing if there is none.
 fn crossed_bound<F: ExactField>(alloc: Global, x: Option<F>) -> Result<String, AllocError>
     ensures { IfOk result (λ text. string_bytes text ≡ flat_map crossed_text (option_to_list (bound_value F.value x))) }
 {
@@ -128,7 +128,7 @@ impl Listing {
         Ok(())
     }
 
-    /// Appends the bound that duals give, or the step that keeps it from being shown.
+    /// Appends the bound that duals give, or the step that does not fit.
     fn push_dual_bound<F: ExactField>(
         &mut self,
         alloc: Global,

@@ -17,10 +17,10 @@ use lp_core::{Column, Lp, Row, Sense};
 use lp_form::Key;
 use std::alloc::{AllocError, Global};
 
-/// How wide the column of a number is.
+/// The width of the column of a number.
 const NUMBER_WIDTH: usize = 12;
 
-/// What stands behind the columns of a solution.
+/// The marks after the columns of a solution.
 #[derive(Clone, Copy)]
 pub(crate) enum Marks<'s, F> {
     /// Nothing.
@@ -42,11 +42,11 @@ pub(crate) struct Solution<'s, F> {
     pub(crate) duals: &'s [F],
     /// The marginal of each column; without marginals they are 0.
     pub(crate) reduced: &'s [F],
-    /// What stands behind columns.
+    /// The marks after columns.
     pub(crate) marks: Marks<'s, F>,
 }
 
-/// The number at a place, and 0 where there is none.
+/// The number at a place; 0 if there is none.
 pub(crate) fn number_at<F: ExactField>(numbers: &[F], place: usize) -> F
     ensures { F.value result ≡ number_at (map F.value numbers.now) place }
 {
@@ -69,7 +69,7 @@ fn row_bounds<F: ExactField>(row: &Row<F>) -> (Option<F>, Option<F>)
     }
 }
 
-/// The mark behind a column.
+/// The mark after a column.
 fn mark<F: ExactField>(marks: Marks<'_, F>, j: usize) -> &'static str
     ensures { result.now ≡ mark_in F.value marks.entry j }
 {
@@ -86,7 +86,8 @@ fn mark<F: ExactField>(marks: Marks<'_, F>, j: usize) -> &'static str
     }
 }
 
-/// The length of an element that is of a symbol, where it is longer than the longest before it; another element is passed over.
+/// The length of an element of a symbol, if it is longer than the longest before it; an element of
+/// another symbol is skipped.
 fn wider<F: ExactField>(
     alloc: Global,
     p: &Program<F>,
@@ -213,7 +214,7 @@ impl Listing {
         self.push(end.as_str())
     }
 
-    /// Appends the line of a row that is of an equation.
+    /// Appends the line of a row, if it is one of an equation.
     fn push_row_point<F: ExactField>(
         &mut self,
         alloc: Global,
@@ -241,7 +242,7 @@ impl Listing {
         self.push_point(alloc, p, &row.key, width, point, "")
     }
 
-    /// Appends the line of a column that is of a variable.
+    /// Appends the line of a column, if it is one of a variable.
     fn push_column_point<F: ExactField>(
         &mut self,
         alloc: Global,

@@ -22,7 +22,7 @@ use gq_text::Digits;
 use lp_core::{Answer, End, Lp, Row};
 use std::alloc::{AllocError, Global};
 
-/// What is known of a solve beside its answer.
+/// A solve without its answer.
 #[derive(Clone, Copy)]
 pub(crate) struct Solved<'s, F: ExactField> {
     /// The line of the statement.
@@ -124,7 +124,7 @@ fn model_line(alloc: Global, status: SolveStatus) -> Result<String, AllocError>
     format!(in alloc; "MODEL STATUS {number} {name}\n")
 }
 
-/// The lines of a solve's statuses and of the level of the objective, behind how many pivots were taken.
+/// The lines of a solve's statuses and of the level of the objective, after the number of pivots.
 fn status_lines<F: ExactField>(
     alloc: Global,
     s: &Solved<'_, F>,
@@ -184,7 +184,7 @@ impl Listing {
         self.push(statuses.as_str())
     }
 
-    /// Appends the levels and marginals of a solve, if they are asked for and there are some.
+    /// Appends the levels and marginals of a solve, if they are requested and there are some.
     fn push_levels<F: ExactField>(
         &mut self,
         alloc: Global,

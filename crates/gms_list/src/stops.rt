@@ -12,7 +12,7 @@ use gms_fmt::text_of;
 use gq_field::ExactField;
 use std::alloc::{AllocError, Global};
 
-/// Whether a stop says how many there are too many of.
+/// Whether a stop has a count.
 fn has_count(kind: StopKind) -> bool
     ensures { result ≡ has_count kind }
 {
@@ -22,7 +22,7 @@ fn has_count(kind: StopKind) -> bool
     )
 }
 
-/// The end of the line of a stop: how many there are too many of.
+/// The end of the line of a stop: the count, if it has one.
 fn count_line(alloc: Global, kind: StopKind, count: u64) -> Result<String, AllocError>
     ensures { IfOk result (λ text. string_bytes text ≡ line_of (count_text kind count)) }
 {
@@ -34,7 +34,8 @@ fn count_line(alloc: Global, kind: StopKind, count: u64) -> Result<String, Alloc
 }
 
 impl Listing {
-    /// Appends the line of the stop of a run: its kind and place, the labels under which it came, and how many there are too many of.
+    /// Appends the line of the stop of a run: its kind and place, the labels under which it came,
+    /// and the count where there are too many.
     pub(crate) fn push_stop<F: ExactField>(
         &mut self,
         alloc: Global,
@@ -75,7 +76,7 @@ impl Listing {
         }
     }
 
-    /// Appends sets with the labels that they stand for, each behind a comma.
+    /// Appends sets with the labels that they stand for, each after a comma.
     fn push_further<F: ExactField>(
         &mut self,
         alloc: Global,
@@ -90,7 +91,7 @@ impl Listing {
         Ok(())
     }
 
-    /// Appends a set and the label that it stands for, behind a text.
+    /// Appends a set and the label that it stands for, after a text.
     fn push_pair<F: ExactField>(
         &mut self,
         alloc: Global,

@@ -1,4 +1,4 @@
-//! Values as they stand in a listing.
+//! Values in a listing.
 ghost use Rattle.std.specs.Prelude.{◌≡◌, ◌≤◌};
 ghost use Rattle.gq_extended.specs.Meaning.{extended};
 ghost use Rattle.gms_list.specs.ListingText.{value_text};
@@ -7,7 +7,7 @@ use gq_extended::Ext;
 use gq_field::ExactField;
 use gq_text::{Digits, put_rounded};
 
-/// The text of a value: a number rounded to so many decimals, or the word for another.
+/// The text of a value: a number rounded to a number of decimals, or the word for another.
 pub(crate) fn value_text<'d, F: ExactField>(
     value: Ext<F>,
     decimals: u8,

@@ -18,7 +18,7 @@ pub(crate) fn kind_text(kind: SymbolKind, indexed: bool) -> &'static str
     }
 }
 
-/// A suffix as it stands behind a name.
+/// A suffix after a name.
 pub(crate) fn suffix_text(suffix: Suffix) -> &'static str
     ensures { result.now ≡ suffix_text suffix }
 {

@@ -1,4 +1,5 @@
--- Weak duality, Farkas and rays, for programs of which no more is known than that the objective and each entry name columns that are there.
+-- Weak duality, Farkas combinations and rays, for programs of which only this is known: the
+-- objective and each entry name existing columns.
 use Rattle.std.proofs.Common.{◌≡◌, ℕ, suc, ◌<◌, true, false, cond, pos, List, [], ◌∷◌, length, get_or, Option, Some, None, sym, ap, ◌∙◌, subst, arith}
 use Rattle.std.specs.List.{All, zip, enumerate_from}
 use Rattle.std.proofs.lemmas.List.Elements.{All-weaker}
@@ -24,7 +25,7 @@ use Rattle.lp_core.proofs.Duality.{used_at_most, used_at_least, parts_of_both, t
 use Rattle.lp_core.proofs.Rays.{number_of-further}
 use Rattle.lp_core.proofs.RowSums.{sum_by_same, unit_sum, row_by_columns}
 
--- a kept row keeps the bounds of its sum
+-- a row that is satisfied keeps the bounds of its sum
 row_bounds : (s : Sense) (sum right : Number) → KeepsSense s sum right → KeepsLower (row_lower s right) sum × KeepsUpper (row_upper s right) sum
 row_bounds sense.E sum right h = (Order.≤ℚ_from_≡ right sum (sym h), Order.≤ℚ_from_≡ sum right h)
 row_bounds sense.L sum right h = (tt, h)
@@ -41,7 +42,7 @@ module _ {F : Type 0} (value : F → Number) (lp : Lp F) (placed : IsPlaced lp) 
   abbrev rows_at : Number
   rows_at = sum_by_ℚ (λ (p : Row F × Number). p.1 *ℚ row_sum value p.0.entries x) (zip lp.rows duals)
 
-  -- what costs come to at the point
+  -- the value of costs at the point
   abbrev costs_at : (ℕ → Number) → Number
   costs_at costs = sum_by_ℚ (λ (q : ℕ × Column F). costs q.0 *ℚ number_of x q.0) (enumerate_from 0 lp.columns)
 
@@ -56,7 +57,7 @@ module _ {F : Type 0} (value : F → Number) (lp : Lp F) (placed : IsPlaced lp) 
       (λ p inside. sum_by_same _ (λ (q : ℕ × Column F). p.1 *ℚ (coefficient value p.0.entries q.0 *ℚ number_of x q.0)) (enumerate_from 0 lp.columns) (λ q. *ℚ_assoc p.1 (coefficient value p.0.entries q.0) (number_of x q.0)) ∙ sum_by_ℚ-*ℚ p.1 (λ (q : ℕ × Column F). coefficient value p.0.entries q.0 *ℚ number_of x q.0) (enumerate_from 0 lp.columns) ∙ ap (λ u. p.1 *ℚ u) (row_by_columns value lp.columns x p.0.entries inside))
       (zip lp.rows duals) (All-zip (λ (row : Row F). All (λ (e : ℕ × F). e.0 < length lp.columns) row.entries) lp.rows duals placed.entries))
 
-  -- what the rows and the reduced costs come to at a point is what the costs come to
+  -- the values of the rows and of the reduced costs at a point add up to that of the costs
   costs_split : (costs : ℕ → Number) → rows_at +ℚ sum_by_ℚ (λ (q : ℕ × Column F). reduced_cost value lp costs duals q.0 *ℚ number_of x q.0) (enumerate_from 0 lp.columns) ≡ costs_at costs
   costs_split costs =
       let split = sum_by_same (λ (q : ℕ × Column F). reduced_cost value lp costs duals q.0 *ℚ number_of x q.0) (λ (q : ℕ × Column F). costs q.0 *ℚ number_of x q.0 -ℚ sum_by_ℚ (λ (p : Row F × Number). p.1 *ℚ coefficient value p.0.entries q.0) (zip lp.rows duals) *ℚ number_of x q.0) (enumerate_from 0 lp.columns)
@@ -68,7 +69,7 @@ module _ {F : Type 0} (value : F → Number) (lp : Lp F) (placed : IsPlaced lp) 
       put_back : (a b : Number) → a +ℚ (b -ℚ a) ≡ b
       put_back a b = simp ring_ℚ
 
-  -- the bounds that are used come to no more than the costs at a feasible point
+  -- the sum of the bounds that are used is at most the value of the costs at a feasible point
   low_at_most : (costs : ℕ → Number) (t : Number) → Feasible value lp x → low value lp costs duals ≡ Some t → t ≤ℚ costs_at costs
   low_at_most costs t feasible e =
       let parts = parts_of_both (rows_low value lp duals) (columns_low value lp costs duals) t e in
@@ -90,11 +91,11 @@ module _ {F : Type 0} (value : F → Number) (lp : Lp F) (placed : IsPlaced lp) 
       (All-weaker (λ (q : ℕ × Column F). KeepsBounds value q.1 (number_of x q.0)) (λ (q : ℕ × Column F). (u : Number) → used (reduced_cost value lp costs duals q.0) (bound_value value q.1.upper) (bound_value value q.1.lower) ≡ Some u → reduced_cost value lp costs duals q.0 *ℚ number_of x q.0 ≤ℚ u) (λ q kept u is. used_at_least (reduced_cost value lp costs duals q.0) (number_of x q.0) u (bound_value value q.1.lower) (bound_value value q.1.upper) is kept.0 kept.1) (enumerate_from 0 lp.columns) feasible.bounds) in
       subst (λ u. costs_at costs ≤ℚ u) parts.4 (subst (λ u. u ≤ℚ parts.0 +ℚ parts.1) (costs_split costs) (Order.+ℚ-≤ℚ rows_at parts.0 _ parts.1 rows columns))
 
-  -- the costs that are 1 at the objective come to its value
+  -- costs that are 1 at the objective have the value of the objective
   objective_at : costs_at (objective_costs lp) ≡ number_of x lp.objective
   objective_at = unit_sum lp.objective (whole (pos 1)) (number_of x) 0 lp.columns (omega arith) (omega (arith, placed.objective)) ∙ one-*ℚ (number_of x lp.objective)
 
-  -- no costs come to 0
+  -- costs of 0 have the value 0
   no_costs_at : costs_at no_costs ≡ whole (pos 0)
   no_costs_at = sum_by_same (λ (q : ℕ × Column F). whole (pos 0) *ℚ number_of x q.0) (λ (q : ℕ × Column F). whole (pos 0)) (enumerate_from 0 lp.columns) (λ q. zero-*ℚ (number_of x q.0)) ∙ sum_by_ℚ-zero (enumerate_from 0 lp.columns)
 
@@ -109,7 +110,7 @@ module _ {F : Type 0} (value : F → Number) (lp : Lp F) (placed : IsPlaced lp) 
       let is : high value lp (objective_costs lp) duals ≡ Some t = subst (λ b. cond b (high value lp (objective_costs lp) duals) (low value lp (objective_costs lp) duals) ≡ Some t) greatest e in
       subst (λ u. u ≤ℚ t) objective_at (high_at_least (objective_costs lp) t feasible is)
 
-  -- a combination of rows that comes to more than 0 leaves no feasible point
+  -- a combination of rows with a positive bound leaves no feasible point
   pub none_feasible : (t : Number) → low value lp no_costs duals ≡ Some t → whole (pos 0) <ℚ t → Feasible value lp x → ⊥
   none_feasible t e above feasible =
       Order.<ℚ_irrefl (whole (pos 0)) (Order.<ℚ-≤ℚ_trans (whole (pos 0)) t (whole (pos 0)) above (subst (λ u. t ≤ℚ u) no_costs_at (low_at_most no_costs t feasible e)))

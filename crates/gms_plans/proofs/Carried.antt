@@ -1,4 +1,5 @@
--- A point is feasible for a program over a field just where it is for the program with the numbers that the field's values mean.
+-- A point is feasible for a program over a field exactly where it is feasible for the program with
+-- the numbers that the field's values mean.
 use Rattle.std.proofs.Common.{◌≡◌, ℕ, ◌<◌, ◌+◌, List, [], ◌∷◌, length, map, Option, Some, None, refl, sym, ◌∙◌, subst, arith}
 use Rattle.std.specs.List.{All, enumerate_from}
 use Rattle.std.proofs.lemmas.List.{length-map}

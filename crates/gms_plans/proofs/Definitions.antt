@@ -1,4 +1,5 @@
--- The definitions of an accepted program have no lag among their indices, of which there are at most 10.
+-- The definitions of an accepted program have no lag among their indices, of which there are at
+-- most 10.
 use Rattle.std.proofs.Common.{◌≡◌, ℕ, Bool, true, false, cond, List, [], ◌∷◌, ◌++◌, Option, option_map, refl, sym, ap, ◌∙◌, subst, append_assoc, arith}
 use Rattle.std.specs.Prelude.{flat_map, ◌==◌}
 use Rattle.std.specs.List.{All}

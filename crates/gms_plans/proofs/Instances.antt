@@ -1,5 +1,5 @@
--- A plan satisfies an equation just where it keeps the equation's definition: each instance is that of an element of the domain, and each
--- element of the domain is an instance.
+-- A plan satisfies an equation exactly where it satisfies the equation's definition: each instance
+-- is that of an element of the domain, and each element of the domain is an instance.
 use Rattle.std.proofs.Common.{◌≡◌, ℕ, ◌≤◌, ◌+◌, ◌==◌, Bool, true, false, not, ◌||◌, cond, if◌then◌else◌, List, [], ◌∷◌, length, get_or, filter, Option, Some, None, option_map, is_some, Ok, refl, sym, ap, ◌∙◌, subst, arith, eq-eqb, le-leb}
 use Rattle.std.specs.List.{All}
 use Rattle.std.proofs.lemmas.Bool.{eqb-true}
@@ -126,7 +126,7 @@ stand-all binding (set ∷ sets) all =
     (all.0, stand-all binding sets (stand-unfiltered binding set (each_once sets) all.0 all.1))
 
 module _ {F : Type 0} (v : F → Number) (limit : ℕ) (state : State) (binding : Pairs) where
-  -- What the labels of indices are: all are there.
+  -- The labels of indices all exist.
   pub record HaveLabels (indices : tree.Indices F) : Type 0 where
     pub those : List (Option ℕ)
     pub are : in_order (labels v limit state binding indices) ≡ Ok those
@@ -168,7 +168,7 @@ module _ {F : Type 0} (v : F → Number) (limit : ℕ) (state : State) (binding 
 
 -- ---- equations
 
--- A definition that no lag stands in, with at most 10 indices, as each of an accepted program.
+-- A definition without lags, with at most 10 indices, as each of an accepted program.
 pub record IsShort {F : Type 0} (d : Definition F) : Type 0 where
   pub no_lag : has_lag d.indices ≡ false
   pub few : index_count d.indices ≤ 10

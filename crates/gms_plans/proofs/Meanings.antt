@@ -1,4 +1,5 @@
--- What an end says is so: of the plans that satisfy the equations of its model and the bounds of its columns.
+-- What an end says is true of the plans that satisfy the equations of its model and the bounds of
+-- its columns.
 use Rattle.std.proofs.Common.{◌≡◌, ℕ, Bool, true, false, pos, List, [], ◌∷◌, length, map, get_or, Some, None, Ok, refl, sym, ap, ◌∙◌, subst}
 use Rattle.std.specs.Prelude.{flat_map}
 use Rattle.std.specs.List.{All}

@@ -1,4 +1,4 @@
--- What the answers of a whole run say is so, wherever it may begin.
+-- What the answers of a whole run say is true, from any state in which it may begin.
 use Rattle.std.proofs.Common.{◌≡◌, ℕ, zero, suc, List, [], ◌∷◌, ◌++◌, length, map, take, drop, None, Ok, refl, sym, ap, ◌∙◌, subst, arith}
 use Rattle.std.specs.List.{All}
 use Rattle.std.proofs.lemmas.List.Elements.{All-nil, All-cons, All-head, All-tail}
@@ -70,7 +70,7 @@ module _ {F : Type 0} (v : F → Number) (limit : ℕ) (world : World F) (accept
         program = subst (λ (d : Course). program_lp v limit d.state world.program.statements.items asks.model.name asks.objective.name asks.maximize asks.statement.at ≡ Ok solved.lp) (sym same) asks.program;
       }
 
-  -- and what its answer says is so
+  -- and what its answer says is true
   answered-rightly : (solved : Solved) → Waits v limit world does start solved → IsSolved v limit rules answers solved → IsAnsweredRightly v limit world first statements answers solved
   answered-rightly solved waits answered =
       let solve = is-solve solved waits in
@@ -98,7 +98,7 @@ module _ {F : Type 0} (v : F → Number) (limit : ℕ) (world : World F) (accept
   events-are-so (event ∷ events) waits answered =
       All-cons IsSoAt event events (event-is-so event waits.0 (All-head (IsAnswered v limit rules answers) event events answered)) (events-are-so events waits.1 (All-tail (IsAnswered v limit rules answers) event events answered))
 
-  -- What each answer of the run says is so.
+  -- What each answer of the run says is true.
   pub answers-are-so : AreAnswered v limit rules answers (whole_run v limit world first statements answers).events → AnswersAreSo v limit world first statements answers
   answers-are-so answered =
       let done : Does v limit world does start = last-do v limit world before statements parts [] start in

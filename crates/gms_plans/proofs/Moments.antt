@@ -1,4 +1,5 @@
--- Each solve that a run shows is one of a statement of the program, in the state in which the run with the answers before its own alone waits.
+-- Each solve that a run shows is one of a statement of the program. Its state is the one in which
+-- the run with only the earlier answers waits.
 use Rattle.std.proofs.Common.{◌≡◌, ℕ, zero, suc, ◌+◌, Bool, true, false, List, [], ◌∷◌, ◌++◌, length, map, Vec, Option, Some, None, option_map, Ok, Err, refl, sym, ap, ◌∙◌, subst, append_assoc, append-nil, length-append, arith}
 use Rattle.std.specs.Prelude.{if◌then◌else◌, slice_index_or}
 use Rattle.std.specs.declared.alloc.Global.{Global}
@@ -54,7 +55,7 @@ each-both P (x ∷ xs) ys one other = (one.0, each-both P xs ys one.1 other)
 abbrev pub with_left : Course → List (Answer Number) → Course
 with_left c left = record { state = c.state; events = c.events; left = left; taken = c.taken; halted = c.halted }
 
--- ---- statements that stand deeper
+-- ---- statements deeper in loops
 
 module _ {F : Type 0} where
   deeper : (depth : ℕ) (inner outer next : Stmt F) → StandsIn depth inner outer → IsIn (λ (s : Stmt F). s ≡ next) inner → StandsIn (suc depth) next outer
@@ -86,7 +87,8 @@ module _ {F : Type 0} (v : F → Number) (limit : ℕ) (world : World F) where
     pub of_model : solved.model ≡ model.name
     pub program : program_lp v limit state world.program.statements.items model.name objective.name maximize statement.at ≡ Ok solved.lp
 
-  -- A solve that is shown from a course on: with the answers before its own alone, what is done waits in the state of the solve.
+  -- A solve that is shown from a point of a run on: with only the earlier answers, the run waits in
+  -- the state of the solve.
   pub record Waits (f : Course → Course) (c : Course) (solved : Solved) : Type 0 where
     pub before : List (Answer Number)
     pub rest : List (Answer Number)
@@ -99,8 +101,8 @@ module _ {F : Type 0} (v : F → Number) (limit : ℕ) (world : World F) where
   WaitsAt f c (solves solved) = Waits f c solved
   WaitsAt f c event = Unit {0}
 
-  -- What is done from a course on shows some events, each solve with its moment, and takes some answers; where it does not halt, it does the same
-  -- whichever answers are left behind those.
+  -- What is done from a point of a run on shows some events, each solve with its moment, and takes
+  -- some answers. If it does not halt, it does the same whichever answers follow those.
   pub record Does (f : Course → Course) (c : Course) : Type 0 where
     pub shown : List Event
     pub events : (f c).events ≡ c.events ++ shown
@@ -110,7 +112,7 @@ module _ {F : Type 0} (v : F → Number) (limit : ℕ) (world : World F) where
     pub taken : (f c).taken ≡ c.taken + length used
     pub frame : (f c).halted ≡ None → (l : List (Answer Number)) → f (with_left c (used ++ l)) ≡ with_left (f c) l
 
-  -- what does the same whichever answers are left
+  -- it does the same, whichever answers remain
   does-as : (f g : Course → Course) (c : Course) → ((l : List (Answer Number)) → g (with_left c l) ≡ f (with_left c l)) → Does f c → Does g c
   does-as f g c same does =
       let here : g c ≡ f c = same c.left in
@@ -171,7 +173,7 @@ module _ {F : Type 0} (v : F → Number) (limit : ℕ) (world : World F) where
   does-stop : (fault : Fault) (c : Course) → Does (λ (d : Course). stopped_by d fault) c
   does-stop fault c = takes-none (λ (d : Course). stopped_by d fault) c [] tt (sym (append-nil c.events)) refl refl (λ l. refl)
 
-  -- ---- one after another
+  -- ---- in sequence
 
   -- what a halted course stays as
   abbrev Rests : (Course → Course) → Type 0
@@ -259,7 +261,7 @@ module _ {F : Type 0} (v : F → Number) (limit : ℕ) (world : World F) where
         by None e = goes-on e
         by (Some halt) e = ends-there halt e
 
-  -- what goes on only where nothing halts the run
+  -- a step that is taken only where nothing halts the run
   while-rests : (next : Course → Course) → Rests (while_it_runs next)
   while-rests next d halt e = ap (λ (h : Option Halt). elim h as (λ _. Course) [ None ↦ next d | Some halt ↦ d ]) e
 
@@ -273,7 +275,7 @@ module _ {F : Type 0} (v : F → Number) (limit : ℕ) (world : World F) where
       by None e = does-as next (while_it_runs next) c (λ l. while-runs next (with_left c l) e) does
       by (Some halt) e = does-as (λ (d : Course). d) (while_it_runs next) c (λ l. while-rests next (with_left c l) halt e) (does-nothing c)
 
-  -- statements do so, whatever the labels of sets and wherever they begin
+  -- a statement does so, under any labels of sets and from any point
   abbrev pub DoesSo : OfStatement → Type 0
   DoesSo s = (binding : Pairs) (c : Course) → Does (s binding) c
 
@@ -301,7 +303,7 @@ module _ {F : Type 0} (v : F → Number) (limit : ℕ) (world : World F) where
 
   -- ---- acts
 
-  -- a value of the state is taken, or a fault stops the run
+  -- a step with a value of the state, or a stop by a fault
   value-does : {A : Type 0} (r : State → Evaluated A) (next : A → Course → Course) (c : Course) → ((x : A) → Does (next x) c) → Does (λ (d : Course). with_value (r d.state) (λ x. next x d) d) c
   value-does {A} r next c each = by (r c.state) refl
     where
@@ -413,7 +415,7 @@ module _ {F : Type 0} (v : F → Number) (limit : ℕ) (world : World F) where
   abbrev Q : Stmt F → Type 0
   Q s = IsStatementOf world.program s → DoesSo (of_statement v limit world s)
 
-  -- an act does so where what its layer comes to does
+  -- the claim for an act, from that for its unrolled form
   rolled : (x : Act-F F (Act F) (Stmt F)) (f : OfAct) → of_act (roll-Act F x) ≡ f → ((at : Place) → IsStatementOf world.program (statement_at at (roll-Act F x)) → (binding : Pairs) (c : Course) → Does (f at binding) c) → QAct (roll-Act F x)
   rolled x f e each at of_program binding c = subst (λ (g : OfAct). Does (g at binding) c) (sym e) (each at of_program binding c)
 
@@ -425,7 +427,7 @@ module _ {F : Type 0} (v : F → Number) (limit : ℕ) (world : World F) where
       value-does (λ (state : State). after_assignment v limit state at binding (target_of target) (option_map tree_of condition) right_at (tree_of right)) (λ state d. in_state d state) c
       (λ state. takes-none (λ (d : Course). in_state d state) c [] tt (sym (append-nil c.events)) refl refl (λ l. refl))
 
-  -- statements in a body stand in the program where the loop does
+  -- statements in a body are in the program where the loop is
   body-of : (control : Control F) (body : Vec (Stmt F) Global) (at : Place) → IsStatementOf world.program (statement_at at (roll-Act F (Act-F.Loop control body))) → (before rest : List (Stmt F)) (next : Stmt F) → body.items ≡ before ++ next ∷ rest → IsStatementOf world.program next
   body-of control body at of_program before rest next parts = record {
     before = of_program.before;
@@ -444,7 +446,7 @@ module _ {F : Type 0} (v : F → Number) (limit : ℕ) (world : World F) where
     });
   }
 
-  -- statements behind others of a list do so, where those of the list stand in the program
+  -- the statements of a list after others, where those of the list are in the program
   statements-do : (all before statements : List (Stmt F)) → all ≡ before ++ statements → ((first rest : List (Stmt F)) (s : Stmt F) → all ≡ first ++ s ∷ rest → IsStatementOf world.program s) → EachOf Q statements → EachOf DoesSo (map (of_statement v limit world) statements)
   statements-do all before [] parts stand each = tt
   statements-do all before (s ∷ statements) parts stand each =
@@ -459,7 +461,7 @@ module _ {F : Type 0} (v : F → Number) (limit : ℕ) (world : World F) where
   body_does [] = tt
   body_does (e ∷ body) = (e.1, body_does body)
 
-  -- an act whose loop's statements do so
+  -- an act does so, if the statements of its loop do
   by_layer : (y : Act-F F ((a : Act F) × QAct a) ((s : Stmt F) × Q s)) → QAct (roll-Act F (map-Act F ((a : Act F) × QAct a) ((s : Stmt F) × Q s) (Act F) (Stmt F) (λ e. e.0) (λ e. e.0) y))
   by_layer (Act-F.Declare kind items) = rolled (Act-F.Declare kind items) _ (does-is (Act-F.Declare kind items)) (λ at of_program binding c. does-nothing c)
   by_layer (Act-F.Alias first second) = rolled (Act-F.Alias first second) _ (does-is (Act-F.Alias first second)) (λ at of_program binding c. does-nothing c)
@@ -495,7 +497,7 @@ module _ {F : Type 0} (v : F → Number) (limit : ℕ) (world : World F) where
   each-statement [] = tt
   each-statement (s ∷ statements) = (statement-does s, each-statement statements)
 
-  -- So do the last statements of a program, one after another.
+  -- The last statements of a program, in sequence.
   pub last-do : (before statements : List (Stmt F)) → world.program.statements.items ≡ before ++ statements → DoesSo (one_after_another (map (of_statement v limit world) statements))
   last-do before statements parts =
       all-do (map (of_statement v limit world) statements) (statements-do world.program.statements.items before statements parts (λ first rest s is. record { before = first; outer = s; stands = (rest, is); depth = 0; inside = refl }) (each-statement statements))

@@ -1,4 +1,5 @@
--- The linear program of a solve: its columns are in order, its objective is one of them, and its entries name them. Plans with given levels.
+-- The linear program of a solve: its columns are in order, its objective is one of them, and its
+-- entries name them. Plans with given levels.
 use Rattle.std.proofs.Common.{◌≡◌, ℕ, nat_lt, ◌<◌, Bool, true, false, ◌||◌, cond, if◌then◌else◌, pos, List, [], ◌∷◌, length, map, Ok, Err, refl, sym, ap, ◌∙◌, subst, arith}
 use Rattle.std.specs.Prelude.{flat_map}
 use Rattle.std.specs.List.{All}

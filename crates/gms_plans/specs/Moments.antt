@@ -1,4 +1,5 @@
--- The moment of a solve in a run, and what the answers of a run say (GAMS User's Guide, "Model and Solve Statements", "GAMS Programs").
+-- The moment of a solve in a run, and what the answers of a run say (GAMS User's Guide, "Model and
+-- Solve Statements", "GAMS Programs").
 use Rattle.std.specs.Prelude.{◌≡◌, ℕ, Bool, List, map, take, slice_get, Some, Ok, All}
 use Rattle.gq_number.specs.Number.{Number}
 use Rattle.gms_ast.specs.declared.program.Act.TheVariants.{Solve}
@@ -20,12 +21,13 @@ module _ {F : Type 0} (number_of : F → Number) (limit : ℕ) (world : World F)
   abbrev pub whole_run : Course
   whole_run = run_from number_of limit world first (map (answer_numbers number_of) answers) statements
 
-  -- the run with the answers before one alone, by the place of that one: it waits where that answer is taken
+  -- the run with only the answers before a place: it waits for the answer at that place
   abbrev pub run_before : ℕ → Course
   run_before place = run_from number_of limit world first (take place (map (answer_numbers number_of) answers)) statements
 
-  -- A solve that a run shows: by which statement of the program, and in which state. The run with the answers before its own waits there for the
-  -- next one, so that its state is that of the solve; and the linear program is the one that the model means in that state.
+  -- A solve that a run shows: by which statement of the program, and in which state. The run with
+  -- only the earlier answers waits there for the next one, so its state is that of the solve; and
+  -- the linear program is the one that the model means in that state.
   pub record IsSolve (solved : Solved) : Type 0 where
     pub statement : Stmt F
     pub of_program : IsStatementOf world.program statement
@@ -39,7 +41,7 @@ module _ {F : Type 0} (number_of : F → Number) (limit : ℕ) (world : World F)
     pub waits : (run_before solved.answer).halted ≡ Some waiting
     pub program : program_lp number_of limit (run_before solved.answer).state world.program.statements.items model.name objective.name maximize statement.at ≡ Ok solved.lp
 
-  -- what a solve asks
+  -- the question of a solve
   abbrev pub question_of : (solved : Solved) → IsSolve solved → Question F
   question_of solved solve =
       record {
@@ -51,18 +53,18 @@ module _ {F : Type 0} (number_of : F → Number) (limit : ℕ) (world : World F)
         listed = column_elements solved.lp;
       }
 
-  -- A solve that a run shows is one of the program, and what its answer says is so.
+  -- A solve that a run shows is one of the program, and what its answer says is true.
   pub record IsAnsweredRightly (solved : Solved) : Type 0 where
     pub solve : IsSolve solved
     pub answer : Answer F
     pub stands : slice_get answers solved.answer ≡ Some answer
     pub is_so : IsSo number_of limit (question_of solved solve) (end_numbers number_of answer.end)
 
-  -- an event that is a solve is answered so
+  -- what the answer of an event says is true, if the event is a solve
   abbrev pub AnswerIsSo : Event → Type 0
   AnswerIsSo (solves solved) = IsAnsweredRightly solved
   AnswerIsSo event = Unit {0}
 
-  -- each solve of the run is
+  -- what each answer of the run says is true
   abbrev pub AnswersAreSo : Type 0
   AnswersAreSo = All AnswerIsSo whole_run.events

@@ -1,6 +1,6 @@
--- What a planner asks with a solve, and what an answer says (GAMS User's Guide, "Equations", "Model and Solve Statements"; Chvatal, "Linear
--- Programming", chapters 1, 5 and 9). Plans, equations and bounds, in the values that the language gives to expressions: no rows, matrices,
--- duals or rays.
+-- What a planner asks with a solve, and what an answer says (GAMS User's Guide, "Equations", "Model
+-- and Solve Statements"; Chvatal, "Linear Programming", chapters 1, 5 and 9). Plans, equations and
+-- bounds, in the values that the language gives to expressions: no rows, matrices, duals or rays.
 use Rattle.std.specs.Prelude.{◌≡◌, ℕ, Bool, true, false, List, [], map, Ok}
 use Rattle.std.specs.List.{All}
 use Rattle.gq_number.specs.Number.{Number}
@@ -22,7 +22,8 @@ use Rattle.lp_form.specs.declared.key.Key.{Key}
 abbrev pub Plan : Type 0
 Plan = Key → Number
 
--- What a solve asks: which plans satisfy the equations of a model, with the data of a state, and which of them has the best objective.
+-- The question of a solve: which plans satisfy the equations of a model, with the data of a state,
+-- and which of them has the best objective.
 pub record Question (F : Type 0) : Type 0 where
   -- the statements of the program, which define the model's equations
   pub statements : List (Stmt F)
@@ -32,12 +33,13 @@ pub record Question (F : Type 0) : Type 0 where
   pub model : ℕ
   -- the variable that is the objective, by the number of its name
   pub objective : ℕ
-  -- whether the objective is to be greatest; else it is to be least
+  -- whether the objective is maximized; otherwise it is minimized
   pub maximize : Bool
   -- the elements of variables that the solve lists, in order
   pub listed : List Key
 
--- whether the first of two outcomes is better than the second: greater or less, as the direction says
+-- whether the first of two outcomes is better than the second: greater or less, as the direction
+-- says
 abbrev pub IsBetter : Bool → Number → Number → Type 0
 IsBetter true outcome other = other <ℚ outcome
 IsBetter false outcome other = outcome <ℚ other
@@ -45,13 +47,15 @@ IsBetter false outcome other = outcome <ℚ other
 -- ---- which plans are feasible, and which optimal
 
 module _ {F : Type 0} (number_of : F → Number) (limit : ℕ) (question : Question F) where
-  -- A plan satisfies an equation: at each element of the equation's sets for which its condition holds, the left side compares with the right one
-  -- as `=e=`, `=l=` or `=g=` says, with the variables read in the plan.
+  -- A plan satisfies an equation: at each element of the equation's sets for which its condition
+  -- holds, the left side compares with the right one as `=e=`, `=l=` or `=g=` says, with the
+  -- variables read in the plan.
   abbrev pub Satisfies : Plan → Definition F → Type 0
   Satisfies plan equation = (element : List ℕ) → has (elements question.state (sets_of equation)) element ≡ true →
       holds_for number_of limit question.state (bound_to equation element) equation.condition ≡ Ok true → SidesCompare number_of limit question.state plan equation (bound_to equation element)
 
-  -- A plan is feasible: it satisfies each equation of the model, and each listed element is within its bounds.
+  -- A plan is feasible: it satisfies each equation of the model, and each listed element is within
+  -- its bounds.
   pub record IsFeasible (plan : Plan) : Type 0 where
     pub equations : All (Satisfies plan) (definitions_of_model question.statements question.model)
     pub bounds : KeepsBoundsOf question.state plan question.listed
@@ -67,14 +71,16 @@ module _ {F : Type 0} (number_of : F → Number) (limit : ℕ) (question : Quest
 
   -- ---- what an answer says
 
-  -- Levels are of plans of which something holds: some plan has these levels at the listed elements, and it holds of each plan that has them there,
-  -- whatever it has elsewhere.
+  -- Levels are of plans with a property: some plan has these levels at the listed elements, and
+  -- each plan that has them there has the property, with any levels elsewhere.
   pub record AreLevels (Holds : Plan → Type 0) (levels : List Number) : Type 0 where
     pub some : (plan : Plan) × (map plan question.listed ≡ levels)
     pub each : (plan : Plan) → map plan question.listed ≡ levels → Holds plan
 
-  -- What an answer says. Optimal: its levels are optimal. Infeasible: no plan is feasible. Unbounded: its levels are feasible, and for each number
-  -- some feasible plan has a better outcome. Interrupted in phase 2: its levels are feasible. Interrupted in phase 1, or Refused: nothing.
+  -- What an answer says. Optimal: its levels are optimal. Infeasible: no plan is feasible.
+  -- Unbounded: its levels are feasible, and for each number some feasible plan has a better
+  -- outcome. Interrupted in phase 2: its levels are feasible. Interrupted in phase 1, or Refused:
+  -- nothing.
   abbrev pub IsSo : End Number → Type 0
   IsSo (Optimal levels row_levels duals reduced) = AreLevels IsOptimal levels
   IsSo (Infeasible duals crossed) = (plan : Plan) → IsFeasible plan → ⊥

@@ -1,4 +1,4 @@
-//! What the answers of whole runs say is so.
+//! What the answers of whole runs say is true.
 ghost use Rattle.std.specs.Prelude.{◌≡◌, ◌++◌, ℕ, List, [], drop, length};
 ghost use Rattle.gq_frac.specs.declared.frac.Frac.{Frac};
 ghost use Rattle.gq_frac.specs.Frac.{frac_value};
@@ -19,19 +19,24 @@ ghost use Rattle.lp_slot.specs.declared.solver.SolverRule.{SolverRule};
 
 use gq_field::ExactField;
 
-/// In the run of an accepted program what each answer says is so, of the model as it is written, with the data of the moment of the solve.
-/// *Optimal*: the levels satisfy every equation of the model, at each element of its sets for which its condition holds, and the bounds of
-/// each listed element of a variable; and no plan that does so has a better objective. *Infeasible*: no plan does so. *Unbounded*: the
-/// levels do so, and for each number some plan that does so has a better objective than that. *Interrupted* in phase 2: the levels do so.
+/// In the run of an accepted program what each answer says is true of the model as it is written,
+/// with the data at the moment of the solve. *Optimal*: the levels satisfy every equation of the
+/// model, at each element of its sets for which its condition holds, and the bounds of each listed
+/// element of a variable; and no plan that does so has a better objective. *Infeasible*: no plan
+/// does so. *Unbounded*: the levels do so, and for each number some plan that does so has a better
+/// objective than that. *Interrupted* in phase 2: the levels do so.
 ///
-/// A plan gives each element of a variable a number. The listed elements are those that occur in a row, and the objective; levels speak of
-/// each plan that has them there, whatever it has elsewhere.
+/// A plan gives each element of a variable a number. The listed elements are those that occur in a
+/// row, and the objective. Levels speak of each plan that has them there, with any levels
+/// elsewhere.
 ///
-/// This holds of the run of a program from its start (`start`), of the run of a file from a save, whose statements are the last ones of
-/// the joint program of the saved source and the file (`restarted`), and of the run of the last statements of a program from any state in
-/// which a run may begin (`begun`).
+/// This holds of the run of a program from its start (`start`); of the run of a file from a save,
+/// whose statements are the last ones of the joint program of the saved source and the file
+/// (`restarted`); and of the run of the last statements of a program from any state in which a run
+/// may begin (`begun`).
 ///
-/// GAMS User's Guide, "Equations", "Model and Solve Statements", "Save and Restart"; Chvatal, "Linear Programming", chapters 1, 5 and 9.
+/// GAMS User's Guide, "Equations", "Model and Solve Statements", "Save and Restart"; Chvatal,
+/// "Linear Programming", chapters 1, 5 and 9.
 pub fn plan_laws<F: ExactField>()
     ensures start { (world : World F) (rules : List SolverRule) (answers : List (Answer F)) → IsAccepted F.value world.program →
         AreAnswered F.value F.limit rules answers (whole_run F.value F.limit world (loaded F.value world.program) world.program.statements.items answers).events →

@@ -1,4 +1,4 @@
-//! Floor 5, the run. What the answers of a run say to a planner is so.
+//! Layer 5, the run. What the answers of a run say to a planner is true.
 #![tactic(auto)]
 
 mod laws;

@@ -1,4 +1,4 @@
--- Lines of the elements of a list that are appended one after another.
+-- Lines of the elements of a list that are appended in sequence.
 use Rattle.std.proofs.Common.{◌≡◌, ℕ, ◌+◌, ◌<◌, ◌≤◌, List, ◌∷◌, ◌++◌, drop, length, get_or, flat_map, map, sym, ap, ◌∙◌, add-one, drop-cons}
 use Rattle.std.proofs.lemmas.List.{append_assoc, append-nil, drop_all}
 use Rattle.std.specs.List.{enumerate_from}
@@ -12,7 +12,7 @@ placed_at v xs i x within is =
     ap (λ ys. enumerate_from i (map v ys)) (drop-cons xs i x within ∙ ap (λ k. get_or xs i x ∷ drop k xs) (sym (add-one i)) ∙ ap (λ y. y ∷ drop (i + 1) xs) (sym is))
 
 module _ {X Y : Type 0} (f : ℕ × Y → List ℕ) (v : X → Y) (xs : List X) (old : List ℕ) where
-  -- with the lines from a place on a text would be the old one with all lines behind it
+  -- a text followed by the lines from a place on is the old text followed by all lines
   abbrev pub Goes : ℕ → List ℕ → Type 0
   Goes i now = now ++ flat_map f (placed v i xs) ≡ old ++ flat_map f (placed v 0 xs)
 

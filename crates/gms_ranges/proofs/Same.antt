@@ -1,4 +1,4 @@
--- The ranges of a program are told by the numbers that its values mean.
+-- The numbers that a program's values mean determine its ranges.
 use Rattle.std.proofs.Common.{◌≡◌, ℕ, ◌+◌, List, [], ◌∷◌, map, refl, sym, ap, subst, ◌∙◌, Option}
 use Rattle.gq_number.specs.Number.{Number}
 use Rattle.lp_core.specs.declared.answer.Pivot.{Pivot}

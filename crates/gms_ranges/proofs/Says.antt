@@ -1,4 +1,4 @@
--- What is said of solves, one after another.
+-- What is printed of solves, in sequence.
 use Rattle.std.proofs.Common.{◌≡◌, ℕ, suc, ◌+◌, ◌<◌, ◌≤◌, Option, List, [], ◌∷◌, ◌++◌, length, map, take, get_or, Some, refl, sym, ap, ap₂, subst, ◌∙◌, add-one, append_assoc, append-nil, arith}
 use Rattle.std.specs.Prelude.{slice_get, IfSome}
 use Rattle.std.proofs.Math.Seq.{take-suc}
@@ -42,13 +42,13 @@ module _ {F : Type 0} (value : F → Number) (limit : ℕ) (programs : List (Lp 
       let one : IfSome (Some lp) (λ p. IfSome (slice_get answers place) (IsAnswered value limit p)) = subst (λ o. IfSome o (λ p. IfSome (slice_get answers place) (IsAnswered value limit p))) (slice_get_read programs (length programs) place lp refl in_programs is_lp) (are.each place) in
       subst (λ o. IfSome o (IsAnswered value limit lp)) (slice_get_read answers (length answers) place answer refl in_answers is_answer) one
 
--- three texts behind another
+-- three texts appended to another
 three_behind : (old a b c one two new : List ℕ) → one ≡ old ++ a → two ≡ one ++ b → new ≡ two ++ c → new ≡ old ++ (a ++ b ++ c)
 three_behind old a b c one two new first second third =
     third ∙ ap (λ t. t ++ c) (second ∙ ap (λ t. t ++ b) first ∙ append_assoc old a b) ∙ append_assoc old (a ++ b) c
 
 module _ {F : Type 0} (value : F → Number) (names labels : List (List ℕ)) (limit solve : ℕ) (lp : Lp F) where
-  -- what is said of an optimum at a last dictionary
+  -- what is printed of an optimum at the final dictionary
   pub says_optimum : (answer : Answer F) (levels row_levels duals reduced : List F) (old new : List ℕ) → answer.end ≡ Optimal levels row_levels duals reduced →
       (last : Dictionary) × LeadTo value limit lp answer.pivots last × (new ≡ old ++ spans_text names labels solve (lp_numbers value lp) (rights value limit lp last) (costs value limit lp last)) →
       (said : List ℕ) × SaysAnswer names labels limit solve (lp_numbers value lp) (answer_numbers value answer) said × (new ≡ old ++ said)
@@ -58,7 +58,7 @@ module _ {F : Type 0} (value : F → Number) (names labels : List (List ℕ)) (l
       let told : SaysAnswer names labels limit solve (lp_numbers value lp) (answer_numbers value (record { pivots = answer.pivots; end = Optimal levels row_levels duals reduced })) said = (last, leads_same value limit lp answer.pivots last leads, spans) in
       (said, subst (λ (end : End F). SaysAnswer names labels limit solve (lp_numbers value lp) (answer_numbers value (record { pivots = answer.pivots; end = end })) said) (sym is) told, text)
 
-  -- of another end nothing is said
+  -- for any other end nothing is printed
   pub says_nothing : (answer : Answer F) (old : List ℕ) → ((levels row_levels duals reduced : List F) → answer.end ≡ Optimal levels row_levels duals reduced → ⊥) →
       (said : List ℕ) × SaysAnswer names labels limit solve (lp_numbers value lp) (answer_numbers value answer) said × (old ≡ old ++ said)
   says_nothing answer old other = ([], by answer.end refl, sym (append-nil old))

@@ -1,4 +1,4 @@
-//! Floor 7, outside. What is said of the ranges of the solves of a run.
+//! Layer 7, outside. What is printed of the ranges of the solves of a run.
 #![tactic(auto)]
 
 mod lines;

@@ -16,7 +16,7 @@ use lp_form::Key;
 use lp_range::Interval;
 use std::alloc::{AllocError, Global};
 
-/// An end of a range exactly, where there is one.
+/// An exact end of a range, if it has one.
 fn exact_end<F: ExactField>(end: Option<F>, digits: &mut Digits) -> Option<&str>
     ensures { option_map (λ text. text.now) result ≡ option_map exact_text (bound_value F.value end) }
 {
@@ -77,7 +77,7 @@ fn range_at<F: ExactField>(ranges: &[Option<Interval<F>>], place: usize) -> Opti
     }
 }
 
-/// Appends the line of the right side of a row; a row that asks nothing has none.
+/// Appends the line of the right side of a row; a row that constrains nothing has none.
 fn push_right<F: ExactField>(
     alloc: Global,
     names: &Labels,

@@ -1,4 +1,4 @@
-//! What is said of the ranges of solves, by their programs and their answers.
+//! What is printed of the ranges of solves, by their programs and their answers.
 ghost use Rattle.std.specs.Prelude.{◌≡◌, ◌++◌, ℕ, List, map, length, IfOk, OnOk, string_bytes};
 ghost use Rattle.lp_core.specs.declared.answer.Rule.TheVariants.{Legal};
 ghost use Rattle.lp_core.specs.Answers.{IsAnswer};
@@ -17,7 +17,7 @@ use lp_core::{Answer, End, Lp};
 use lp_range::ranges;
 use std::alloc::{AllocError, Global};
 
-/// Appends what is said of an optimum, the answer of this solve.
+/// Appends what is printed of an optimum, the answer of this solve.
 fn push_optimum<F: ExactField>(
     alloc: Global,
     names: &Labels,
@@ -41,7 +41,8 @@ fn push_optimum<F: ExactField>(
     push_costs(alloc, names, labels, lp.columns.as_slice(), costs, text)
 }
 
-/// Appends what is said of the answer of a solve: of an optimum its ranges, of another answer nothing.
+/// Appends what is printed of the answer of a solve: of an optimum its ranges, of any other answer
+/// nothing.
 fn push_answer<F: ExactField>(
     alloc: Global,
     names: &Labels,
@@ -61,11 +62,13 @@ fn push_answer<F: ExactField>(
     }
 }
 
-/// What is said of the ranges of the solves of a program, with its names and labels, by their linear programs and their answers in order.
+/// What is printed of the ranges of the solves of a program, with its names and labels, by their
+/// linear programs and their answers in order.
 ///
-/// Of each answer that is an optimum it is said how far each right side and each cost may move, by itself, before the proof of the answer
-/// changes (Chvatal, Linear Programming, chapter 10): a line with the number of the solve, from 1, then one for each row that asks something
-/// and one for each column. The error is want of memory.
+/// For each answer that is an optimum: how far each right side and each cost may move, by itself,
+/// before the proof of the answer changes (Chvatal, Linear Programming, chapter 10). A line has the
+/// number of the solve, from 1; then follow one line for each row that constrains something and one
+/// for each column. The error means that memory ran out.
 pub fn ranges_text<F: ExactField>(
     alloc: Global,
     names: &Labels,

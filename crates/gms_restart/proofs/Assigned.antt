@@ -1,4 +1,5 @@
--- What an assignment of an accepted program gives elements has as many labels as its name has positions.
+-- What an assignment of an accepted program gives elements has as many labels as its name has
+-- positions.
 use Rattle.std.proofs.Common.{◌≡◌, ℕ, nat_le, Bool, true, false, not, if◌then◌else◌, List, [], ◌∷◌, length, map, Option, Some, None, option_map, inl, inr, Ok, refl, sym, ap, ◌∙◌, subst, arith}
 use Rattle.std.specs.List.{All, fold}
 use Rattle.std.proofs.lemmas.Bool.{both_ways}
@@ -173,7 +174,8 @@ module _ {F : Type 0} (v : F → Number) (program : Program F) (before : List (S
       ap (λ (n : ℕ). (symbol_at (loaded v program) n).domain) ((after-itself name declared).alike name) ∙ (after-itself base here).domain
 
 module _ {F : Type 0} (v : F → Number) (limit : ℕ) (program : Program F) (accepted : IsAccepted v program) where
-  -- Wherever names stay what they are where the program begins, what is assigned has as many labels as its name has positions.
+  -- In each state that keeps the names of the first one, what is assigned has as many labels as its
+  -- name has positions.
   pub assigned-long : (statement : Stmt F) (target : TargetNode F) (condition : Option (Expr F)) (right_at : Place) (right : Expr F) (state : State) (binding : Pairs) (all : AllGiven) → IsStatementOf program statement → statement.act ≡ Assign target condition right_at (Value right) → Stays (loaded v program) state →
       given_by v limit state statement.at binding (target_of target) (option_map tree_of condition) right_at (tree_of right) ≡ Ok all → All (λ (given : List ℕ × Given). length given.0 ≡ length (symbol_of state target.name).domain) all
   assigned-long statement target condition right_at right state binding all of_program is stays e =

@@ -1,5 +1,5 @@
--- A program that has no error with solvers of some names has none with solvers of the names that it chooses: of all errors one alone asks for the
--- solvers, and it is of what an option is set to.
+-- A program that has no error with solvers of some names has none with solvers of the names that it
+-- chooses: one error alone depends on the solvers, and it concerns the value of an option.
 use Rattle.std.proofs.Common.{◌≡◌, ℕ, Bool, true, false, not, ◌&&◌, ◌||◌, if◌then◌else◌, List, [], ◌∷◌, ◌++◌, length, map, Option, Some, None, option_map, Result, Ok, Err, refl, sym, ap, ap₂, ◌∙◌, subst}
 use Rattle.std.specs.Prelude.{codes, filter, flat_map, is_none, option_to_list}
 use Rattle.std.specs.List.{list_any}
@@ -97,7 +97,7 @@ among-right all (x ∷ xs) ys among = among-right all xs ys among.1
 -- ---- what is used
 
 module _ (selected : List (List ℕ)) where
-  -- an option `lp` is set to one of these names; of all else nothing is said
+  -- an option `lp` is set to one of these names; any other use is admitted
   abbrev Fits : Use Frac → Type 0
   Fits (option_value word (setting.Name name)) = str_eq_ignore_ascii_case word (codes "lp") ≡ true → is_one_of selected name.text ≡ true
   Fits used = Unit {0}
@@ -294,7 +294,7 @@ module _ (selected : List (List ℕ)) where
     abbrev other : Known Frac
     other = with_selected known
 
-    -- no other error asks for the solvers
+    -- no other error depends on the solvers
 
     variable-same : (name : ℕ) (s : Suffix) → is_variable_by other name s ≡ is_variable_by known name s
     variable-same name suffix.None = refl

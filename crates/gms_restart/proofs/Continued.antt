@@ -1,4 +1,4 @@
--- The last state of a run that goes on from a save is a saved one of the joint program.
+-- The last state of a run that resumes from a save is a saved state of the joint program.
 use Rattle.std.proofs.Common.{◌≡◌, ℕ, ◌≤◌, true, List, [], ◌++◌, map, length, drop, sym, ap, ap₂, ◌∙◌, subst, arith, length-append}
 use Rattle.std.specs.Prelude.{filter, flat_map}
 use Rattle.gq_number.specs.Number.{Number}

@@ -1,4 +1,5 @@
--- The statements of a saved program begin above the file behind it, and those of the file in it; the restarted run of both.
+-- The statements of a saved program begin above the file that follows it, and those of the file in
+-- it; the restarted run of both.
 use Rattle.std.proofs.Common.{◌≡◌, ℕ, ◌+◌, ◌<◌, ◌≤◌, nat_lt, true, false, List, [], ◌∷◌, ◌++◌, length, All, None, refl, sym, ap, ◌∙◌, subst, arith, append_assoc, append-nil}
 use Rattle.std.proofs.lemmas.Bool.{both_ways}
 use Rattle.std.proofs.lemmas.Bool.Decides.{nat_tests}
@@ -163,7 +164,7 @@ module _ (limit : ℕ) (saved file : List ℕ) (first whole : ProgramView) (p : 
   begins =
       begins_with saved file p.tokens q.tokens p.are_tokens q.are_tokens p.is.tree own-derives q.is.tree (record { end = q.is.end; is_tree = q.is.is_tree; yields = q.is.tokens_are })
 
-  -- what stands behind the saved program in the derivation
+  -- the derivation of the text after the saved program
   abbrev behind_tree : Derivation
   behind_tree = more (pair (leaf begins.semicolon) begins.next) begins.last
 

@@ -1,4 +1,5 @@
--- Bindings whose labels may stand for their sets; the labels of indices under them, and of the elements of a domain, stand where they have to.
+-- Bindings whose labels may stand for their sets. Under them, the labels of indices and of the
+-- elements of a domain fit their positions.
 use Rattle.std.proofs.Common.{◌≡◌, ◌⊎◌, ℕ, zero, suc, ℤ, pos, negsuc, nat_lt, nat_le, Bool, true, false, not, ◌&&◌, ◌||◌, ◌==◌, if◌then◌else◌, List, [], ◌∷◌, ◌++◌, length, slice_get, Option, Some, None, option_map, Ok, Err, refl, sym, ap, ◌∙◌, subst, inl, inr, arith}
 use Rattle.std.specs.Prelude.{◌+ℤ◌, neg_ℤ, option_and_then, ok_or}
 use Rattle.std.specs.List.{All}
@@ -111,8 +112,10 @@ either-label (p ∷ binding) more set label e = by (p.0 == set) (λ e. either-la
 
 -- ---- what is known of states
 
--- Of the state in which a run begins, and the state before a statement: data stand in their domains, the sets of positions are not assigned, what
--- is declared before the statement is what it is in the first state, with no member more; and an index set is one of single labels in each later state.
+-- The state in which a run begins, and the state before a statement. Data are in their domains. The
+-- sets of positions are not assigned. What is declared before the statement is the same in the
+-- first state, with no member removed. An index set has members of single labels in each later
+-- state.
 pub record Ground (count : ℕ) (first : State) (assigned : ℕ → Bool) (s : State) : Type 0 where
   pub starts : DataStand count first
   pub fixed : (n : ℕ) → AreFixed assigned first (symbol_at first n).domain
@@ -121,8 +124,8 @@ pub record Ground (count : ℕ) (first : State) (assigned : ℕ → Bool) (s : S
   pub more : (d : ℕ) (t : List ℕ) → is_unknown s d ≡ false → has (members_of s d) t ≡ true → has (members_of first d) t ≡ true
   pub simple : (state : State) → Stays first state → (set : ℕ) → is_index_set s set ≡ true → IsSimple state set
 
--- Of a state of the run: names stand for what they stood for at first, what is given of them stands in their domains, and a set that is not assigned
--- has the members of the first state.
+-- A state of the run: names stand for what they stood for at first, their data are in their
+-- domains, and a set that is not assigned has the members of the first state.
 pub record Standing (count : ℕ) (first : State) (assigned : ℕ → Bool) (state : State) : Type 0 where
   pub stays : Stays first state
   pub stand : (n : ℕ) (t : List ℕ) → has (given_in (symbol_at state n).content) t ≡ true → stands_few count first (symbol_at first n).domain t ≡ true
@@ -161,7 +164,7 @@ module _ (count : ℕ) (first : State) (assigned : ℕ → Bool) where
             subst (λ n. May n label) (eqb-true s set same) (subst (λ m. May s m) is (member-may s l are.0))
         by false same e next = next e
 
-    -- a binding with the labels of an element besides
+    -- a binding that also has the labels of an element
     pub controlled-fits : (binding : Pairs) (sets element : List ℕ) → Fits binding → AreMembers state sets element → Fits (controlled binding sets element)
     controlled-fits binding sets element fits are set label e = elim (either-label binding (paired sets element) set label e) [
       | inl own ↦ fits set label own
@@ -206,7 +209,7 @@ module _ (count : ℕ) (first : State) (assigned : ℕ → Bool) where
   split l None t e = absurd (cc)
   split l (Some u) t e = let same : l ∷ u ≡ t = cc in (u, refl, sym same)
 
-  -- an index whose label may stand at its position, before others
+  -- an index whose label fits its position, before others
   one-more : (position : Option ℕ) (domain : List (Option ℕ)) (o : Option ℕ) (xs : List (Option ℕ)) (t : List ℕ) → ((l : ℕ) → o ≡ Some l → (nat_lt l count ≡ true) × (stands_at first position l ≡ true)) → ((u : List ℕ) → all_there xs ≡ Some u → stands_in count first domain u ≡ true) → all_there (o ∷ xs) ≡ Some t → stands_in count first (position ∷ domain) t ≡ true
   one-more position domain None xs t here rest e = absurd (cc)
   one-more position domain (Some l) xs t here rest e =
@@ -230,7 +233,7 @@ module _ (count : ℕ) (first : State) (assigned : ℕ → Bool) where
         by (Some places) (Some from) e =
             member-may state standing set l (lagged-there (members_of state set) (ground.simple state standing.stays set index).1 op places from l (only_value (lagged_label (members_of state set) op places from) (Some l) e))
 
-    -- a set's label stands at a position that the set fits
+    -- a set's label fits a position that the set fits
     set-at : (name : ℕ) (position : Option ℕ) (set l : ℕ) → IsFixedAt count first assigned position → is_index_set s set ≡ true → fits s declared (directly_above s declared) name position set ≡ true → May set l → (nat_lt l count ≡ true) × (stands_at first position l ≡ true)
     set-at name position set l fixed index fit may =
         (is-label count first assigned (base_of first set) l may, set-stands count first assigned ground.starts s declared ground.later name position set l fixed (index-known s set index) fit may)

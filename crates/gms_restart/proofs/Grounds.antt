@@ -1,4 +1,5 @@
--- What is known before a statement of an accepted program, of the state then and of the one in which its run begins.
+-- What is known before a statement of an accepted program, of the state then and of the one in
+-- which its run begins.
 use Rattle.std.proofs.Common.{◌≡◌, ℕ, ◌<◌, ◌≤◌, nat_lt, nat_le, Bool, true, false, not, ◌&&◌, ◌||◌, List, [], ◌∷◌, length, map, Option, Some, None, refl, sym, ap, ap₂, ◌∙◌, subst, inl, inr, arith}
 use Rattle.std.specs.Prelude.{flat_map}
 use Rattle.std.specs.List.{All, fold}
@@ -45,7 +46,8 @@ use Rattle.gms_restart.proofs.Homes.{and-made, DataStand}
 
 -- ---- tuples
 
--- a tuple of so many labels that stand at their positions, each of the program, stands in the domain
+-- a tuple of as many labels as the domain has positions, each in the program and fitting its
+-- position, is in the domain
 stand-all : (count : ℕ) (state : State) (domain : List (Option ℕ)) (t : List ℕ) → length t ≡ length domain → StandAt state domain t → Each (λ label. nat_lt label count) t → stands_in count state domain t ≡ true
 stand-all count state [] [] long at own = refl
 stand-all count state [] (label ∷ t) long at own = absurd (omega (arith, long))
@@ -54,7 +56,7 @@ stand-all count state (position ∷ domain) (label ∷ t) long at own =
     let rest : length t ≡ length domain = omega (arith, long) in
     and-made (nat_lt label count) (stands_at state position label && stands_in count state domain t) own.0 (and-made (stands_at state position label) (stands_in count state domain t) at.0 (stand-all count state domain t rest at.1 own.1))
 
--- what holds of all tuples holds of one that is there
+-- what holds of all tuples holds of each member
 pub has-all : (P : List ℕ → Type 0) (tuples : List (List ℕ)) (t : List ℕ) → All P tuples → has tuples t ≡ true → P t
 has-all P [] t all there = absurd (cc)
 has-all P (u ∷ tuples) t all there = by (has-all P tuples t (All-tail P u tuples all)) (same_tuple u t) refl there

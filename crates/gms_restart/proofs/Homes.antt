@@ -1,4 +1,5 @@
--- Labels that may stand for a set, and with it for each set that it is below, and at each position where it fits.
+-- Labels that may stand for a set, and so for each set that it is below, and at each position that
+-- it fits.
 use Rattle.std.proofs.Common.{◌≡◌, ℕ, zero, suc, nat_lt, nat_le, Bool, true, false, ◌&&◌, ◌||◌, ◌==◌, if◌then◌else◌, List, [], ◌∷◌, length, Option, Some, None, refl, sym, ap, ◌∙◌, subst}
 use Rattle.std.proofs.lemmas.Bool.{eqb-true}
 use Rattle.gms_tuple.specs.TupleSet.{has}
@@ -27,7 +28,7 @@ pub or-second : (a b : Bool) → b ≡ true → (a || b) ≡ true
 or-second true b e = refl
 or-second false b e = e
 
--- of a content that has members these are what is given
+-- each member of a content is a tuple with data
 pub members-given : (c : Content) (t : List ℕ) → has (members_in c) t ≡ true → has (given_in c) t ≡ true
 members-given undeclared t there = absurd (cc)
 members-given (alias_of base) t there = absurd (cc)
@@ -50,17 +51,18 @@ set-known (model_with model solver) e = absurd (cc)
 pub index-known : (s : State) (set : ℕ) → is_index_set s set ≡ true → is_unknown s set ≡ false
 index-known s set is = set-known (symbol_at s set).content (both-tests (is_set_name s set) (has_one_position s set) is).0
 
--- a tuple stands in a domain, and has no more labels than a tuple may have
+-- a tuple is in a domain, and has no more labels than a tuple may have
 abbrev pub stands_few : ℕ → State → List (Option ℕ) → List ℕ → Bool
 stands_few count state domain t = stands_in count state domain t && nat_le (length t) 10
 
--- all data of a state stand in their domains
+-- all data of a state are in their domains
 abbrev pub DataStand : ℕ → State → Type 0
 DataStand count first =
     (n : ℕ) (t : List ℕ) → has (given_in (symbol_at first n).content) t ≡ true → stands_few count first (symbol_at first n).domain t ≡ true
 
 module _ (count : ℕ) (first : State) (assigned : ℕ → Bool) where
-  -- A label may stand for a set of this base: it stands in the set's domain, and of a set that is not assigned it is a member.
+  -- A label may stand for a set of this base: it is in the set's domain, and if the set is not
+  -- assigned, it is a member.
   pub record MayStand (base label : ℕ) : Type 0 where
     pub domain : stands_in count first (symbol_at first base).domain (label ∷ []) ≡ true
     pub member : assigned base ≡ false → has (members_in (symbol_at first base).content) (label ∷ []) ≡ true
@@ -73,7 +75,7 @@ module _ (count : ℕ) (first : State) (assigned : ℕ → Bool) where
       by [] e = absurd (cc)
       by (position ∷ domain) e = (both-tests (nat_lt label count) (stands_at first position label && stands_in count first domain []) e).0
 
-  -- the set of a position is fixed, where there is one
+  -- the set of a position, if it has one, is fixed
   abbrev pub IsFixedAt : Option ℕ → Type 0
   IsFixedAt None = Unit {0}
   IsFixedAt (Some d) = IsFixedSet assigned first d
@@ -138,7 +140,7 @@ module _ (count : ℕ) (first : State) (assigned : ℕ → Bool) where
 
       -- ---- positions
 
-      -- a label of an index set that fits a position stands there
+      -- a label of an index set that fits a position fits it too
       pub set-stands : (name : ℕ) (position : Option ℕ) (index label : ℕ) → IsFixedAt position → is_unknown s index ≡ false → fits s declared (directly_above s declared) name position index ≡ true → MayStand (base_of first index) label → stands_at first position label ≡ true
       set-stands name None index label fixed known e may = refl
       set-stands name (Some d) index label fixed known e may =

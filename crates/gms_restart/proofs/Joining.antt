@@ -1,4 +1,5 @@
--- The run of a program whose first statements stand for those of a saved one: their run, followed by that of the others from the saved state.
+-- The run of a program whose first statements stand for those of a saved one: their run, followed
+-- by that of the others from the saved state.
 use Rattle.std.proofs.Common.{◌≡◌, ℕ, ◌+◌, ◌≤◌, Bool, List, [], ◌++◌, length, None, refl, sym, ap, ap₂, ◌∙◌, arith}
 use Rattle.gq_number.specs.Number.{Number}
 use Rattle.gms_ast.specs.declared.program.Stmt.{Stmt}
@@ -19,12 +20,13 @@ use Rattle.gms_going_on.proofs.Closing.{loaded-closed}
 use Rattle.gms_going_on.proofs.ProgramNames.{program-named}
 use Rattle.gms_going_on.proofs.SolvesAlike.{defined_in, solves-alike}
 
--- where nothing is left all were taken
+-- where no answer remains all were taken
 all-taken : (left : List (Answer Number)) (taken count : ℕ) → left ≡ [] → taken + length left ≡ count → taken ≡ count
 all-taken left taken count none total =
     let e : taken + 0 ≡ count = sym (ap (λ (ls : List (Answer Number)). taken + length ls) none) ∙ total in omega (arith, e)
 
--- Statements stand for others in a world: they lead to the same states, define the same equations and models, and run alike.
+-- Statements stand for others in a world: they lead to the same states, define the same equations
+-- and models, and run alike.
 pub record StandsFor {F : Type 0} (v : F → Number) (limit : ℕ) (world : World F) (firsts statements : List (Stmt F)) : Type 0 where
   pub states : (count : ℕ) → state_after v count (sound firsts) ≡ state_after v count (sound statements)
   pub define : (others : List (Stmt F)) (m : ℕ) → definitions_of_model (firsts ++ others) m ≡ definitions_of_model (statements ++ others) m
@@ -39,7 +41,8 @@ module _ {F : Type 0} (v : F → Number) (limit : ℕ) (saved joint : World F) (
   abbrev first_run : Course
   first_run = run_from v limit joint (loaded v joint.program) (answers ++ further) firsts
 
-  -- The run of the joint program is that of its first statements, followed by that of the others from the last state of the saved run.
+  -- The run of the joint program is that of its first statements, followed by that of the others
+  -- from the last state of the saved run.
   pub record Joins : Type 0 where
     pub is : run_from v limit joint (loaded v joint.program) (answers ++ further) joint.program.statements.items
         ≡ behind_run first_run (run_from v limit joint (overlaid (loaded v joint.program) base.state) further others)

@@ -27,7 +27,7 @@ use Rattle.gms_save.proofs.SeenPrograms.{Seen, seen, seen_declared, declared-are
 use Rattle.gms_restart.specs.Alike.{IsAlike}
 use Rattle.gms_restart.proofs.Padding.{EachOwn, HoldsOfAll, IsBelow, padded, at-padded, acts-same}
 
--- ---- statements one by one, as they are seen
+-- ---- statements one by one, in their views
 
 listed-followed : (a b : Statements Number) → listed (followed_by a b) ≡ listed a ++ listed b
 listed-followed no_statement b = refl
@@ -37,7 +37,7 @@ listed-own : (count : ℕ) (a : Statements Number) → HoldsOfAll (IsBelow count
 listed-own count no_statement own = tt
 listed-own count (statement at act rest) own = (own.0, listed-own count rest own.1)
 
--- a list that is seen as one and another parts so
+-- a list whose view is two parts splits accordingly
 record IsParted (xs : List (Stmt Frac)) (vs : List Seen) : Type 0 where
   front : List (Stmt Frac)
   rest : List (Stmt Frac)
@@ -72,7 +72,7 @@ bare-declared (x ∷ xs) state = bare-declared xs (after_statement frac_value st
 grows-all : (xs : List (Stmt Frac)) (state : State) → Grows state (declared_by_all state xs)
 grows-all xs state = subst (λ (s : State). Grows state s) (bare-declared xs state) (grows-past frac_value (bare xs) state)
 
--- what is declared after a front is later than what is declared by it
+-- what is declared after all statements is later than what is declared after the first ones
 later-than : (count : ℕ) (front rest : List (Stmt Frac)) (n : ℕ) → IsLater (symbol_at (declared_by_all (blank_state count) front) n) (symbol_at (declared_by_all (blank_state count) (front ++ rest)) n)
 later-than count front rest n =
     subst (λ (s : State). IsLater (symbol_at (declared_by_all (blank_state count) front) n) (symbol_at s n)) (sym (fold-append (λ (state : State) (x : Stmt Frac). declared_by state x.act) (blank_state count) front rest))
@@ -87,7 +87,7 @@ at-overlaid (x ∷ xs) [] n many = refl
 at-overlaid (x ∷ xs) (y ∷ ys) zero many = refl
 at-overlaid (x ∷ xs) (y ∷ ys) (suc n) many = at-overlaid xs ys n (omega arith)
 
--- Two symbols are of the same form: over the same domain, and with the same behind them.
+-- Two symbols are of the same form: over the same domain, and as aliases of the same set.
 record AreAlike (a b : Symbol) : Type 0 where
   domain : a.domain ≡ b.domain
   stands : (n : ℕ) → behind n a.content ≡ behind n b.content
@@ -102,7 +102,7 @@ same-form a b n e = record {
 form-both : (a b c : Symbol) → AreAlike a b → AreAlike b c → AreAlike a c
 form-both a b c one two = record { domain = one.domain ∙ two.domain; stands = λ m. one.stands m ∙ two.stands m }
 
--- so many symbols a state has as it declares
+-- a state has as many symbols as its declarations
 form-count : (a b : State) → declared_in a ≡ declared_in b → length a.symbols ≡ length (declared_in b)
 form-count a b e = sym (length-map a.symbols _) ∙ ap (λ (xs : List Symbol). length xs) e
 
@@ -112,7 +112,7 @@ module _ (first whole : Program Frac) (saved : State) (declares : declared_in sa
   abbrev vs : List Seen
   vs = map seen first.statements.items
 
-  -- the joint program's statements begin with some that are seen as the saved ones
+  -- the joint program's statements begin with some that have the views of the saved ones
   pieces : IsParted whole.statements.items vs
   pieces =
       parted whole.statements.items vs (listed others)
@@ -135,7 +135,7 @@ module _ (first whole : Program Frac) (saved : State) (declares : declared_in sa
   blank-padded =
       ap (λ (xs : List Symbol). (let r : State = record { symbols = xs; settings = (blank_state 0).settings } in r)) (ap (λ n. replicate n no_symbol) (sym count-whole) ∙ sym (replicate-append-replicate (length first.names) more no_symbol))
 
-  -- is what they declare in their own
+  -- is what they declare in the saved program
   front-is : front ≡ padded more (declared_state first)
   unfolding front pieces
   front-is =

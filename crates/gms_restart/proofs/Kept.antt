@@ -1,4 +1,4 @@
--- What is given of names stays in their domains: after an assignment, an answer, and options.
+-- Data of names stay in their domains: after an assignment, an answer, and options.
 use Rattle.std.proofs.Common.{◌≡◌, ℕ, Bool, true, false, ◌==◌, cond, List, [], ◌∷◌, length, refl, sym, ◌∙◌, subst, inl, inr}
 use Rattle.std.specs.List.{fold}
 use Rattle.gq_number.specs.Number.{Number}
@@ -32,7 +32,7 @@ behind-statuses (equation_of entries) model solver n = refl
 behind-statuses (model_with m s) model solver n = refl
 
 module _ (count : ℕ) (first : State) (assigned : ℕ → Bool) where
-  -- a tuple stands in the domain that a name has at first
+  -- a tuple is in the domain that a name has at first
   abbrev Stand : ℕ → List ℕ → Type 0
   Stand n t = stands_few count first (symbol_at first n).domain t ≡ true
 

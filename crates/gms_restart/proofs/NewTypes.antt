@@ -1,4 +1,5 @@
--- Where a joint program has no error Restart, the statements of the new file type no variable of the saved ones.
+-- If a joint program has no error Restart, the statements of the new file type no variable of the
+-- saved ones.
 use Rattle.std.proofs.Common.{◌≡◌, ℕ, ◌≤◌, Bool, true, false, not, if◌then◌else◌, List, [], ◌∷◌, ◌++◌, length, map, Option, Some, None, refl, sym, ap, ◌∙◌, subst}
 use Rattle.std.specs.Prelude.{filter, flat_map, is_none, option_to_list}
 use Rattle.gq_number.specs.Number.{Number}

@@ -1,4 +1,5 @@
--- The labels of data that derivations mean pass a test, where it is passed by what a table has for the texts that a source can write.
+-- The labels of data that derivations mean pass a test that the table's numbers of all texts of the
+-- source pass.
 use Rattle.std.proofs.Common.{ℕ, Bool, true, false, List, [], ◌∷◌, ◌++◌, map, None, if◌then◌else◌, inl}
 use Rattle.gq_number.specs.Number.{Number}
 use Rattle.gms_ast.specs.declared.declaration.Decl.{Decl}

@@ -1,4 +1,5 @@
--- The labels among the indices of what derivations mean pass a test, where it is passed by what a table has for the texts that a source can write.
+-- The labels among the indices of what derivations mean pass a test that the table's numbers of all
+-- texts of the source pass.
 use Rattle.std.proofs.Common.{◌≡◌, ℕ, Bool, true, false, List, ◌++◌, codes, if◌then◌else◌}
 use Rattle.gq_number.specs.Number.{Number}
 use Rattle.gms_labels.specs.Labels.{place_of}
@@ -19,7 +20,7 @@ use Rattle.gms_restart.proofs.Texts.{IsWritten, label-written}
 abbrev pub Derivation : Type 0
 Derivation = Tree (Terminal × Token)
 
--- a test is passed by what a table has for each text that a source can write as a label
+-- the numbers in a table of all texts that a source can write as labels pass a test
 abbrev pub HasOwn : List ℕ → List (List ℕ) → (ℕ → Bool) → Type 0
 HasOwn source labels test = (text : List ℕ) → IsWritten source text → test (or_0 (place_of labels text)) ≡ true
 

@@ -25,9 +25,9 @@ followed-hold : (P : ℕ → Type 0) (a b : Statements Number) → HoldsOfAll P 
 followed-hold P no_statement b one other = other
 followed-hold P (statement at act rest) b one other = (one.0, followed-hold P rest b one.1 other)
 
--- ---- acts that have no part of their own
+-- ---- acts without parts
 
--- Something holds of what is shown, set, solved and aborted, whatever it is.
+-- A claim holds of any display, options, solve and abort.
 pub record QuietHave (Q : Act Number → Type 0) : Type 0 where
   pub shown : (list : List Show) → Q (displays list)
   pub chosen : (settings : List (Word × Setting Number)) → Q (sets_options settings)

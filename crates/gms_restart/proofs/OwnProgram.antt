@@ -1,5 +1,6 @@
--- The labels that the program of a source writes, among indices and as data, are of its table. Where that has none the program writes none: it means
--- the same by each table, so also by one in which each text that it can write has a place behind the first; so no label that it writes has a number.
+-- The labels that the program of a source writes, among indices and as data, are in its table. If
+-- the table is empty the program writes none: it means the same by each table, so also by one in
+-- which each text that it can write comes after the first; so no label that it writes has a number.
 use Rattle.std.proofs.Common.{◌≡◌, ℕ, ◌<◌, nat_lt, Bool, true, false, ◌==◌, List, [], ◌∷◌, length, Option, Some, None, refl, sym, ap, ◌∙◌, subst, arith}
 use Rattle.std.proofs.lemmas.Bool.{eqb-true}
 use Rattle.gq_number.specs.Number.{Number}

@@ -1,5 +1,5 @@
--- The labels that the statements of a source mean, among indices and as data, pass a test, where it is passed by what a table has for the texts
--- that the source can write.
+-- The labels that the statements of a source mean, among indices and as data, pass a test that the
+-- table's numbers of all texts of the source pass.
 use Rattle.std.proofs.Common.{◌≡◌, ℕ, Bool, List, [], ◌∷◌, ◌++◌, map, Option, Some, None, option_map, refl, sym, ap, ap₂, ◌∙◌, subst}
 use Rattle.std.specs.Prelude.{flat_map}
 use Rattle.gq_number.specs.Number.{Number}

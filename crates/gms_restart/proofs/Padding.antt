@@ -1,4 +1,5 @@
--- What declares names of a table of so many declares the same where more names stand behind them.
+-- Declarations of names of a table of `count` names declare the same if more names follow in the
+-- table.
 use Rattle.std.proofs.Common.{◌≡◌, ℕ, zero, suc, ◌<◌, Bool, true, false, ◌&&◌, cond, List, [], ◌∷◌, ◌++◌, length, map, set, slice_get, Option, unwrap_or, refl, sym, ap, ap₂, ◌∙◌, subst, arith}
 use Rattle.std.specs.Prelude.{replicate}
 use Rattle.std.specs.List.{fold}
@@ -44,16 +45,16 @@ abbrev pub HoldsOfAll : (ℕ → Type 0) → Statements Number → Type 0
 HoldsOfAll P no_statement = Unit {0}
 HoldsOfAll P (statement at act rest) = HoldsOfAct P act × HoldsOfAll P rest
 
--- a name is of a table of so many
+-- a name is in a table of `count` names
 abbrev pub IsBelow : ℕ → ℕ → Type 0
 IsBelow count n = n < count
 
--- acts in order declare names of a table of so many
+-- acts in order declare names of a table of `count` names
 abbrev pub EachOwn : ℕ → List Seen → Type 0
 EachOwn count [] = Unit {0}
 EachOwn count (v ∷ vs) = HoldsOfAct (IsBelow count) v.1 × EachOwn count vs
 
--- ---- more names behind
+-- ---- more names at the end
 
 -- one of the states that an alias leads to, and that a model does
 abbrev joined_or_set : ℕ → ℕ → Bool → Bool → State → State
@@ -84,11 +85,11 @@ module _ (more : ℕ) where
   put-padded : (s : State) (i : ℕ) (v : Symbol) → i < length s.symbols → put_at (padded s) i v ≡ padded (put_at s i v)
   put-padded s i v within = ap (λ (xs : List Symbol). (let r : State = record { symbols = xs; settings = s.settings } in r)) (set-padded s.symbols (replicate more no_symbol) i v within)
 
-  -- so many names stay so many
+  -- changing a symbol keeps the number of symbols
   put-count : (count : ℕ) (s : State) (i : ℕ) (v : Symbol) → length s.symbols ≡ count → length (put_at s i v).symbols ≡ count
   put-count count s i v size = length-set s.symbols i v ∙ size
 
-  -- What a step leaves is the same with more names behind, and as many names.
+  -- The result of a step is the same with more names at the end, and has as many names.
   record IsSame (count : ℕ) (step : State → State) (s : State) : Type 0 where
     same : step (padded s) ≡ padded (step s)
     size : length (step s).symbols ≡ count
@@ -174,7 +175,8 @@ module _ (more : ℕ) where
     act-same (sets_options options) s own size = record { same = refl; size = size }
     act-same (aborts condition items) s own size = record { same = refl; size = size }
 
-    -- Acts that declare names of a table of so many leave the same with more names behind them.
+    -- Acts that declare names of a table of `count` names have the same result with more names at
+    -- its end.
     pub acts-same : (vs : List Seen) (s : State) → EachOwn count vs → length s.symbols ≡ count → fold (λ (s : State) (v : Seen). (told_by v.1).declared s) (padded s) vs ≡ padded (fold (λ (s : State) (v : Seen). (told_by v.1).declared s) s vs)
     acts-same [] s own size = refl
     acts-same (v ∷ vs) s own size =

@@ -1,4 +1,5 @@
--- Under bindings that fit, the elements of references stand in their domains, in expressions, definitions and assignments without an error.
+-- Under bindings that fit, the elements of references are in their domains, in expressions,
+-- definitions and assignments without an error.
 use Rattle.std.proofs.Common.{◌≡◌, ℕ, nat_lt, nat_le, Bool, true, false, List, [], ◌∷◌, ◌++◌, map, length, get_or, Option, Some, None, is_none, Ok, Err, refl, sym, ap, ◌∙◌, subst}
 use Rattle.std.specs.List.{All}
 use Rattle.std.proofs.lemmas.List.Elements.{All-cons, All-head, All-tail, All-filter}
@@ -51,7 +52,7 @@ pub each-weaker : {A : Type 0} (P Q : A → Type 0) → ((x : A) → P x → Q x
 each-weaker P Q each [] all = tt
 each-weaker P Q each (x ∷ xs) all = (each x all.0, each-weaker P Q each xs all.1)
 
--- a key of which the tuple stands in the domain of its name
+-- a key whose tuple is in the domain of its name
 abbrev pub stands_key : ℕ → State → Key → Bool
 stands_key count first key = stands_few count first (symbol_of first key.symbol).domain key.tuple
 
@@ -173,7 +174,7 @@ module _ (count : ℕ) (first : State) (assigned : ℕ → Bool) {F : Type 0} (k
 
     -- ---- assignments
 
-    -- what is given stands in the domain of its name
+    -- what is given is in the domain of its name
     abbrev pub GivenStands : ℕ → List ℕ × Given → Type 0
     GivenStands name given = ok (record { symbol = name; tuple = given.0 }) ≡ true
 

@@ -54,7 +54,7 @@ placed-named names solver is =
 abbrev pub IsFirst : List (List ℕ) → ℕ → Type 0
 IsFirst names place = place_of_solver names (unwrap_or (slice_get names place) (codes "none")) ≡ Some place
 
--- the first that has a text, letter case ignored, is the first of its own name
+-- the first name that equals a text, letter case ignored, is the first that equals itself
 first-found : (names : List (List ℕ)) → All IsSolverName names → (text : List ℕ) (place : ℕ) → position (λ name. str_eq_ignore_ascii_case name text) names ≡ Some place → IsFirst names place
 first-found names all text place found =
     let at = position-Some (λ (name : List ℕ). str_eq_ignore_ascii_case name text) names place (codes "none") found in
@@ -122,7 +122,7 @@ module _ {F : Type 0} (v : F → Number) (names : List (List ℕ)) (all : All Is
 
 -- ---- runs
 
--- an answer leaves the settings
+-- an answer does not change the settings
 points-leave : (points : List Point) (s : State) → (fold with_point s points).settings ≡ s.settings
 points-leave [] s = refl
 points-leave (point ∷ points) s = points-leave points (with_point s point)

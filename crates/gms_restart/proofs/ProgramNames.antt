@@ -1,5 +1,7 @@
--- What the statements of a program declare are names of its own table. Where that has no name, its derivation means the same by any table, also by one
--- in which each part of the source stands behind another text. By that table no name has the number 0, and by its own each has: so it declares none.
+-- The statements of a program declare names of the program's table. If that is empty, its
+-- derivation means the same by any table, also by one in which each part of the source comes after
+-- another text. By that table no name has the number 0, and by its own each has: so it declares
+-- none.
 use Rattle.std.proofs.Common.{◌≡◌, ℕ, zero, suc, ◌-◌, ◌<◌, ◌≤◌, Bool, true, false, List, [], ◌∷◌, ◌++◌, length, map, take, drop, get_or, Option, Some, None, refl, sym, ap, ◌∙◌, subst, arith, ◌⊎◌, inl, inr, length-append}
 use Rattle.std.specs.Prelude.{flat_map}
 use Rattle.std.proofs.lemmas.List.{length-map}
@@ -23,7 +25,7 @@ use Rattle.gms_restart.proofs.Padding.{HoldsOf, HoldsOfAct, HoldsOfAll, IsBelow}
 
 -- ---- the texts of a source
 
--- the fronts of bytes
+-- the prefixes of bytes
 fronts : List ℕ → List (List ℕ)
 fronts [] = [] ∷ []
 fronts (b ∷ bytes) = [] ∷ map (λ (text : List ℕ). b ∷ text) (fronts bytes)
@@ -66,7 +68,7 @@ parts-have [] (suc i) k = fronts-have [] k
 parts-have (b ∷ bytes) zero k = has-left (fronts (b ∷ bytes)) (parts bytes) (take k (b ∷ bytes)) (fronts-have (b ∷ bytes) k)
 parts-have (b ∷ bytes) (suc i) k = has-right (fronts (b ∷ bytes)) (parts bytes) (take k (drop i bytes)) (parts-have bytes i k)
 
--- where it stands among them
+-- the place at which it is among them
 has-at : (texts : List (List ℕ)) (text : List ℕ) → Has texts text → (k : ℕ) × (k < length texts) × (get_or texts k [] ≡ text)
 has-at [] text h = absurd h
 has-at (first ∷ texts) text (inl e) = (0, omega arith, e)
@@ -80,7 +82,7 @@ same-long a b e =
     let long : length (folded a) ≡ length (folded b) = ap (λ (t : List ℕ). length t) ((bytes_eq-Decides (folded a) (folded b)).0 e) in
     sym (length-map a _) ∙ long ∙ length-map b _
 
--- the texts behind one that is longer than each
+-- the texts after one that is longer than each
 abbrev pub behind_longer : List (List ℕ) → List (List ℕ)
 behind_longer texts = (0 ∷ flat_map (λ (text : List ℕ). text) texts) ∷ texts
 
@@ -95,7 +97,7 @@ not-longer (first ∷ texts) text (inr there) =
     let all = length-append first (flat_map (λ (text : List ℕ). text) texts) in
     omega (arith, few, all)
 
--- each of them has a place behind the first
+-- each of them has a place after the first
 pub placed-behind : (texts : List (List ℕ)) (text : List ℕ) → Has texts text → (o : Option ℕ) → place_of (behind_longer texts) text ≡ o → 0 < or_0 o
 placed-behind texts text there None e =
     let at = has-at texts text there in
@@ -109,7 +111,7 @@ placed-behind texts text there (Some zero) e =
 placed-behind texts text there (Some (suc n)) e = omega arith
 
 module _ (source : List ℕ) where
-  -- the parts of a source behind a text that is none of them
+  -- the parts of a source after a text that is none of them
   abbrev table : List (List ℕ)
   table = behind_longer (parts source)
 

@@ -1,4 +1,4 @@
--- Programs that are seen alike run alike, from their first states and from a save.
+-- Programs with equal views run alike, from their first states and from a save.
 use Rattle.std.proofs.Common.{◌≡◌, ℕ, Bool, true, false, List, [], ◌∷◌, drop, length, map, suc, refl, sym, ap, ap₂, ◌∙◌}
 use Rattle.std.specs.Prelude.{filter, if◌then◌else◌, nat_lt}
 use Rattle.std.proofs.lemmas.List.{drop-map}
@@ -17,7 +17,7 @@ use Rattle.gms_restart.specs.Restarts.{restarted_run, whole_run}
 use Rattle.gms_restart.proofs.SeenRuns.{seen-alike}
 use Rattle.lp_core.specs.declared.answer.Answer.{Answer}
 
--- how many statements begin above a line is told by what is seen of them
+-- the views of statements determine how many begin above a line
 abbrev seen_count : ℕ → List Seen → ℕ
 seen_count from vs = length (filter (λ (v : Seen). nat_lt v.0.line from) vs)
 

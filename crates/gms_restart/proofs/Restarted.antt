@@ -24,9 +24,9 @@ use Rattle.gms_restart.proofs.Joining.{Joins}
 use Rattle.gms_restart.proofs.NewTypes.{saved-front}
 use Rattle.gms_restart.proofs.SeenAlike.{alike-joins, new-types}
 
--- ---- statements of which the first are seen so
+-- ---- statements with the views of two parts
 
--- Statements in two parts, which are seen so.
+-- Statements in two parts, with these views.
 pub record Split (items : List (Stmt Frac)) (one other : Statements Number) : Type 0 where
   pub firsts : List (Stmt Frac)
   pub others : List (Stmt Frac)
@@ -34,14 +34,14 @@ pub record Split (items : List (Stmt Frac)) (one other : Statements Number) : Ty
   pub first_seen : statements_view frac_value firsts ≡ one
   pub rest_seen : statements_view frac_value others ≡ other
 
--- a statement before others that are seen so
+-- one statement before others with these views
 seen-before : (x : Stmt Frac) (xs : List (Stmt Frac)) (at : Place) (act : Act Number) (rest : Statements Number) → x.at ≡ at → shown x.act ≡ act → statements_view frac_value xs ≡ rest → statements_view frac_value (x ∷ xs) ≡ statement at act rest
 seen-before x xs at act rest places acts rests =
     view-Stmt frac_value x (statements_view frac_value xs)
     ∙ ap (λ (vs : Statements Number). statement x.at (shown x.act) vs) rests
     ∙ ap₂ (λ (p : Place) (a : Act Number). statement p a rest) places acts
 
--- a statement more in front
+-- one more statement at the beginning
 split-more : (x : Stmt Frac) (items : List (Stmt Frac)) (at : Place) (act : Act Number) (rest other : Statements Number) → x.at ≡ at → shown x.act ≡ act → Split items rest other → Split (x ∷ items) (statement at act rest) other
 split-more x items at act rest other places acts s = record {
   firsts = x ∷ s.firsts;
@@ -77,7 +77,7 @@ behind-firsts (x ∷ xs) ys = behind-firsts xs ys
 
 -- ---- the restarted run
 
--- what both parts come to, by the statements that they are
+-- what both parts say, by the statements that they are
 as-said : (from limit : ℕ) (saved joint : World Frac) (firsts others : List (Stmt Frac)) (answers further : List (Answer Number)) → firsts ≡ take (length (saved_statements from joint.program)) joint.program.statements.items → others ≡ drop (length (saved_statements from joint.program)) joint.program.statements.items →
     Joins frac_value limit saved joint firsts others answers further → SaysTheSame frac_value limit from saved joint answers further
 as-said from limit saved joint firsts others answers further firsts_are others_are both =

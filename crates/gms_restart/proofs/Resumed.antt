@@ -1,4 +1,4 @@
--- The state in which a run goes on from a saved state keeps what each state of a run keeps.
+-- The state in which a run resumes from a saved state keeps what each state of a run keeps.
 use Rattle.std.proofs.Common.{◌≡◌, ℕ, zero, suc, ◌≤◌, nat_lt, nat_le, Bool, true, false, not, ◌&&◌, ◌||◌, ◌==◌, List, [], ◌∷◌, ◌++◌, map, length, get_or, Option, Some, None, refl, sym, ap, ap₂, ◌∙◌, subst, arith}
 use Rattle.std.specs.Prelude.{flat_map}
 use Rattle.std.specs.List.{All}
@@ -62,7 +62,7 @@ behind-nothing n (variable_of type entries) none = absurd (cc)
 behind-nothing n (equation_of entries) none = absurd (cc)
 behind-nothing n (model_with model solver) none = absurd (cc)
 
--- a tuple that stands in a domain has a label for each position
+-- a tuple in a domain has a label for each position
 long-in : (count : ℕ) (s : State) (domain : List (Option ℕ)) (t : List ℕ) → stands_in count s domain t ≡ true → length t ≡ length domain
 long-in count s [] [] e = refl
 long-in count s [] (l ∷ t) e = absurd (cc)
@@ -71,7 +71,7 @@ long-in count s (p ∷ domain) (l ∷ t) e =
     let at = both-tests (nat_lt l count) (stands_at s p l && stands_in count s domain t) e in
     ap suc (long-in count s domain t (both-tests (stands_at s p l) (stands_in count s domain t) at.1).1)
 
--- symbols over which others of the same declarations are put declare the same
+-- symbols that are overlaid with others of the same declarations declare the same
 overlay-declares : (xs ys : List Symbol) → ((n : ℕ) → is_undeclared (read ys n).content ≡ false → blanked (read ys n) ≡ blanked (read xs n)) → map blanked (overlaid_symbols xs ys) ≡ map blanked xs
 overlay-declares [] ys same = refl
 overlay-declares (x ∷ xs) [] same = refl
@@ -254,7 +254,7 @@ module _ {F : Type 0} (v : F → Number) (whole saved : Program F) (firsts other
           (at-most-ten (length t) (has-all (λ (u : List ℕ). length u ≤ 10) tuples t (is.given n).few given))
       by false apart = data-stand v whole accepted labels own n t (subst (λ (s : Symbol). has (given_in s.content) t ≡ true) (later-elsewhere n apart) there)
 
-  -- The state that goes on from the saved one keeps it.
+  -- The state that is resumed from the saved one keeps it.
   pub later-kept : Kept labels first (among v whole accepted) later
   later-kept = record {
     lasts = record { stays = stays; later = record { declares = declares-same; given = tidy; static = static; ranges = is.ranges } };

@@ -1,4 +1,4 @@
--- In the last state of an accepted program's run all that is given stands in its domain.
+-- In the last state of an accepted program's run all data are in their domains.
 use Rattle.std.proofs.Common.{◌≡◌, ℕ, ◌≤◌, nat_lt, nat_le, Bool, true, false, ◌&&◌, ◌==◌, cond, List, [], ◌∷◌, ◌++◌, map, length, Option, Some, None, option_map, refl, sym, ap, ◌∙◌, subst, append_assoc, eq-eqb, arith}
 use Rattle.std.specs.Prelude.{flat_map}
 use Rattle.std.specs.List.{All}
@@ -60,7 +60,7 @@ each-more : (p q : ℕ → Bool) → ((n : ℕ) → p n ≡ true → q n ≡ tru
 each-more p q more [] all = tt
 each-more p q more (n ∷ ns) all = (more n all.0, each-more p q more ns all.1)
 
--- numbers are among what a function makes of them
+-- the image of each number is among the images
 made-among : (f : ℕ → ℕ) (ns : List ℕ) → Each (λ n. is_among (map f ns) (f n)) ns
 made-among f [] = tt
 made-among f (n ∷ ns) =
@@ -187,7 +187,8 @@ module _ {F : Type 0} (v : F → Number) (limit : ℕ) (world : World F) (accept
       let well = loaded-well v program in
       record { lasts = lasts-first first assigned well.tidy (ap are_in_range well.settings); stand = data-stand v program accepted labels own }
 
-  -- The last state of a run of the program's statements behind some keeps it, where the first does.
+  -- The last state of a run of the program's statements after some keeps it, if the first state
+  -- does.
   pub last-kept : (before statements : List (Stmt F)) → program.statements.items ≡ before ++ statements → (state : State) → Kept labels first assigned state → (answers : List (Answer Number)) → Kept labels first assigned (run_from v limit world state answers statements).state
   last-kept before statements parts state kept answers =
       let written : Each (λ l. nat_lt l labels) (flat_map statement_labels before ++ flat_map statement_labels statements) = subst (Each (λ l. nat_lt l labels)) (ap (flat_map statement_labels) parts ∙ flat_map-append statement_labels before statements) own.written in
@@ -195,7 +196,7 @@ module _ {F : Type 0} (v : F → Number) (limit : ℕ) (world : World F) (accept
       all-keep labels first assigned (map (of_statement v limit world) statements) (each-keeps before statements parts (each-right (λ l. nat_lt l labels) (flat_map statement_labels before) (flat_map statement_labels statements) written) (each-right (may_be labels first assigned) (flat_map assigned_by before) (flat_map assigned_by statements) may)) []
       (record { state = state; events = []; left = answers; taken = 0; halted = None }) (λ set label e. absurd (cc)) kept
 
--- ---- the same in the words of the last state
+-- ---- the same for the last state
 
 -- the sets of positions have the same members in it
 stand-later : (count : ℕ) (first last : State) (assigned : ℕ → Bool) → ((set : ℕ) → base_of last set ≡ base_of first set) → ((n : ℕ) → assigned n ≡ false → members_in (symbol_at last n).content ≡ members_in (symbol_at first n).content) → (domain : List (Option ℕ)) → AreFixed assigned first domain → (t : List ℕ) → stands_in count first domain t ≡ true → stands_in count last domain t ≡ true
@@ -218,7 +219,7 @@ all-from_has P (u ∷ tuples) each =
     All-cons P u tuples (each u (or-first (same_tuple u u) (has tuples u) (same_tuple_refl u))) (all-from_has P tuples (λ t there. each t (or-second (same_tuple u t) (has tuples t) there)))
 
 module _ {F : Type 0} (v : F → Number) (program : Program F) (accepted : IsAccepted v program) (labels : ℕ) (last : State) (kept : Kept labels (loaded v program) (among v program accepted) last) where
-  -- each tuple of which something is given stands in the domain of its name
+  -- each tuple with data is in the domain of its name
   pub kept-stand : (name : ℕ) → All (λ (t : List ℕ). stands_in labels last (symbol_at last name).domain t ≡ true) (given_in (symbol_at last name).content)
   kept-stand name =
       let first = loaded v program in

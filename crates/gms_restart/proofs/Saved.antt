@@ -18,7 +18,7 @@ use Rattle.gms_restart.proofs.Kept.{Kept}
 use Rattle.gms_restart.proofs.Runs.{first-kept, kept-few, kept-stand, last-kept}
 
 module _ {F : Type 0} (v : F → Number) (program : Program F) (accepted : IsAccepted v program) where
-  -- what keeps what the run keeps is a saved state
+  -- a state that keeps what the run keeps is a saved state
   pub kept-saved : (last : State) → Kept (length program.labels) (loaded v program) (among v program accepted) last → (most : ℕ) (solver : List ℕ) → ((name : ℕ) (t : List ℕ) → fits_at most (symbol_at last name).content t ≡ true) → is_solver_name solver ≡ true → IsSavedOf most (length program.labels) (declared_state program) (loaded v program) (is_among (dynamic_sets program)) last solver
   kept-saved last kept most solver fit named =
       record {

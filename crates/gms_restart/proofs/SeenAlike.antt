@@ -1,4 +1,5 @@
--- Statements that are seen alike stand for each other, so that a program whose first statements are seen as those of a saved one joins its run.
+-- Statements with equal views stand for each other. So a program whose first statements have the
+-- views of those of a saved one continues its run.
 use Rattle.std.proofs.Common.{◌≡◌, ℕ, ◌≤◌, Bool, ◌||◌, List, [], ◌∷◌, ◌++◌, length, map, None, refl, sym, ap, ap₂, ◌∙◌}
 use Rattle.std.specs.List.{fold, list_any}
 use Rattle.std.proofs.lemmas.List.{map-append}
@@ -24,7 +25,7 @@ use Rattle.gms_restart.proofs.NewTypes.{types-none}
 use Rattle.gms_restart.proofs.SeenRows.{same-definitions}
 use Rattle.gms_restart.proofs.SeenRuns.{seen-runs}
 
--- ---- statements that are seen alike stand for each other
+-- ---- statements with equal views stand for each other
 
 defined-told : (xs : List (Stmt Frac)) (q : ℕ) → defined_in xs q ≡ list_any (λ (v : Seen). (told_by v.1).is_defined q) (map seen xs)
 defined-told [] q = refl
@@ -63,7 +64,7 @@ pub alike-joins : (limit : ℕ) (saved joint : World Frac) (firsts others : List
 alike-joins limit saved joint firsts others answers further alike accepted both few own statements types solvers done none reached =
     joins frac_value limit saved joint firsts others answers further accepted both few own statements (stand-for firsts saved.program.statements.items (seen-same firsts saved.program.statements.items alike) limit joint) types solvers done none reached
 
--- a joint program without errors types no saved variable behind
+-- a joint program without errors types no saved variable in its later statements
 pub new-types : (from : ℕ) (saved joint : Program Frac) (firsts others : List (Stmt Frac)) (solvers : List (List ℕ)) → statements_view frac_value firsts ≡ statements_view frac_value saved.statements.items → length saved.names ≤ length joint.names → DeclaresItsOwn saved → joint.statements.items ≡ firsts ++ others →
     AreSaved from firsts → AreNew from others → joint_errors frac_value joint from solvers ≡ [] → TypesNone (loaded frac_value saved) others
 new-types from saved joint firsts others solvers alike few own statements are new none =

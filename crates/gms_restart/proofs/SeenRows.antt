@@ -1,4 +1,4 @@
--- The definitions of equations and the equations of models are told by what statements show.
+-- The views of statements determine the definitions of equations and the equations of models.
 use Rattle.std.proofs.Common.{◌≡◌, ℕ, List, [], ◌∷◌, ◌++◌, map, Option, Some, None, option_map, refl, sym, ap, ap₂, ◌∙◌, subst}
 use Rattle.std.specs.Prelude.{flat_map, if◌then◌else◌}
 use Rattle.gq_number.specs.Number.{Number}
@@ -105,7 +105,7 @@ equations-are declared name (x ∷ xs) =
     ap (λ (those : Listed). either those (equations_from (declared ++ those.1) name xs)) (sym (same-listing x.act))
     ∙ ap (either (listing (declaration (shown x.act)))) (equations-are (declared ++ (listing (declaration (shown x.act))).1) name xs)
 
--- ---- statements that are seen alike
+-- ---- statements with equal views
 
 -- they have the same equations of each model
 pub same-equations : (xs ys : List (Stmt Frac)) → map seen xs ≡ map seen ys → (model : ℕ) → equations_of xs model ≡ equations_of ys model

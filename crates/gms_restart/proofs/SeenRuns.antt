@@ -1,4 +1,4 @@
--- What statements make of a run is told by what they show: programs that are seen alike run alike.
+-- The views of statements determine what they do to a run: programs with equal views run alike.
 use Rattle.std.proofs.Common.{◌≡◌, ℕ, Bool, List, [], ◌∷◌, map, Option, None, option_map, Ok, refl, sym, ap, ap₂, ◌∙◌}
 use Rattle.std.specs.Prelude.{flat_map}
 use Rattle.std.proofs.Math.Path.{fun_ext}
@@ -51,7 +51,7 @@ module _ (limit labels : ℕ) (solvers : List (List ℕ)) (statements : List (St
       in_state course (with_settings course.state (after_options frac_value solvers course.state.settings options))
 
   abbrev mutual
-    -- what an act makes of a run, by what it shows
+    -- what an act does to a run, by its view
     runs_of : Act Number → OfAct
     runs_of (assigns target condition right_at right) at binding course =
         assigning target.at target.name target.suffix right_at (indices_in_numbers value_of target.indices) (option_map (in_numbers value_of) condition) (in_numbers value_of right) at binding course
@@ -69,11 +69,11 @@ module _ (limit labels : ℕ) (solvers : List (List ℕ)) (statements : List (St
     all_runs no_statement = []
     all_runs (statement at act rest) = (λ binding course. runs_of act at binding course) ∷ all_runs rest
 
-  -- a statement as it is seen
+  -- what a statement with this view does
   abbrev run_seen : Seen → OfStatement
   run_seen v binding course = runs_of v.1 v.0 binding course
 
--- ---- statements that are seen alike, as those of the program
+-- ---- statements with equal views, as those of the program
 
 module _ (limit labels : ℕ) (solvers : List (List ℕ)) (xs ys : List (Stmt Frac)) (alike : map seen xs ≡ map seen ys) where
   solve-alike : (those : List (List ℕ)) (model objective : ℕ) (maximize : Bool) (at : Place) (binding : Pairs) (course : Course) → solve frac_value limit those xs model objective maximize at binding course ≡ solve frac_value limit those ys model objective maximize at binding course
@@ -108,7 +108,7 @@ module _ (limit labels : ℕ) (solvers : List (List ℕ)) (xs ys : List (Stmt Fr
   each-alike (v ∷ vs) =
       ap₂ (λ (f : OfStatement) (fs : List OfStatement). f ∷ fs) (fun_ext (λ binding. fun_ext (λ course. act-alike v.1 v.0 binding course))) (each-alike vs)
 
--- ---- what statements make of a run
+-- ---- what statements do to a run
 
 module _ (limit : ℕ) (world : World Frac) where
   abbrev runs : Act Number → OfAct
@@ -153,7 +153,7 @@ module _ (limit : ℕ) (world : World Frac) where
   layer-runs (Act-F.Abort condition items) all at binding course =
       ap (λ (c : Option (Tree Frac)). abort_where frac_value limit (labels_in world) c items at binding course) (condition_back condition)
 
-  -- what a statement makes of a run is told by what its act shows
+  -- the view of an act determines what its statement does to a run
   same-runs : (s : Stmt Frac) (binding : Pairs) (course : Course) → runs (shown s.act) s.at binding course ≡ of_statement frac_value limit world s binding course
   same-runs s binding course = each-act SameRuns layers s s.at binding course ∙ statement-does s binding course
     where
@@ -165,13 +165,14 @@ module _ (limit : ℕ) (world : World Frac) where
   runs-are [] = refl
   runs-are (x ∷ xs) = ap₂ (λ (f : OfStatement) (fs : List OfStatement). f ∷ fs) (fun_ext (λ binding. fun_ext (λ course. sym (same-runs x binding course)))) (runs-are xs)
 
--- In one world statements that are seen alike run alike.
+-- In one world statements with equal views run alike.
 pub seen-runs : (limit : ℕ) (world : World Frac) (state : State) (answers : List (Answer Number)) (xs ys : List (Stmt Frac)) → map seen xs ≡ map seen ys → run_from frac_value limit world state answers xs ≡ run_from frac_value limit world state answers ys
 seen-runs limit world state answers xs ys alike =
     let run : List OfStatement → Course = λ fs. one_after_another fs [] (record { state = state; events = []; left = answers; taken = 0; halted = None }) in
     ap run (runs-are limit world xs ∙ ap (map (run_seen limit (labels_in world) world.solvers world.program.statements.items)) alike ∙ sym (runs-are limit world ys))
 
--- Statements that are seen alike run alike in the worlds of two programs that are seen alike, with the same solvers.
+-- Statements with equal views run alike in the worlds of two programs with equal views, with the
+-- same solvers.
 pub seen-alike : (limit : ℕ) (one other : World Frac) (state : State) (answers : List (Answer Number)) (xs ys : List (Stmt Frac)) → labels_in one ≡ labels_in other → one.solvers ≡ other.solvers → map seen one.program.statements.items ≡ map seen other.program.statements.items → map seen xs ≡ map seen ys →
     run_from frac_value limit one state answers xs ≡ run_from frac_value limit other state answers ys
 seen-alike limit one other state answers xs ys labels solvers programs alike =

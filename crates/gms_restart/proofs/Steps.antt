@@ -1,4 +1,5 @@
--- Each statement without an error keeps what is given of names in their domains, under a binding that fits; loops too.
+-- Each statement without an error keeps data in the domains of their names, under a binding that
+-- fits; loops too.
 use Rattle.std.proofs.Common.{◌≡◌, ℕ, nat_lt, Bool, true, false, not, ◌&&◌, ◌||◌, List, [], ◌∷◌, ◌++◌, map, Option, Some, None, option_map, Ok, Err, refl, sym, ◌∙◌, subst}
 use Rattle.std.specs.Prelude.{flat_map, if◌then◌else◌}
 use Rattle.gq_number.specs.Number.{Number}

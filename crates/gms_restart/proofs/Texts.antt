@@ -1,4 +1,5 @@
--- The texts that a source can write as labels: its parts, and the members of ranges from one part to another.
+-- The texts that a source can write as labels: its parts, and the members of ranges from one part
+-- to another.
 use Rattle.std.proofs.Common.{◌≡◌, ◌⊎◌, ℕ, zero, suc, ◌+◌, ◌-◌, Bool, true, false, cond, List, [], ◌∷◌, ◌++◌, length, map, filter, take, drop, Option, Some, None, unwrap_or, if◌then◌else◌, refl, sym, ap, ◌∙◌, subst, inl, inr, append_assoc}
 use Rattle.std.specs.Prelude.{flat_map}
 use Rattle.std.proofs.lemmas.List.{append-nil, take-append-drop}
@@ -76,7 +77,7 @@ IsWritten source text = IsPart source text ⊎ IsInRange source text
 pub label-written : (source : List ℕ) (token : Token) → IsWritten source (unquoted (token_text source token))
 label-written source token = inl (unquoted-part source (token_text source token) (token-part source token))
 
--- what stands in a list is one of it
+-- each member of a list is in it
 each-there : (texts all : List (List ℕ)) → ((text : List ℕ) → Has texts text → Has all text) → EachHas (Has all) texts
 each-there [] all within = tt
 each-there (text ∷ texts) all within = (within text (inl refl), each-there texts all (λ other there. within other (inr there)))

@@ -1,4 +1,4 @@
--- The lines of the tokens of a saved source, and of those of a file behind it.
+-- The lines of the tokens of a saved source, and of those of a file after it.
 use Rattle.std.proofs.Common.{◌≡◌, ℕ, ◌+◌, ◌≤◌, ◌==◌, nat_lt, Bool, true, false, List, [], ◌∷◌, ◌++◌, length, take, filter, All, refl, ap, ◌∙◌, subst, arith, inl, inr}
 use Rattle.std.specs.Prelude.{if◌then◌else◌}
 use Rattle.std.proofs.lemmas.List.{length-append}
@@ -27,7 +27,7 @@ is_feed byte = byte == 10
 abbrev feeds : List ℕ → ℕ
 feeds bytes = length (filter is_feed bytes)
 
--- the line behind bytes
+-- the line after bytes
 line-behind : (bytes : List ℕ) (at : Place) → (place_behind at bytes).line ≡ at.line + feeds bytes
 line-behind [] at = omega arith
 line-behind (b ∷ bytes) at = by (is_feed b) (line-behind bytes)

@@ -1,4 +1,5 @@
--- Tuples that are given something, and those at which an answer puts levels, are all that is new of what is given of a name.
+-- Of the tuples with data of a name, only those that are given something, or at which an answer
+-- writes levels, are new.
 use Rattle.std.proofs.Common.{◌≡◌, ℕ, Bool, true, false, not, ◌||◌, cond, List, [], ◌∷◌, map, reverse, Option, Some, None, unwrap_or, is_some, refl, sym, ap, ◌∙◌, subst}
 use Rattle.std.specs.FinMap as finite
 use Rattle.std.specs.List.{All}
@@ -22,7 +23,7 @@ use Rattle.gms_exec.proofs.Overlays.{tied, first_of, has-keys, kept, get-overlai
 use Rattle.gms_exec.proofs.Overlays as overlays
 use Rattle.gms_frames.proofs.FormKeys.{EachHas}
 
--- a write leaves what stands at other tuples
+-- a write leaves the entries at other tuples
 written-other : {X : Type 0} (b : Bool) (m : Entries X) (t : List ℕ) (x : X) (u : List ℕ) → same_tuple t u ≡ false → finite.get (after_write b m t x) u ≡ finite.get m u
 written-other true m t x u apart =
     finite.get-insert tuple_cmp-total m t x u ∙ ap (λ b. cond b (Some x) (finite.get m u)) (tie-sym u t ∙ sym (same-tie t u) ∙ apart)
@@ -106,7 +107,7 @@ module _ (P : List ℕ → Type 0) where
       by rest true same there = subst P ((same_tuple-Decides p.0 t).0 same) are.0
       by rest false other there = rest there
 
-  -- what is given of a content after elements were given something
+  -- the tuples with data of a content after elements were given something
   pub given-has : (kind : Suffix) (all : AllGiven) (content : Content) → AreGiven all → ((t : List ℕ) → has (given_in content) t ≡ true → P t) → (t : List ℕ) → has (given_in (with_given kind all content)) t ≡ true → P t
   given-has kind all undeclared are old t there = absurd (cc)
   given-has kind all (alias_of base) are old t there = absurd (cc)

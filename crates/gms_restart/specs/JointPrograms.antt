@@ -1,11 +1,13 @@
--- The program of a saved source and a file behind it, by the lines at which its statements begin (GAMS User's Guide, "Save and Restart").
+-- The program of a saved source followed by a file, by the lines at which its statements begin
+-- (GAMS User's Guide, "Save and Restart").
 use Rattle.std.specs.Prelude.{◌≡◌, ℕ}
 use Rattle.gq_number.specs.Number.{Number}
 use Rattle.gms_ast.specs.StatementTrees.{Statements, followed_by}
 use Rattle.gms_parse.specs.Outcomes.{ProgramView}
 use Rattle.gms_restart.specs.StatementLines.{SeenNew, SeenSaved}
 
--- A program has the statements of another, each above a line, and others, each at that line or below it.
+-- A program has the statements of another, each above a line, followed by others, each at that line
+-- or below it.
 pub record Continues (from : ℕ) (first whole : ProgramView) : Type 0 where
   pub others : Statements Number
   pub statements : whole.statements ≡ followed_by first.statements others

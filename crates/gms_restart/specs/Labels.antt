@@ -1,4 +1,5 @@
--- The labels that a program writes (GAMS User's Guide, "Set Definition", "Data Entry: Parameters, Scalars and Tables").
+-- The labels that a program writes (GAMS User's Guide, "Set Definition", "Data Entry: Parameters,
+-- Scalars and Tables").
 use Rattle.std.specs.Prelude.{◌≡◌, ℕ, nat_lt, true, List, [], ◌∷◌, ◌++◌, length, map, flat_map, Option, Some, None, option_map}
 use Rattle.gq_number.specs.Number.{Number}
 use Rattle.gms_ast.specs.declared.program.Act.TheOpen.{Act-F}
@@ -37,7 +38,7 @@ abbrev mutual
   tree_labels (tree.one_of parts) = part_labels parts
   tree_labels (tree.guarded operand guards) = tree_labels operand ++ part_labels guards
 
-  -- those in the parts of a node
+  -- the labels in the parts of a node
   pub part_labels : {F : Type 0} → tree.Parts F → List ℕ
   part_labels tree.no_part = []
   part_labels (tree.part mark part rest) = tree_labels part ++ part_labels rest
@@ -49,12 +50,12 @@ abbrev mutual
   index_labels (tree.set set rest) = index_labels rest
   index_labels (tree.lagged set op at amount rest) = tree_labels amount ++ index_labels rest
 
-  -- those in the condition of a control
+  -- the labels in the condition of a control
   pub control_labels : {F : Type 0} → tree.Control F → List ℕ
   control_labels (tree.over sets) = []
   control_labels (tree.over_where sets condition) = tree_labels condition
 
--- those in a condition, where there is one
+-- those in a condition, if there is one
 abbrev pub condition_labels : {F : Type 0} → Option (tree.Tree F) → List ℕ
 condition_labels None = []
 condition_labels (Some condition) = tree_labels condition
@@ -69,15 +70,16 @@ module _ {F : Type 0} where
   labels_step (Act-F.Loop control body) = control_labels (control_tree control) ++ flat_map (λ labels. labels) body.items
   labels_step act = []
 
-  -- the labels that a statement writes so
+  -- the labels that a statement writes
   abbrev pub statement_labels : Stmt F → List ℕ
   statement_labels = fold-Stmt F (List ℕ) (List ℕ) labels_step (λ statement. statement.act)
 
--- The labels that a program writes among indices, and those of the data that a state has, are among so many.
+-- The labels that a program writes among indices, and those of the data of a state, are below
+-- `count`.
 pub record HasItsLabels {F : Type 0} (count : ℕ) (statements : List (Stmt F)) (state : State) : Type 0 where
   pub written : Each (λ label. nat_lt label count) (flat_map statement_labels statements)
   pub given : (name : ℕ) (tuple : List ℕ) → has (given_in (symbol_at state name).content) tuple ≡ true → Each (λ label. nat_lt label count) tuple
 
--- a program writes labels of its own table alone, and so do its data
+-- a program writes only labels of the program's table, and so do its data
 abbrev pub WritesItsLabels : {F : Type 0} → (F → Number) → Program F → Type 0
 WritesItsLabels value program = HasItsLabels (length program.labels) program.statements.items (loaded value program)

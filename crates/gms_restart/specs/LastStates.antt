@@ -1,4 +1,5 @@
--- The state in which the run of a program ends (GAMS User's Guide, "GAMS Programs", "Save and Restart").
+-- The state in which the run of a program ends (GAMS User's Guide, "GAMS Programs", "Save and
+-- Restart").
 use Rattle.std.specs.Prelude.{◌≡◌, ◌≤◌, ◌++◌, ℕ, true, List, flat_map, length}
 use Rattle.gq_number.specs.Number.{Number}
 use Rattle.gms_ast.specs.declared.program.Program.{Program}
@@ -15,7 +16,8 @@ use Rattle.lp_core.specs.declared.answer.Answer.{Answer}
 abbrev pub last_state : {F : Type 0} → (F → Number) → ℕ → World F → List (Answer Number) → State
 last_state value limit world answers = (whole_run value limit world answers).state
 
--- the last state of a run that resumes from a saved state, of a joint program's statements that begin at this line or below it
+-- the last state of a run that resumes from a saved state, of a joint program's statements that
+-- begin at this line or below it
 abbrev pub later_state : {F : Type 0} → (F → Number) → ℕ → ℕ → World F → State → List (Answer Number) → State
 later_state value limit from world state answers = (restarted_run value limit from world state answers).state
 
@@ -23,8 +25,9 @@ later_state value limit from world state answers = (restarted_run value limit fr
 abbrev pub NumbersFit : ℕ → State → Type 0
 NumbersFit most state = (name : ℕ) (t : List ℕ) → fits_at most (symbol_at state name).content t ≡ true
 
--- A program goes on behind a saved one: its first statements assign the sets that those of the saved one assign, it has at least the labels of that, and
--- it begins with all that the saved one begins with.
+-- A program continues a saved one: its first statements assign the sets that those of the saved one
+-- assign, it has at least the labels of that, and it begins with all that the saved one begins
+-- with.
 pub record GoesOnBehind {F : Type 0} (value : F → Number) (saved whole : Program F) (firsts others : List (Stmt F)) : Type 0 where
   pub statements : whole.statements.items ≡ firsts ++ others
   pub assigns : flat_map assigned firsts ≡ flat_map assigned saved.statements.items

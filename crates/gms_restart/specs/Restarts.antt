@@ -1,4 +1,5 @@
--- One long run of a joint program, and the restarted run that resumes from a save (GAMS User's Guide, "Save and Restart").
+-- One long run of a joint program, and the restarted run that resumes from a save (GAMS User's
+-- Guide, "Save and Restart").
 use Rattle.std.specs.Prelude.{◌≡◌, ℕ, List, ◌++◌, drop, length, take, codes, slice_get, unwrap_or}
 use Rattle.gq_number.specs.Number.{Number}
 use Rattle.gms_store.specs.State.{State}
@@ -14,23 +15,27 @@ module _ {F : Type 0} (value : F → Number) (limit : ℕ) where
   whole_run world answers = run_from value limit world (loaded value world.program) answers world.program.statements.items
 
   module _ (from : ℕ) where
-    -- the run of a joint program's first statements: those that begin above the first line of the file
+    -- the run of a joint program's first statements: those that begin above the first line of the
+    -- file
     abbrev pub base_run : World F → List (Answer Number) → Course
     base_run joint answers =
         run_from value limit joint (loaded value joint.program) answers (take (length (saved_statements from joint.program)) joint.program.statements.items)
 
-    -- the restarted run: that of its other statements, from the state that is resumed from a saved one
+    -- the restarted run: that of its other statements, from the state that is resumed from a saved
+    -- one
     abbrev pub restarted_run : World F → State → List (Answer Number) → Course
     restarted_run joint state answers =
         run_from value limit joint (resumed value state joint.program) answers (drop (length (saved_statements from joint.program)) joint.program.statements.items)
 
-    -- One long run, with the answers of a saved run and then those of a restarted one, is the run of its first statements, followed by
-    -- the restarted run from the last state of the saved one. The first statements take as many answers as the saved run did.
+    -- One long run, with the answers of a saved run followed by those of a restarted one, is the
+    -- run of its first statements, followed by the restarted run from the last state of the saved
+    -- one. The first statements take as many answers as the saved run did.
     pub record SaysTheSame (saved joint : World F) (answers further : List (Answer Number)) : Type 0 where
       pub is : whole_run joint (answers ++ further)
           ≡ behind_run (base_run joint (answers ++ further)) (restarted_run joint (whole_run saved answers).state further)
       pub taken : (base_run joint (answers ++ further)).taken ≡ length answers
 
--- the name that a save has for the solver of a state: that of the solver, or `none` where there are no solvers
+-- the name that a save has for the solver of a state: that of the solver, or `none` if there are no
+-- solvers
 abbrev pub solver_name : List (List ℕ) → State → List ℕ
 solver_name solvers state = unwrap_or (slice_get solvers state.settings.solver) (codes "none")

@@ -1,4 +1,5 @@
--- Which statements of a joint program begin above the first line of the new file (GAMS User's Guide, "Save and Restart").
+-- Which statements of a joint program begin above the first line of the new file (GAMS User's
+-- Guide, "Save and Restart").
 use Rattle.std.specs.Prelude.{◌≡◌, ℕ, nat_lt, true, false, List, [], ◌∷◌}
 use Rattle.gms_ast.specs.declared.program.Stmt.{Stmt}
 use Rattle.gms_ast.specs.StatementTrees.{Statements, no_statement, statement}
@@ -10,12 +11,12 @@ module _ (from : ℕ) where
   AreSaved [] = Unit {0}
   AreSaved (s ∷ statements) = (is_saved from s ≡ true) × AreSaved statements
 
-  -- statements that do not
+  -- statements that begin at that line or below it
   abbrev pub AreNew : {F : Type 0} → List (Stmt F) → Type 0
   AreNew [] = Unit {0}
   AreNew (s ∷ statements) = (is_saved from s ≡ false) × AreNew statements
 
-  -- the same of statements as they are seen
+  -- the views of statements all begin above the line
   abbrev pub SeenSaved : {N : Type 0} → Statements N → Type 0
   SeenSaved no_statement = Unit {0}
   SeenSaved (statement at act rest) = (nat_lt at.line from ≡ true) × SeenSaved rest

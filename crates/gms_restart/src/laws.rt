@@ -37,22 +37,25 @@ ghost use Rattle.lp_core.specs.declared.answer.Answer.{Answer};
 
 use gq_field::ExactField;
 
-/// Whatever file resumes from a saved state: where the joint source is a program, the state that it resumes from declares each name
-/// as the joint program does, over as many positions and as another name of the same set, since what the saved source declares
-/// first counts (GAMS User's Guide, "Save and Restart", "Set Definition").
+/// A file that resumes from a saved state, where the joint source is a program: the state that it
+/// resumes from declares each name as the joint program does, over as many positions and as another
+/// name of the same set, since what the saved source declares first counts (GAMS User's Guide,
+/// "Save and Restart", "Set Definition").
 pub fn fits_laws()
     ensures fits { (saved file : List ℕ) (first whole : Program Frac) (state : State) (solver : List ℕ) →
         IsProgram number_limit saved frac_value first → IsProgram number_limit (joint_source saved file) frac_value whole →
         IsSavedBy first state solver → (name : ℕ) → IsAlike (resumed frac_value state whole) (declared_state whole) name }
 {}
 
-/// Where a saved source and the joint source of it and a file are programs, each statement of the saved program begins above the
-/// line at which the file begins, and each further one of the joint program at that line or below it (`places`).
+/// If a saved source and the joint source of it and a file are programs, each statement of the
+/// saved program begins above the line at which the file begins, and each further one of the joint
+/// program at that line or below it (`places`).
 ///
-/// So a run that is restarted from a saved base case says what one long run of both would have said (`says`). Let the run of the
-/// saved program come to its end with all its answers taken. Let the joint program have no error. Let its long run, whose first
-/// answers are those of the saved run, execute the saved source's statements to their end. Then the statements of the file say
-/// there what they say in the restarted run.
+/// So a run that is restarted from a saved base case says what one long run of both would have said
+/// (`says`). Let the run of the saved program end with all its answers taken. Let the joint program
+/// have no error. Let its long run, whose first answers are those of the saved run, execute the
+/// saved source's statements to their end. Then the statements of the file say there what they say
+/// in the restarted run.
 ///
 /// GAMS User's Guide, "Save and Restart".
 pub fn restart_laws()
@@ -68,14 +71,16 @@ pub fn restart_laws()
         SaysTheSame frac_value limit (first_line source) saved joint answers further }
 {}
 
-/// In the last state of an accepted program's run each tuple of which something is given stands in the domain of its name: it has as many labels as the
-/// name has positions, each is one of the program's, and a member of the set of its position, where there is one (`stand`). So where its numbers
-/// fit, as those of a store do, it is a saved state of the program (`saved`). The labels that the program writes, and those of its data, are to be
-/// among its own, as those of the program of a source are (`own`).
+/// In the last state of an accepted program's run each tuple with data is in the domain of its
+/// name: it has as many labels as the name has positions, each is one of the program's, and a
+/// member of the set of its position, if it has one (`stand`). So if its numbers fit, as those of a
+/// store do, it is a saved state of the program (`saved`). The labels that the program writes, and
+/// those of its data, have to be in its own table, as those of the program of a source are (`own`).
 ///
-/// So what the run of a source's program without errors ends in is a saved state of it, one that `restore` takes, with whatever solvers it was
-/// run (`last`). A run may begin in the state that is resumed from a save, so that the laws of whole runs hold there (`begins`). What such a
-/// run ends in is a saved state of the joint program (`later`).
+/// So the last state of a run of a source's program without errors is a saved state of it, one that
+/// `restore` accepts, with whatever solvers it was run (`last`). A run may begin in the state that
+/// is resumed from a save, so that the laws of whole runs hold there (`begins`). The last state of
+/// such a run is a saved state of the joint program (`later`).
 ///
 /// GAMS User's Guide, "Save and Restart"; "Set Definition", domain checking.
 pub fn valid_laws<F: ExactField>()
@@ -102,11 +107,13 @@ pub fn valid_laws<F: ExactField>()
         IsSavedBy world.program (later_state frac_value limit (first_line source) world state answers) named }
 {}
 
-/// What an assignment of an accepted program gives elements has as many labels as its name has positions, in each state that statements
-/// of the program lead to from one in which a run may begin, from its start or from a save, also in the midst of a loop. That is what
-/// `assignment_laws` of gms_exec ask for: so nothing that an assignment gives is lost.
+/// What an assignment of an accepted program gives elements has as many labels as its name has
+/// positions, in each state that statements of the program lead to from one in which a run may
+/// begin, from its start or from a save, also inside a loop. `assignment_laws` of gms_exec requires
+/// this: so nothing that an assignment gives is lost.
 ///
-/// GAMS User's Guide, "Data Manipulations with Parameters", indexed assignments; "Save and Restart".
+/// GAMS User's Guide, "Data Manipulations with Parameters", indexed assignments; "Save and
+/// Restart".
 pub fn assigned_laws<F: ExactField>()
     ensures { (world : World F) (statement : Stmt F) (target : Target F) (condition : Option (Expr F)) (right_at : Place) (right : Expr F) (first state : State) (binding : Pairs) (given : AllGiven) →
         IsAccepted F.value world.program → IsStatementOf world.program statement → statement.act ≡ Assign target condition right_at (Value right) →

@@ -1,4 +1,5 @@
-//! Floor 7, outside. Restarted runs: what a joint program, its run from a save, and the last state of a run have.
+//! Layer 7, outside. Restarted runs: what a joint program, its run from a save, and the last state
+//! of a run have.
 #![tactic(auto)]
 
 mod laws;

@@ -1,4 +1,4 @@
--- The keys of columns: those of rows and of the objective, in order and each once.
+-- The keys of columns: those of rows and of the objective, in order, without repetition.
 use Rattle.std.proofs.Common.{◌≡◌, ℕ, ◌+◌, ◌<◌, Bool, true, false, ◌||◌, cond, List, [], ◌∷◌, ◌++◌, map, length, get_or, take, append-nil, is_some, refl, sym, ap, ◌∙◌, subst, arith}
 use Rattle.std.specs.Prelude.{flat_map}
 use Rattle.std.specs.List.{All, list_any, dedup, dedup_from}
@@ -70,7 +70,7 @@ module _ {F : Type 0} (v : F → Number) where
       ap (λ keys. keys ++ flat_map (λ row. finite.keys row.form.numbers) (map (form_row_in v) rows)) (keys-form row.form (All-head (λ row. IsForm v row.form) row rows all))
       ∙ ap (λ keys. row.form.keys ++ keys) (keys-rows rows (All-tail (λ row. IsForm v row.form) row rows all))
 
--- ---- keys in order are known by what is among them
+-- ---- ordered keys are determined by their members
 
 among-first : (k : Key) (keys : List Key) → is_among (k ∷ keys) k ≡ true
 among-first k keys = ap (λ b. b || is_among keys k) (same_key_refl k)
@@ -103,7 +103,7 @@ same_keys (k ∷ ks) (l ∷ ls) up over same =
         λ i. e i ∷ others i
     by Greater o rest = absurd (apart l k ls ks up (key_cmp-flip k l Greater o) (sym (same l)))
 
--- ---- keys in order, each once
+-- ---- keys in order, without repetition
 
 keys_of-paired : (xs : List Key) → keys_of (map (λ key. (key, true)) xs) ≡ xs
 keys_of-paired [] = refl
@@ -117,7 +117,7 @@ among-ordered xs q =
     ∙ is_some-find key_cmp q es
     ∙ ap (λ keys. is_among keys q) (keys_of-paired xs)
 
--- keys in order that have what these have are these in order, each once
+-- a strictly ascending list with the members of another is the ordered form of that list
 pub ordered-is : (xs ks : List Key) → AreOrdered ks → ((q : Key) → is_among ks q ≡ is_among xs q) → ks ≡ ordered xs
 ordered-is xs ks up same =
     same_keys ks (ordered xs) up (keys-ordered (finite.from_entries {R = key_cmp} (map (λ key. (key, true)) xs))) (λ q. same q ∙ sym (among-ordered xs q))

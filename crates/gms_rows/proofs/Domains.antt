@@ -81,7 +81,7 @@ module _ (test : List ℕ → Answer Bool) where
 
 -- ---- sets
 
--- each of some numbers is one of those that are left once
+-- what holds of all numbers holds of all after repetitions are removed
 pub All-each_once : (P : ℕ → Type 0) (ns : List ℕ) → All P ns → All P (each_once ns)
 All-each_once P [] all = all
 All-each_once P (n ∷ ns) all =

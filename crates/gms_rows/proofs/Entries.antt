@@ -123,7 +123,8 @@ module _ {F : Type 0} (v : F → Number) where
       let numbers : numbers_at number keys ≡ (form_in v form).numbers = finite.same_map key_cmp-total key_cmp-Equal (numbers_at number keys) (form_in v form).numbers (λ q. get-numbers_at number keys q (outside q) ∙ ap unless_zero (sym (same q)) ∙ sym (get-form v form q is)) in
       λ i. record { constant = sym c i; numbers = numbers i }
 
-  -- what a call on forms answers is what its steps give at keys outside of which each step is that of 0
+  -- the answer of a call on forms is what its steps give, where outside these keys each step is
+  -- that of 0
   pub told : (steps : Entrywise) (keys : List Key) (r : Result (Affine F) FormFault) → AreOrdered keys → ((key : Key) → is_among keys key ≡ false → ((steps.at key).number ≡ whole (pos 0)) × ((steps.at key).fits ≡ true)) → Gives v steps r → Told v r (entrywise steps.constant steps.at keys)
   told steps keys (Ok form) ordered outside g =
       entrywise-fits steps.constant steps.at keys g.2 g.3

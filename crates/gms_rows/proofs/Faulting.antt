@@ -54,7 +54,7 @@ module _ {F : Type 0} (v : F → Number) (limit : ℕ) (at : Place) (b : Pairs) 
       ap (λ n. if n then scaled limit at b false (form_in v a) (v form.constant) else multiple limit at b (v a.constant) (form_in v form)) (number-is false some)
 
 module _ {F : Type 0} (v : F → Number) (at : Place) (b : Pairs) (right : Option Key → Extended) where
-  -- a sum that is kept after a fault of a step shows what it was
+  -- a sum that is kept after a fault of a step shows the same fault
   pub shows-kept : (before now : Affine F) (fault : FormFault) (stop : StopOrMemory F) → IsKept before now fault → ShowsFault v at b (entry_of (form_in v now)) right fault stop → ShowsFault v at b (entry_of (form_in v before)) right fault stop
   shows-kept before now (fault.Limit key) stop kept shows =
       subst (λ a. ShowsFault v at b (entry_of (form_in v a)) right (fault.Limit key) stop) kept shows

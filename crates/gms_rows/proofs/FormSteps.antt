@@ -145,7 +145,7 @@ module _ {F : Type 0} (v : F → Number) (limit : ℕ) (some : 1 ≤ limit) wher
   told-lessened true a b n one r takes is form other g h = told-difference a b n one r is form other g h
   told-lessened false a b n one r takes is form other g h = absurd (cc)
 
-  -- so its fault is want of memory, which tells nothing
+  -- so its fault is out of memory, which makes no claim
   pub told-negated_fault : ((x : F) → fits limit (v x) ≡ true) → (b : Affine F) (one : Number) (fault : FormFault) (steps : Result Form (Option Key)) → one ≡ neg_ℚ (whole (pos 1)) → Gives v (by_number (product_step limit) v b one) (Err fault) → Told v (Err fault) steps
   told-negated_fault within b one (fault.Limit key) steps is g = absurd (negated-no_fault within b one key is g)
   told-negated_fault within b one fault.Memory steps is g = tt

@@ -24,7 +24,7 @@ module _ {F : Type 0} (state : State) (parts : List (Place × Bool × Expr F)) (
   pub none-left : length parts ≤ i → some_has_variables state (parts_in (drop i parts)) ≡ false
   none-left all = at_drop_all (λ ps. some_has_variables state (parts_in ps)) parts i all
 
-  -- ---- how many stand in front
+  -- ---- how many parts come before the first with variables
 
   next_front : (p : Place × Bool × Expr F) → i < length parts → p ≡ get_or parts i p → (has : Bool) → has_variables state (tree_of p.2) ≡ has → in_front state (parts_in (drop i parts)) ≡ (if has then 0 else in_front state (parts_in (drop (i + 1) parts)) + 1)
   next_front p here is has so =

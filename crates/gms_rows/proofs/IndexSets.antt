@@ -53,7 +53,7 @@ module _ {F : Type 0} where
   names-Set name lag =
       ap set_names (sym (rolls-Set name lag)) ∙ ap (λ f. sets_among (f tree.no_index)) (fold-roll-Index F (tree.Tree F) (tree.Indices F → tree.Indices F) (tree.Control F) tree_step index_step control_step (Index-F.Set name lag)) ∙ sets-set_index name _
 
-  -- one more set, each once
+  -- one more set, without repetition
   pub once-Set : (indices : List (Index F)) (i : ℕ) (index : Index F) (name : ℕ) → i < length indices → index ≡ get_or indices i index → set_names index ≡ name ∷ [] → each_once (sets_among (indices_of (map index_tree (take (i + 1) indices)))) ≡ with_once (each_once (sets_among (indices_of (map index_tree (take i indices))))) name
   once-Set indices i index name here is names =
       ap each_once (sets-more indices i index here is ∙ ap (λ those. sets_among (indices_of (map index_tree (take i indices))) ++ those) names)

@@ -1,4 +1,4 @@
--- Forms joined one after another: one more, a stop, and the end.
+-- Forms joined in sequence: one more, a stop, and the end.
 use Rattle.std.proofs.Common.{◌≡◌, ℕ, ◌+◌, ◌<◌, ◌≤◌, List, ◌∷◌, map, drop, length, get_or, Option, Some, unwrap_or, Ok, sym, ap, ◌∙◌}
 use Rattle.std.proofs.lemmas.List.{at_drop_more, at_drop_all}
 use Rattle.gq_number.specs.Number.{Number}
@@ -11,11 +11,11 @@ use Rattle.gms_rows.specs.Affine.{Join, with_next, joined}
 use Rattle.gms_rows.specs.Forms.{Form, zero_form}
 
 module _ {X : Type 0} (join : Join) (mark : X → Mark) (answer : X → Answer Form) where
-  -- what these make of the form so far
+  -- the forms of these parts, joined to the form so far
   abbrev pub from_here : Option Form → List X → Answer Form
   from_here so_far xs = joined join so_far (map (λ x. (mark x, answer x)) xs)
 
-  -- what the form of the next and those behind it make of the form so far
+  -- what the forms of the next part and of those after it add to the form so far
   abbrev pub after_next : Option Form → X → List X → Form → Answer Form
   after_next so_far x xs form = with_next join (mark x) so_far form and_then λ next. from_here (Some next) xs
 

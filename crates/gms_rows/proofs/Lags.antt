@@ -34,6 +34,6 @@ module _ {F : Type 0} where
     pub lag-later : has_lag (index_tree index tree.no_index) ≡ false → has_lag (indices_of (map index_tree (drop i indices))) ≡ has_lag (indices_of (map index_tree (drop (i + 1) indices)))
     lag-later e = next ∙ ap (λ b. b || has_lag (indices_of (map index_tree (drop (i + 1) indices)))) e
 
-  -- and none behind the last one
+  -- and none after the last one
   pub lag-nowhere : (indices : List (Index F)) (i : ℕ) → length indices ≤ i → has_lag (indices_of (map index_tree (drop i indices))) ≡ false
   lag-nowhere indices i all = at_drop_all (λ those. has_lag (indices_of (map index_tree those))) indices i all

@@ -45,7 +45,7 @@ module _ {F : Type 0} where
       by (Some equations) e rest = found-apart (each_once declared) name (models_of s.act) equations (each_once-apart declared) e
       by None e rest = rest
 
-  -- no equation of a model stands twice
+  -- no equation of a model occurs twice
   pub equations-apart : (statements : List (Stmt F)) (name : ℕ) → AreApart (equations_of statements name)
   equations-apart statements name = from-apart [] name statements
 

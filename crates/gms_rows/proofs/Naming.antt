@@ -1,4 +1,4 @@
--- Names, each once, and the definitions and equations of a program statement by statement.
+-- Names without repetition, and the definitions and equations of a program statement by statement.
 use Rattle.std.proofs.Common.{◌≡◌, ℕ, ◌+◌, ◌<◌, ◌≤◌, Bool, true, false, not, ◌||◌, ◌==◌, cond, if◌then◌else◌, List, [], ◌∷◌, ◌++◌, map, drop, take, length, get_or, Option, Some, None, refl, sym, ap, ◌∙◌, append-nil, append_assoc}
 use Rattle.std.specs.Prelude.{flat_map}
 use Rattle.std.specs.List.{filter}
@@ -10,7 +10,7 @@ use Rattle.gms_ast.specs.declared.program.Stmt.{Stmt}
 use Rattle.gms_rows.specs.Rows.{each_once, Definition, definitions, defined_at, definition_of, listed, found, declared_by, models_of, equations_from}
 use Rattle.gms_rows.specs.InnerWalks.{with_once, is_in}
 
--- ---- each once
+-- ---- without repetition
 
 -- a name that is left out
 left_out : (n : ℕ) → not (n == n) ≡ false
@@ -57,7 +57,7 @@ map-append : {X : Type 0} (f : X → ℕ) (xs ys : List X) → map f (xs ++ ys) 
 map-append f [] ys = refl
 map-append f (x ∷ xs) ys = ap (λ zs. f x ∷ zs) (map-append f xs ys)
 
--- one more of a list, each once
+-- one more of a list, without repetition
 pub each_once-at : {X : Type 0} (name : X → ℕ) (before : List ℕ) (xs : List X) (i : ℕ) (d : X) → i < length xs → each_once (before ++ map name (take (i + 1) xs)) ≡ with_once (each_once (before ++ map name (take i xs))) (name (get_or xs i d))
 each_once-at name before xs i d here =
     ap (λ ys. each_once (before ++ map name ys)) (take_more xs i d here)

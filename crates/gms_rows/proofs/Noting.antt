@@ -10,7 +10,7 @@ use Rattle.gms_rows.specs.Rows.{Definition, defined_at, definition_of, definitio
 use Rattle.gms_rows.specs.InnerWalks.{AreMarked, AreNoted, found_in, is_in, noted_by, with_once}
 use Rattle.gms_rows.specs.declared.equations.Definition.{Definition as OwnDefinition}
 
--- one element more that is what stands behind the end
+-- appending the default element leaves reads with that default unchanged
 pub same-more : {X : Type 0} (xs : List X) (x : X) (n : ℕ) → slice_index_or (xs ++ x ∷ []) n x ≡ slice_index_or xs n x
 same-more [] x zero = refl
 same-more [] x (suc n) = refl
@@ -23,7 +23,7 @@ same-more (y ∷ ys) x (suc n) = same-more ys x n
 pub marked-same : (marks old : List Bool) (names : List ℕ) → ((n : ℕ) → slice_index_or marks n false ≡ slice_index_or old n false) → AreMarked old names → AreMarked marks names
 marked-same marks old names same marked n = same n ∙ marked n
 
--- a name that is marked is there
+-- a marked name is among the names
 pub once-marked : (marks old : List Bool) (names : List ℕ) (name : ℕ) (there : Bool) → ((n : ℕ) → slice_index_or marks n false ≡ slice_index_or old n false) → AreMarked old names → slice_index_or marks name false ≡ there → (if there then names else names ++ name ∷ []) ≡ with_once names name
 once-marked marks old names name there same marked is =
     ap (λ b. if b then names else names ++ name ∷ []) (sym is ∙ same name ∙ marked name)
@@ -56,7 +56,7 @@ marked-more marks old names name there same marked n = by (name == n) refl
 
 -- ---- definitions
 
--- what is first, where there is something
+-- the first list, if it is not empty, or else the second
 abbrev first : {X : Type 0} → List X → List X → List X
 first [] ys = ys
 first (x ∷ xs) ys = x ∷ xs

@@ -28,7 +28,7 @@ module _ {F : Type 0} (v : F → Number) (limit : ℕ) (state : State) (d : Defi
   abbrev pub row_with : List ℕ → Sense → Form → FormRow
   row_with t sense form = record { key = record { symbol = d.equation; tuple = t }; sense = sense; form = form }
 
-  -- the row of a tuple, where there is one
+  -- the row of a tuple, if there is one
   abbrev pub row_at : Option (List ℕ) → Answer (Option FormRow)
   row_at o =
       elim o [

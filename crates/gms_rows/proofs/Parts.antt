@@ -102,14 +102,14 @@ module _ {F : Type 0} (v : F → Number) (limit : ℕ) (state : State) (b : Pair
   forms-parts [] = refl
   forms-parts (p ∷ parts) = ap (λ those. (part_mark p, part_form p) ∷ those) (forms-parts parts)
 
-  -- the form of the parts behind those in front, and of these
+  -- the form of the parts from here on, joined to the form so far
   abbrev pub behind : Signed → List (Place × Bool × Expr F) → Option Form → Answer Form
   behind kind rest so_far = from_here (signed_join limit b kind) part_mark part_form so_far rest
 
   abbrev pub front_form : Signed → List (Place × Bool × Expr F) → Answer (Option Form)
   front_form kind parts = front b (signed_step limit b kind) (map (λ p. (part_mark p, part_value p)) parts)
 
-  -- a sum or a product by its parts in front and the others
+  -- a sum or a product by its parts before the first with variables, and the others
   pub chain-is : (kind : Signed) (parts before rest : List (Place × Bool × Expr F)) (n : ℕ) → n ≡ in_front state (parts_in parts) → before ≡ take n parts → rest ≡ drop n parts → chain_form v limit state b kind (parts_in parts) ≡ (front_form kind before and_then behind kind rest)
   chain-is kind parts before rest n count before-is rest-is =
       ap (λ k. chained b (signed_step limit b kind) (signed_join limit b kind) k (values v limit state b (parts_in parts)) (forms v limit state b (parts_in parts))) (sym count)
@@ -120,12 +120,12 @@ module _ {F : Type 0} (v : F → Number) (limit : ℕ) (state : State) (b : Pair
       ∙ ap (λ ps. front_form kind ps and_then behind kind (drop n parts)) (sym before-is)
       ∙ ap (λ ps. front_form kind before and_then behind kind ps) (sym rest-is)
 
-  -- no parts in front
+  -- no parts before the first with variables
   pub front-none : (kind : Signed) (parts : List (Place × Bool × Expr F)) → length parts ≡ 0 → front_form kind parts ≡ Ok None
   front-none kind [] none = refl
   front-none kind (p ∷ parts) none = absurd (omega arith)
 
-  -- some parts in front
+  -- some parts before the first with variables
   abbrev pub numbered : Place → Extended → Answer (Option Form)
   numbered place x = form_of place b x and_then λ form. Ok (Some form)
 

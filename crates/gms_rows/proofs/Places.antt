@@ -22,7 +22,7 @@ place-at keys key i first here =
     ap (λ n. unwrap_or (cond (nat_lt n (length keys)) (Some n) None) 0) first
     ∙ ap (λ b. unwrap_or (cond b (Some i) None) 0) (lt-ltb i (length keys) here)
 
--- the place at which a key stands among keys in order is its place
+-- the position of a key in an ordered list is its place
 pub place-there : (keys : List Key) (key : Key) (i : ℕ) → AreOrdered keys → i < length keys → key_cmp (get_or keys i key) key ≡ Equal → i ≡ place_of keys key
 place-there keys key i ordered here equal =
     let is : get_or keys i key ≡ key = key_cmp-Equal (get_or keys i key) key equal in

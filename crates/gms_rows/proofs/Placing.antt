@@ -24,7 +24,7 @@ use Rattle.gms_rows.specs.InnerWalks.{is_among, placed_numbers, form_row_in}
 use Rattle.gms_rows.proofs.Places.{place-there}
 use Rattle.gms_rows.proofs.ColumnKeys.{entries-form}
 
--- a key that is among others stands at some place
+-- a key that is among others is at some place
 pub stands-at : (keys : List Key) (key : Key) → is_among keys key ≡ true → (i : ℕ) × (i < length keys) × ((d : Key) → get_or keys i d ≡ key)
 stands-at [] key there = absurd (cc)
 stands-at (k ∷ keys) key there = by (same_key key k) refl (stands-at keys key)
@@ -106,7 +106,7 @@ module _ {F : Type 0} (v : F → Number) (columns : List Key) where
   placed-shows form is =
       placed-keyed form.keys form.numbers ∙ ap (map {B = ℕ × Number} (λ (entry : Key × Number). (place_of columns entry.0, entry.1))) (sym (entries-form v form is))
 
--- one more element of a list, and what a function makes of it
+-- one more element of a list, and of the mapped list
 pub map-more : {X Y : Type 0} (f : X → Y) (xs : List X) (i : ℕ) (x : X) → i < length xs → x ≡ get_or xs i x → map f (take (i + 1) xs) ≡ map f (take i xs) ++ f x ∷ []
 map-more f xs i x here is =
     ap (map f) (take_more xs i x here ∙ ap (λ y. take i xs ++ y ∷ []) (sym is)) ∙ map_push f (take i xs) x
@@ -116,7 +116,7 @@ pub All-push : {X : Type 0} (P : X → Type 0) (xs : List X) (x : X) → All P x
 All-push P xs x all holds = All-append P xs (x ∷ []) all (All-cons P x [] holds (All-nil P))
 
 module _ {F : Type 0} (v : F → Number) (columns : List Key) where
-  -- a row that is made of a form shows the placed row
+  -- the view of a row made of a form is the placed row
   pub placed-row : (row : OwnRow F) (made : Row F) → made.key ≡ row.key → made.sense ≡ row.sense → v made.right ≡ neg_ℚ (v row.form.constant) → made.entries ≡ placed_numbers columns row.form.keys row.form.numbers → IsForm v row.form → row_numbers v made ≡ placed columns (form_row_in v row)
   placed-row row made key sense right entries is =
       let those = ap (map {B = ℕ × Number} (λ e. (e.0, v e.1))) entries ∙ placed-shows v columns row.form is in

@@ -1,4 +1,4 @@
--- Forms at a point: what each step on forms is there.
+-- Forms at a point: the value of each step on forms.
 use Rattle.std.proofs.Common.{◌≡◌, ℕ, pos, Bool, true, false, not, ◌&&◌, ◌||◌, ◌==◌, if◌then◌else◌, List, [], ◌∷◌, length, Option, Some, None, unwrap_or, Result, Ok, Err, refl, sym, ap, ◌∙◌, arith}
 use Rattle.std.specs.List.{filter, find}
 use Rattle.std.specs.FinMap as finite

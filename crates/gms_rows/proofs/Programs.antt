@@ -31,7 +31,7 @@ use Rattle.gms_rows.proofs.ColumnKeys.{among-ordered, keys-rows}
 use Rattle.gms_rows.proofs.Placing.{place-within}
 use Rattle.gms_rows.proofs.Sizing.{bounds-shown, variables-shown, senses-placed, senses-shown, columns-counted}
 
--- ---- lists and what a function makes of them
+-- ---- mapped lists
 
 module _ {X Y : Type 0} (f : X → Y) where
   pub all-of_map : (P : Y → Type 0) (xs : List X) → All P (map f xs) → All (λ x. P (f x)) xs
@@ -39,7 +39,7 @@ module _ {X Y : Type 0} (f : X → Y) where
   all-of_map P (x ∷ xs) all =
       All-cons (λ x. P (f x)) x xs (All-head P (f x) (map f xs) all) (all-of_map P xs (All-tail P (f x) (map f xs) all))
 
-  -- pairs of what a function makes of a list are pairs of the list
+  -- pairs of a mapped list are pairs of the list
   pub pairs-of_map : (R : Y → Y → Type 0) (xs : List X) → AllPairs R (map f xs) → AllPairs (λ a b. R (f a) (f b)) xs
   pairs-of_map R [] pairs = λ i j d less below. absurd (omega (arith, less, below))
   pairs-of_map R (x ∷ xs) pairs =
@@ -87,7 +87,7 @@ own-keys (k ∷ keys) =
 among-append : (xs ys : List Key) (q : Key) → is_among (xs ++ ys) q ≡ (is_among xs q || is_among ys q)
 among-append xs ys q = list_any-append (same_key q) xs ys
 
--- what a function makes of each of some things is among what it makes of all
+-- the keys of each of some things are among the keys of all
 pub keys-there : {X : Type 0} (f : X → List Key) (xs : List X) → All (λ x. All (λ key. is_among (flat_map f xs) key ≡ true) (f x)) xs
 keys-there f [] = All-nil (λ x. All (λ key. is_among [] key ≡ true) (f x))
 keys-there {X} f (x ∷ xs) =
@@ -146,7 +146,7 @@ module _ {F : Type 0} (v : F → Number) (state : State) (rows : List (OwnRow F)
     keys-few few = omega (arith, few, columns-counted v columns, same_length)
 
     module _ (lp : Lp F) (its-columns : lp.columns ≡ columns) (its-rows : map (row_numbers v) lp.rows ≡ map (placed keys) (map (form_row_in v) rows)) (its-objective : lp.objective ≡ place_of keys objective) (its-maximize : lp.maximize ≡ maximize) where
-      -- a program that is made of these shows it
+      -- the view of a program made of these parts
       pub program-shown : the_program ≡ lp_numbers v lp
       program-shown =
           let cs = ap (map (column_numbers v)) its-columns ∙ shown ∙ ap (map (column_of state)) is in

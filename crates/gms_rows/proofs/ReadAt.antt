@@ -1,4 +1,5 @@
--- Where the form of an expression that is linear in the variables is f, f at a point is the expression's value there.
+-- If the form of an expression that is linear in the variables is f, f at a point is the
+-- expression's value there.
 use Rattle.std.proofs.Common.{◌≡◌, ℕ, ◌+◌, suc, pos, Bool, true, false, not, ◌&&◌, ◌||◌, cond, ◌==◌, if◌then◌else◌, List, [], ◌∷◌, ◌++◌, map, take, drop, length, Option, Some, None, option_map, unwrap_or, Ok, Err, ◌⊎◌, inl, inr, refl, sym, ap, ◌∙◌, arith}
 use Rattle.std.specs.Map.{keys_of}
 use Rattle.std.specs.FinMap as finite
@@ -115,13 +116,13 @@ module _ (point : Key → Number) where
     factor-shown at false left right next one e =
         product-shown at left right next (or_second (is_number left) (is_number right) one) e
 
--- ---- what stands behind the parts in front
+-- ---- the parts from the first with variables on
 
 not_true : (a : Bool) → not a ≡ true → a ≡ false
 not_true true e = absurd (cc)
 not_true false e = refl
 
--- one more is taken, or left out
+-- one more element is taken
 take-first : {X : Type 0} (n : ℕ) (x : X) (xs : List X) → take (n + 1) (x ∷ xs) ≡ x ∷ take n xs
 take-first n x xs = let e : n + 1 ≡ suc n = omega arith in ap (λ k. take k (x ∷ xs)) e
 
@@ -134,7 +135,7 @@ module _ {F : Type 0} (state : State) where
   behind tree.no_part = tree.no_part
   behind (tree.part mark e rest) = if has_variables state e then tree.part mark e rest else behind rest
 
-  -- what holds of parts holds of these, where it holds of the others when the first has no variables
+  -- what holds of parts holds of the parts from the first with variables on
   behind-keeps : (P : tree.Parts F → Type 0) → ((mark : Mark) (e : tree.Tree F) (rest : tree.Parts F) → has_variables state e ≡ false → P (tree.part mark e rest) → P rest) → (parts : tree.Parts F) → P parts → P (behind parts)
   behind-keeps P later tree.no_part holds = holds
   behind-keeps P later (tree.part mark e rest) holds =
@@ -165,7 +166,7 @@ module _ {F : Type 0} (state : State) where
           (not_true (some_has_variables state rest) each.1, not_true (is_inverse mark) each.0)
       by false later so = later so
 
-  -- where none stands in front, or behind others
+  -- the factors from the first with variables on
   behind-factors : (parts : tree.Parts F) → are_factors state parts ≡ true → ((in_front state parts ≡ 0) × IsSingle (behind parts)) ⊎ (IsSingle (behind parts) × IsUpright (behind parts))
   behind-factors tree.no_part so = inl (refl, tt)
   behind-factors (tree.part mark e rest) so = by (has_variables state e) so
@@ -177,7 +178,8 @@ module _ {F : Type 0} (state : State) where
 -- ---- values of parts and of expressions
 
 module _ {F : Type 0} (v : F → Number) (limit : ℕ) (state : State) (point : Key → Number) where
-  -- what is to hold of an expression with variables under a binding: its form at the point is its value there
+  -- the claim for an expression with variables under a binding: its form at the point is its value
+  -- there
   abbrev Holds : Pairs → tree.Tree F → Type 0
   Holds b e = (at : Place) (f : Form) → linear v limit state at b e ≡ Ok f → read_at v limit state point b e ≡ Ok (shown point f)
 
@@ -210,7 +212,7 @@ module _ {F : Type 0} (v : F → Number) (limit : ℕ) (state : State) (point : 
       by true has is = (holds has at f is, λ none. absurd (cc))
       by false has is = let c = constant-known at b e f is in (c.0, λ none. c.1)
 
-  -- ---- parts in front
+  -- ---- parts before the first with variables
 
   values-split : (b : Pairs) (parts : tree.Parts F) → values_at v limit state point b parts ≡ take (in_front state parts) (values v limit state b parts) ++ values_at v limit state point b (behind state parts)
   values-split b tree.no_part = refl
@@ -232,7 +234,7 @@ module _ {F : Type 0} (v : F → Number) (limit : ℕ) (state : State) (point : 
       by false is next =
           drop-first (in_front state rest) (mark, form_answer (place_of mark) b e) (forms v limit state b rest) ∙ next
 
-  -- a sum or a product, where what stands behind the parts in front is right
+  -- a sum or a product, where the parts from the first with variables on are right
   module _ (b : Pairs) (limited exact : Step) (join : Join) (is : (mark : Mark) (x : Extended) (a : Answer Extended) (z : Extended) → limited mark x a ≡ Ok z → exact mark x a ≡ Ok z) where
     -- what is to be shown of these parts after a number, or after none
     abbrev Starts : Option Number → tree.Parts F → Form → Type 0
@@ -251,7 +253,7 @@ module _ {F : Type 0} (v : F → Number) (limit : ℕ) (state : State) (point : 
         ∙ ap (λ x. nodes.joined exact (Ok nothing) (Some x) (values_at v limit state point b parts)) k.1
         ∙ starts (Some k.0) (ap (λ o. joined join o (forms v limit state b parts)) (sym so_far) ∙ one.next_is)
 
-    -- the parts in front, and then the others
+    -- first the parts before the first with variables, and then the others
     split-forms : (parts : tree.Parts F) (f : Form) → chained b limited join (in_front state parts) (values v limit state b parts) (forms v limit state b parts) ≡ Ok f → (front b limited (take (in_front state parts) (values v limit state b parts)) and_then λ so_far. joined join so_far (forms v limit state b (behind state parts))) ≡ Ok f
     split-forms parts f e =
         ap (λ those. front b limited (take (in_front state parts) (values v limit state b parts)) and_then λ so_far. joined join so_far those) (sym (forms-split b parts)) ∙ e
@@ -261,7 +263,7 @@ module _ {F : Type 0} (v : F → Number) (limit : ℕ) (state : State) (point : 
         ap (chain exact) (values-split b parts)
         ∙ from_front (behind state parts) f starts (take (in_front state parts) (values v limit state b parts)) (split-forms parts f e)
 
-    -- where no part stands in front
+    -- where no part comes before the first with variables
     chained-none : (parts : tree.Parts F) (f : Form) → in_front state parts ≡ 0 → Starts None (behind state parts) f → chained b limited join (in_front state parts) (values v limit state b parts) (forms v limit state b parts) ≡ Ok f → chain exact (values_at v limit state point b parts) ≡ Ok (shown point f)
     chained-none parts f none start e =
         ap (chain exact) (values-split b parts ∙ ap (λ n. take n (values v limit state b parts) ++ values_at v limit state point b (behind state parts)) none)
@@ -327,7 +329,7 @@ module _ {F : Type 0} (v : F → Number) (limit : ℕ) (state : State) (point : 
     number-times at false x right next so e =
         product-shown point limit b at (constant_form x) right next (or_first (is_number (constant_form x)) (is_number right) (constant-number x)) e
 
-    -- the one factor with variables stands first
+    -- the one factor with variables comes first
     product-first : (parts : tree.Parts F) (f : Form) → Hold b parts → are_linear state parts ≡ true → IsSingle state parts → Starts b (product_step limit b) (exact_product_step b) (times limit b) (product_step-exact limit b) None parts f
     product-first tree.no_part f hold so single e =
         ap {B = Answer Extended} Ok (ap number (sym (constant-at point (whole (pos 0)))) ∙ ap (shown point) (only_value zero_form f e))
@@ -356,7 +358,7 @@ module _ {F : Type 0} (v : F → Number) (limit : ℕ) (state : State) (point : 
     product-starts parts f hold so single upright None = product-first parts f hold so single
     product-starts parts f hold so single upright (Some x) = product-after parts f x hold so single upright
 
-  -- ---- the parts behind those in front
+  -- ---- the parts from the first with variables on
 
   behind-holds : (b : Pairs) (parts : tree.Parts F) → Hold b parts → Hold b (behind state parts)
   behind-holds b parts hold = behind-keeps state (Hold b) (λ mark e rest none holds. holds.1) parts hold

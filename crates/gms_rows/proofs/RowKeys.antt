@@ -1,4 +1,4 @@
--- The keys of rows: one of its own for each element, and for each equation others.
+-- The keys of rows: each element has another key, and so has each equation.
 use Rattle.std.proofs.Common.{◌≡◌, ◌≢◌, ℕ, nat_le, Bool, true, false, not, ◌==◌, cond, if◌then◌else◌, List, [], ◌∷◌, ◌++◌, map, length, get_or, filter, Option, Some, None, option_map, Ok, refl, sym, ap, ◌∙◌, subst, arith}
 use Rattle.std.specs.List.{All, AllPairs}
 use Rattle.std.proofs.lemmas.Bool.{both_ways, eq-eqb, eqb-false, ne_eqb, not-true}
@@ -34,9 +34,9 @@ AllPairs-append R (x ∷ xs) ys own rest across =
     AllPairs-cons R x (xs ++ ys) (All-append (R x) xs ys (AllPairs-first R x xs own) (All-head (λ x. All (R x) ys) x xs across))
     (AllPairs-append R xs ys (AllPairs-rest R x xs own) rest (All-tail (λ x. All (R x) ys) x xs across))
 
--- ---- names that stand once
+-- ---- distinct names
 
--- names, none of which stands twice
+-- distinct names
 abbrev pub AreApart : List ℕ → Type 0
 AreApart [] = Unit {0}
 AreApart (n ∷ ns) = All (λ m. (n == m) ≡ false) ns × AreApart ns

@@ -1,4 +1,5 @@
--- Each row of a definition is that of one element whose condition holds, and each such element has one.
+-- Each row of a definition is that of one element whose condition holds, and each such element has
+-- one.
 use Rattle.std.proofs.Common.{◌≡◌, ◌≢◌, ℕ, Bool, true, false, ◌||◌, cond, if◌then◌else◌, List, [], ◌∷◌, map, length, get_or, Option, Some, None, Ok, refl, sym, ap, ◌∙◌, subst, arith}
 use Rattle.std.specs.Prelude.{count_by}
 use Rattle.std.specs.List.{All, AllPairs}
@@ -37,7 +38,7 @@ members xs k d below = has-Contains xs (get_or xs k d) (Contains-get_or xs k d b
 or-false : (a b : Bool) → a ≡ false → (a || b) ≡ b
 or-false a b e = ap (λ c. c || b) e
 
--- what all of some come after is not among them
+-- a tuple that differs from all of a list is not in it
 none_of : (others : List (List ℕ)) (t : List ℕ) → All (λ y. same_tuple y t ≡ false) others → has others t ≡ false
 none_of [] t all = refl
 none_of (y ∷ ys) t all =
@@ -69,7 +70,7 @@ module _ (test : List ℕ → Answer Bool) where
     not_here true others other = or-false (same_tuple x t) (has others t) other
     not_here false others other = refl
 
-  -- an element is one of those just where it passes
+  -- an element is one of those exactly where it passes
   those-has : (xs those : List (List ℕ)) (t : List ℕ) (b : Bool) → IsOrdered xs → those_where test xs ≡ Ok those → has xs t ≡ true → test t ≡ Ok b → has those t ≡ b
   those-has [] those t b ordered e there is = absurd (cc)
   those-has (x ∷ xs) those t b ordered e there is =
@@ -98,7 +99,7 @@ module _ {F : Type 0} (v : F → Number) (limit : ℕ) (state : State) (at : Pla
       let pass = those-pass (λ element. holds v limit state (controlled [] sets element) condition) all.value found all.next_is in
       λ k d below. (within k d below, pass k d below)
 
-  -- an element of the sets is one of a domain just where its condition holds
+  -- an element of the sets is one of a domain exactly where its condition holds
   domain-has : (condition : Option (tree.Tree F)) (found : List (List ℕ)) (t : List ℕ) (b : Bool) → IsOrdered (elements state sets) → domain v limit state [] at (control_over sets condition) ≡ Ok found → has (elements state sets) t ≡ true → holds_for v limit state (controlled [] sets t) condition ≡ Ok b → has found t ≡ b
   domain-has None found t b ordered e there is =
       ap (λ xs. has xs t) (sym (sized-is at (elements state sets) found e)) ∙ there ∙ only_value _ _ is

@@ -1,4 +1,4 @@
--- The rows of elements, and those of equations, one after another.
+-- The rows of elements, and those of equations, in sequence.
 use Rattle.std.proofs.Common.{◌≡◌, ℕ, ◌+◌, ◌<◌, ◌≤◌, List, [], ◌∷◌, ◌++◌, map, drop, length, get_or, Option, Some, None, option_map, Ok, Err, refl, sym, ap, ◌∙◌, append-nil, append_assoc, Bor}
 use Rattle.std.specs.Prelude.{flat_map}
 use Rattle.std.specs.Option.{option_copied}
@@ -114,7 +114,7 @@ in_order-append {A} (x ∷ xs) ys =
     by (Ok z) (Err fault) q = refl
     by (Err fault) p q = refl
 
--- lists one after another
+-- lists in sequence
 abbrev pub joined_rows : List (List FormRow) → List FormRow
 joined_rows those = flat_map (λ some. some) those
 

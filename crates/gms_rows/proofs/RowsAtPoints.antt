@@ -1,4 +1,5 @@
--- A point keeps the rows of a model just where it keeps the definitions of the model's equations.
+-- A point satisfies the rows of a model exactly where it satisfies the definitions of the model's
+-- equations.
 use Rattle.std.proofs.Common.{◌≡◌, ◌↔◌, ℕ, nat_lt, ◌+◌, ◌<◌, Bool, true, false, ◌||◌, cond, if◌then◌else◌, pos, List, [], ◌∷◌, ◌++◌, map, length, get_or, Option, Some, None, unwrap_or, is_some, Ok, Err, refl, sym, ap, ◌∙◌, subst, arith}
 use Rattle.std.specs.Prelude.{flat_map}
 use Rattle.std.specs.List.{All, enumerate_from}
@@ -136,7 +137,7 @@ abbrev HasKeys : List Key → FormRow → Type 0
 HasKeys keys row = All (λ key. is_among keys key ≡ true) (finite.keys row.form.numbers)
 
 module _ {F : Type 0} (v : F → Number) (limit : ℕ) (state : State) (point : Key → Number) (keys : List Key) (up : AreOrdered keys) where
-  -- the point keeps a row
+  -- the point satisfies a row
   abbrev Kept : FormRow → Type 0
   Kept row = KeepsRow (λ (x : Number). x) (placed keys row) (map point keys)
 
@@ -178,7 +179,7 @@ module _ {F : Type 0} (v : F → Number) (limit : ℕ) (state : State) (point : 
     labels-kept (Err fault) made e has = absurd (cc)
 
   module _ (d : Definition F) (linear : IsLinearDefinition state d) where
-    -- what is asked of an element
+    -- the claim for an element
     abbrev Asked : List ℕ → Type 0
     Asked element = is_there (in_order (labels v limit state (bound_to d element) d.indices)) ≡ true → SidesCompare v limit state point d (bound_to d element)
 
@@ -238,7 +239,7 @@ same-bound None = refl
 same-bound (Some x) = refl
 
 module _ (point : Key → Number) where
-  -- the value of a column's element keeps the column's bounds
+  -- the value of a column's element is within the column's bounds
   abbrev WithinColumn : Column Number → Type 0
   WithinColumn column = KeepsLower column.lower (point column.key) × KeepsUpper column.upper (point column.key)
 

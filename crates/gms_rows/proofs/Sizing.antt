@@ -23,7 +23,7 @@ use Rattle.gms_rows.specs.declared.form_row.FormRow.{FormRow as OwnRow}
 use Rattle.gms_rows.specs.ProgramLp.{placed, too_many, sized}
 use Rattle.gms_rows.specs.InnerWalks.{form_row_in}
 
--- a sum over what a function makes of a list
+-- a sum over a mapped list
 sum_by-map : {X Y : Type 0} (f : Y → ℕ) (m : X → Y) (g : X → ℕ) → ((x : X) → f (m x) ≡ g x) → (xs : List X) → sum_by f (map m xs) ≡ sum_by g xs
 sum_by-map f m g same [] = refl
 sum_by-map f m g same (x ∷ xs) =
@@ -41,7 +41,7 @@ at_least_one f some (x ∷ xs) =
     let at = some x in omega (arith, first, rest, at)
 
 module _ {F : Type 0} (v : F → Number) where
-  -- bounds that are numbers are there where the bounds are
+  -- there are as many bounds as their numbers
   rows-bounds : (lower upper : Option F) → rows_of_bounds (bound_value v lower) (bound_value v upper) ≡ rows_of_bounds lower upper
   rows-bounds None None = refl
   rows-bounds None (Some u) = refl
@@ -62,7 +62,7 @@ module _ {F : Type 0} (v : F → Number) where
   variables-shown columns =
       sum_by-map (λ (column : Column Number). variables_of_bounds column.lower column.upper) (column_numbers v) (λ (column : Column F). variables_of_bounds column.lower column.upper) (λ column. variables-bounds column.lower column.upper) columns
 
-  -- placed rows ask for as many rows as the rows that they are made of
+  -- placed rows have as many standard rows as the rows that they are made of
   pub senses-placed : (keys : List Key) (rows : List (OwnRow F)) → sum_by (λ (row : Row Number). rows_of_sense row.sense) (map (placed keys) (map (form_row_in v) rows)) ≡ sum_by (λ (row : OwnRow F). rows_of_sense row.sense) rows
   senses-placed keys rows =
       sum_by-map (λ (row : Row Number). rows_of_sense row.sense) (placed keys) (λ (row : FormRow). rows_of_sense row.sense) (λ row. refl) (map (form_row_in v) rows)
@@ -89,7 +89,7 @@ shows-stops : {F A : Type 0} (v : F → Number) (stop : StopOrMemory F) (answer 
 shows-stops v Memory answer fault e s = tt
 shows-stops v (Stop stop) answer fault e s = e ∙ ap Err s
 
--- the fault of so many
+-- the fault of a count
 abbrev counted_fault : StopKind → Place → ℕ → Fault
 counted_fault kind at count = record { kind = kind; at = at; binding = []; left = nothing; right = nothing; count = count }
 

@@ -1,5 +1,6 @@
--- The affine form of an expression that is linear in the variables (GAMS User's Guide, "Equations"). What has no variables has its value,
--- and that has to be a number; all other steps are taken entry by entry. In which order faults come is this project's own rule.
+-- The affine form of an expression that is linear in the variables (GAMS User's Guide,
+-- "Equations"). A part without variables has its value, which has to be a number; all other steps
+-- are done entry by entry. The order in which faults are found is this project's own rule.
 use Rattle.std.specs.Prelude.{ℕ, ◌+◌, pos, Bool, true, false, ◌&&◌, ◌||◌, List, [], ◌∷◌, map, take, drop, Option, Some, None, unwrap_or, Ok, Err, if◌then◌else◌}
 use Rattle.gms_labels.specs.declared.place.Place.{Place}
 use Rattle.gq_number.specs.Number.{Number, whole, neg_ℚ}
@@ -31,8 +32,8 @@ is_plain other = false
 
 module _ {F : Type 0} (state : State) where
   abbrev mutual
-    -- whether a variable stands in an expression for its unknown value: outside conditions, relations, operands of logic and amounts of lags,
-    -- where an accepted program has none
+    -- whether a variable occurs in an expression for its unknown value: outside conditions,
+    -- relations, operands of logic and amounts of lags, where an accepted program has none
     pub has_variables : tree.Tree F → Bool
     has_variables (tree.reference at name suffix indices) = is_plain suffix && is_variable (symbol_at state name).content
     has_variables (tree.fold_over at op control body) = has_variables body
@@ -46,14 +47,14 @@ module _ {F : Type 0} (state : State) where
     some_has_variables tree.no_part = false
     some_has_variables (tree.part mark part rest) = has_variables part || some_has_variables rest
 
-  -- how many parts stand in front of the first that has variables
+  -- how many parts come before the first that has variables
   abbrev pub in_front : tree.Parts F → ℕ
   in_front tree.no_part = 0
   in_front (tree.part mark part rest) = if has_variables part then 0 else in_front rest + 1
 
 -- ---- sums and products
 
--- the form of a value; Undefined at a place where it is no number
+-- the form of a value; Undefined at a place if it is no number
 abbrev pub form_of : Place → Pairs → Extended → Answer Form
 form_of at binding (number x) = Ok (constant_form x)
 form_of at binding x = Err (faulted Undefined at binding x nothing)
@@ -68,26 +69,26 @@ abbrev pub is_inverse : Mark → Bool
 is_inverse (signed at inverse) = inverse
 is_inverse mark = false
 
--- how the form of what stands before a part is joined with that of the part
+-- how the form so far is joined with that of a part
 abbrev pub Join : Type 0
 Join = Mark → Form → Form → Answer Form
 
--- the form so far joined with that of the next part, which makes it where there is none
+-- the form so far joined with that of the next part, which gives the first form
 abbrev pub with_next : Join → Mark → Option Form → Form → Answer Form
 with_next join mark None form = Ok form
 with_next join mark (Some left) form = join mark left form
 
--- the forms of parts joined one after another to the form so far; where there is none, no parts make 0
+-- the forms of parts joined in sequence to the form so far; without any, the form is 0
 abbrev pub joined : Join → Option Form → List (Mark × Answer Form) → Answer Form
 joined join so_far [] = Ok (unwrap_or so_far zero_form)
 joined join so_far (part ∷ parts) = part.1 and_then λ form. with_next join part.0 so_far form and_then λ next. joined join (Some next) parts
 
--- the form of values, which stands where the first of them does: the number that they make from the left
+-- the form of values, which has the place of the first: the number that they make from the left
 abbrev pub front : Pairs → Step → Marked → Answer (Option Form)
 front binding step [] = Ok None
 front binding step (first ∷ rest) = chain step (first ∷ rest) and_then λ x. form_of (place_of first.0) binding x and_then λ form. Ok (Some form)
 
--- so many values in front, and then each part by one step on forms
+-- the first `count` values, and then each part by one step on forms
 abbrev pub chained : Pairs → Step → Join → ℕ → Marked → List (Mark × Answer Form) → Answer Form
 chained binding step join count values forms = front binding step (take count values) and_then λ so_far. joined join so_far (drop count forms)
 
@@ -103,18 +104,18 @@ module _ (limit : ℕ) (binding : Pairs) where
 
 -- ---- expressions
 
--- the element of a variable; 0 where a lag goes past the ends of its set
+-- the form of an element of a variable; 0 if a lag goes past the ends of its set
 abbrev pub element_form : ℕ → Option (List ℕ) → Form
 element_form name None = zero_form
 element_form name (Some t) = column_form (record { symbol = name; tuple = t })
 
 module _ {F : Type 0} (number_of : F → Number) (limit : ℕ) (state : State) where
-  -- the form of an expression without variables, whose first character stands at a place: its value
+  -- the form of an expression without variables, whose first character is at a place: its value
   abbrev pub constant_at : Place → Pairs → tree.Tree F → Answer Form
   constant_at at binding e = value number_of limit state binding e and_then form_of at binding
 
   abbrev mutual
-    -- the form of an expression with variables, whose first character stands at a place
+    -- the form of an expression with variables, whose first character is at a place
     pub linear : Place → Pairs → tree.Tree F → Answer Form
     linear at binding (tree.reference place name suffix indices) =
         in_order (labels number_of limit state binding indices) and_then λ those. Ok (element_form name (tuple_of those))
@@ -137,6 +138,6 @@ module _ {F : Type 0} (number_of : F → Number) (limit : ℕ) (state : State) w
     forms binding (tree.part mark part rest) =
         (mark, (if has_variables state part then linear (place_of mark) binding part else constant_at (place_of mark) binding part)) ∷ forms binding rest
 
-  -- the affine form of an expression whose first character stands at a place
+  -- the affine form of an expression whose first character is at a place
   abbrev pub affine : Place → Pairs → tree.Tree F → Answer Form
   affine at binding e = if has_variables state e then linear at binding e else constant_at at binding e

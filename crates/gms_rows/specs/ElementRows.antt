@@ -1,4 +1,5 @@
--- The row of an element of the sets of a definition (GAMS User's Guide, "Equations", "Conditional Equations").
+-- The row of an element of the sets of a definition (GAMS User's Guide, "Equations", "Conditional
+-- Equations").
 use Rattle.std.specs.Prelude.{◌≡◌, ℕ, Bool, true, List, [], Option, Some, None, Ok}
 use Rattle.std.specs.List.{All}
 use Rattle.gq_number.specs.Number.{Number}
@@ -16,7 +17,7 @@ use Rattle.gms_eval.specs.Value.{labels}
 use Rattle.gms_rows.specs.Plain.{ArePlain}
 use Rattle.gms_rows.specs.Rows.{Definition, FormRow, each_once, sets_among, sense_of, row_form}
 
--- the sets over which a definition goes
+-- the sets of a definition
 abbrev pub sets_of : {F : Type 0} → Definition F → List ℕ
 sets_of d = each_once (sets_among d.indices)
 
@@ -28,18 +29,19 @@ bound_to d element = controlled [] (sets_of d) element
 abbrev pub AreInOrder : State → List ℕ → Type 0
 AreInOrder state sets = All (λ set. IsOrdered (members_of state set)) sets
 
--- the indices of a definition are labels and sets without lags, and the members of these sets are in order and have one label each
+-- the indices of a definition are labels and sets without lags, and the members of these sets are
+-- in order and have one label each
 pub record HasPlainSets {F : Type 0} (state : State) (d : Definition F) : Type 0 where
   pub plain : ArePlain state d.indices
   pub ordered : AreInOrder state (sets_of d)
 
 module _ {F : Type 0} (number_of : F → Number) (limit : ℕ) (state : State) where
-  -- whether a condition holds for an element, where there is one
+  -- whether a condition, if any, holds for an element
   abbrev pub holds_for : Pairs → Option (Tree F) → Answer Bool
   holds_for binding None = Ok true
   holds_for binding (Some condition) = holds number_of limit state binding condition
 
-  -- the tuple of the row that an element has
+  -- the tuple of the row of an element
   abbrev pub tuple_at : Definition F → List ℕ → Answer (Option (List ℕ))
   tuple_at d element = in_order (labels number_of limit state (bound_to d element) d.indices) and_then λ those. Ok (tuple_of those)
 

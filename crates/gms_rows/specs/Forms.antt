@@ -1,5 +1,5 @@
--- Affine forms over exact numbers, and steps on them: on the constants, and on the numbers of each element (Chvatal, "Linear Programming",
--- chapter 1).
+-- Affine forms over exact numbers, and steps on them: on the constants, and on the numbers of each
+-- element (Chvatal, "Linear Programming", chapter 1).
 use Rattle.std.specs.Prelude.{ℕ, pos, Bool, true, false, not, ◌==◌, List, [], ◌∷◌, ◌++◌, length, map, find, Option, Some, None, unwrap_or, Result, Ok, Err, if◌then◌else◌}
 use Rattle.std.specs.FinMap as finite
 use Rattle.gq_number.specs.Number.{Number, whole}
@@ -14,7 +14,8 @@ use Rattle.lp_form.specs.Keys.{key_cmp}
 use Rattle.lp_form.specs.Affine.{Affine}
 use Rattle.lp_form.specs.Forms.{Step, sum_step, difference_step, product_step, quotient_step}
 
--- A constant, and a number that is not 0 for each of finitely many elements of variables, in the order of keys.
+-- A constant, and a number that is not 0 for each of finitely many elements of variables, in the
+-- order of keys.
 pub record Form : Type 0 where
   pub constant : Number
   pub numbers : finite.FinMap key_cmp Number
@@ -25,7 +26,7 @@ keyed value [] numbers = []
 keyed value (key ∷ keys) [] = []
 keyed value (key ∷ keys) (x ∷ numbers) = (key, value x) ∷ keyed value keys numbers
 
--- the form that one of the code shows
+-- the view of a form of the code
 abbrev pub form_in : {F : Type 0} → (F → Number) → Affine F → Form
 form_in value form =
     record { constant = value form.constant; numbers = finite.from_entries {R = key_cmp} (keyed value form.keys form.numbers) }
@@ -42,11 +43,11 @@ zero_form = constant_form (whole (pos 0))
 abbrev pub column_form : Key → Form
 column_form key = record { constant = whole (pos 0); numbers = finite.insert finite.empty key (whole (pos 1)) }
 
--- the number of an element, 0 where it is not there
+-- the number of an element; 0 if the form does not have it
 abbrev pub number_of_key : Form → Key → Number
 number_of_key form key = unwrap_or (finite.get form.numbers key) (whole (pos 0))
 
--- whether a form is a number: no element stands in it
+-- whether a form is a number: it has no element
 abbrev pub is_number : Form → Bool
 is_number form = length (finite.keys form.numbers) == 0
 
@@ -60,11 +61,12 @@ numbers_at number_at keys =
     let all = finite.from_entries {R = key_cmp} (map (λ key. (key, number_at key)) keys) in
     finite.retain_keys all (λ key. is_not_zero (number_at key))
 
--- the keys of two forms, in order and each once
+-- the keys of two forms, in order, without repetition
 abbrev pub keys_of_two : Form → Form → List Key
 keys_of_two a b = finite.keys (finite.from_entries {R = key_cmp} (finite.entries a.numbers ++ finite.entries b.numbers))
 
--- The form that steps give on a constant and at keys, or the first key, before which the constant comes, at which the step does not fit.
+-- The form that steps give on a constant and at keys; or the first key at which the step does not
+-- fit, where the constant comes before all keys.
 abbrev pub entrywise : Step → (Key → Step) → List Key → Result Form (Option Key)
 entrywise constant at keys =
     if not constant.fits then Err None else
@@ -78,11 +80,12 @@ abbrev pub entries_of_two : (Number → Number → Step) → Form → Form → R
 entries_of_two step a b =
     entrywise (step a.constant b.constant) (λ key. step (number_of_key a key) (number_of_key b key)) (keys_of_two a b)
 
--- a step on the constant of a form and a number, and on the form's number at each key and that number
+-- a step on the constant of a form and a number, and on the form's number at each key and that
+-- number
 abbrev pub entries_by : (Number → Number → Step) → Form → Number → Result Form (Option Key)
 entries_by step a x = entrywise (step a.constant x) (λ key. step (number_of_key a key) x) (finite.keys a.numbers)
 
--- the number of a form that a step is on: the constant, or that of a key
+-- the number that a step reads: the constant of a form, or the number of a key
 abbrev pub entry_of : Form → Option Key → Extended
 entry_of form None = number form.constant
 entry_of form (Some key) = number (number_of_key form key)

@@ -1,4 +1,4 @@
--- What the pieces of the code promise each other.
+-- The contracts of the code that makes rows.
 use Rattle.std.specs.Prelude.{◌≡◌, ℕ, Bool, List, [], ◌∷◌, ◌++◌, ◌==◌, if◌then◌else◌, map, option_map, slice_index_or, false, Option, Some, None, Result, Ok, Err}
 use Rattle.gms_rows.specs.Forms.{Form, form_in, zero_form}
 use Rattle.gms_eval.specs.Bindings.{Pairs, controlled}
@@ -36,7 +36,7 @@ use Rattle.std.specs.List.{All, list_any}
 use Rattle.std.specs.Ordering.{eq_by_cmp}
 use Rattle.std.specs.declared.cmp.Ordering.{Ordering}
 
--- the parts of a sum or a product as those of a tree
+-- the view of the parts of a sum or a product
 abbrev pub parts_in : {F : Type 0} → List (Place × Bool × Expr F) → Parts F
 parts_in parts = parts_of (map (λ p. (signed p.0 p.1, tree_of p.2)) parts)
 
@@ -53,7 +53,8 @@ module _ {F : Type 0} (number_of : F → Number) (limit : ℕ) (state : State) w
   chain_form binding kind parts =
       chained binding (signed_step limit binding kind) (signed_join limit binding kind) (in_front state parts) (values number_of limit state binding parts) (forms number_of limit state binding parts)
 
-  -- a form so far with the forms of an expression at elements, to whose labels sets are bound
+  -- a form so far, plus the forms of an expression at elements: sets are bound to the labels of
+  -- each
   abbrev pub added_at : Place → Pairs → List ℕ → Tree F → Form → List (List ℕ) → Answer Form
   added_at at binding sets body so_far elements =
       joined (plus limit binding) (Some so_far) (map (λ element. (signed at false, affine number_of limit state at (controlled binding sets element) body)) elements)
@@ -64,13 +65,14 @@ module _ {F : Type 0} (number_of : F → Number) (limit : ℕ) (state : State) w
 
 -- ---- steps
 
--- what a call on forms answers, as what the steps give; want of memory is none
+-- the answer of a call on forms is what the steps give; out of memory makes no claim
 abbrev pub Told : {F : Type 0} → (F → Number) → Result (Affine F) FormFault → Result Form (Option Key) → Type 0
 Told v (Ok form) steps = steps ≡ Ok (form_in v form)
 Told v (Err (fault.Limit key)) steps = steps ≡ Err key
 Told v (Err fault.Memory) steps = Unit {0}
 
--- the stop of a fault of a step on forms: Limit with the operands there; want of memory stays
+-- the stop for a fault of a step on forms: Limit, with the operands of the step; out of memory
+-- remains
 abbrev pub ShowsFault : {F : Type 0} → (F → Number) → Place → Pairs → (Option Key → Extended) → (Option Key → Extended) → FormFault → StopOrMemory F → Type 0
 ShowsFault v at binding left right (fault.Limit key) stop = Shows v stop (faulted Limit at binding (left key) (right key))
 ShowsFault v at binding left right fault.Memory stop = stop ≡ Memory
@@ -81,15 +83,15 @@ ShowsFault v at binding left right fault.Memory stop = stop ≡ Memory
 abbrev pub is_in : List ℕ → ℕ → Bool
 is_in names name = list_any (λ m. m == name) names
 
--- names, and one more where it is not among them
+-- names, and one more if it is not among them
 abbrev pub with_once : List ℕ → ℕ → List ℕ
 with_once names name = if is_in names name then names else names ++ name ∷ []
 
--- names are marked by their numbers, and no others
+-- exactly these names are marked, by their numbers
 abbrev pub AreMarked : List Bool → List ℕ → Type 0
 AreMarked marks names = (n : ℕ) → slice_index_or marks n false ≡ is_in names n
 
--- the definition that one of the code shows
+-- the view of a definition of the code
 abbrev pub definition_in : {F : Type 0} → OwnDefinition F → Definition F
 definition_in d =
     record {
@@ -109,12 +111,12 @@ abbrev pub found_in : {F : Type 0} → Option (OwnDefinition F) → List (Defini
 found_in None = []
 found_in (Some d) = definition_in d ∷ []
 
--- the definition of a name that the statement noted for it is, if one is noted
+-- the definition of a name by the statement that is noted for it, if one is noted
 abbrev pub noted_by : {F : Type 0} → Option (Bor (Stmt F)) → ℕ → List (Definition F)
 noted_by None name = []
 noted_by (Some s) name = definition_of (defined_at s.now.at s.now.act) name
 
--- by the number of each name stands the statement that is its first definition
+-- the entry for each name is the statement that first defines it
 abbrev pub AreNoted : {F : Type 0} → List (Option (Bor (Stmt F))) → List (Definition F) → Type 0
 AreNoted noted ds = (name : ℕ) → noted_by (slice_index_or noted name None) name ≡ definition_of ds name
 
@@ -126,7 +128,7 @@ HaveOrder {F} state ds = All (λ (d : Definition F). AreInOrder state (each_once
 
 -- ---- rows and their columns
 
--- the row that one of the code shows
+-- the view of a row of the code
 abbrev pub form_row_in : {F : Type 0} → (F → Number) → OwnRow F → FormRow
 form_row_in value row = record { key = row.key; sense = row.sense; form = form_in value row.form }
 
@@ -134,7 +136,7 @@ form_row_in value row = record { key = row.key; sense = row.sense; form = form_i
 abbrev pub is_among : List Key → Key → Bool
 is_among keys key = list_any (same_key key) keys
 
--- the same values, in order and each once
+-- the same values, in order, without repetition
 pub record OrdersOnce {X : Type 0} (cmp : X → X → Ordering) (old new : List X) : Type 0 where
   pub ordered : IsStrictlySortedBy cmp new
   pub same : (x : X) → list_any (eq_by_cmp cmp x) new ≡ list_any (eq_by_cmp cmp x) old

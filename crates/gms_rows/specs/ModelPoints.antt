@@ -1,5 +1,5 @@
--- When a point keeps a model: each of its equations, as it is defined, and the bounds of its variables (GAMS User's Guide, "Equations";
--- Chvatal, "Linear Programming", chapter 1).
+-- When a point satisfies a model: each of its equations, as it is defined, and the bounds of its
+-- variables (GAMS User's Guide, "Equations"; Chvatal, "Linear Programming", chapter 1).
 use Rattle.std.specs.Prelude.{◌≡◌, ℕ, Bool, true, false, List, [], map, flat_map, Option, is_some, Ok, Err}
 use Rattle.std.specs.List.{All}
 use Rattle.gq_number.specs.Number.{Number}
@@ -28,12 +28,12 @@ definitions_of_model statements model = flat_map (definition_of (definitions sta
 abbrev pub IsLinearDefinition : {F : Type 0} → State → Definition F → Type 0
 IsLinearDefinition state d = (is_linear state d.left ≡ true) × (is_linear state d.right ≡ true)
 
--- two sides are numbers that compare as an equation says
+-- the two sides are numbers that compare as an equation says
 abbrev pub Compare : Side → Answer Extended → Answer Extended → Type 0
 Compare side (Ok (number left)) (Ok (number right)) = KeepsSense (sense_of side) left right
 Compare side left right = ⊥
 
--- whether the labels of indices are those of a tuple
+-- whether the labels of indices exist, so that they have a tuple
 abbrev pub is_there : Answer (List (Option ℕ)) → Bool
 is_there (Ok labels) = is_some (tuple_of labels)
 is_there (Err fault) = false
@@ -44,20 +44,21 @@ module _ {F : Type 0} (number_of : F → Number) (limit : ℕ) (state : State) (
   SidesCompare d binding =
       Compare d.side (value_at number_of limit state point binding d.left) (value_at number_of limit state point binding d.right)
 
-  -- a point keeps a definition: for each element of its domain that has a tuple the two sides compare
+  -- a point satisfies a definition: for each element of its domain that has a tuple the two sides
+  -- compare
   abbrev pub KeepsDefinition : Definition F → Type 0
   KeepsDefinition d = (elements : List (List ℕ)) → domain number_of limit state [] d.at (control_over (sets_of d) d.condition) ≡ Ok elements →
       All (λ element. is_there (in_order (labels number_of limit state (bound_to d element) d.indices)) ≡ true → SidesCompare d (bound_to d element)) elements
 
-  -- and a model: the definition of each of its equations
+  -- a point satisfies a model: the definition of each of its equations
   abbrev pub KeepsModel : List (Stmt F) → ℕ → Type 0
   KeepsModel statements model = All KeepsDefinition (definitions_of_model statements model)
 
--- a point keeps the bounds that elements of variables have in a state
+-- a point satisfies the bounds that elements of variables have in a state
 abbrev pub KeepsBoundsOf : State → (Key → Number) → List Key → Type 0
 KeepsBoundsOf state point keys =
     All (λ (key : Key). KeepsLower (attributes_of state key.symbol key.tuple).lower (point key) × KeepsUpper (attributes_of state key.symbol key.tuple).upper (point key)) keys
 
--- the elements that the columns of a linear program are
+-- the elements of the columns of a linear program
 abbrev pub column_elements : Lp Number → List Key
 column_elements lp = map (λ (column : Column Number). column.key) lp.columns

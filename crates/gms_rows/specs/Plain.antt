@@ -1,5 +1,5 @@
--- Definitions whose indices are labels and sets of one dimension, as those of an accepted program are: so each element of the domain has a row
--- of its own (GAMS User's Guide, "Equations").
+-- Definitions whose indices are labels and sets of one dimension, as those of an accepted program
+-- are: so each element of the domain has another row (GAMS User's Guide, "Equations").
 use Rattle.std.specs.Prelude.{◌≡◌, List, All, length}
 use Rattle.gms_ast.specs.declared.program.Stmt.{Stmt}
 use Rattle.gms_ast.specs.Trees as tree

@@ -1,6 +1,7 @@
--- The value of an expression at a point, which gives each element of a variable a number: its variables are read there (GAMS User's Guide,
--- "Equations"; Chvatal, "Linear Programming", chapter 1). What has no variables has its value, as everywhere; the steps that join what has
--- some are those of exact numbers, without limit.
+-- The value of an expression at a point, which gives each element of a variable a number: its
+-- variables are read there (GAMS User's Guide, "Equations"; Chvatal, "Linear Programming", chapter
+-- 1). A part without variables has its usual value; the steps that join parts with variables are
+-- those of exact numbers, without limit.
 use Rattle.std.specs.Prelude.{ℕ, Bool, true, false, not, ◌&&◌, ◌||◌, List, [], ◌∷◌, map, Option, Some, None, Ok, Err, if◌then◌else◌}
 use Rattle.gms_labels.specs.declared.place.Place.{Place}
 use Rattle.gq_number.specs.Number.{Number, ◌+ℚ◌, ◌-ℚ◌, ◌*ℚ◌, ◌/ℚ◌}
@@ -24,22 +25,24 @@ use Rattle.gms_rows.specs.Affine.{has_variables, some_has_variables, is_inverse}
 
 -- ---- steps without limit
 
--- two numbers have a sum, however large; with an infinity or NA the step is that of extended numbers, which has no limit there
+-- two numbers have a sum, however large; with an infinity or NA the step is that of extended
+-- numbers, which has no limit there
 abbrev pub exact_sum : Extended → Extended → Outcome
 exact_sum (number x) (number y) = Ok (number (x +ℚ y))
 exact_sum x y = sum 0 x y
 
--- the same of a difference
+-- two numbers have a difference, however large; otherwise the step is that of extended numbers
 abbrev pub exact_difference : Extended → Extended → Outcome
 exact_difference (number x) (number y) = Ok (number (x -ℚ y))
 exact_difference x y = difference 0 x y
 
--- the same of a product
+-- two numbers have a product, however large; otherwise the step is that of extended numbers
 abbrev pub exact_product : Extended → Extended → Outcome
 exact_product (number x) (number y) = Ok (number (x *ℚ y))
 exact_product x y = product 0 x y
 
--- the same of a quotient by what is not 0
+-- two numbers have a quotient, unless the second is 0; otherwise the step is that of extended
+-- numbers
 abbrev pub exact_quotient : Extended → Extended → Outcome
 exact_quotient (number x) (number y) = if is_zero y then Err Divide else Ok (number (x /ℚ y))
 exact_quotient x y = quotient 0 x y
@@ -57,7 +60,7 @@ module _ (binding : Pairs) where
       answer and_then λ y. taken at binding x y (if divides then exact_quotient x y else exact_product x y)
   exact_product_step mark x answer = answer
 
-  -- what a fold makes of the value so far and that of the next body
+  -- a step of a fold: the value so far with that of the next body
   abbrev pub exact_join : FoldOp → Place → Extended → Extended → Answer Extended
   exact_join Sum at x y = taken at binding x y (exact_sum x y)
   exact_join Prod at x y = taken at binding x y (exact_product x y)
@@ -68,14 +71,14 @@ module _ (binding : Pairs) where
   abbrev pub exact_fold_step : FoldOp → Place → Step
   exact_fold_step op at mark x answer = answer and_then λ y. exact_join op at x y
 
-  -- the values of a fold's bodies joined one after another
+  -- the values of a fold's bodies, joined in sequence
   abbrev pub exact_folded : FoldOp → Place → Marked → Answer Extended
   exact_folded op at bodies =
       nodes.joined (exact_fold_step op at) (Err (faulted EmptyExtreme at binding nothing nothing)) (start_of op) bodies
 
 -- ---- the value at a point
 
--- the number of an element of a variable at a point; 0 where a lag goes past the ends of its set
+-- the number of an element of a variable at a point; 0 if a lag goes past the ends of its set
 abbrev pub element_at : (Key → Number) → ℕ → Option (List ℕ) → Extended
 element_at point name None = nothing
 element_at point name (Some t) = number (point (record { symbol = name; tuple = t }))
@@ -108,7 +111,7 @@ module _ {F : Type 0} (number_of : F → Number) (limit : ℕ) (state : State) (
 
 -- ---- expressions that are linear in the variables
 
--- whether a part stands with its place and sign, as each of a sum or a product does
+-- whether a part has a place and a sign, as each part of a sum or a product has
 abbrev pub is_signed : Mark → Bool
 is_signed (signed at inverse) = true
 is_signed mark = false
@@ -119,7 +122,7 @@ is_sum Sum = true
 is_sum op = false
 
 module _ {F : Type 0} (state : State) where
-  -- of factors behind the first at most one has variables, and it does not divide
+  -- of the factors after the first at most one has variables, and it does not divide
   abbrev pub are_later_factors : tree.Parts F → Bool
   are_later_factors tree.no_part = true
   are_later_factors (tree.part mark part rest) =
@@ -132,7 +135,8 @@ module _ {F : Type 0} (state : State) where
       if has_variables state part then not (some_has_variables state rest) else are_later_factors rest
 
   abbrev mutual
-    -- whether an expression is linear in the variables: of a product one factor may have some and no divisor, of the folds a sum's body
+    -- whether an expression is linear in the variables: of a product at most one factor, and no
+    -- divisor, has variables; of the folds, the body of a sum may
     pub is_linear : tree.Tree F → Bool
     is_linear (tree.fold_over at op control body) = not (has_variables state body) || (is_sum op && is_linear body)
     is_linear (tree.negated operand) = is_linear operand
@@ -141,7 +145,7 @@ module _ {F : Type 0} (state : State) where
     is_linear (tree.guarded operand guards) = is_linear operand
     is_linear other = true
 
-    -- whether the parts of a sum or a product are
+    -- whether the parts of a sum or a product are linear in the variables
     pub are_linear : tree.Parts F → Bool
     are_linear tree.no_part = true
     are_linear (tree.part mark part rest) = is_signed mark && (is_linear part && are_linear rest)

@@ -1,5 +1,5 @@
--- The rows of a model: one for each equation of the model and each element of the domain of its definition (GAMS User's Guide, "Equations",
--- "Model and Solve Statements").
+-- The rows of a model: one for each equation of the model and each element of the domain of its
+-- definition (GAMS User's Guide, "Equations", "Model and Solve Statements").
 use Rattle.std.specs.Prelude.{ℕ, Bool, true, false, not, ◌==◌, List, [], ◌∷◌, ◌++◌, map, flat_map, filter, Option, Some, None, option_map, Ok, if◌then◌else◌}
 use Rattle.gms_labels.specs.declared.place.Place.{Place}
 use Rattle.gq_number.specs.Number.{Number}
@@ -28,7 +28,7 @@ use Rattle.gms_rows.specs.Affine.{affine}
 
 -- ---- equations
 
--- numbers, each where it stands first
+-- numbers without repetition, each where it occurs first
 abbrev pub each_once : List ℕ → List ℕ
 each_once [] = []
 each_once (n ∷ ns) = n ∷ filter (λ m. not (m == n)) (each_once ns)
@@ -68,7 +68,8 @@ module _ {F : Type 0} where
   has_lag (tree.set set rest) = has_lag rest
   has_lag (tree.lagged set op at amount rest) = true
 
-  -- the definition that a statement is; no definition of a program has a lag among its indices, and what had one would define nothing
+  -- the definition that a statement is; no definition of an accepted program has a lag among its
+  -- indices, and one that has defines nothing
   abbrev pub defined_at : Place → Act F → List (Definition F)
   defined_at at (Define equation indices condition left_at left side right_at right) =
       if has_lag (indices_of (map index_tree indices)) then [] else record {
@@ -106,7 +107,7 @@ module _ {F : Type 0} where
   abbrev pub equations_of : List (Stmt F) → ℕ → List ℕ
   equations_of statements name = equations_from [] name statements
 
-  -- the definition of an equation, where it has one
+  -- the definition of an equation, if it has one
   abbrev pub definition_of : List (Definition F) → ℕ → List (Definition F)
   definition_of [] name = []
   definition_of (d ∷ ds) name = if d.equation == name then d ∷ [] else definition_of ds name
@@ -127,27 +128,29 @@ sense_of side.L = sense.L
 sense_of side.G = sense.G
 sense_of side.N = sense.N
 
--- A row: an element of an equation, how its sides compare, and the form of the left side less the right one.
+-- A row: an element of an equation, how its sides compare, and the form of the left side less the
+-- right one.
 pub record FormRow : Type 0 where
   pub key : Key
   pub sense : Sense
   pub form : Form
 
--- the rows that are there
+-- the rows that exist
 abbrev pub those_there : List (Option FormRow) → List FormRow
 those_there [] = []
 those_there (None ∷ rest) = those_there rest
 those_there (Some row ∷ rest) = row ∷ those_there rest
 
 module _ {F : Type 0} (number_of : F → Number) (limit : ℕ) (state : State) where
-  -- the form of a row under a binding; the step between the two sides stands at the right one
+  -- the form of a row under a binding; the step between the two sides has the place of the right
+  -- one
   abbrev pub row_form : Definition F → Pairs → Answer Form
   row_form d binding =
       affine number_of limit state d.left_at binding d.left and_then λ left.
       affine number_of limit state d.right_at binding d.right and_then λ right.
       sum_of limit d.right_at binding true left right
 
-  -- the row of an element, where the element is there
+  -- the row of an element, if it exists
   abbrev pub row_under : Definition F → Pairs → Answer (Option FormRow)
   row_under d binding =
       in_order (labels number_of limit state binding d.indices) and_then λ those.

@@ -26,7 +26,7 @@ fn push_keys(alloc: Global, keys: &[Key], all: &mut Vec<Key>) -> Result<(), Allo
     Ok(())
 }
 
-/// Puts values in order, and keeps each once.
+/// Sorts values, and removes repetitions.
 fn order_once<T: Ord + Drop>(values: &mut Vec<T>) -> Result<(), AllocError>
     ensures { OnOk result (OrdersOnce T.cmp values.old.items values.new.items) }
 {
@@ -35,7 +35,7 @@ fn order_once<T: Ord + Drop>(values: &mut Vec<T>) -> Result<(), AllocError>
     Ok(())
 }
 
-/// The keys that stand in rows, and that of the objective, in order and each once.
+/// The keys that occur in rows, and that of the objective, in order, without repetition.
 pub(crate) fn keys_of<F: ExactField>(
     alloc: Global,
     rows: &[FormRow<F>],

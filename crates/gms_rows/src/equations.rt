@@ -20,7 +20,7 @@ pub(crate) struct Definition<'s, F> {
     pub(crate) at: Place,
     /// Its indices.
     pub(crate) indices: &'s [Index<F>],
-    /// The condition, where there is one.
+    /// The condition, if any.
     pub(crate) condition: Option<&'s Expr<F>>,
     /// The place of the left side.
     pub(crate) left_at: Place,
@@ -90,7 +90,7 @@ fn definition_at<F: ExactField>(statement: &Stmt<F>, name: u32) -> Option<Defini
     }
 }
 
-/// The definition of a name among the statements that were noted.
+/// The definition of a name by the statement that was noted for it.
 pub(crate) fn noted_definition<'s, F: ExactField>(
     noted: &[Option<&'s Stmt<F>>],
     name: u32,
@@ -103,7 +103,7 @@ pub(crate) fn noted_definition<'s, F: ExactField>(
     }
 }
 
-/// Notes a statement by the name that it defines, where it is the first that does.
+/// Notes a statement by the name that it defines, if it is the first that does.
 fn note<'s, F: ExactField>(
     noted: &mut Vec<Option<&'s Stmt<F>>>,
     statement: &'s Stmt<F>,
@@ -136,7 +136,8 @@ fn defined_name<F: ExactField>(statement: &Stmt<F>) -> Option<u32>
     }
 }
 
-/// The statements that define names, each by the number of its name: the first that the program has.
+/// The statements that define names, each by the number of its name: the first that the program
+/// has.
 pub(crate) fn noted_statements<'s, F: ExactField>(
     alloc: Global,
     program: &'s Program<F>,
@@ -150,7 +151,8 @@ pub(crate) fn noted_statements<'s, F: ExactField>(
     Ok(noted)
 }
 
-/// The equations of a model: those that are listed, each where it stands first, or all that were declared before it.
+/// The equations of a model: those that are listed, without repetition, or all that were declared
+/// before it.
 fn listed(alloc: Global, model: &ModelDecl, declared: &[u32]) -> Result<Vec<u32>, AllocError>
     ensures { IfOk result (λ equations. equations.items ≡ listed declared.now model.now) }
 {
@@ -196,7 +198,7 @@ fn found_by<F: ExactField>(
     }
 }
 
-/// Adds the names that are declared, each once.
+/// Adds the names that are declared, without repetition.
 fn push_names<F: ExactField>(names: &mut Names, items: &[Decl<F>]) -> Result<(), AllocError>
     ensures { (before : List ℕ) → names.old ≡ each_once before →
         OnOk result (names.new ≡ each_once (before ++ map (λ item. item.named.name) items.now)) }
@@ -207,7 +209,7 @@ fn push_names<F: ExactField>(names: &mut Names, items: &[Decl<F>]) -> Result<(),
     Ok(())
 }
 
-/// Adds the equations that an act declares, each once.
+/// Adds the equations that an act declares, without repetition.
 fn push_declared<F: ExactField>(names: &mut Names, act: &Act<F>) -> Result<(), AllocError>
     ensures { (before : List ℕ) → names.old ≡ each_once before →
         OnOk result (names.new ≡ each_once (before ++ declared_by act.now)) }
@@ -221,7 +223,8 @@ fn push_declared<F: ExactField>(names: &mut Names, act: &Act<F>) -> Result<(), A
     }
 }
 
-/// The equations of a model, in order, by its first declaration. GAMS User's Guide, "Model and Solve Statements".
+/// The equations of a model, in order, by its first declaration. GAMS User's Guide, "Model and
+/// Solve Statements".
 pub fn equations_of<F: ExactField>(
     alloc: Global,
     program: &Program<F>,

@@ -26,7 +26,7 @@ use lp_core::{Lp, Sequence};
 use lp_form::Key;
 use std::alloc::Global;
 
-/// Adds the rows of an equation, where it has a definition.
+/// Adds the rows of an equation, if it has a definition.
 fn push_equation<'s, F: ExactField>(
     alloc: Global,
     store: &Store<F>,
@@ -95,11 +95,13 @@ fn program_of<F: ExactField>(
     })
 }
 
-/// The linear program that a solve means in a state: the rows of the model's equations, one for each element of their domains, the columns
-/// of the elements of variables that stand in them and of the objective, with their bounds, and the objective.
+/// The linear program that a solve means in a state: the rows of the model's equations, one for
+/// each element of their domains; the columns of the objective and of the elements of variables
+/// that occur in the rows, with their bounds; and the objective.
 ///
-/// `at` is the place of the solve. A stop is the first fault of the rows, or else `TooManyRows` where the standard form has over 1,500 rows,
-/// or else `TooManyColumns` where it has over 3,000 columns. GAMS User's Guide, "Equations", "Model and Solve Statements".
+/// `at` is the place of the solve. A stop is the first fault of the rows; or else `TooManyRows`
+/// where the standard form has over 1,500 rows; or else `TooManyColumns` where it has over 3,000
+/// columns. GAMS User's Guide, "Equations", "Model and Solve Statements".
 pub fn generate<F: ExactField>(
     alloc: Global,
     store: &Store<F>,

@@ -1,4 +1,4 @@
-//! What the rows of a definition are, for every state: laws on a function with an empty body.
+//! What the rows of a definition are, for every state: laws of functions with an empty body.
 ghost use Rattle.std.specs.Prelude.{◌≡◌, ◌≢◌, ◌↔◌, ℕ, Bool, true, ◌||◌, List, Some, Ok, count_by, map, if◌then◌else◌};
 ghost use Rattle.std.specs.List.{All, AllPairs};
 ghost use Rattle.gq_number.specs.Number.{Number, ◌+ℚ◌, ◌-ℚ◌, ◌*ℚ◌, ◌/ℚ◌};
@@ -26,10 +26,11 @@ ghost use Rattle.gms_rows.specs.Rows.{Definition, FormRow, rows_of};
 
 use gq_field::ExactField;
 
-/// The rows of a definition are exactly one for each element of its sets whose condition holds, where its indices are labels and sets
-/// without lags whose members are in order and have one label: each row is that of such an element; at the tuple of an element whose
-/// condition holds there is one row, and at that of an element whose condition does not hold there is none; and no two rows have the
-/// same key. GAMS User's Guide, "Equations", "Conditional Equations".
+/// The rows of a definition are exactly one for each element of its sets whose condition holds, if
+/// its indices are labels and sets without lags whose members are in order and have one label. Each
+/// row is that of such an element. At the tuple of an element whose condition holds there is one
+/// row; at that of any other element there is none. No two rows have the same key. GAMS User's
+/// Guide, "Equations", "Conditional Equations".
 pub fn row_laws<F: ExactField>()
     ensures sources { (state : State) (d : Definition F) (rows : List FormRow) → HasPlainSets state d →
         rows_of F.value F.limit state d ≡ Ok rows →
@@ -45,9 +46,10 @@ pub fn row_laws<F: ExactField>()
         AllPairs (λ a b. a.key ≢ b.key) rows }
 {}
 
-/// What a form is at a point, which gives each element of a variable a number: the sum of two forms, or their difference, is that of what
-/// they are there, the product with a number, or the quotient, is that of the form there and the number. Chvatal, "Linear Programming",
-/// chapter 1.
+/// The value of a form at a point, which gives each element of a variable a number. The value of a
+/// sum or a difference of two forms is that of their values there; the value of a product with a
+/// number, or a quotient, is that of the form's value and the number. Chvatal, "Linear
+/// Programming", chapter 1.
 pub fn form_laws<F: ExactField>()
     ensures sum { (point : Key → Number) (at : Place) (b : Pairs) (subtracts : Bool) (left right form : Form) →
         sum_of F.limit at b subtracts left right ≡ Ok form →
@@ -61,12 +63,15 @@ pub fn form_laws<F: ExactField>()
         form_at point form ≡ form_at point left /ℚ x }
 {}
 
-/// What the linear program of a solve says of a point, which gives each element of a variable a number. The form of an expression that is
-/// linear in the variables is at each point the value of the expression with its variables read there. And the points that keep the
-/// model (at each element of the domain of each of its equations the left side compares with the right one as `=e=`, `=l=` or `=g=` says,
-/// and each variable of the program is within its bounds) are exactly the feasible points of the program.
+/// What the linear program of a solve says of a point, which gives each element of a variable a
+/// number. The form of an expression that is linear in the variables is at each point the value of
+/// the expression with its variables read there. The points that satisfy the model are exactly the
+/// feasible points of the program. A point satisfies a model if at each element of the domain of
+/// each of its equations the left side compares with the right one as `=e=`, `=l=` or `=g=` says,
+/// and each variable of the program is within its bounds.
 ///
-/// GAMS User's Guide, "Equations", "Model and Solve Statements"; Chvatal, "Linear Programming", chapter 1.
+/// GAMS User's Guide, "Equations", "Model and Solve Statements"; Chvatal, "Linear Programming",
+/// chapter 1.
 pub fn point_laws<F: ExactField>()
     ensures value { (state : State) (point : Key → Number) (at : Place) (b : Pairs) (e : Tree F) (form : Form) → is_linear state e ≡ true →
         affine F.value F.limit state at b e ≡ Ok form →

@@ -1,4 +1,5 @@
-//! Floor 5, the run. Rows: the affine forms of equations, and the linear program that a solve means.
+//! Layer 5, the run. Rows: the affine forms of equations, and the linear program that a solve
+//! means.
 #![tactic(auto)]
 
 mod columns;

@@ -27,12 +27,14 @@ use lp_form::{Form, Key};
 use lp_sum::FormSum;
 use std::alloc::Global;
 
-/// The affine form of an expression in a state, where its controlled sets stand for the labels of a binding: a constant, and a number for
-/// each element of a variable.
+/// The affine form of an expression in a state, where its controlled sets stand for the labels of a
+/// binding: a constant, and a number for each element of a variable.
 ///
-/// The expression is linear, and its first character stands at `at`. What has no variables has its value, as have the parts of a sum or a
-/// product that stand in front of the first with variables; where that is no number the stop is `Undefined` at its first character. All
-/// other steps are taken entry by entry, the constant first, and a stop is the first that does not fit. GAMS User's Guide, "Equations".
+/// The expression is linear, and its first character is at `at`. A part without variables has its
+/// value, and so have the parts of a sum or a product before the first with variables; if that is
+/// no number the stop is `Undefined` at its first character. All other steps are done entry by
+/// entry, the constant first, and a stop is the first that does not fit. GAMS User's Guide,
+/// "Equations".
 #[cycle(affine)]
 pub fn affine<F: ExactField>(
     alloc: Global,
@@ -71,7 +73,7 @@ pub fn affine<F: ExactField>(
     }
 }
 
-/// The form of a value. `Undefined` at a place where it is no number.
+/// The form of a value. `Undefined` at a place if it is no number.
 #[inline(never)]
 fn number<F: ExactField>(
     alloc: Global,
@@ -105,7 +107,7 @@ fn constant<F: ExactField>(
     number(alloc, value, at, b)
 }
 
-/// The form of an element of a variable; 0 where a lag goes past the ends of its set.
+/// The form of an element of a variable; 0 if a lag goes past the ends of its set.
 #[inline(never)]
 fn variable<F: ExactField>(
     alloc: Global,
@@ -160,7 +162,8 @@ fn total<F: ExactField>(
     Ok(sum)
 }
 
-/// Adds the forms of an expression at elements, to whose labels these sets are bound behind those of a binding.
+/// Adds the forms of an expression at elements: these sets are bound to the labels of each element,
+/// after the pairs of a binding.
 #[cycle(affine)]
 #[inline(never)]
 fn add_elements<F: ExactField>(
@@ -186,7 +189,8 @@ fn add_elements<F: ExactField>(
     Ok(())
 }
 
-/// The form of a sum or a product: the parts in front of the first with variables make one number, and each other part is one step on forms.
+/// The form of a sum or a product: the parts before the first with variables make one number, and
+/// each other part is one step on forms.
 #[cycle(affine)]
 #[inline(never)]
 fn chain<F: ExactField>(
@@ -212,7 +216,8 @@ fn chain<F: ExactField>(
     }
 }
 
-/// The form of the parts in front, none of which has variables: the number that they make. `Undefined` at the first where it is none.
+/// The form of the parts before the first with variables: the number that they make. `Undefined` at
+/// the first part if it is none.
 #[inline(never)]
 fn front<F: ExactField>(
     alloc: Global,
@@ -232,7 +237,8 @@ fn front<F: ExactField>(
     Ok(Some(form))
 }
 
-/// The form so far joined with that of the next part of a sum or a product; the first part makes it.
+/// The form so far joined with that of the next part of a sum or a product, which gives the first
+/// form.
 #[inline(never)]
 fn join<F: ExactField>(
     alloc: Global,

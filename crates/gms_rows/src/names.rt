@@ -1,12 +1,12 @@
-//! Names, each once, and room for what stands by their numbers.
+//! Names without repetition, and entries by their numbers.
 ghost use Rattle.std.specs.Prelude.{◌≡◌, ◌<◌, ℕ, [], length, slice_index_or, OnOk};
 ghost use Rattle.gms_rows.specs.InnerWalks.{with_once};
 
 use std::alloc::{AllocError, Global};
 use std::marker::Model;
 
-/// Names, each once, in the order in which they came. Whether a name is among them is told by its mark, so that adding
-/// one takes the same time however many there are.
+/// Names without repetition, in the order in which they were added. A mark tells whether a name is
+/// among them, so that adding one takes the same time however many there are.
 #[derive(Drop)]
 pub(crate) struct Names {
     names: Vec<u32>,
@@ -51,7 +51,7 @@ impl Names {
         names
     }
 
-    /// Adds a name at the end, where it is not among them.
+    /// Adds a name at the end, if it is not among them.
     pub(crate) fn push_once(&mut self, name: u32) -> Result<(), AllocError>
         ensures { OnOk result (self.new ≡ with_once self.old name) }
     {
@@ -66,7 +66,7 @@ impl Names {
     }
 }
 
-/// Makes room for what stands by the number of a name: the list goes on with the same up to there.
+/// Extends a list so that the number of a name has an entry: the new entries are all `same`.
 pub(crate) fn reach<T: Copy>(list: &mut Vec<T>, name: u32, same: T) -> Result<(), AllocError>
     ensures there { OnOk result (name < length list.new.items) }
     ensures same { (n : ℕ) → slice_index_or list.new.items n same ≡ slice_index_or list.old.items n same }

@@ -19,7 +19,8 @@ use lp_core::Sense;
 use lp_form::Key;
 use std::alloc::{AllocError, Global};
 
-/// Adds a name at the end of others, where it is not among them. They are few: the indices of a definition.
+/// Adds a name at the end of others, if it is not among them. They are few: the indices of a
+/// definition.
 fn push_once(names: &mut Vec<u32>, name: u32) -> Result<(), AllocError>
     ensures { OnOk result (names.new.items ≡ with_once names.old.items name) }
 {
@@ -32,7 +33,7 @@ fn push_once(names: &mut Vec<u32>, name: u32) -> Result<(), AllocError>
     Ok(())
 }
 
-/// The sets among indices, each once, in order.
+/// The sets among indices, in order, without repetition.
 fn sets_of<F: ExactField>(alloc: Global, indices: &[Index<F>]) -> Result<Vec<u32>, AllocError>
     ensures { IfOk result (λ sets. sets.items ≡ each_once (sets_among (indices_of (map index_tree indices.now)))) }
 {
@@ -58,7 +59,7 @@ fn sense_of(side: Side) -> Sense
     }
 }
 
-/// The row of an element of an equation, where the element is there.
+/// The row of an element of an equation, if it exists.
 fn row<F: ExactField>(
     alloc: Global,
     store: &Store<F>,
@@ -83,7 +84,7 @@ fn row<F: ExactField>(
     }))
 }
 
-/// Adds a row, where it is there.
+/// Adds a row, if it exists.
 fn push_row<F: ExactField>(
     rows: &mut Vec<FormRow<F>>,
     row: Option<FormRow<F>>,

@@ -1,4 +1,5 @@
-//! How many rows and columns the standard form of the rows of a model has, and that they are not too many.
+//! How many rows and columns the standard form of the rows of a model has, and that they are not
+//! too many.
 ghost use Rattle.std.specs.Prelude.{◌≡◌, ◌≤◌, ◌+◌, [], min, sum_by, OnOk};
 ghost use Rattle.gq_number.specs.Number.{Number};
 ghost use Rattle.lp_core.specs.WellFormed.{rows_of_sense, rows_of_bounds, variables_of_bounds, standard_rows, standard_columns};
@@ -15,7 +16,8 @@ use gq_field::ExactField;
 use lp_core::{Column, MOST_COLUMNS, MOST_ROWS, count_bounds, count_variables, rows_by_sense};
 use std::alloc::Global;
 
-/// How many rows the standard form has, or the greatest `usize` where there are more: those of the rows, and one for each column with two bounds.
+/// How many rows the standard form has, at most the greatest `usize`: those of the rows, and one
+/// for each column with two bounds.
 fn standard_rows<F: ExactField>(rows: &[FormRow<F>], columns: &[Column<F>]) -> usize
     ensures { result ≡ min (sum_by (λ row. rows_of_sense row.sense) rows.now + sum_by (λ column. rows_of_bounds column.lower column.upper) columns.now) most_counted }
 {
@@ -39,8 +41,9 @@ fn too_many<F: ExactField>(
     StopOrMemory::counted(alloc, kind, at, count as u64, &none)
 }
 
-/// Whether rows and columns are few enough for a linear program. `TooManyRows` at the place of the solve where the standard form has over 1,500
-/// rows, or else `TooManyColumns` where it has over 3,000 columns.
+/// Whether rows and columns are few enough for a linear program. `TooManyRows` at the place of the
+/// solve where the standard form has over 1,500 rows, or else `TooManyColumns` where it has over
+/// 3,000 columns.
 pub(crate) fn check_size<F: ExactField>(
     alloc: Global,
     rows: &[FormRow<F>],

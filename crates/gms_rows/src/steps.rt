@@ -16,7 +16,7 @@ use lp_form::{Form, FormFault, Key};
 use lp_sum::FormSum;
 use std::alloc::{AllocError, Global};
 
-/// The number of a form that a step is on: the constant, or that of a key.
+/// The number that a step reads: the constant of a form, or the number of a key.
 fn entry<F: ExactField>(form: &Form<F>, key: &Option<Key>) -> Ext<F>
     ensures { extended F.value result ≡ entry_of (form_in F.value form.now) key.now }
 {
@@ -49,7 +49,7 @@ fn of_two<F: ExactField>(
     }
 }
 
-/// Adds another form, or subtracts it. After a fault the form is as it was.
+/// Adds another form, or subtracts it. After a fault the form is unchanged.
 fn increase<F: ExactField>(
     alloc: Global,
     form: &mut Form<F>,
@@ -69,7 +69,8 @@ fn increase<F: ExactField>(
     form.add_assign(alloc, &negated)
 }
 
-/// The sum of two forms, or their difference, entry by entry. `Limit` at the place where one does not fit.
+/// The sum of two forms, or their difference, entry by entry. `Limit` at the place where one does
+/// not fit.
 #[inline(never)]
 pub(crate) fn add<F: ExactField>(
     alloc: Global,
@@ -88,7 +89,7 @@ pub(crate) fn add<F: ExactField>(
     }
 }
 
-/// The number of a growing sum that a step is on: the constant, or that of a key.
+/// The number that a step reads: the constant of a sum in progress, or the number of a key.
 fn entry_of_sum<F: ExactField>(sum: &FormSum<F>, key: &Option<Key>) -> Ext<F>
     ensures { extended F.value result ≡ entry_of (form_in F.value sum.now) key.now }
 {
@@ -99,7 +100,7 @@ fn entry_of_sum<F: ExactField>(sum: &FormSum<F>, key: &Option<Key>) -> Ext<F>
     }
 }
 
-/// The stop of a step on a growing sum and a form that does not fit.
+/// The stop of a step on a sum in progress and a form that does not fit.
 #[inline(never)]
 fn of_sum<F: ExactField>(
     alloc: Global,
@@ -121,7 +122,8 @@ fn of_sum<F: ExactField>(
     }
 }
 
-/// Adds a form to a growing sum, entry by entry. `Limit` at the place where a step does not fit.
+/// Adds a form to a sum in progress, entry by entry. `Limit` at the place where a step does not
+/// fit.
 #[inline(never)]
 pub(crate) fn add_to<F: ExactField>(
     alloc: Global,
@@ -140,7 +142,7 @@ pub(crate) fn add_to<F: ExactField>(
     }
 }
 
-/// The form that a growing sum is.
+/// The form of a sum in progress.
 #[inline(never)]
 pub(crate) fn finished<F: ExactField>(alloc: Global, sum: FormSum<F>) -> Result<Form<F>, AllocError>
     ensures { IfOk result (λ form. form_in F.value form ≡ form_in F.value sum) }
@@ -186,7 +188,8 @@ fn multiple<F: ExactField>(
     }
 }
 
-/// The product of two forms, one of which is a number, entry by entry. `Limit` at the place where a product does not fit.
+/// The product of two forms, one of which is a number, entry by entry. `Limit` at the place where a
+/// product does not fit.
 #[inline(never)]
 pub(crate) fn multiply<F: ExactField>(
     alloc: Global,
@@ -204,7 +207,8 @@ pub(crate) fn multiply<F: ExactField>(
     }
 }
 
-/// A form over a number, entry by entry. `Divide` at the place where the number is 0, `Limit` where a quotient does not fit.
+/// A form over a number, entry by entry. `Divide` at the place where the number is 0, `Limit` where
+/// a quotient does not fit.
 #[inline(never)]
 pub(crate) fn divide<F: ExactField>(
     alloc: Global,

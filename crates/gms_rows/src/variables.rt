@@ -1,4 +1,4 @@
-//! Whether an expression has variables of an equation.
+//! Whether a variable of an equation occurs in an expression.
 ghost use Rattle.std.specs.Prelude.{◌≡◌, ◌≤◌, length};
 ghost use Rattle.gms_ast.specs.TreeView.{tree_of};
 ghost use Rattle.gms_rows.specs.Affine.{has_variables, some_has_variables, in_front};
@@ -9,8 +9,8 @@ use gms_labels::Place;
 use gms_store::{Store, SymbolKind};
 use gq_field::ExactField;
 
-/// Whether a variable stands in an expression for its unknown value: outside conditions, relations, operands of logic and amounts of lags,
-/// where a checked program has none.
+/// Whether a variable occurs in an expression for its unknown value: outside conditions, relations,
+/// operands of logic and amounts of lags, where a checked program has none.
 #[cycle(variables)]
 pub(crate) fn has_variables<F: ExactField>(store: &Store<F>, e: &Expr<F>) -> bool
     ensures { result ≡ has_variables store.now (tree_of e.now) }
@@ -41,7 +41,7 @@ fn some_has_variables<F: ExactField>(store: &Store<F>, parts: &[(Place, bool, Ex
     false
 }
 
-/// How many parts of a sum or a product stand in front of the first with variables.
+/// How many parts of a sum or a product come before the first with variables.
 pub(crate) fn count_in_front<F: ExactField>(
     store: &Store<F>,
     parts: &[(Place, bool, Expr<F>)],

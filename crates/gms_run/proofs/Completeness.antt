@@ -31,7 +31,7 @@ use Rattle.gms_parse.proofs.OneReading.{one_program, program_or_fault}
 pub one_value : {A : Type 0} {o : Option A} {x y : A} → o ≡ Some x → o ≡ Some y → x ≡ y
 one_value p q = cc
 
--- A reliable host is ready for words that name what can be run.
+-- A reliable host is ready for arguments that name what can be run.
 ready_for : (old : Meaning) (words : List (List ℕ)) → NamesSource old.outside words → old.counts.reliable ≡ true → IsReadyFor old words
 ready_for old words n reliable =
     record { reliable = reliable; there = subst (λ (o : Option Asked). IfSome o (λ request. HasOrigin old.outside request.source)) (sym n.named) (found n.request.source n.taken n.found) }
@@ -46,13 +46,13 @@ ready_for old words n reliable =
     found (restarted saved file) (from_save save source) f = (has saved save f.0, has file source f.1)
     found (generated size) taken f = tt
 
--- a file that the host tells is the one that was taken
+-- the content that an exposed host gives to a file is the one that was read
 one_file : (old : Outside) (file told bytes : List ℕ) → HasFile old file told → IsFileOf old file bytes → bytes ≡ told
 one_file old file told bytes f is =
     let at : files_map.get f.0 file ≡ Some bytes = subst (λ (files : Option Files). IfSome files (λ fs. files_map.get fs file ≡ Some bytes)) f.1 is in
     one_value at f.2
 
--- what the host gives is what was taken
+-- what an exposed host holds is the input that was read
 the_taken : (old : Outside) (o : Origin) (told taken : Taken) → Gives old o told → IsTaken old o taken → taken ≡ told
 the_taken old (in_file file) (from_start told) (from_start source) f is = ap from_start (one_file old file told source f is)
 the_taken old (in_file file) (from_save a b) taken f is = absurd f
@@ -64,12 +64,12 @@ the_taken old (generated size) (from_start told) (from_start source) f is = ap f
 the_taken old (generated size) (from_save a b) taken f is = absurd f
 the_taken old (generated size) (from_start told) (from_save a b) f is = absurd is
 
--- what was taken is what the words name
+-- the input that was read is the one that the arguments name
 pub named_taken : (status : Status) (solving : Solving) (old new : Outside) (words : List (List ℕ)) (request : Asked) (run : IsRunOf status solving old new request) (n : NamesSource old words) → n.request ≡ request → run.taken ≡ n.taken
 named_taken status solving old new words request run n same =
     the_taken old n.request.source n.taken run.taken n.found (subst (λ (r : Asked). IsTaken old r.source run.taken) (sym same) run.is_taken)
 
--- words that name a source are not refused
+-- arguments that name a source are not refused
 pub names_some : (words : List (List ℕ)) (old : Outside) → NamesSource old words → request_of words ≡ None → ⊥
 names_some words old n none = let e : None ≡ Some n.request = sym none ∙ n.named in cc
 
@@ -81,7 +81,7 @@ fault_met status words old new n (inr none) met unmet = absurd (met none)
 pub one_script : {x y : Script} → scripted x ≡ scripted y → x ≡ y
 one_script e = cc
 
--- two programs that are seen alike have the same errors
+-- programs with equal views have the same errors
 same_errors_of : (saved : Option State) (line : ℕ) (solvers : List (List ℕ)) (one other : Program Frac) → program_view frac_value one ≡ program_view frac_value other → errors_of saved line one solvers ≡ errors_of saved line other solvers
 same_errors_of None line solvers one other alike = same-errors one other alike solvers
 same_errors_of (Some state) line solvers one other alike = same-joint-errors one other alike line solvers
@@ -121,7 +121,7 @@ not_refused solving old new words request run n same can =
     let is : run.taken ≡ n.taken = named_taken Compile solving old new words request run n same in
     good_matter solving.before.names run.taken run.matter run.ran.text (subst (CanRun solving.before.names) (sym is) can) run.is_matter run.ran.listing.0
 
--- What a run did that met no fault, for words that name a program: it is done, or an execution error stopped it.
+-- A run of arguments that name a program, where no fault is met: it ends with Done or Execution.
 pub completes : (status : Status) (solving : Solving) (words : List (List ℕ)) (old new : Meaning) → IsRun status solving words old new → CountsSo status old.counts new.counts → (IsReadyFor old words → EndsByNoFault status) → NamesProgram solving.before.names old.outside words → MeetsNoFault old.counts new.counts → (status ≡ Done) ⊎ (status ≡ Execution)
 completes status solving words old new run counts unmet n none = by status run counts unmet
   where
@@ -135,13 +135,13 @@ completes status solving words old new run counts unmet n none = by status run c
 
 -- ---- exactly what cannot be run is refused
 
--- what was restored is whatever is restored of the same bytes
+-- any two restored states of the same bytes are the same
 pub same_restored : (solvers : List (List ℕ)) (save : List ℕ) (a b : Saved) → GivesBack solvers save (Ok a) → IsRestored solvers save b → (a.source.items ≡ b.source.items) × (a.store ≡ b.store)
 same_restored solvers save a b back is =
     let h = back b.source.items b.program b.store is.solver is.is_save in
     (h.source_is, h.state_is ∙ ap (with_solver b.store) (one_value h.placed is.placed))
 
--- a job is one of what can be run
+-- the input of a program that was run can be run
 pub can_run_of : (solvers : List (List ℕ)) (taken : Taken) (matter : Matter) (job : Job) → IsMatter solvers taken matter → IsJob solvers matter job → CanRun solvers taken
 can_run_of solvers (from_start source) (scripted script) job is j = subst (IsGood solvers) (sym (one_script j.to_run) ∙ is) (accepted_good solvers j.script job.program j.accepted)
 can_run_of solvers (from_start source) (unrestored fault) job is j = absurd is
@@ -158,7 +158,8 @@ executed_can : (status : Status) (solving : Solving) (old new : Outside) (words 
 executed_can status solving old new words request run n same text executed =
     subst (CanRun solving.before.names) (named_taken status solving old new words request run n same) (can_run_of solving.before.names run.taken run.matter executed.job run.is_matter executed.is_job)
 
--- What a run did that met no fault, for words that name a source: it is refused exactly where it cannot be run.
+-- A run of arguments that name a source, where no fault is met: it ends with Compile exactly where
+-- the input cannot be run.
 pub refuses : (status : Status) (solving : Solving) (words : List (List ℕ)) (old new : Meaning) → IsRun status solving words old new → CountsSo status old.counts new.counts → (IsReadyFor old words → EndsByNoFault status) → (n : NamesSource old.outside words) → MeetsNoFault old.counts new.counts → (status ≡ Compile) ↔ ¬ (CanRun solving.before.names n.taken)
 refuses status solving words old new run counts unmet n none = (λ is. forth (subst (λ s. IsRun s solving words old new) is run), back status run counts unmet)
   where
@@ -173,7 +174,7 @@ refuses status solving words old new run counts unmet n none = (λ is. forth (su
     back ReadFault run counts unmet cannot = absurd (fault_met ReadFault words old new n none (λ met. met.0 counts) unmet)
     back WriteFault run counts unmet cannot = absurd (fault_met WriteFault words old new n none (λ met. met.1 counts) unmet)
 
--- the words are refused exactly where the status says so
+-- the arguments are refused exactly where the status says so
 pub refused_so : (status : Status) (solving : Solving) (words : List (List ℕ)) (old new : Meaning) → IsRun status solving words old new → (status ≡ Usage) ↔ (request_of words ≡ None)
 refused_so status solving words old new run = (λ e. (subst (λ s. IsRun s solving words old new) e run).0, back status run)
   where

@@ -28,12 +28,12 @@ use Rattle.gms_run.specs.Solving.{HaveGrown, number_limit}
 use Rattle.gms_run.proofs.Proved.{listable}
 use Rattle.gms_run.specs.InnerSteps.{Between, IsListed, course_at, programs_in}
 
--- what was shown stands, where nothing was shown before
+-- all events are valid, where none were shown before
 pub all_stand : (rules : List SolverRule) (answers : List (Answer Frac)) (before events : List (OwnEvent Frac)) → before ≡ [] → ShowsStanding frac_value number_limit rules answers before events → All (IsStanding frac_value number_limit rules answers) events
 all_stand rules answers before events none shows =
     subst (All (IsStanding frac_value number_limit rules answers)) (sym (shows.events ∙ ap (λ es. es ++ shows.shown) none)) shows.standing
 
--- what stands can be listed
+-- valid events can be listed
 pub all_listable : (rules : List SolverRule) (answers : List (Answer Frac)) (events : List (OwnEvent Frac)) → All (IsStanding frac_value number_limit rules answers) events → All (IsListable frac_value answers) events
 all_listable rules answers events are =
     All-weaker (IsStanding frac_value number_limit rules answers) (IsListable frac_value answers) (listable frac_value number_limit rules answers) events are
@@ -51,11 +51,11 @@ module _ (program : Program Frac) (rules : List SolverRule) (does : Course → C
   abbrev seen_new : Seen Frac
   seen_new = record { state = new.state; events = events; answers = new.answers }
 
-  -- behind events that were shown before the run does the same
+  -- after events that were shown before, the run does the same
   behind_front : (front : List Event) (left : List (Answer Number)) → does (course_at old front left None) ≡ behind front (does (come_to frac_value seen_old left))
   behind_front front left = ap (λ es. does (course_at old es left None)) (sym (append-nil front)) ∙ is_behind front (come_to frac_value seen_old left)
 
-  -- A statement that was executed goes on.
+  -- After a statement without a fault the run continues.
   pub listed_on : {A : Type 0} (x : A) (none : List (OwnEvent Frac)) (before after : List ℕ) → none ≡ [] → Runs frac_value (let r : Result A (StopOrMemory Frac) = Ok x in r) does (seen_before none) seen_new → All (IsStanding frac_value number_limit rules new.answers) events → HaveGrown old.solvers new.solvers new.answers (events_in frac_value events) → new.programs ≡ old.programs ++ programs_in events →
       after ≡ before ++ events_text program.names program.labels number_limit numbers (events_in frac_value events) → IsListed true does program rules old new before after
   listed_on {A} x none before after e given standing grown programs text =

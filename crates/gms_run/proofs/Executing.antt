@@ -1,4 +1,4 @@
--- How far the execution of a job has come, statement by statement, and what has gone out of its listing.
+-- How far the statements of a program have run, one by one, and how much of its listing is written.
 use Rattle.std.proofs.Common.{◌≡◌, ℕ, ◌+◌, ◌<◌, ◌≤◌, Bool, true, false, List, [], ◌∷◌, ◌++◌, length, map, take, get_or, refl, sym, ap, ◌∙◌, subst, append_assoc, append-nil, inl, inr, arith, length-append}
 use Rattle.std.proofs.lemmas.List.{take-map, take_more, map_push, length-map}
 use Rattle.gq_frac.specs.declared.frac.Frac.{Frac}
@@ -26,13 +26,13 @@ use Rattle.gms_run.specs.InnerSteps.{Between, BreaksBehind, Ends, EndsBehind, Is
 use Rattle.gms_run.proofs.Listed.{listed_none, listed_more, one_more}
 use Rattle.gms_run.proofs.Rest.{Done_so, EndsWith, begin, comes_to_rest, ends_done, ends_stopped, shown_by_first, solving_with, statements, statement_of, taken_by_first}
 
--- a text that was listed behind another is one of its own
+-- a text that was appended to another also lists the same from an empty text
 pub alone : (goes_on : Bool) (does : Course → Course) (program : Program Frac) (rules : List SolverRule) (old new : Between) (before after : List ℕ) → IsListed goes_on does program rules old new before after →
     (text : List ℕ) × (after ≡ before ++ text) × IsListed goes_on does program rules old new [] text
 alone goes_on does program rules old new before after p =
     (_, p.text, record { shown = p.shown; fault = p.fault; end = p.end; fresh = p.fresh; answers = p.answers; programs = p.programs; standing = p.standing; grown = p.grown; comes = p.comes; text = refl })
 
--- what is listed behind a text of its own
+-- a listing that starts from an empty text may be appended to another
 onto : (goes_on : Bool) (does : Course → Course) (program : Program Frac) (rules : List SolverRule) (old new : Between) (before text : List ℕ) → IsListed goes_on does program rules old new [] text → IsListed goes_on does program rules old new before (before ++ text)
 onto goes_on does program rules old new before text p =
     record { shown = p.shown; fault = p.fault; end = p.end; fresh = p.fresh; answers = p.answers; programs = p.programs; standing = p.standing; grown = p.grown; comes = p.comes; text = ap (λ t. before ++ t) p.text }
@@ -66,11 +66,12 @@ module _ (job : Job) (before : Solvers) where
       subst (λ rs. IsListed goes_on (statement_of job before s []) job.program rs now next x y) same_rules
       (subst (λ ns. IsListed goes_on (of_statement frac_value number_limit (record { program = job.program; solvers = ns }) s []) job.program rules_now now next x y) same_names p)
 
--- no more is left than a spool has, where nothing stands behind it
+-- at most one spool is pending, where the rest is empty
 pub room_behind : (spool rest : List ℕ) → length spool ≤ 4096 → rest ≡ [] → length (spool ++ rest) ≤ 4096
 room_behind spool rest few none = subst (λ t. length t ≤ 4096) (sym (ap (λ t. spool ++ t) none ∙ append-nil spool)) few
 
--- What has gone out, behind a text that is due, when so many statements were executed.
+-- The first `i` statements were executed. Their listing follows the text `due`, and all of it is
+-- written except for `left`.
 pub record HasCome (job : Job) (before : Solvers) (old now : Outside) (due : List ℕ) (i : ℕ) (at : Between) (left : List ℕ) : Type 0 where
   pub text : List ℕ
   pub done : Done_so job before true i at text
@@ -90,14 +91,14 @@ module _ (job : Job) (before : Solvers) (old : Outside) (due : List ℕ) where
         passes = subst (λ d. Passes old old d due) (sym (append-nil due)) (passes_none old due);
       }))
 
-  -- One statement more was executed, whose listing stands behind what is left.
+  -- One more statement was executed, and its listing follows what is pending.
   pub record Executes (mid : Outside) (goes_on : Bool) (i : ℕ) (next : Between) (left : List ℕ) : Type 0 where
     pub text : List ℕ
     pub done : Done_so job before goes_on (i + 1) next text
     pub passes : Passes old mid (due ++ text) left
     pub pending : length (due ++ shown_by (first_of i job) (solving_with job before next)) ≤ length passes.bytes + 4096
 
-  -- what was shown before is written, but for what is left
+  -- what was shown before is written, except for what is pending
   pends : (text bytes left shown : List ℕ) → due ++ text ≡ bytes ++ left → length left ≤ 4096 → shown ≡ text → length (due ++ shown) ≤ length bytes + 4096
   pends text bytes left shown split few same =
       let e : length (due ++ shown) ≡ length (bytes ++ left) = ap (λ (t : List ℕ). length (due ++ t)) same ∙ ap length split in
@@ -130,7 +131,7 @@ module _ (job : Job) (before : Solvers) (old : Outside) (due : List ℕ) where
   executes_next mid goes_on i s now next spool x y xs h few same l is p =
       executes_more mid goes_on i s now next spool x y h few (subst (λ ys. i < length ys) same l) (is ∙ ap (λ ys. get_or ys i s) same) p
 
-  -- What is left was passed on, and the run comes to the next statement.
+  -- What is pending was passed on, and the run reaches the next statement.
   pub come_more : (mid new : Outside) (i : ℕ) (next : Between) (left spool rest : List ℕ) → Executes mid true i next left → Passes mid new left spool → rest ≡ [] → Come new (i + 1) next (spool ++ rest)
   come_more mid new i next left spool rest h q none =
       record { text = h.text; done = h.done; passes = subst (Passes old new (due ++ h.text)) (sym (ap (λ t. spool ++ t) none ∙ append-nil spool)) (passes_on old mid new (due ++ h.text) left spool h.passes q) }
@@ -140,20 +141,20 @@ module _ (job : Job) (before : Solvers) (old : Outside) (due : List ℕ) where
   ended : (new : Outside) (status : Status) (at : Between) (text left : List ℕ) → EndsWith job before status at text → Passes old new (due ++ text) left → length left ≤ 4096 → EndsBehind status job (solving_with job before at) at.state at.programs old new due left
   ended new status at text left e passes room = record { ends = e.ends; passes = subst (λ t. Passes old new (due ++ t) left) (sym e.shown) passes; room = room }
 
-  -- behind the last statement
+  -- after the last statement
   pub came_done : (new : Outside) (i : ℕ) (at : Between) (left : List ℕ) (xs : List (Stmt Frac)) → Come new i at left → length left ≤ 4096 → xs ≡ job.statements → length xs ≤ i → EndsBehind Done job (solving_with job before at) at.state at.programs old new due left
   came_done new i at left xs h room same all = ended new Done at h.text left (ends_done job before i at h.text (subst (λ ys. length ys ≤ i) same all) h.done) h.passes room
 
-  -- behind a statement that a fault stopped
+  -- after a statement that a fault stopped
   pub came_stopped : (mid new : Outside) (i : ℕ) (at : Between) (left spool rest : List ℕ) → Executes mid false i at left → Passes mid new left spool → length spool ≤ 4096 → rest ≡ [] → EndsBehind Execution job (solving_with job before at) at.state at.programs old new due (spool ++ rest)
   came_stopped mid new i at left spool rest h q room none =
       ended new Execution at h.text (spool ++ rest) (ends_stopped job before (i + 1) at h.text h.done) (subst (Passes old new (due ++ h.text)) (sym (ap (λ t. spool ++ t) none ∙ append-nil spool)) (passes_on old mid new (due ++ h.text) left spool h.passes q)) (room_behind spool rest room none)
 
-  -- what is pending behind more bytes
+  -- a bound on what is pending holds with more bytes
   pends_more : (n : ℕ) (xs ys : List ℕ) → n ≤ length xs + 4096 → n ≤ length (xs ++ ys) + 4096
   pends_more n xs ys h = omega (arith, h, length-append xs ys)
 
-  -- What is left was not written: the job is cut off.
+  -- What is pending was not written: the listing is cut off.
   pub broke : (mid new : Outside) (goes_on : Bool) (i : ℕ) (at : Between) (left : List ℕ) → Executes mid goes_on i at left → WritesFront mid new left → BreaksBehind job (solving_with job before at) old new due
   broke mid new goes_on i at left h f =
       let r = comes_to_rest job before (i + 1) goes_on at h.text h.done in
@@ -176,7 +177,8 @@ module _ (job : Job) (before : Solvers) (old : Outside) (due : List ℕ) where
         pending = pends_more _ h.passes.bytes f.1.bytes h.pending;
       }
 
--- Where the loop over the statements of a job stands: what has gone out so far, with settings and definitions as they have to be.
+-- The loop over the statements, before statement `i`: what is written so far, with valid settings
+-- and definitions.
 pub record AtStatement (job : Job) (before : Solvers) (many : ℕ) (old now : Meaning) (due : List ℕ) (i : ℕ) (at : Between) (left : List ℕ) : Type 0 where
   pub come : HasCome job before old.outside now.outside due i at left
   pub room : length left ≤ 4096
@@ -188,22 +190,22 @@ pub record AtStatement (job : Job) (before : Solvers) (many : ℕ) (old now : Me
 pub same_many : {S : Type 0} (name : S → List ℕ) (xs ys : List S) → map name xs ≡ map name ys → length xs ≡ length ys
 same_many name xs ys same = sym (length-map xs name) ∙ ap length same ∙ length-map ys name
 
--- ---- behind the echo
+-- ---- after the echo
 
--- A job came to its end, and its listing as far as the last line is on its way out.
+-- The program ended, and its listing before the last line is written, except for what is pending.
 pub record EndsJob (status : Status) (job : Job) (solving : Solving) (last : State) (programs : List (Lp Frac)) (old new : Outside) (pending : List ℕ) : Type 0 where
   pub ends : Ends status job solving last programs
   pub passes : Passes old new (body_of job solving) pending
   pub room : length pending ≤ 4096
 
--- A job was cut off.
+-- The listing of the program was cut off.
 pub record BreaksJob (job : Job) (solving : Solving) (old new : Outside) : Type 0 where
   pub solved : IsSolved job solving
   pub front : WritesFront old new (body_of job solving)
   pub cut : IsCutOff job solving (length front.1.bytes)
 
 module _ (job : Job) (old mid : Outside) (spool rest : List ℕ) (first : Passes old mid (echo_text job.line job.file) spool) (none : rest ≡ []) where
-  -- a job that is not echoed
+  -- a program to run without an echo
   abbrev quiet_job : State → Job
   quiet_job state = work job.program state job.statements
 
@@ -213,13 +215,13 @@ module _ (job : Job) (old mid : Outside) (spool rest : List ℕ) (first : Passes
       let r = subst (λ st. IsSolved (quiet_job st) solving) same s in
       record { all_taken = r.all_taken; answered = r.answered; ended = r.ended; grown = r.grown }
 
-  -- what is in front is the echo
+  -- the text before the statements' is the echo
   in_front : (shown bytes lost : List ℕ) → (spool ++ rest) ++ shown ≡ bytes ++ lost → echo_text job.line job.file ++ shown ≡ (first.bytes ++ bytes) ++ lost
   in_front shown bytes lost split =
       ap (λ t. t ++ shown) first.split ∙ append_assoc first.bytes spool shown
       ∙ ap (λ t. first.bytes ++ (t ++ shown)) (sym (ap (λ t. spool ++ t) none ∙ append-nil spool)) ∙ ap (λ t. first.bytes ++ t) split ∙ sym (append_assoc first.bytes bytes lost)
 
-  -- The statements came to their end behind the echo.
+  -- The statements ended, and their text follows the echo.
   pub ends_echoed : (status : Status) (solving : Solving) (state last : State) (programs : List (Lp Frac)) (new : Outside) (pending : List ℕ) → state ≡ job.state →
       EndsBehind status (quiet_job state) solving last programs mid new (spool ++ rest) pending → EndsJob status job solving last programs old new pending
   ends_echoed status solving state last programs new pending same e =
@@ -236,7 +238,7 @@ module _ (job : Job) (old mid : Outside) (spool rest : List ℕ) (first : Passes
       let e : length (echo_text job.line job.file ++ shown) ≡ length ((first.bytes ++ []) ++ ((spool ++ rest) ++ shown)) = ap length (in_front shown [] ((spool ++ rest) ++ shown) refl) in
       omega (arith, e, h, length-append (first.bytes ++ []) ((spool ++ rest) ++ shown), length-append first.bytes bytes, length-append first.bytes [])
 
-  -- They were cut off behind the echo.
+  -- The statements were cut off, after the echo.
   pub breaks_echoed : (solving : Solving) (state : State) (new : Outside) → state ≡ job.state → BreaksBehind (quiet_job state) solving mid new (spool ++ rest) → BreaksJob job solving old new
   breaks_echoed solving state new same b =
       let r = subst (λ st. BreaksBehind (quiet_job st) solving mid new (spool ++ rest)) same b in

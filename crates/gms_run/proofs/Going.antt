@@ -1,4 +1,5 @@
--- A run can go on from what was restored: its settings are within their ranges, and its members are as long as they have to be.
+-- A run can resume from a restored state: its settings are within their ranges, and its members are
+-- as long as the dimensions of their sets.
 use Rattle.std.proofs.Common.{◌≡◌, ℕ, suc, ◌<◌, Bool, true, false, ◌&&◌, ◌==◌, List, [], ◌∷◌, length, refl, sym, ap, subst, cond, Option, Some, None, Result, codes, arith}
 use Rattle.std.specs.Prelude.{nat_le}
 use Rattle.std.specs.List.{All, position}
@@ -29,14 +30,14 @@ second-holds false b e = cc
 
 -- ---- what was restored
 
--- where memory was wanting nothing is
+-- out of memory: no claim
 pub wanting : (r : Result Saved SaveFaultOrMemory) (solvers : List (List ℕ)) (save : List ℕ) → IsErrAnd r (λ e. e ≡ Memory) → Restores solvers save r
 wanting r solvers save h = let p = err_from_is_err_and r h in rw (p.1, p.2) tt
 
 pub wanting_back : (r : Result Saved SaveFaultOrMemory) (solvers : List (List ℕ)) (save : List ℕ) → IsErrAnd r (λ e. e ≡ Memory) → GivesBack solvers save r
 wanting_back r solvers save h = λ source program state solver is. let p = err_from_is_err_and r h in rw (p.1, p.2) tt
 
--- the solver that was placed is there, where there are some
+-- the place of the saved solver exists, if there are solvers
 placed-below : (solvers : List (List ℕ)) (solver : List ℕ) (place : ℕ) → place_of_solver solvers solver ≡ Some place → 0 < length solvers → place < length solvers
 placed-below solvers solver place e some = by (bytes_eq solver (codes "none")) (length solvers == 0) refl refl e
   where
@@ -48,7 +49,7 @@ placed-below solvers solver place e some = by (bytes_eq solver (codes "none")) (
     by true false n is p = absurd (let z : ⊥ = cc in z)
     by false none n is p = (position-Some (λ name. str_eq_ignore_ascii_case name solver) solvers place [] p).0
 
--- a tuple that stands in a domain is as long as it
+-- a tuple in a domain is as long as the domain
 stands-long : (labels : ℕ) (state : State) (domain : List (Option ℕ)) (t : List ℕ) → stands_in labels state domain t ≡ true → length t ≡ length domain
 stands-long labels state [] [] e = refl
 stands-long labels state [] (label ∷ t) e = absurd (let z : ⊥ = cc in z)
@@ -56,7 +57,7 @@ stands-long labels state (set ∷ domain) [] e = absurd (let z : ⊥ = cc in z)
 stands-long labels state (set ∷ domain) (label ∷ t) e =
     ap suc (stands-long labels state domain t (second-holds (stands_at state set label) _ (second-holds _ _ e)))
 
--- members are what is given
+-- what holds of all tuples with data holds of all members
 members-given : (P : List ℕ → Type 0) (content : Content) → All P (given_in content) → All P (members_in content)
 members-given P (set_of members) all = all
 members-given P undeclared all = All-nil P
@@ -66,7 +67,7 @@ members-given P (variable_of type entries) all = All-nil P
 members-given P (equation_of entries) all = All-nil P
 members-given P (model_with model solver) all = All-nil P
 
--- A run can go on from what was restored.
+-- A run can resume from a restored state.
 pub can_go_on : (solvers : List (List ℕ)) (save : List ℕ) (saved : Saved) → IsRestored solvers save saved → (file : List ℕ) → CanGoOn solvers (joint_source saved.source.items file) (first_line saved.source.items) saved.store
 can_go_on solvers save saved restored file =
     let is = restored.is_save.is_saved.is_saved in

@@ -41,7 +41,7 @@ one_script : {x y : Script} → scripted x ≡ scripted y → x ≡ y
 one_script e = cc
 
 module _ (solving : Solving) (source : List ℕ) (text : List ℕ) where
-  -- the job of a source is its program from the state of its declarations
+  -- what is run of a source is its program, from the state of its declarations
   executed : RunIsAnsweredRightly solving → (status : Status) (run : IsExecuted solving (scripted (script_of source)) text) → HaltsSo status (course_of run.job solving).halted → IsRunListing status solving source text
   executed right status run halts =
       let same : run.is_job.script ≡ script_of source = one_script (sym run.is_job.to_run) in
@@ -115,7 +115,8 @@ module _ (status : Status) (solving : Solving) (old new : Outside) (file output 
       by (from_start source) (unrestored fault) is_source same ran = absurd same
       by (from_save save source) matter is_source same ran = absurd is_source
 
--- where the words request a FILE alone, and a listing was written whole, it is the listing of the source in that file
+-- for a request of one FILE, a listing that was written whole is the listing of the source in that
+-- file
 pub headlined : (status : Status) (solving : Solving) (words : List (List ℕ)) (old new : Meaning) (file output : List ℕ) → RunIsAnsweredRightly solving → IsRun status solving words old new → request_of words ≡ Some (file_alone file output) → HasListing status →
     WritesListing status solving old.outside new.outside file output
 headlined Done solving words old new file output right run named has =

@@ -19,7 +19,7 @@ use Rattle.gms_run.specs.Solving.{number_limit, solves_in}
 use Rattle.gms_run.specs.InnerSteps.{IsAnsweredAt, KeepsPrograms, programs_in}
 use Rattle.gms_run.proofs.Numbered.{IsNumbered, places_in}
 
--- the programs of events and of others behind them
+-- the programs of two lists of events
 pub programs-append : (es more : List (OwnEvent Frac)) → programs_in (es ++ more) ≡ programs_in es ++ programs_in more
 programs-append [] more = refl
 programs-append (own.Display line items ∷ es) more = programs-append es more
@@ -27,7 +27,7 @@ programs-append (own.Abort line items ∷ es) more = programs-append es more
 programs-append (own.Fault stop ∷ es) more = programs-append es more
 programs-append (own.Solve line model equations lp answer solver settings level ∷ es) more = ap (λ ps. lp ∷ ps) (programs-append es more)
 
--- one program more is kept, where an event is a solve
+-- one more program is kept, if an event is a solve
 pub kept_more : (before kept : List (Lp Frac)) (es : List (OwnEvent Frac)) (e : OwnEvent Frac) (one : Option (Lp Frac)) → kept ≡ before ++ programs_in es → option_to_list one ≡ programs_in (e ∷ []) →
     kept ++ option_to_list one ≡ before ++ programs_in (es ++ e ∷ [])
 kept_more before kept es e one so is =
@@ -82,7 +82,8 @@ module _ (rules : List SolverRule) (answers : List (Answer Frac)) where
       subst (λ place. IfSome (slice_get (programs_in es) k) (IsAnsweredAt rules answers place)) next
       (stand es (n + 1) first.1.0 (All-tail Stands (own.Solve line model equations lp answer solver settings level) es are) first.1.1 k)
 
-  -- Where what was shown stands, and its solves have the answers in order, their programs are kept.
+  -- Where the shown events are valid, and the solves take the answers in order, the programs are
+  -- kept.
   pub keeps_programs : (course : Course) (es : List (OwnEvent Frac)) → IsNumbered course → course.events ≡ events_in frac_value es → course.taken ≡ length answers →
       All Stands es → KeepsPrograms rules answers (programs_in es) course.events
   keeps_programs course es numbered same taken are =

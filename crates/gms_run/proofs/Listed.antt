@@ -1,4 +1,4 @@
--- Statements that are executed and listed one after another.
+-- Statements that are executed and listed in sequence.
 use Rattle.std.proofs.Common.{◌≡◌, ℕ, Bool, true, List, [], ◌∷◌, ◌++◌, map, take, drop, Option, Some, None, refl, sym, ap, ◌∙◌, subst, append_assoc, append-nil, take-append-drop}
 use Rattle.std.specs.Prelude.{option_map, option_to_list, slice_get, flat_map}
 use Rattle.std.specs.List.{All}
@@ -32,7 +32,7 @@ module _ (rules : List SolverRule) where
   abbrev Stands : List (Answer Frac) → OwnEvent Frac → Type 0
   Stands answers e = IsStanding frac_value number_limit rules answers e
 
-  -- what stands with some answers stands with more
+  -- an event that is valid with some answers is valid with more
   standing-more : (answers more : List (Answer Frac)) (e : OwnEvent Frac) → Stands answers e → Stands (answers ++ more) e
   standing-more answers more (event.Display line items) is = is
   standing-more answers more (event.Abort line items) is = is
@@ -92,7 +92,7 @@ listed_none program rules now text =
       text = sym (append-nil text);
     }
 
--- One more was executed behind others.
+-- A second piece was executed after a first.
 pub listed_more : (program : Program Frac) (rules : List SolverRule) (goes_on : Bool) (first next : Course → Course) (a b c : Between) (x y z : List ℕ) →
     IsListed true first program rules a b x y → IsListed goes_on next program rules b c y z → IsListed goes_on (λ course. while_it_runs next (first course)) program rules a c x z
 listed_more program rules goes_on first next a b c x y z p q =
@@ -169,7 +169,7 @@ halted_stays (s ∷ ss) binding c h e =
 pub one_more : (ss : List OfStatement) (s : OfStatement) (binding : _) (c : Course) → one_after_another (ss ++ s ∷ []) binding c ≡ while_it_runs (s binding) (one_after_another ss binding c)
 one_more ss s binding c = fold-append (λ course statement. while_it_runs (statement binding) course) c ss (s ∷ [])
 
--- the statements of a list up to a place, and those behind it
+-- the statements of a list up to a place, and those from that place on
 pub in_two : (ss : List OfStatement) (i : ℕ) (binding : _) (c : Course) → one_after_another ss binding c ≡ one_after_another (drop i ss) binding (one_after_another (take i ss) binding c)
 in_two ss i binding c =
     ap (λ xs. one_after_another xs binding c) (sym (take-append-drop i ss)) ∙ fold-append (λ course statement. while_it_runs (statement binding) course) c (take i ss) (drop i ss)

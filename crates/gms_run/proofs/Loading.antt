@@ -1,4 +1,5 @@
--- The state in which an accepted program begins: the sets among the indices of its definitions have one position, and their members one label.
+-- The state in which an accepted program begins: each set that a definition is over has dimension
+-- one, and its members have one label.
 use Rattle.std.proofs.Common.{◌≡◌, ℕ, Bool, true, false, List, [], ◌∷◌, ◌++◌, length, refl, sym, ◌∙◌, subst, cond, Option, append_assoc}
 use Rattle.std.specs.List.{All}
 use Rattle.std.proofs.lemmas.List.Elements.{All-nil, All-cons, All-head, All-tail, All-append, All-weaker}
@@ -47,7 +48,7 @@ module _ {F : Type 0} (state : State) where
       ((All-head (IsOverOne state) set (index_sets rest) are).labels, are-plain rest none (All-tail (IsOverOne state) set (index_sets rest) are))
   are-plain (tree.lagged set op at amount rest) none are = cc
 
-  -- what is asked of a definition
+  -- what is required of a definition
   abbrev IsFine : Definition F → Type 0
   IsFine d = ArePlain state d.indices × AreOverOne state d.indices
 
@@ -108,7 +109,7 @@ module _ {F : Type 0} (value : F → Number) (program : Program F) (solvers : Li
   from before (statement ∷ rest) parts =
       All-append (IsFine first) (defined_at statement.at statement.act) (definitions rest) (of-act before statement.at statement.act (rest, parts)) (from (before ++ statement ∷ []) rest (parts ∙ sym (append_assoc before (statement ∷ []) rest)))
 
-  -- the two halves of what is asked
+  -- the two requirements, separately
   halves : (ds : List (Definition F)) → All (IsFine first) ds → All (λ (d : Definition F). ArePlain first d.indices) ds × All (λ (d : Definition F). AreOverOne first d.indices) ds
   halves [] are = (All-nil (λ (d : Definition F). ArePlain first d.indices), All-nil (λ (d : Definition F). AreOverOne first d.indices))
   halves (d ∷ ds) are =

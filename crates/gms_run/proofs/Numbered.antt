@@ -1,4 +1,4 @@
--- The solves that a run shows have its answers in order: the first that it takes, then the second, and so on.
+-- The solves that a run shows take its answers in order: the first, then the second, and so on.
 use Rattle.std.proofs.Common.{◌≡◌, ℕ, ◌+◌, Bool, true, false, List, [], ◌∷◌, ◌++◌, map, Option, Some, None, Ok, Err, refl, sym, ap, ◌∙◌, subst, append-nil, arith}
 use Rattle.std.specs.Prelude.{if◌then◌else◌, option_map}
 use Rattle.std.specs.List.{range_with_len}
@@ -43,7 +43,7 @@ places_in events = places_of (solves_in events)
 abbrev pub IsNumbered : Course → Type 0
 IsNumbered c = places_in c.events ≡ range_with_len 0 c.taken
 
--- the places of events and of others behind them
+-- the places of two lists of events
 places-append : (events more : List Event) → places_in (events ++ more) ≡ places_in events ++ places_in more
 places-append events more =
     ap (map (λ (solved : Solved). solved.answer)) (flat_map-append solve_of events more) ∙ map-append (λ (solved : Solved). solved.answer) (solves_in events) (solves_in more)
@@ -56,12 +56,12 @@ range-more n = ap (λ xs. xs ++ n ∷ []) (sym (map-id (range_with_len 0 n))) �
 numbered_event : (c : Course) (e : Event) → places_in (e ∷ []) ≡ [] → IsNumbered c → IsNumbered (with_event c e)
 numbered_event c e none is = places-append c.events (e ∷ []) ∙ ap (λ ps. places_in c.events ++ ps) none ∙ append-nil (places_in c.events) ∙ is
 
--- a value is taken, or a fault stops the run
+-- a step with a value, or a stop by a fault
 numbered_value : {A : Type 0} (r : Evaluated A) (next : A → Course) (c : Course) → IsNumbered c → ((x : A) → IsNumbered (next x)) → IsNumbered (with_value r next c)
 numbered_value (Ok x) next c is go = go x
 numbered_value (Err fault) next c is go = is
 
--- what goes on only where nothing halts the run
+-- a step that is taken only where nothing halts the run
 numbered_runs : (next : Course → Course) (c : Course) → IsNumbered c → IsNumbered (next c) → IsNumbered (while_it_runs next c)
 numbered_runs next c is go = by_halt c.halted
   where
@@ -81,7 +81,7 @@ abbrev AllKeep : List OfStatement → Type 0
 AllKeep [] = Unit {0}
 AllKeep (s ∷ ss) = Keeps s × AllKeep ss
 
--- statements one after another
+-- statements in sequence
 numbered_all : (ss : List OfStatement) → AllKeep ss → Keeps (one_after_another ss)
 numbered_all [] ks binding c is = is
 numbered_all (s ∷ ss) ks binding c is = numbered_all ss ks.1 binding (while_it_runs (s binding) c) (numbered_runs (s binding) c is (ks.0 binding c is))
@@ -135,12 +135,12 @@ module _ {F : Type 0} (number_of : F → Number) (limit : ℕ) (world : World F)
   abbrev Q : Stmt F → Type 0
   Q s = Keeps (of_statement number_of limit world s)
 
-  -- statements that do so, each with the proof of it
+  -- the statements of a body keep the order, from a proof for each
   body_keeps : (body : List ((s : Stmt F) × Q s)) → AllKeep (map (of_statement number_of limit world) (map (λ e. e.0) body))
   body_keeps [] = tt
   body_keeps (e ∷ body) = (e.1, body_keeps body)
 
-  -- an act does so where what its layer comes to does
+  -- an act keeps the order where its unrolled form does
   rolled : (x : Act-F F (Act F) (Stmt F)) (f : OfAct) → of_act (roll-Act F x) ≡ f → KeepsAct f → KeepsAct (of_act (roll-Act F x))
   rolled x f e q = subst KeepsAct (sym e) q
 
@@ -148,7 +148,7 @@ module _ {F : Type 0} (number_of : F → Number) (limit : ℕ) (world : World F)
   numbered_assign target condition right_at right at binding c is =
       numbered_value (after_assignment number_of limit c.state at binding (target_of target) (option_map tree_of condition) right_at (tree_of right)) (in_state c) c is (λ state. is)
 
-  -- an act whose loop's statements do so
+  -- an act keeps the order, if the statements of its loop do
   by_layer : (y : Act-F F ((a : Act F) × KeepsAct (of_act a)) ((s : Stmt F) × Q s)) → KeepsAct (of_act (roll-Act F (map-Act F ((a : Act F) × KeepsAct (of_act a)) ((s : Stmt F) × Q s) (Act F) (Stmt F) (λ e. e.0) (λ e. e.0) y)))
   by_layer (Act-F.Declare kind items) = rolled (Act-F.Declare kind items) _ (fold-roll-Act F OfAct OfStatement (act_step number_of limit world) (statement_step number_of limit) (Act-F.Declare kind items)) (λ at binding c is. is)
   by_layer (Act-F.Alias first second) = rolled (Act-F.Alias first second) _ (fold-roll-Act F OfAct OfStatement (act_step number_of limit world) (statement_step number_of limit) (Act-F.Alias first second)) (λ at binding c is. is)
@@ -161,7 +161,7 @@ module _ {F : Type 0} (number_of : F → Number) (limit : ℕ) (world : World F)
   by_layer (Act-F.Solve model word objective maximize) = rolled (Act-F.Solve model word objective maximize) _ (fold-roll-Act F OfAct OfStatement (act_step number_of limit world) (statement_step number_of limit) (Act-F.Solve model word objective maximize)) (numbered_solve world.solvers world.program.statements.items model.name objective.name maximize)
   by_layer (Act-F.Loop control body) = rolled (map-Act F ((a : Act F) × KeepsAct (of_act a)) ((s : Stmt F) × Q s) (Act F) (Stmt F) (λ e. e.0) (λ e. e.0) (Act-F.Loop control body)) _ (fold-roll-Act F OfAct OfStatement (act_step number_of limit world) (statement_step number_of limit) (map-Act F ((a : Act F) × KeepsAct (of_act a)) ((s : Stmt F) × Q s) (Act F) (Stmt F) (λ e. e.0) (λ e. e.0) (Act-F.Loop control body))) (numbered_loop (control_tree control) _ (body_keeps body.items))
 
-  -- a statement whose act does so
+  -- a statement keeps the order, if its act does
   by_statement : (y : Stmt-F F ((a : Act F) × KeepsAct (of_act a)) ((s : Stmt F) × Q s)) → Q (roll-Stmt F (map-Stmt F ((a : Act F) × KeepsAct (of_act a)) ((s : Stmt F) × Q s) (Act F) (Stmt F) (λ e. e.0) (λ e. e.0) y))
   by_statement y =
       let z = map-Stmt F ((a : Act F) × KeepsAct (of_act a)) ((s : Stmt F) × Q s) (Act F) (Stmt F) (λ e. e.0) (λ e. e.0) y in
@@ -179,7 +179,7 @@ module _ {F : Type 0} (number_of : F → Number) (limit : ℕ) (world : World F)
   numbered_statements [] = tt
   numbered_statements (s ∷ ss) = (numbered_statement s, numbered_statements ss)
 
--- The solves of a job have its answers in order.
+-- The solves of a program to run take its answers in order.
 pub numbered_job : (job : Job) (solving : Solving) → IsNumbered (course_of job solving)
 numbered_job job solving =
     let world : World Frac = record { program = job.program; solvers = solving.before.names } in

@@ -1,4 +1,5 @@
--- A script with the state that it goes on from, where it does: its errors, its first state and its statements.
+-- A script with the state that it resumes from, if any: its errors, its first state and its
+-- statements.
 use Rattle.std.proofs.Common.{◌≡◌, ◌∙◌, ◌≤◌, ◌-◌, ℕ, Bool, true, false, List, [], Some, Result, Ok, Err, Vec, ap, arith, drop, length, subst, sym, take}
 use Rattle.std.specs.Prelude.{filter, IfOk, OnOk}
 use Rattle.std.proofs.lemmas.List.{length-drop, take_all}
@@ -16,7 +17,7 @@ use Rattle.gms_run.specs.Scripts.{errors_of, first_state, statements_of}
 use Rattle.gms_run.specs.InnerReports.{saved_if}
 
 module _ (joint : Bool) (line : ℕ) (program : Program Frac) where
-  -- a joint script has the errors of a joint program, and goes on from the state
+  -- a joint script has the errors of a joint program, by the saved state
   pub errors_joint : {E : Type 0} (r : Result (Vec CompileError Global) E) (solvers : List (List ℕ)) → joint ≡ true → IfOk r (λ errors. errors.items ≡ joint_errors frac_value program line solvers) → IfOk r (λ errors. (state : State) → errors.items ≡ errors_of (saved_if joint state) line program solvers)
   errors_joint (Ok errors) solvers is found = λ state. found ∙ ap (λ (b : Bool). errors_of (saved_if b state) line program solvers) (sym is)
   errors_joint (Err e) solvers is found = tt
@@ -31,7 +32,7 @@ module _ (joint : Bool) (line : ℕ) (program : Program Frac) where
   pub statements_joint : (state : State) → joint ≡ true → statements_of (Some state) line program ≡ statements_of (saved_if joint state) line program
   statements_joint state is = ap (λ (b : Bool). statements_of (saved_if b state) line program) (sym is)
 
-  -- behind so many statements as begin above the line
+  -- the statements after those that begin above the line
   pub statements_sliced : (all : List (Stmt Frac)) (count : ℕ) (state : State) → joint ≡ true → all ≡ program.statements.items → count ≡ length (filter (is_saved line) all) → take (length all - count) (drop count all) ≡ statements_of (saved_if joint state) line program
   statements_sliced all count state is same counted =
       take_all (length all - count) (drop count all) (subst (λ (n : ℕ). n ≤ length all - count) (sym (length-drop count all)) (omega arith))

@@ -52,7 +52,7 @@ paths_quiet k answers (solves solved ∷ es) quiet = absurd (All-head IsNoSolve 
 paths_quiet k answers (aborts line items ∷ es) quiet = paths_quiet k answers es (All-tail IsNoSolve (aborts line items) es quiet)
 paths_quiet k answers (stops fault ∷ es) quiet = paths_quiet k answers es (All-tail IsNoSolve (stops fault) es quiet)
 
--- an entry of a list stands where more comes behind it
+-- an entry of a list keeps its place where more is appended
 pub stands-more : {A : Type 0} (xs ys : List A) (k : ℕ) (x : A) → slice_get xs k ≡ Some x → slice_get (xs ++ ys) k ≡ Some x
 stands-more [] ys k x e = let z : ⊥ = cc in absurd z
 stands-more (a ∷ xs) ys zero x e = e
@@ -76,7 +76,7 @@ module _ (rules : List SolverRule) (answers more : List (Answer Frac)) where
 
 -- ---- growth
 
--- the paths of each solver have grown by those of its answers at events
+-- to the paths of each solver those of its answers at these events were appended
 abbrev pub Grew : AllPaths → AllPaths → List (Answer Frac) → List Event → Type 0
 Grew old new answers es = (k : ℕ) → slice_get new k ≡ option_map (λ before. before ++ paths_of k answers es) (slice_get old k)
 
@@ -92,7 +92,7 @@ grown_both (Some before) first second = ap Some (append_assoc before first secon
 pub grew_none : (paths : AllPaths) (answers : List (Answer Frac)) → Grew paths paths answers []
 grew_none paths answers = λ k. grown_nothing (slice_get paths k)
 
--- one growth behind another, with more answers
+-- two extensions in sequence, with more answers
 pub grew_more : (rules : List SolverRule) (old mid new : AllPaths) (answers fresh all : List (Answer Frac)) (first second : List Event) → all ≡ answers ++ fresh → AreAnswered frac_value number_limit rules answers first →
     Grew old mid answers first → Grew mid new all second → Grew old new all (first ++ second)
 grew_more rules old mid new answers fresh all first second same are p q = λ k.
@@ -103,7 +103,7 @@ grew_more rules old mid new answers fresh all first second same are p q = λ k.
     ∙ grown_both (slice_get old k) (paths_of k all first) (paths_of k all second)
     ∙ ap (grows (slice_get old k)) (sym (paths_both k all first second))
 
--- behind events of which none is a solve
+-- events without a solve change nothing
 pub grew_quiet : (old new : AllPaths) (answers : List (Answer Frac)) (es more : List Event) → All IsNoSolve more → Grew old new answers es → Grew old new answers (es ++ more)
 grew_quiet old new answers es more quiet p = λ k.
     p k ∙ ap (λ taken. option_map (λ before. before ++ taken) (slice_get old k)) (sym (paths_both k answers es more ∙ ap (λ ps. paths_of k answers es ++ ps) (paths_quiet k answers more quiet) ∙ append-nil (paths_of k answers es)))
@@ -122,13 +122,13 @@ grew_answered name rule paths old new answers none events empty a = λ k.
 pub grown_none : (solvers : Solvers) (answers : List (Answer Frac)) → HaveGrown solvers solvers answers []
 grown_none solvers answers = record { names = refl; rules = refl; paths = grew_none solvers.paths answers }
 
--- one growth behind another, with more answers
+-- two extensions in sequence, with more answers
 pub grown_more : (rules : List SolverRule) (old mid new : Solvers) (answers fresh all : List (Answer Frac)) (first second : List Event) → all ≡ answers ++ fresh → AreAnswered frac_value number_limit rules answers first →
     HaveGrown old mid answers first → HaveGrown mid new all second → HaveGrown old new all (first ++ second)
 grown_more rules old mid new answers fresh all first second same are p q =
     record { names = q.names ∙ p.names; rules = q.rules ∙ p.rules; paths = grew_more rules old.paths mid.paths new.paths answers fresh all first second same are p.paths q.paths }
 
--- behind events of which none is a solve
+-- events without a solve change nothing
 pub grown_quiet : (old new : Solvers) (answers : List (Answer Frac)) (es more : List Event) → All IsNoSolve more → HaveGrown old new answers es → HaveGrown old new answers (es ++ more)
 grown_quiet old new answers es more quiet p = record { names = p.names; rules = p.rules; paths = grew_quiet old.paths new.paths answers es more quiet p.paths }
 

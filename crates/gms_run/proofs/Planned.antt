@@ -1,4 +1,4 @@
--- What each answer of a run says is so, from its start and from a save.
+-- What each answer of a run says is true, from its start and from a save.
 use Rattle.std.proofs.Common.{◌≡◌, ℕ, List, [], length, map, drop, sym, ap, ◌∙◌, subst}
 use Rattle.gq_frac.specs.declared.frac.Frac.{Frac}
 use Rattle.gq_frac.specs.Frac.{frac_value}
@@ -20,7 +20,7 @@ use Rattle.gms_run.specs.Jobs.{Job, job_of, course_of, HasRightAnswers}
 use Rattle.gms_run.specs.Listings.{IsExecuted}
 use Rattle.gms_run.specs.Laws.{RunsAreAnsweredRightly}
 
--- what the answers of a program's run say is so
+-- what the answers of a program's run say is true
 abbrev FromStart : Type 0
 FromStart = (world : World Frac) (rules : List SolverRule) (answers : List (Answer Frac)) → IsAccepted frac_value world.program → AreAnswered frac_value number_limit rules answers (whole_run frac_value number_limit world (loaded frac_value world.program) world.program.statements.items answers).events →
     AnswersAreSo frac_value number_limit world (loaded frac_value world.program) world.program.statements.items answers
@@ -39,7 +39,7 @@ module _ (solving : Solving) (matter : Matter) (text : List ℕ) (run : IsExecut
   abbrev world : World Frac
   world = record { program = program; solvers = solving.before.names }
 
-  -- what holds of the job of a script with the program of the run holds of the job that was run
+  -- what holds of the program of a script holds of the program that was run
   says-so : (script : Script) → run.is_job.script ≡ script → (AreAnswered frac_value number_limit solving.before.rules solving.answers (course_of (job_of script program) solving).events → HasRightAnswers (job_of script program) solving) → HasRightAnswers run.job solving
   says-so script same so =
       let is : run.job ≡ job_of script program = run.is_job.is_job ∙ ap (λ (s : Script). job_of s program) same in
@@ -65,7 +65,7 @@ same-script solving script text run =
     let e = run.is_job.to_run in
     let is : script ≡ run.is_job.script = cc in sym is
 
--- What each answer of a run says is so.
+-- What each answer of a run says is true.
 pub runs-say-so : FromStart → FromSave → RunsAreAnsweredRightly
 runs-say-so plans restarted solving (from_start source) (scripted script) text is run =
     from-start solving (scripted script) text run plans source (same-script solving script text run ∙ is)

@@ -1,4 +1,4 @@
--- An answer comes with what proves its end, so that a solve that stands can be listed.
+-- An answer carries the certificate of its end, so a valid solve can be listed.
 use Rattle.std.proofs.Common.{◌≡◌, ℕ, List, length, map, Option, Some, None, sym, ap, ◌∙◌, subst, inl, inr, arith}
 use Rattle.std.specs.Prelude.{IfSome}
 use Rattle.std.proofs.lemmas.List.{length-map}
@@ -33,7 +33,7 @@ module _ {F : Type 0} (value : F → Number) (limit : ℕ) (lp : Lp F) (iterlim 
   of_refused : (end : End F) (step : StepName) → end ≡ Refused step → IsProved value lp end
   of_refused end step is = subst (IsProved value lp) (sym is) tt
 
-  -- in phase 2 an interrupted search stands at a point of the program
+  -- in phase 2 an interrupted search ends at a feasible point of the program
   of_interrupted : (phase : ℕ) (last : Last) (levels row_levels : List F) → LeadsTo value lp kind.Interrupted last (Interrupted phase levels row_levels) → Feasible value lp (map value levels) → (length levels ≡ length lp.columns) × (length row_levels ≡ length lp.rows)
   of_interrupted phase last levels row_levels told point =
       (sym (length-map levels value) ∙ point.sized, sym (length-map row_levels value) ∙ ap length told.2 ∙ length-map lp.rows _)
@@ -64,7 +64,7 @@ module _ {F : Type 0} (value : F → Number) (limit : ℕ) (lp : Lp F) (iterlim 
   proved answer (inr (inl stopped)) = of_refused answer.end stopped.1.1.0 stopped.1.1.1
   proved answer (inr (inr walked)) = of_end (length answer.pivots) walked.3.0 answer.end walked.3.2
 
--- an event that stands can be listed
+-- a valid event can be listed
 pub listable : {F : Type 0} (value : F → Number) (limit : ℕ) (rules : List SolverRule) (answers : List (Answer F)) (e : Event F) → IsStanding value limit rules answers e → IsListable value answers e
 listable value limit rules answers (event.Display line items) is = is
 listable value limit rules answers (event.Abort line items) is = is

@@ -1,4 +1,4 @@
--- The listing of a source, put together from its parts, as it goes out.
+-- The listing of a source, put together from its parts, as it is written.
 use Rattle.std.proofs.Common.{◌≡◌, ◌≢◌, Option, Some, None, ℕ, zero, suc, ◌+◌, ◌<◌, ◌≤◌, ◌==◌, true, false, List, [], ◌∷◌, ◌++◌, length, take, map, get_or, Vec, refl, sym, ap, ap₂, ◌∙◌, subst, append_assoc, add-one, ◌⊎◌, inl, inr, arith, length-append, cond, Result, Ok, Err}
 use Rattle.std.specs.Prelude.{String, string_bytes, vec_len, slice_get, option_map, unwrap_or, IfSome, IfOk, Bool}
 use Rattle.std.specs.List.{All}
@@ -51,11 +51,11 @@ use Rattle.gms_run.specs.InnerSteps.{Ends, IsAnsweredAt, KeepsPrograms}
 use Rattle.gms_run.proofs.Executing.{BreaksJob, EndsJob}
 use Rattle.gms_run.proofs.Saving.{placed-last, saves-state}
 
--- what stands behind a spool and a text that are both empty
+-- after a spool and a text that are both empty comes the text itself
 pub behind_nothing : (spool before text : List ℕ) → spool ++ before ≡ [] → spool ++ (before ++ text) ≡ text
 behind_nothing spool before text empty = sym (append_assoc spool before text) ∙ ap (λ t. t ++ text) empty
 
--- a body is on its way where nothing of it was written
+-- a body of which nothing was written is pending
 all_pending : (status : Status) (solving : Solving) (now : Outside) (matter : Matter) (body pending : List ℕ) → IsListing status solving matter (body ++ end_text (status_code status) (length solving.answers)) → pending ≡ body → status ≡ Compile → Prepares status solving now now matter pending
 all_pending status solving now matter body pending is same compile = record { body = body; listing = is; passes = subst (Passes now now body) (sym same) (passes_none now body); room = inl compile }
 
@@ -69,7 +69,7 @@ echo_there error script has = ap (λ (b : Bool). cond b (echo_text script.line s
 pub echo_nowhere : (error : SourceError) (script : Script) → has_echo error ≡ false → refused_echo error script.line script.file ≡ []
 echo_nowhere error script has = ap (λ (b : Bool). cond b (echo_text script.line script.file) []) has
 
--- two texts behind another
+-- two texts appended to another
 pub two_behind : (old echo mid line new : List ℕ) → mid ≡ old ++ echo → new ≡ mid ++ line → new ≡ old ++ (echo ++ line)
 two_behind old echo mid line new p q = q ∙ ap (λ t. t ++ line) p ∙ append_assoc old echo line
 
@@ -121,7 +121,7 @@ unrestored_why solvers matter state fault is = subst (λ (m : OwnMatter). ShowsW
 
 -- ---- runs
 
--- the last line of a job that halts so is that of its status
+-- the last line of a program that halts so is that of its status
 ends_line : (status : Status) (halted : Option Halt) (n : ℕ) → HaltsSo status halted → end_text (status_code status) n ≡ last_line halted n
 ends_line Done halted n is = ap (λ h. last_line h n) (sym is)
 ends_line Execution halted n is = ap (λ h. last_line h n) (sym is.1)
@@ -130,11 +130,11 @@ ends_line Compile halted n is = absurd is
 ends_line ReadFault halted n is = absurd is
 ends_line WriteFault halted n is = absurd is
 
--- the job of an accepted script
+-- what is run of an accepted script
 abbrev pub job_of_script : (solvers : List (List ℕ)) (script : Script) (program : Program Frac) → IsAccepted solvers script program → IsJob solvers (scripted script) (job_of script program)
 job_of_script solvers script program accepted = record { script = script; to_run = refl; accepted = accepted; is_job = refl }
 
--- a job that came to its end has its listing
+-- a program that ended has its listing
 listed_job : (status : Status) (solving : Solving) (matter : Matter) (job : Job) → IsJob solving.before.names matter job → IsSolved job solving → HaltsSo status (course_of job solving).halted →
     IsListing status solving matter (body_of job solving ++ end_text (status_code status) (length solving.answers))
 listed_job status solving matter job is_job solved halts = by status halts
@@ -150,7 +150,7 @@ listed_job status solving matter job is_job solved halts = by status halts
     by ReadFault h = absurd h
     by WriteFault h = absurd h
 
--- The listing of a job that came to its end.
+-- The listing of a program that ended.
 pub prepares_job : (status : Status) (solving : Solving) (old new : Outside) (matter : Matter) (left : List ℕ) (job : Job) (last : State) (programs : List (Lp Frac)) → IsJob solving.before.names matter job →
     EndsJob status job solving last programs old new left → Prepares status solving old new matter left
 prepares_job status solving old new matter left job last programs is_job e =
@@ -161,7 +161,7 @@ prepares_job status solving old new matter left job last programs is_job e =
       room = inr e.room;
     }
 
--- A job that was cut off.
+-- The listing of a program was cut off.
 pub unwritten_job : (solving : Solving) (old new : Outside) (matter : Matter) (job : Job) → IsJob solving.before.names matter job → BreaksJob job solving old new → IsUnwritten solving old new matter
 unwritten_job solving old new matter job is_job b =
     let line : List ℕ = last_line (course_of job solving).halted (length solving.answers) in
@@ -171,9 +171,9 @@ unwritten_job solving old new matter job is_job b =
       due = inr (record { job = job; is_job = is_job; solved = b.solved; listing = refl }, b.cut);
     }
 
--- ---- what is said in the end
+-- ---- what is printed at the end
 
--- The remarks on a run that came to its end are those that it calls for.
+-- The remarks on a run that ended are the expected ones.
 pub remarked : (status : Status) (solving : Solving) (request : Asked) (matter : Matter) (text : List ℕ) (job : Job) (last : State) (solved : List (Lp Frac)) → IsJob solving.before.names matter job → Ends status job solving last solved →
     IsRemarked request job.program last solved solving.answers text → AreRemarks status solving request matter text
 remarked status solving request matter text job last solved is_job ends (ranges, line, ranged, told, split) = (
@@ -216,7 +216,7 @@ remarked status solving request matter text job last solved is_job ends (ranges,
     tells (generated size) ReadFault h told = absurd h
     tells (generated size) WriteFault h told = absurd h
 
--- The save of the last state of a job that came to its end.
+-- The save of the last state of a program that ended.
 pub saves_job : (status : Status) (solving : Solving) (request : Asked) (matter : Matter) (bytes : List ℕ) (job : Job) (last : State) (programs : List (Lp Frac)) (solvers : List (List ℕ)) → solvers ≡ solving.before.names → All IsSolverName solving.before.names → (is_job : IsJob solving.before.names matter job) → IfSome is_job.script.saved (IsGoneOn solving.before.names is_job.script.source is_job.script.line) → Ends status job solving last programs →
     IsSave status request solvers job.source job.program last bytes → SavesSo status solving request matter bytes
 saves_job status solving request matter bytes job last programs solvers names named is_job origin ends = by (save_file status request)
@@ -235,7 +235,7 @@ saves_job status solving request matter bytes job last programs solvers names na
           placed = placed-last solving is_job.script job is_job.accepted is_job.is_job origin named;
         }
 
--- What is to be done behind the listing of a job that came to its end.
+-- What follows the listing of a program that ended.
 pub follows_job : (status : Status) (solving : Solving) (request : Asked) (matter : Matter) (text bytes : List ℕ) (job : Job) (last : State) (programs : List (Lp Frac)) (solvers : List (List ℕ)) → (is_job : IsJob solving.before.names matter job) → IfSome is_job.script.saved (IsGoneOn solving.before.names is_job.script.source is_job.script.line) → Ends status job solving last programs →
     IsRemarked request job.program last programs solving.answers text → IsSave status request solvers job.source job.program last bytes → solvers ≡ solving.before.names → All IsSolverName solving.before.names → Follows status solving request matter text bytes
 follows_job status solving request matter text bytes job last programs solvers is_job origin ends told saved names named =
@@ -275,7 +275,7 @@ answered_by rules answers programs events kept =
     at place (Some lp) (settings, stands) =
         subst (λ (o : Option (Answer Frac)). IfSome o (IsAnswered frac_value number_limit lp)) (sym stands.stands) (record { formed = stands.formed; iterlim = settings.iterlim; rule = Legal; is_answer = legal_under frac_value number_limit lp settings.iterlim stands.rule stands.given stands.is_answer })
 
--- so it is of a job that came to its end
+-- each solve of a program that ended is answered
 pub ends_answered : (status : Status) (job : Job) (solving : Solving) (last : State) (programs : List (Lp Frac)) → Ends status job solving last programs → AreAnswered frac_value number_limit programs solving.answers
 ends_answered status job solving last programs ends = answered_by solving.before.rules solving.answers programs (course_of job solving).events ends.kept
 
@@ -288,11 +288,11 @@ lists_ended status solving old mid new matter pending solves many p w =
     let line : ℕ → List ℕ = end_text (status_code status) in
     record { text = p.body ++ line (length solving.answers); listing = p.listing; written = subst (λ n. new ≡ with_output old (p.body ++ line n)) many (passes_whole old mid new (p.body ++ line solves) (pending ++ line solves) (passes_behind (line solves) p.passes) w) }
 
--- all statements of a job are the job
+-- taking all statements changes nothing
 whole_job : (job : Job) (n : ℕ) → length job.statements ≤ n → first_of n job ≡ job
 whole_job job n h = ap (λ (ss : List (Stmt Frac)). record job { statements = ss }) (take_all n job.statements h)
 
--- a job that was executed whole is cut off where its text is not written
+-- a program whose statements were all executed is cut off where its text is not written
 cut_whole : (job : Job) (solving : Solving) (written : ℕ) → (course_of job solving).left ≡ [] → length (body_of job solving) ≤ written + 4096 → IsCutOff job solving written
 cut_whole job solving written taken pending =
     let n = length job.statements in
@@ -302,14 +302,14 @@ cut_whole job solving written taken pending =
       held = subst (λ (j : Job). length (body_of j solving) ≤ written + 4096) (sym (whole_job job n (omega arith))) pending;
     })
 
--- two texts that are as long with the same line behind them
+-- two texts that end with the same line are equally long before it
 as_long : (a b x y : List ℕ) → x ≡ y → a ++ x ≡ b ++ y → length a ≡ length b
 as_long a b x y line e =
     let n : length x ≡ length y = ap length line in
     let m : length (a ++ x) ≡ length (b ++ y) = ap length e in
     omega (arith, n, m, length-append a x, length-append b y)
 
--- a listing is a front that is due, where all but its last line and no more than a spool has of that is written
+-- a listing is an expected prefix, where its body is written except for at most one spool
 listed_front : (status : Status) (solving : Solving) (matter : Matter) (body : List ℕ) (written : ℕ) → (status ≡ Compile) ⊎ (length body ≤ written + 4096) → IsListing status solving matter (body ++ end_text (status_code status) (length solving.answers)) →
     IsFront solving matter (body ++ end_text (status_code status) (length solving.answers)) written
 listed_front status solving matter body written room is = by status room is
@@ -333,7 +333,7 @@ listed_front status solving matter body written room is = by status room is
     by ReadFault room is = absurd is
     by WriteFault room is = absurd is
 
--- The listing was written as far as its front.
+-- The listing was written up to a prefix.
 pub front_ended : (status : Status) (solving : Solving) (old mid new : Outside) (matter : Matter) (pending : List ℕ) (solves : ℕ) → solves ≡ length solving.answers → Prepares status solving old mid matter pending →
     WritesFront mid new (pending ++ end_text (status_code status) solves) → IsUnwritten solving old new matter
 front_ended status solving old mid new matter pending solves many p front =
@@ -380,11 +380,11 @@ filled xs e = λ none.
     let some = positive (length xs) e in
     omega (arith, n, some)
 
--- what is told of the element at a place
+-- the image of the element at a place
 pub told_at : {X : Type 0} (f : X → List ℕ) (xs : List X) (k : ℕ) (x : X) (other : List ℕ) → slice_get xs k ≡ Some x → f x ≡ unwrap_or (slice_get (map f xs) k) other
 told_at f xs k x other is = sym (ap (λ (o : Option (List ℕ)). unwrap_or o other) (slice_get-map f xs k ∙ ap (option_map f) is))
 
--- and where there is none
+-- without an element at the place, the other text
 pub told_nowhere : {X : Type 0} (f : X → List ℕ) (xs : List X) (k : ℕ) (other : List ℕ) → slice_get xs k ≡ None → other ≡ unwrap_or (slice_get (map f xs) k) other
 told_nowhere f xs k other is = sym (ap (λ (o : Option (List ℕ)). unwrap_or o other) (slice_get-map f xs k ∙ ap (option_map f) is))
 

@@ -1,4 +1,4 @@
--- Where a job comes to with the answers that were given so far.
+-- What a program to run shows and keeps, with the answers that were given so far.
 use Rattle.std.proofs.Common.{◌≡◌, ◌≤◌, ℕ, Bool, true, false, List, [], ◌∷◌, ◌++◌, length, map, take, drop, Option, Some, None, refl, sym, ap, ◌∙◌, subst, append_assoc, append-nil}
 use Rattle.std.specs.Prelude.{option_map}
 use Rattle.std.specs.List.{All}
@@ -44,7 +44,7 @@ module _ (job : Job) (before : Solvers) where
   abbrev pub texts : List (Answer Frac) → List Event → List ℕ
   texts answers es = events_text job.program.names job.program.labels number_limit (map (answer_numbers frac_value) answers) es
 
-  -- so many statements were executed
+  -- the first `i` statements were executed
   abbrev pub Done_so : Bool → ℕ → Between → List ℕ → Type 0
   Done_so goes_on i now text = IsListed goes_on (one_after_another (take i statements) []) job.program before.rules begin now [] text
 
@@ -53,7 +53,8 @@ module _ (job : Job) (before : Solvers) where
   are_quiet [] = tt
   are_quiet (s ∷ ss) = (quiet_statement frac_value number_limit (record { program = job.program; solvers = before.names }) s, are_quiet ss)
 
-  -- What a job shows behind a text, with these answers, which are all taken and answered.
+  -- What the program shows after a text, with these answers: all are taken, and each answers its
+  -- solve.
   pub record Rests (at : Between) (text : List ℕ) : Type 0 where
     pub later : List ℕ
     pub shown : shown_by job (solving_with at) ≡ text ++ later
@@ -67,7 +68,7 @@ module _ (job : Job) (before : Solvers) where
     settled_with : (more : List Event) → All IsNoSolve more → AreSettled before.rules now.answers (so_far ++ more)
     settled_with more unsolved = settled_more before.rules now.answers so_far more (settled_by_standing before.rules now.answers shown standing) unsolved
 
-    -- what is shown by a run that goes on from here
+    -- what is shown by a run that continues from here
     shown_behind : (course : Course) (more : List Event) → course_of job (solving_with now) ≡ course → course.events ≡ so_far ++ more →
         shown_by job (solving_with now) ≡ texts now.answers so_far ++ texts now.answers (more ++ last_event course.halted)
     shown_behind course more is events =
@@ -76,7 +77,7 @@ module _ (job : Job) (before : Solvers) where
         ∙ ap (texts now.answers) (append_assoc so_far more (last_event course.halted))
         ∙ flat_map-append (event_text job.program.names job.program.labels number_limit (map (answer_numbers frac_value) now.answers)) so_far (more ++ last_event course.halted)
 
-  -- a job whose course is this one
+  -- a program whose run is this one
   solved_as : (now : Between) (course : Course) → course_of job (solving_with now) ≡ course → course.left ≡ [] → AreSettled before.rules now.answers course.events → HaveGrown before now.solvers now.answers course.events → IsSolved job (solving_with now)
   solved_as now course is left settled grown =
       let all = subst (AreSettled before.rules now.answers) (sym (ap (λ c. c.events) is)) settled in
@@ -98,18 +99,18 @@ module _ (job : Job) (before : Solvers) where
     after_these : one_after_another (take i statements) [] (course_at begin [] (map (answer_numbers frac_value) now.answers) None) ≡ course_at now (events_in frac_value p.shown) [] p.fault
     after_these = ap (λ given. one_after_another (take i statements) [] (course_at begin [] (map (answer_numbers frac_value) given) None)) (sym (append-nil now.answers)) ∙ after_first []
 
-    -- the job of these statements alone takes all answers
+    -- the run of these statements alone takes all answers
     pub taken_by_first : (course_of (first_of i job) (solving_with now)).left ≡ []
     taken_by_first = ap (λ (ss : List OfStatement). (one_after_another ss [] (course_at begin [] (map (answer_numbers frac_value) now.answers) None)).left) (sym (take-map statement_of i job.statements)) ∙ ap (λ c. c.left) after_these
 
-    -- and behind them the others
+    -- and after them the others
     after_all : course_of job (solving_with now) ≡ one_after_another (drop i statements) [] (course_at now (events_in frac_value p.shown) [] p.fault)
     after_all = in_two statements i [] (course_at begin [] (map (answer_numbers frac_value) now.answers) None) ∙ ap (one_after_another (drop i statements) []) after_these
 
     settled_here : AreSettled before.rules now.answers (events_in frac_value p.shown)
     settled_here = settled_by_standing before.rules now.answers p.shown p.standing
 
-    -- where the job shows no more than these, the programs of its solves were kept
+    -- where the program shows no more than these events, the programs of its solves were kept
     kept_as : (course : Course) → course_of job (solving_with now) ≡ course → course.events ≡ events_in frac_value p.shown → course.taken ≡ length now.answers →
         KeepsPrograms before.rules now.answers now.programs (course_of job (solving_with now)).events
     kept_as course is same taken =
@@ -130,12 +131,12 @@ module _ (job : Job) (before : Solvers) where
       ∙ texts-more before.rules job.program.names job.program.labels now.answers fresh p.shown p.standing
       ∙ sym (p.text ∙ ap (λ f. texts now.answers (es ++ last_event (option_map stopped f))) p.end ∙ ap (texts now.answers) (append-nil es))
 
-  -- What a job that has come to its end shows.
+  -- What a program that ended shows.
   pub record EndsWith (status : Status) (at : Between) (text : List ℕ) : Type 0 where
     pub shown : shown_by job (solving_with at) ≡ text
     pub ends : Ends status job (solving_with at) at.state at.programs
 
-  -- Where a fault stopped the last of the statements that were executed, the job ends there.
+  -- Where a fault stopped the last statement that was executed, the program ends there.
   pub ends_stopped : (i : ℕ) (now : Between) (text : List ℕ) → Done_so false i now text → EndsWith Execution now text
   ends_stopped i now text p =
       let es = events_in frac_value p.shown in
@@ -148,7 +149,7 @@ module _ (job : Job) (before : Solvers) where
         ends = record { solved = solved_as now here is refl (settled_here false now text i p) p.grown; halts = (fault, ap (λ c. c.halted) is); comes = ap (λ c. c.state) is; kept = kept_as false now text i p here is refl refl };
       }
 
-  -- Where all statements were executed, the job is done.
+  -- Where all statements were executed, the program is done.
   pub ends_done : (i : ℕ) (now : Between) (text : List ℕ) → length job.statements ≤ i → Done_so true i now text → EndsWith Done now text
   ends_done i now text all p =
       let es = events_in frac_value p.shown in
@@ -161,8 +162,8 @@ module _ (job : Job) (before : Solvers) where
         ends = record { solved = solved_as now here is refl (settled_here true now text i p) p.grown; halts = ap (λ c. c.halted) is; comes = ap (λ c. c.state) is; kept = kept_as true now text i p here is refl refl };
       }
 
-  -- What the job shows behind the text of its first statements, with the answers that these took: where a fault stopped it, nothing, and else what
-  -- the others show up to a solve.
+  -- What the program shows after the text of its first statements, with the answers that these
+  -- took: nothing where a fault stopped it, otherwise what the others show up to a solve.
   pub comes_to_rest : (i : ℕ) (goes_on : Bool) (now : Between) (text : List ℕ) → Done_so goes_on i now text → Rests now text
   comes_to_rest i goes_on now text p = by_fault p.fault refl
     where

@@ -30,9 +30,9 @@ use Rattle.gms_run.specs.Listings.{IsAccepted, IsJob, IsListing, SavesLast}
 use Rattle.gms_run.specs.Laws.{IsLongRun, IsRestart, RestartsSayTheSame, base_course}
 use Rattle.gms_run.proofs.Completeness.{one_value}
 
--- ---- jobs
+-- ---- programs to run
 
--- The job of a script.
+-- What is run of a script.
 record IsJobOf (solvers : List (List ℕ)) (script : Script) (job : Job) : Type 0 where
   accepted : IsAccepted solvers script job.program
   is : job ≡ job_of script job.program
@@ -75,7 +75,7 @@ both-answers one other long e =
 
 -- ---- the saved run
 
--- What the run of a program came to, whose last state was saved.
+-- A run of a program that ended, and whose last state was saved.
 record IsKept (first : Solving) (source save : List ℕ) (program : Program Frac) : Type 0 where
   accepted : IsAccepted first.before.names (script_of source) program
   halted : (whole_run frac_value number_limit (world_of program first) (numbers_of first.answers)).halted ≡ None
@@ -102,11 +102,11 @@ is-kept first source save text base starts done saves =
 
 -- ---- what is restored
 
--- a state with the place of its own solver
+-- setting a state's solver to the one that it has changes nothing
 own-solver : (state : State) (place : ℕ) → state.settings.solver ≡ place → with_solver state place ≡ state
 own-solver state place e = ap (with_solver state) (sym e)
 
--- what is given back of a save is the last state, and the job resumes from it
+-- restoring a save gives the last state back, and the run resumes from it
 resumes-last : (solvers : List (List ℕ)) (save source file : List ℕ) (program : Program Frac) (last : State) (solver : List ℕ) (job : Job) → IsSaveOf save source program last solver → place_of_solver solvers solver ≡ Some last.settings.solver → IsResumed solvers save file job → IsJobOf solvers (joint_script source last file) job
 resumes-last solvers save source file program last solver job is_save placed resumes =
     let back : IsBack solvers resumes.saved source program last solver = resumes.back source program last solver is_save in
@@ -146,7 +146,7 @@ module _ (first second long : Solving) (source file : List ℕ) (restart : IsRes
   of-long : IsJobOf long.before.names (script_of joint_text) job
   of-long = from-its-start long.before.names joint_text (scripted (script_of joint_text)) job refl is_long.is_job
 
-  -- the file's job resumes from the last state
+  -- the file's run resumes from the last state
   of-last : (other : Job) → IsJob second.before.names restart.matter other → IsJobOf first.before.names (joint_script source last file) other
   of-last other is_job =
       resumes-last first.before.names restart.save source file saved last (solver_name first.before.names last) other kept.is_save kept.placed
@@ -175,7 +175,7 @@ module _ (first second long : Solving) (source file : List ℕ) (restart : IsRes
   says =
       says-the-same number_limit number_limit source file (world_of saved first) (world_of job.program long) answers further kept.accepted.is_program of-long.accepted.is_program (first.before.names, kept.accepted.no_error) clean is_long.same_solvers kept.halted kept.left (sym (ap (λ (c : Course). c.halted) based) ∙ reached)
 
-  -- the long run is that of the saved source's statements, followed by that of the file's job
+  -- the long run is that of the saved source's statements, followed by that of the file
   is-both : (other : Job) → IsJob second.before.names restart.matter other → course_of job long ≡ behind_run (base_course source job long) (course_of other second)
   is-both other is_job =
       let one = world_of job.program long in

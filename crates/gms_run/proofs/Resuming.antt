@@ -1,4 +1,5 @@
--- Where a saved state declares the names of a joint program as that does, the definitions of that are over sets of one dimension in the state that is gone on from.
+-- Where a saved state declares the names of a joint program as the program does, its definitions
+-- are over sets of dimension one in the state that the run resumes from.
 use Rattle.std.proofs.Common.{◌≡◌, ℕ, zero, suc, Bool, true, false, List, [], ◌∷◌, length, slice_get, refl, sym, ap, ◌∙◌, subst, cond, unwrap_or, ◌⊎◌, inl, inr}
 use Rattle.std.specs.List.{All}
 use Rattle.std.proofs.lemmas.List.Elements.{All-nil, All-cons, All-head, All-tail}
@@ -19,7 +20,7 @@ use Rattle.gms_save.specs.JointErrors.{resumed}
 use Rattle.gms_save.proofs.LoadedNames.{loaded-declares, same-at, same-read}
 use Rattle.gms_restart.specs.Alike.{IsAlike}
 
--- a symbol among symbols, where there is one
+-- a symbol in a list of symbols, by its number; without one, the empty symbol
 abbrev at : List Symbol → ℕ → Symbol
 at symbols n = unwrap_or (slice_get symbols n) no_symbol
 
@@ -34,7 +35,7 @@ either (x ∷ xs) (y ∷ ys) zero = by (is_undeclared y.content)
     by false = inr refl
 either (x ∷ xs) (y ∷ ys) (suc n) = either xs ys n
 
--- what stands for a name does not depend on what is given
+-- the set that a name stands for does not depend on its data
 keeps-behind : (n : ℕ) (c : Content) → behind n (emptied c) ≡ behind n c
 keeps-behind n undeclared = refl
 keeps-behind n (alias_of base) = refl
@@ -66,7 +67,7 @@ module _ (saved : State) (joint : Program Frac) (alike : (name : ℕ) → IsAlik
       ∙ ap (λ (n : ℕ). length (symbol_at (declared_state joint) n).domain) (sym base)
       ∙ sym (ap (λ (s : Symbol). length s.domain) (same-at first (declared_state joint) (base_of first set) (loaded-declares frac_value joint)))
 
-  -- A set of one position, as it is loaded, is one where the run goes on.
+  -- A set that has dimension one as it is loaded has it where the run resumes.
   stays : (set : ℕ) → IsOne first set → IsOne now set
   stays set (one, members) =
       let still : length (symbol_of now set).domain ≡ 1 = domain-same set ∙ one in

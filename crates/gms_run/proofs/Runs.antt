@@ -44,7 +44,7 @@ long_refusal a b text long more r = by_fault r.refused
     by_fault (inr (inl lexical)) = let few : length a.source ≤ most_bytes = lexical.short in absurd (omega (arith, long, few))
     by_fault (inr (inr syntactic)) = let few : length a.source ≤ most_bytes = syntactic.short in absurd (omega (arith, long, few))
 
--- a script that is too long has no job
+-- nothing is run of a script that is too long
 no_job : (solvers : List (List ℕ)) (script : Script) (job : Job) → most_bytes < length script.source → IsJob solvers (scripted script) job → ⊥
 no_job solvers script job long is =
     let same : is.script ≡ script = one_script (sym is.to_run) in
@@ -78,7 +78,7 @@ module _ (solving : Solving) (a b : Script) (long : most_bytes < length a.source
   long_listing ReadFault text is = absurd is
   long_listing WriteFault text is = absurd is
 
-  -- and the same is due
+  -- and the same prefix is expected
   long_front : (text : List ℕ) (written : ℕ) → IsFront solving (scripted a) text written → IsFront solving (scripted b) text written
   long_front text written (inl refused) = inl (long_refused text refused)
   long_front text written (inr run) = absurd (no_run text run.0)
@@ -102,7 +102,7 @@ module _ (solving : Solving) (a b : Script) (long : most_bytes < length a.source
   long_told (generated size) ReadFault line told = told
   long_told (generated size) WriteFault line told = told
 
-  -- the same is said in the end
+  -- and the same closing lines are expected
   long_closing : (status : Status) (request : Asked) (lines : List ℕ) → AreClosing status solving request (scripted a) lines → AreClosing status solving request (scripted b) lines
   long_closing status request lines (remarks, (ranges, line, ranged, told, split), closed) =
       (remarks, (ranges, line, long_ranges request.ranges status ranges ranged, long_told request.source status line told, split), closed)
@@ -137,7 +137,8 @@ module _ (solving : Solving) (a b : Script) (long : most_bytes < length a.source
   long_ran Usage old new request r = absurd r
   long_ran ReadFault old new request r = absurd r
 
--- What holds of the first of some bytes, one more than there may be, holds of all, where it does for two that are too many.
+-- What holds of the first `most + 1` of some bytes holds of all, if for inputs that are too long it
+-- carries over.
 of_whole : (most : ℕ) (bytes : List ℕ) (P : List ℕ → Type 0) → (most < length (take (most + 1) bytes) → most < length bytes → P (take (most + 1) bytes) → P bytes) → P (take (most + 1) bytes) → P bytes
 of_whole most bytes P long is =
     elim (cases_lt (most + 1) (length bytes)) [
@@ -152,7 +153,7 @@ module _ (status : Status) (solving : Solving) (old new : Outside) (request : As
       of_whole most_bytes whole (λ b. RanSo status solving old new request (scripted (script_of b)))
       (λ long more r. long_ran solving (script_of (take (most_bytes + 1) whole)) (script_of whole) long more status old new request r)
 
-  -- the same of a file that goes on from a saved state
+  -- the same for a file that resumes from a saved state
   joint_whole : (saved : List ℕ) (state : State) (whole : List ℕ) → RanSo status solving old new request (scripted (joint_script saved state (take (most_bytes + 1) whole))) → RanSo status solving old new request (scripted (joint_script saved state whole))
   joint_whole saved state whole =
       of_whole most_bytes whole (λ b. RanSo status solving old new request (scripted (joint_script saved state b)))
@@ -193,7 +194,7 @@ module _ (status : Status) (solving : Solving) (old new : Outside) (request : As
       by long more (scripted script) is ran = let few : length (take (most_save_bytes + 1) whole) ≤ most_save_bytes = is.short in absurd (omega (arith, few, long))
       by long more (unrestored fault) is ran = record { matter = unrestored fault; is_matter = same_fault fault long more is; ran = ran }
 
--- a line that was said after a file was read, or not
+-- a line that was printed after a file was read, or was not
 says_later : {A : Type 0} {r : Result A Failed} (old mid new : Meaning) (before : Outside) (line : List ℕ) (there : Type 0) → CountsReading r there old.counts mid.counts → SaysLine mid new before line → SaysLine old new before line
 says_later old mid new before line there counts said =
     let faults : mid.counts.write_faults ≡ old.counts.write_faults = ap (λ (c : Counts). c.write_faults) counts.rest in
@@ -202,9 +203,9 @@ says_later old mid new before line there counts said =
 says_from : {A : Type 0} {r : Result A Failed} (old mid new : Meaning) (line : List ℕ) (there : Type 0) → CountsReading r there old.counts mid.counts → SaysLine mid new mid.outside line → SaysLine old new mid.outside line
 says_from old mid new line there counts said = says_later old mid new mid.outside line there counts said
 
--- ---- what is asked for
+-- ---- for a request
 
--- What a run of what was taken did is what it did for a request.
+-- What a run of the input did is what it did for a request.
 pub of_request : (status : Status) (solving : Solving) (old new : Meaning) (request : Asked) (taken : Taken) → IsTaken old.outside request.source taken → RanOf status solving (with_taken old.outside request.source taken) new.outside request taken → OfRequest status solving old new request
 of_request Done solving old new request taken is r = record { taken = taken; is_taken = is; matter = r.matter; is_matter = r.is_matter; ran = r.ran }
 of_request Compile solving old new request taken is r = record { taken = taken; is_taken = is; matter = r.matter; is_matter = r.is_matter; ran = r.ran }
@@ -235,7 +236,7 @@ of_generated (Ok status) solving old new request size source e is ran =
     (record { matter = scripted (script_of source); is_matter = refl; ran = subst (λ (o : Outside). RanSo status solving o new.outside request (scripted (script_of source))) (ap (λ (o : Origin). with_taken old.outside o (from_start source)) (sym e)) ran })
 of_generated (Err x) solving old new request size source e is ran = tt
 
--- What was restored of a save goes on.
+-- A file that resumes from a restored save.
 pub of_joint : (r : Result Status AllocError) (solving : Solving) (old new : Outside) (request : Asked) (save file : List ℕ) (saved : Saved) → length save ≤ most_save_bytes → IsRestored solving.before.names save saved → GivesBack solving.before.names save (Ok saved) →
     IfOk r (λ status. RanSo status solving old new request (scripted (joint_script saved.source.items saved.store file))) → IfOk r (λ status. RanOf status solving old new request (from_save save file))
 of_joint (Ok status) solving old new request save file saved short restored back ran =
@@ -250,7 +251,7 @@ ran_joint r solving old new request source file before line state saved is begin
     (subst (λ (n : ℕ). IfOk r (λ status. RanSo status solving old new request (scripted (record { source = joint_source before file; file = file; line = n; saved = Some state })))) begins
     (subst (λ (t : List ℕ). IfOk r (λ status. RanSo status solving old new request (scripted (record { source = t; file = file; line = line; saved = Some state })))) is ran))
 
--- What goes on from no state was run so, whatever state stands for none.
+-- A run that resumes from no state does not depend on the state that is passed on.
 pub ran_anew : (r : Result Status AllocError) (solving : Solving) (old new : Outside) (request : Asked) (matter : State → Matter) (due : Matter) → ((state : State) → matter state ≡ due) →
     IfOk r (λ status. (state : State) × RanSo status solving old new request (matter state)) → IfOk r (λ status. RanSo status solving old new request due)
 ran_anew (Ok status) solving old new request matter due same ran = subst (λ (m : Matter). RanSo status solving old new request m) (same ran.0) ran.1
@@ -267,7 +268,7 @@ pub of_unrestored : (r : Result Status AllocError) (solving : Solving) (old new 
 of_unrestored (Ok status) solving old new request save file fault is ran = record { matter = unrestored fault; is_matter = is; ran = ran }
 of_unrestored (Err e) solving old new request save file fault is ran = tt
 
--- What was run behind a save that was read, whose file was taken, is what was run of the file.
+-- A run of a file that was read after its save is the run of that file.
 pub of_behind : (r : Result Status AllocError) (solving : Solving) (old mid new : Meaning) (request : Asked) (save file : List ℕ) (source : Vec ℕ Global) (bytes : List ℕ) → bytes ≡ source.items → ReadsFile (most_bytes + 1) (done_with source) old.outside mid.outside file →
     IfOk r (λ status. RanOf status solving mid.outside new.outside request (from_save save bytes)) → IfOk r (λ status. RanBehind status solving old new request save file)
 of_behind (Err e) solving old mid new request save file source bytes same read ran = tt
@@ -294,14 +295,14 @@ of_behind (Ok status) solving old mid new request save file source bytes same re
     by Usage r = absurd r.ran
     by ReadFault r = absurd r.ran
 
--- A file that goes on from a save could not be read, and the line that says so was said.
+-- A file that resumes from a save could not be read, and the read fault line was printed.
 pub unread_behind : (r : Result Status AllocError) (solving : Solving) (old mid new : Meaning) (request : Asked) (save file : List ℕ) → IsUnread old.outside mid.outside file → CountsReading (let x : Result (Vec ℕ Global) Failed = Err Fault in x) (IsThere old.outside file) old.counts mid.counts →
     IfOk r (λ status. status ≡ ReadFault) → OnOk r (SaysLine mid new mid.outside (read_fault_line file)) → SolvesNothing solving → IfOk r (λ status. RanBehind status solving old new request save file)
 unread_behind (Ok status) solving old mid new request save file not counts same said none =
     subst (λ s. RanBehind s solving old new request save file) (sym same) (record { before = mid.outside; unread = not; said = says_from old mid new (read_fault_line file) (IsThere old.outside file) counts said }, none)
 unread_behind (Err e) solving old mid new request save file not counts same said none = tt
 
--- What was run of a save, whose first bytes were taken, and of the file behind it is what was run for a request.
+-- A run of the first bytes of a save, and of the file after it, is what was run for a request.
 pub of_restart : (r : Result Status AllocError) (solving : Solving) (old mid new : Meaning) (request : Asked) (saved file : List ℕ) (save : Vec ℕ Global) (bytes : List ℕ) → request.source ≡ restarted saved file → bytes ≡ save.items → ReadsFile (most_save_bytes + 1) (done_with save) old.outside mid.outside saved →
     CountsReading (done_with save) (IsThere old.outside saved) old.counts mid.counts → IfOk r (λ status. RanBehind status solving mid new request bytes file) → IfOk r (λ status. OfRequest status solving old new request)
 of_restart (Err e) solving old mid new request saved file save bytes in_it same read counts ran = tt
@@ -352,7 +353,7 @@ reports_so Usage solving old new request matter r = absurd r.listing
 reports_so ReadFault solving old new request matter r = absurd r.listing
 reports_so WriteFault solving old new request matter r = absurd r.listing
 
--- a run of a matter did what its report came to
+-- a run did what its report resulted in
 pub ran_so : (reported : Result Status Failed) (r : Result Status AllocError) (solving : Solving) (old new : Outside) (request : Asked) (matter : Matter) → EndsAs reported r →
     ComesTo reported (λ status. IsReported status solving old new request matter) (IsWriteFault solving old new request matter) → IfOk r (λ status. RanSo status solving old new request matter)
 ran_so (Ok status) r solving old new request matter is done =
@@ -364,7 +365,7 @@ ran_so (Err Memory) r solving old new request matter (e, is) broken =
 
 -- ---- the steps of a report
 
--- where the output is opened its name is that which the request asks for
+-- the output that is opened has the name that was requested
 opened_as : (old mid : Outside) (name output : List ℕ) → name ≡ output → mid ≡ with_opened old name → mid ≡ with_opened old output
 opened_as old mid name output same e = e ∙ ap (with_opened old) same
 
@@ -434,7 +435,7 @@ saves_none status request old bytes none = ap (λ (file : Option (List ℕ)). wi
 
 -- ---- files that are not read
 
--- The first file of an origin could not be read, and the line that says so was said.
+-- The first file of a request could not be read, and the read fault line was printed.
 pub unread : (r : Result Status AllocError) (solving : Solving) (old mid new : Meaning) (request : Asked) (file : List ℕ) → IsUnreadOf old.outside mid.outside request.source file → CountsReading (let x : Result (Vec ℕ Global) Failed = Err Fault in x) (IsThere old.outside file) old.counts mid.counts →
     IfOk r (λ status. status ≡ ReadFault) → OnOk r (SaysLine mid new mid.outside (read_fault_line file)) → SolvesNothing solving → IfOk r (λ status. OfRequest status solving old new request)
 unread (Ok status) solving old mid new request file not counts same said none =
@@ -443,7 +444,7 @@ unread (Err e) solving old mid new request file not counts same said none = tt
 
 -- ---- lines
 
--- A line that was said whole.
+-- A line that was printed whole.
 pub says_whole : (old new : Meaning) (line : List ℕ) → new.outside ≡ with_said old.outside line → SaysLine old new old.outside line
 says_whole old new line said =
     record { front = ([], record { bytes = line; said = said; split = sym (append-nil line) }); whole = inl said }
@@ -463,11 +464,11 @@ pub mentioned : {A : Type 0} (r : Result A Failed) (old new : Counts) → Counts
 mentioned r old new c =
     record { rest = c.rest; no_fall = c.own.no_fall; stay = λ t. c.rest ∙ ap (λ n. record old { write_faults = n }) (c.own.steady t) }
 
--- where no line is said nothing is counted
+-- where no line is printed nothing is counted
 pub mentioned_none : (c : Counts) → CountsMention c c
 mentioned_none c = record { rest = refl; no_fall = omega arith; stay = λ t. refl }
 
--- what a report counts where it was done
+-- what a report that succeeded counts
 pub counts_reported : (status : Status) (old new : Counts) → CountsWriting (done_with status) old new → (status ≡ Done) ⊎ ((status ≡ Compile) ⊎ (status ≡ Execution)) → CountsRun (let r : Result Status AllocError = Ok status in r) (old.reliable ≡ true) old new
 counts_reported status old new c is =
     record { said = by status is; stay = stay; unmet = λ t. met status is }
@@ -520,11 +521,11 @@ counts_fault old new c =
       unmet = λ t. c.own.unfailing t refl;
     }
 
--- what a run counts that ends by want of memory
+-- the counts of a run that ends out of memory
 pub counts_memory : (e : AllocError) (r : Result Status Failed) (old new : Counts) → CountsWriting r old new → CountsRun (let x : Result Status AllocError = Err e in x) (old.reliable ≡ true) old new
 counts_memory e r old new c = record { said = tt; stay = λ t. c.rest ∙ ap (λ n. record old { write_faults = n }) (c.own.steady t); unmet = λ t. tt }
 
--- what a run counts whose report came to this
+-- the counts of a run, by the result of its report
 pub counts_so : (reported : Result Status Failed) (r : Result Status AllocError) (solving : Solving) (old new : Outside) (request : Asked) (matter : Matter) (first last : Counts) → EndsAs reported r → CountsWriting reported first last →
     ComesTo reported (λ status. IsReported status solving old new request matter) (IsWriteFault solving old new request matter) → CountsRun r (first.reliable ≡ true) first last
 counts_so (Ok status) r solving old new request matter first last is counts done =
@@ -538,7 +539,7 @@ counts_so (Err Memory) r solving old new request matter first last (e, is) count
 pub counts_nothing : (e : AllocError) (sure : Type 0) (c : Counts) → CountsRun (let x : Result Status AllocError = Err e in x) sure c c
 counts_nothing e sure c = record { said = tt; stay = λ t. refl; unmet = λ t. tt }
 
--- a count that rose behind one that stayed or rose
+-- a count that rose after one that stayed or rose
 rose_on : (a b c : ℕ) → a ≤ b → Rose b c → Rose a c
 rose_on a b c h rose = omega (arith, h, rose)
 
@@ -546,11 +547,11 @@ rose_on a b c h rose = omega (arith, h, rose)
 rose_first : (a b c : ℕ) → Rose a b → b ≤ c → Rose a c
 rose_first a b c rose h = omega (arith, h, rose)
 
--- a host that was reliable is so behind a file that was read
+-- a reliable host stays reliable after a file was read
 reliable_still : {A : Type 0} {r : Result A Failed} {there : Type 0} {old mid : Counts} → CountsReading r there old mid → old.reliable ≡ true → mid.reliable ≡ true
 reliable_still p t = ap (λ (c : Counts). c.reliable) p.rest ∙ t
 
--- what a run counts behind a file that was read
+-- the counts of a run after a file was read
 counts_read_on : {A : Type 0} (x : A) (there sure later : Type 0) (r : Result Status AllocError) (old mid new : Counts) → (sure → (old.reliable ≡ true) × there) → (sure → later) → CountsReading (done_with x) there old mid → CountsRun r later mid new → CountsRun r sure old new
 counts_read_on x there sure later r old mid new before behind p q =
     record { said = by r q.said; stay = λ t. q.stay (behind t) ∙ first (before t); unmet = λ t. q.unmet (behind t) }
@@ -583,12 +584,12 @@ counts_read_on x there sure later r old mid new before behind p q =
 pub counts_read : {A : Type 0} (x : A) (there : Type 0) (r : Result Status AllocError) (old mid new : Counts) → CountsReading (done_with x) there old mid → CountsRun r (mid.reliable ≡ true) mid new → CountsRun r ((old.reliable ≡ true) × there) old new
 counts_read x there r old mid new p q = counts_read_on x there ((old.reliable ≡ true) × there) (mid.reliable ≡ true) r old mid new (λ t. t) (λ t. reliable_still p t.0) p q
 
--- a file is still there behind another that was read
+-- a file still exists after another was read
 still_there : (most : ℕ) (old mid : Outside) (file other whole : List ℕ) → mid ≡ with_read most old file whole → IsThere old other → IsThere mid other
 still_there most old mid file other whole at there =
     subst (λ (files : Option Files). IfSome files (λ f. IsSome (files_map.get f other))) (sym (ap (λ (o : Outside). o.files) at)) there
 
--- where another file is to be read behind it
+-- the counts where a second file is to be read after the first
 pub counts_restart : (r : Result Status AllocError) (old mid new : Meaning) (saved file : List ℕ) (save : Vec ℕ Global) → ReadsFile (most_save_bytes + 1) (done_with save) old.outside mid.outside saved → CountsReading (done_with save) (IsThere old.outside saved) old.counts mid.counts →
     CountsRun r ((mid.counts.reliable ≡ true) × IsThere mid.outside file) mid.counts new.counts → CountsRun r ((old.counts.reliable ≡ true) × (IsThere old.outside saved × IsThere old.outside file)) old.counts new.counts
 counts_restart r old mid new saved file save read p q =
@@ -610,7 +611,7 @@ counts_unread there r old mid new p q is =
     by (Ok s) e = subst (λ s. CountsSo s old new) (sym e) rose
     by (Err e) is = tt
 
--- and where memory was wanting in reading it
+-- and where reading ended out of memory
 pub counts_read_memory : (e : AllocError) (there : Type 0) (r : Result (Vec ℕ Global) Failed) (old mid : Counts) → CountsReading r there old mid → CountsRun (let x : Result Status AllocError = Err e in x) ((old.reliable ≡ true) × there) old mid
 counts_read_memory e there r old mid p = record { said = tt; stay = λ t. p.rest ∙ ap (λ n. record old { read_faults = n }) (p.own.steady t); unmet = λ t. tt }
 
@@ -618,17 +619,17 @@ counts_read_memory e there r old mid p = record { said = tt; stay = λ t. p.rest
 pub counts_sure : (r : Result Status AllocError) (sure other : Type 0) (old new : Counts) → (other → sure) → CountsRun r sure old new → CountsRun r other old new
 counts_sure r sure other old new s c = record { said = c.said; stay = λ t. c.stay (s t); unmet = λ t. c.unmet (s t) }
 
--- where the words are refused a line is said and no more
+-- where the arguments are refused one line is printed, and nothing else is done
 pub counts_usage : (words : List (List ℕ)) (old : Meaning) (new : Counts) → CountsMention old.counts new → CountsRun (let r : Result Status AllocError = Ok Usage in r) (IsReadyFor old words) old.counts new
 counts_usage words old new c = record { said = tt; stay = λ t. c.stay t.reliable; unmet = λ t. tt }
 
--- a ready host has what a request asks for
+-- a ready host has the files that a request names
 pub ready_of : (old : Meaning) (words : List (List ℕ)) (request : Asked) → request_of words ≡ Some request → IsReadyFor old words → (old.counts.reliable ≡ true) × HasOrigin old.outside request.source
 ready_of old words request named r = (r.reliable, subst (λ (o : Option Asked). IfSome o (λ q. HasOrigin old.outside q.source)) named r.there)
 
--- ---- words
+-- ---- arguments
 
--- What a run did for a request is what it did for words that ask for it.
+-- What a run did for a request is what it did for the arguments that make the request.
 pub is_run : (r : Result Status AllocError) (solving : Solving) (words : List (List ℕ)) (old new : Meaning) (request : Asked) → request_of words ≡ Some request → IfOk r (λ status. OfRequest status solving old new request) → IfOk r (λ status. IsRun status solving words old new)
 is_run (Err e) solving words old new request named did = tt
 is_run (Ok Done) solving words old new request named did = (request, (named, did))

@@ -163,7 +163,7 @@ module _ (solving : Solving) (script : Script) (job : Job) (accepted : IsAccepte
     text = text;
   }
 
--- what is to be saved, where the text is made and the numbers were looked at
+-- what is to be saved, where the text is made and the numbers were examined
 pub keeps_state : {E : Type 0} (r : Result (Vec ℕ Global) E) (file : Option (List ℕ)) (solvers : List (List ℕ)) (source : List ℕ) (program : Program Frac) (last : State) → IfOk r (λ bytes. bytes.items ≡ saved_text source program.names last (solver_name solvers last)) →
     ((name : ℕ) → name < length program.names → (t : List ℕ) → fits_at number_limit (symbol_of last name).content t ≡ true) → IfOk r (λ bytes. IfSome file (λ _. KeepsState solvers source program last bytes.items))
 keeps_state (Err e) file solvers source program last text fit = tt

@@ -1,4 +1,4 @@
--- Each solve of a run is answered, and its search comes to its end.
+-- Each solve of a run is answered, and its search ends.
 use Rattle.std.proofs.Common.{◌≡◌, ℕ, inl, inr, List, [], ◌∷◌, ◌++◌, Option, Some, sym, subst}
 use Rattle.std.specs.Prelude.{slice_get, IfSome}
 use Rattle.std.specs.List.{All}
@@ -45,7 +45,7 @@ ends_under lp iterlim formed Turning answer is enough = comes_to_end_by_turn fra
 ends_under lp iterlim formed Legal answer is enough = absurd enough
 
 module _ (rules : List SolverRule) (answers : List (Answer Frac)) where
-  -- the solves among events are answered, and their searches come to their end
+  -- each solve among the events is answered, and its search ends
   abbrev pub AreSettled : List Event → Type 0
   AreSettled events = AreAnswered frac_value number_limit rules answers events × SearchesEnd rules answers events
 
@@ -72,7 +72,7 @@ module _ (rules : List SolverRule) (answers : List (Answer Frac)) where
       All-cons (SearchEnds rules answers) (event_in frac_value e) (events_in frac_value shown) (one_ends e (All-head (IsStanding frac_value number_limit rules answers) e shown is))
       (all_end shown (All-tail (IsStanding frac_value number_limit rules answers) e shown is))
 
-  -- Events that stand are settled.
+  -- Valid events are settled.
   pub settled_by_standing : (shown : List (OwnEvent Frac)) → All (IsStanding frac_value number_limit rules answers) shown → AreSettled (events_in frac_value shown)
   settled_by_standing shown is = (answered_by_standing frac_value number_limit rules answers shown is, all_end shown is)
 
@@ -90,7 +90,7 @@ module _ (rules : List SolverRule) (answers : List (Answer Frac)) where
   unsolved-ends (stops fault) is = tt
   unsolved-ends (solves solved) is = absurd is
 
-  -- With events behind them that are no solves they stay settled.
+  -- Further events without a solve change nothing.
   pub settled_more : (events more : List Event) → AreSettled events → All IsNoSolve more → AreSettled (events ++ more)
   settled_more events more settled unsolved = (
     All-append (IsAnswered frac_value number_limit rules answers) events more settled.0 (All-weaker IsNoSolve (IsAnswered frac_value number_limit rules answers) unsolved-answered more unsolved),

@@ -1,4 +1,5 @@
--- A run without a fault of the host ends with an execution error exactly where the run that the source means is stopped.
+-- A run that met no fault of the host ends with Execution exactly where the run that the source
+-- means is stopped by an error.
 use Rattle.std.proofs.Common.{◌≡◌, ℕ, List, Option, Some, None, refl, sym, ap, ap₂, ◌∙◌, subst}
 use Rattle.std.specs.Prelude.{◌↔◌}
 use Rattle.gq_frac.specs.declared.frac.Frac.{Frac}
@@ -21,9 +22,9 @@ use Rattle.gms_run.specs.Statuses.{CountsSo, EndsByNoFault, IsReadyFor, IsRun, I
 use Rattle.gms_restart.proofs.ProgramsAlike.{restarted-alike, whole-alike}
 use Rattle.gms_run.proofs.Completeness.{can_run_of, fault_met, named_taken, names_some, not_refused, one_script, one_value, same_restored}
 
--- ---- programs that are seen alike
+-- ---- programs with equal views
 
--- The jobs of a script run alike in two programs that are seen alike: a script that is run from its start, or one that goes on from a save.
+-- A script runs alike in two programs with equal views, from its start or from a save.
 module _ (one other : Program Frac) (alike : program_view frac_value one ≡ program_view frac_value other) (solving : Solving) where
   abbrev world_of : Program Frac → World Frac
   world_of program = record { program = program; solvers = solving.before.names }
@@ -36,10 +37,10 @@ module _ (one other : Program Frac) (alike : program_view frac_value one ≡ pro
       by source file line None = whole-alike number_limit (world_of one) (world_of other) alike refl (numbers_of solving.answers)
       by source file line (Some state) = restarted-alike number_limit (world_of one) (world_of other) alike refl line state (numbers_of solving.answers)
 
--- ---- jobs of what was taken
+-- ---- the run of an input
 
 module _ (solving : Solving) where
-  -- two jobs of one script run alike
+  -- a script determines its run
   script-course : (script : Script) (a b : Job) → IsJob solving.before.names (scripted script) a → IsJob solving.before.names (scripted script) b → course_of a solving ≡ course_of b solving
   script-course script a b ja jb =
       let is-a : script ≡ ja.script = one_script ja.to_run in
@@ -51,11 +52,11 @@ module _ (solving : Solving) where
       ∙ same-course a.program b.program alike solving script
       ∙ sym (ap (λ (j : Job). course_of j solving) (jb.is_job ∙ ap (λ (s : Script). job_of s b.program) (sym is-b)))
 
-  -- nothing that cannot be restored is a job
+  -- a save that cannot be restored has no program to run
   no-job : (fault : SaveFault) (job : Job) → IsJob solving.before.names (unrestored fault) job → ⊥
   no-job fault job j = let e = j.to_run in cc
 
-  -- two jobs of what was taken run alike
+  -- an input determines its run
   same-job : (taken : Taken) (m n : Matter) (a b : Job) → IsMatter solving.before.names taken m → IsMatter solving.before.names taken n → IsJob solving.before.names m a → IsJob solving.before.names n b → course_of a solving ≡ course_of b solving
   same-job (from_start source) (scripted s) (scripted t) a b is at ja jb =
       script-course s a b ja (subst (λ (r : Script). IsJob solving.before.names (scripted r) b) (at ∙ sym is) jb)
@@ -69,7 +70,7 @@ module _ (solving : Solving) where
 -- ---- the status
 
 module _ (solving : Solving) (old new : Outside) (words : List (List ℕ)) (n : NamesSource old words) where
-  -- a run that executed a job, which halts with an execution error, of what the words name
+  -- a run that executed the named input and halted with an execution error
   stops : (status : Status) (request : Asked) (run : IsRunOf status solving old new request) → n.request ≡ request → (text : List ℕ) (done : IsExecuted solving run.matter text) → HaltsSo Execution (course_of done.job solving).halted → IsStopped solving n.taken
   stops status request run same text done halts = record {
     matter = run.matter;
@@ -79,7 +80,7 @@ module _ (solving : Solving) (old new : Outside) (words : List (List ℕ)) (n : 
     halts = halts;
   }
 
-  -- a run of what is stopped did not come to its end
+  -- a run that is stopped by an error does not end with Done
   not-done : (request : Asked) (run : IsRunOf Done solving old new request) → n.request ≡ request → IsStopped solving n.taken → ⊥
   not-done request run same is =
       let done = run.ran.listing.0 in
@@ -89,8 +90,8 @@ module _ (solving : Solving) (old new : Outside) (words : List (List ℕ)) (n : 
       let some : (course_of is.job solving).halted ≡ Some (stopped is.halts.0) = is.halts.1 in
       let both : None ≡ Some (stopped is.halts.0) = sym none ∙ some in cc
 
--- What a run did that met no fault, for words that name a source: an execution error stopped it exactly where the run that the source
--- means is stopped.
+-- A run of arguments that name a source, where no fault is met: it ends with Execution exactly
+-- where the run that the source means is stopped.
 pub stopped_so : (status : Status) (solving : Solving) (words : List (List ℕ)) (old new : Meaning) → IsRun status solving words old new → CountsSo status old.counts new.counts → (IsReadyFor old words → EndsByNoFault status) → (n : NamesSource old.outside words) → MeetsNoFault old.counts new.counts → (status ≡ Execution) ↔ IsStopped solving n.taken
 stopped_so status solving words old new run counts unmet n none = (λ is. forth (subst (λ s. IsRun s solving words old new) is run), back status run counts unmet)
   where

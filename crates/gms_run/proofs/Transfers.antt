@@ -23,7 +23,7 @@ module _ (most : ℕ) where
     pub outside : now.outside ≡ record old.outside { input = option_map (λ (bytes : List ℕ). drop (length taken) bytes) old.outside.input }
     pub counts : CountsReading all_done (Unit {0}) old.counts now.counts
 
-  -- what was taken, after a read took more off
+  -- the bytes so far, after one more read
   front_more : (input : Option (List ℕ)) (taken items buffer : List ℕ) (count : ℕ) → IfSome input (λ bytes. taken ≡ take (length taken) bytes) → IfSome (option_map (λ (bytes : List ℕ). drop (length taken) bytes) input) (λ bytes. GivesFirst bytes count buffer) →
       length items ≡ length taken + count → items ≡ taken ++ take count buffer → IfSome input (λ bytes. items ≡ take (length items) bytes)
   front_more None taken items buffer count so g n e = tt
@@ -35,7 +35,7 @@ module _ (most : ℕ) where
   left_more None k n count e = refl
   left_more (Some bytes) k n count e = ap Some (drop-drop count k bytes ∙ ap (λ (j : ℕ). drop j bytes) (sym e))
 
-  -- More was read: the count's bytes of a buffer with more behind it.
+  -- More was read: the first `count` bytes of a buffer.
   pub read_more : (old now next : Meaning) (taken items buffer rest : List ℕ) (count : ℕ) → ReadSoFar old now taken → count ≤ length buffer → IfSome now.outside.input (λ bytes. GivesFirst bytes count buffer) × (next.outside ≡ record now.outside { input = option_map (λ (bytes : List ℕ). drop count bytes) now.outside.input }) →
       CountsReading (done_with count) (Unit {0}) now.counts next.counts → items ≡ taken ++ take count (buffer ++ rest) → length buffer + length taken ≤ most → ReadSoFar old next items
   read_more old now next taken items buffer rest count so room r counts e few =
@@ -136,7 +136,7 @@ module _ (most : ℕ) where
       same None = refl
       same (Some bytes) = refl
 
-  -- A read that failed left all but the input, which stands as it was taken off.
+  -- A read that failed changed nothing but the input.
   pub read_failed : (r : Result (Vec ℕ Global) Failed) (failed : Failed) (old now next : Meaning) (taken : List ℕ) → r ≡ Err failed → ReadSoFar old now taken → next.outside ≡ now.outside → TakesFirst most r old.outside next.outside
   read_failed r failed old now next taken is so same =
       subst (λ (x : Result (Vec ℕ Global) Failed). TakesFirst most x old.outside next.outside) (sym is)
@@ -156,7 +156,8 @@ module _ (most : ℕ) where
       by None is = tt
       by (Some f) is = sym is.1 ∙ of_input input (subst (λ (o : Option (List ℕ)). IsSome o) (sym is.1) is.0) same
 
-  -- two inputs that are both told or both not give the same where one value is told of them
+  -- two inputs that are both exposed or both hidden become the same when one value replaces the
+  -- exposed one
   told_alike : {A : Type 0} (a b : Option (List ℕ)) (x : A) → is_some a ≡ is_some b → option_map (λ (_ : List ℕ). x) a ≡ option_map (λ (_ : List ℕ). x) b
   told_alike None None x e = refl
   told_alike None (Some b) x e = cc

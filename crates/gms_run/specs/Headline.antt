@@ -1,6 +1,6 @@
--- Begin here: what `run` promises of a FILE, from the text of a source to the text of its listing (GAMS User's Guide,
--- "GAMS Programs" and "GAMS Output"). Restarts, saves, ranges and generated models are additions to it, in the modules after
--- this one.
+-- Begin here: what `run` promises of a FILE, from the text of a source to the text of its listing
+-- (GAMS User's Guide, "GAMS Programs" and "GAMS Output"). Restarts, saves, ranges and generated
+-- models are additions to it, in the modules after this one.
 use Rattle.std.specs.Prelude.{◌≡◌, ◌≢◌, ℕ, ◌⊎◌, false, List, [], length, Option, Some, None}
 use Rattle.gq_frac.specs.declared.frac.Frac.{Frac}
 use Rattle.gq_frac.specs.Frac.{frac_value}
@@ -24,7 +24,8 @@ use Rattle.gms_run.specs.Statuses.{IsFileOf, with_source, with_file}
 
 -- ---- runs
 
--- the run of a program: its statements one after another, from the state that its declarations give, with the solvers' answers
+-- the run of a program: its statements in order, from the state that its declarations give, with
+-- the solvers' answers
 abbrev pub run_of : Program Frac → Solving → Course
 run_of program solving =
     run_from frac_value number_limit (record { program = program; solvers = solving.before.names }) (loaded frac_value program) (numbers_of solving.answers) program.statements.items
@@ -44,9 +45,9 @@ pub record IsErrorListing (solvers : List (List ℕ)) (source text : List ℕ) :
   pub some : compile_errors frac_value program solvers ≢ []
   pub listing : text ≡ errors_listing 1 source (compile_errors frac_value program solvers)
 
--- The source is a program without errors: its run takes all answers, each solve has an answer of the linear program that its
--- model means at that point, what each answer says of plans is so, the run ends as the status says, and the listing has what it
--- shows.
+-- The source is a program without errors: its run takes all answers, each solve has an answer of
+-- the linear program that its model means at that point, what each answer says of plans is so, the
+-- run ends as the status says, and the listing has what it shows.
 pub record IsRunListing (status : Status) (solving : Solving) (source text : List ℕ) : Type 0 where
   pub program : Program Frac
   pub is_program : IsProgram number_limit source frac_value program
@@ -57,7 +58,7 @@ pub record IsRunListing (status : Status) (solving : Solving) (source text : Lis
   pub ends : HaltsSo status (run_of program solving).halted
   pub listing : text ≡ run_listing program.names program.labels number_limit 1 source (numbers_of solving.answers) (all_events (run_of program solving)) (status_code status)
 
--- the listing of a source with which a run ends so; the other statuses have none
+-- the listing of a source for a run that ends with a status; the other statuses have none
 abbrev pub IsListingOf : Status → Solving → List ℕ → List ℕ → Type 0
 IsListingOf Done solving source text = IsRunListing Done solving source text
 IsListingOf Execution solving source text = IsRunListing Execution solving source text
@@ -67,7 +68,7 @@ IsListingOf Usage solving source text = ⊥
 IsListingOf ReadFault solving source text = ⊥
 IsListingOf WriteFault solving source text = ⊥
 
--- a listing is written whole with this status
+-- whether a run with this status writes a whole listing
 abbrev pub HasListing : Status → Type 0
 HasListing Done = Unit {0}
 HasListing Compile = Unit {0}
@@ -82,8 +83,8 @@ HasListing WriteFault = ⊥
 abbrev pub file_alone : List ℕ → List ℕ → Asked
 file_alone file output = record { source = in_file file; output = output; save = None; ranges = false }
 
--- The listing of the source in a file is written to the output, which is kept, and then the closing line is printed. Nothing
--- else is done outside.
+-- The listing of the source in a file is written to the output, which is kept, and then the closing
+-- line is printed. Nothing else is done outside.
 pub record WritesListing (status : Status) (solving : Solving) (old new : Outside) (file output : List ℕ) : Type 0 where
   pub source : List ℕ
   pub is_source : IsFileOf old file source

@@ -1,4 +1,4 @@
--- What the pieces that read what is to be run and report it promise each other.
+-- The contracts between the functions that load an input, run it and report it.
 use Rattle.std.specs.Prelude.{◌≡◌, ◌≢◌, ◌≤◌, ◌<◌, ◌⊎◌, Bool, true, false, ℕ, List, [], ◌++◌, map, take, drop, length, Option, Some, None, option_map, IfSome, IfOk, Result, Ok, Err, Vec}
 use Rattle.std.specs.List.{All}
 use Rattle.std.specs.declared.alloc.Global.{Global}
@@ -38,25 +38,26 @@ use Rattle.gms_run.specs.Jobs.{solver_name, status_code}
 use Rattle.gms_run.specs.Listings.{AreRemarks, IsAccepted, IsListing, IsModelLine, SavesSo, errors_text, save_file}
 use Rattle.gms_run.specs.Statuses.{CountsSo, EndsByNoFault, IsFileOf, IsUnread, IsUnwrittenFile, RanSo, SaysLine, with_read, with_save, with_source}
 
--- ---- what is passed on
+-- ---- views of arguments
 
--- a saved state, where there is one that is gone on from
+-- a saved state, if the run resumes from one
 abbrev pub saved_if : Bool → State → Option State
 saved_if true state = Some state
 saved_if false state = None
 
--- a script, as it is passed on, with the state that it goes on from, where it does
+-- a script as the specification sees it, with the state that it resumes from, if any
 abbrev pub script_in : OwnScript → State → Script
 script_in script state =
     record { source = script.source.now; file = script.file.now; line = script.line; saved = saved_if script.joint state }
 
--- what there is to run, as it is passed on
+-- the view of a loaded input
 abbrev pub matter_in : OwnMatter → State → Matter
 matter_in (ToRun script) state = scripted (script_in script state)
 matter_in (Unrestored fault) state = unrestored fault
 
--- A source is joint, a file behind that of a program, at this line, and the state is a saved one of the program, whose settings have the place of the
--- solver that it names.
+-- The source is joint: a file follows the source of a program, and begins at this line. The state
+-- is a saved one of that program, and its settings have the place of the solver that the save
+-- names.
 pub record IsGoneOn (solvers : List (List ℕ)) (source : List ℕ) (line : ℕ) (state : State) : Type 0 where
   pub before : List ℕ
   pub file : List ℕ
@@ -68,26 +69,28 @@ pub record IsGoneOn (solvers : List (List ℕ)) (source : List ℕ) (line : ℕ)
   pub is_saved : IsSavedBy program state solver
   pub placed : place_of_solver solvers solver ≡ Some state.settings.solver
 
--- A saved state from which a run of a joint source can go on, whose file begins at a line: its settings choose one of the solvers, the members of
--- a set are as long as it has positions, and where the source is a program its names are declared there as it declares them.
+-- A run of a joint source can resume from this saved state. The settings choose one of the solvers,
+-- the members of a set are as long as it has positions, and if the source is a program, the state
+-- declares its names as the program does.
 pub record CanGoOn (solvers : List (List ℕ)) (source : List ℕ) (line : ℕ) (state : State) : Type 0 where
   pub origin : IsGoneOn solvers source line state
   pub settings : AreKept (length solvers) state.settings
   pub arity : (name : ℕ) → All (λ t. length t ≡ length (symbol_at state name).domain) (members_in (symbol_at state name).content)
   pub declares : (program : Program Frac) → IsProgram number_limit source frac_value program → (name : ℕ) → IsAlike (resumed frac_value state program) (declared_state program) name
 
--- a run of a source can go on from a saved state, where there is one
+-- a run of a source can resume from this state; without a state nothing is required
 abbrev pub IsSound : List (List ℕ) → List ℕ → ℕ → Option State → Type 0
 IsSound solvers source line None = Unit {0}
 IsSound solvers source line (Some state) = CanGoOn solvers source line state
 
--- the same of what there is to run
+-- a run of a loaded input can resume from its saved state, if it has one
 abbrev pub IsSoundMatter : List (List ℕ) → Matter → Type 0
 IsSoundMatter solvers (scripted script) = IsSound solvers script.source script.line script.saved
 IsSoundMatter solvers (unrestored fault) = Unit {0}
 
--- A run begins its program in this state: the script is accepted, the solvers have names that a source can write, and the state is the first one of
--- it; a saved state that it goes on from is one of the saved source's program.
+-- A run begins a program in this state. The script is accepted, the names of the solvers can be
+-- written in a source, and the state is the program's first. A saved state that it resumes from is
+-- one of the saved source's program.
 pub record Begins (solvers : List (List ℕ)) (script : Script) (program : Program Frac) (state : State) : Type 0 where
   pub accepted : IsAccepted solvers script program
   pub named : All IsSolverName solvers
@@ -96,24 +99,25 @@ pub record Begins (solvers : List (List ℕ)) (script : Script) (program : Progr
 
 -- ---- transfers
 
--- of what the input gives the first bytes were taken, so many, or all; where that fails nothing but the input changed
+-- the first `most` bytes of the input were taken, or all if it has fewer; after a failure only the
+-- input has changed
 abbrev pub TakesFirst : ℕ → Result (Vec ℕ Global) Failed → Outside → Outside → Type 0
 TakesFirst most (Ok source) old new =
     (whole : List ℕ) × (IfSome old.input (λ bytes. whole ≡ bytes) × ((source.items ≡ take most whole) × (new ≡ record old { input = option_map (λ _. drop most whole) old.input })))
 TakesFirst most (Err _) old new = new ≡ record old { input = new.input }
 
--- the bytes in a file were taken, or the first of them; where that fails the file is not read
+-- the bytes of a file were taken, or its first `most` bytes; after a failure the file is not read
 abbrev pub ReadsFile : ℕ → Result (Vec ℕ Global) Failed → Outside → Outside → List ℕ → Type 0
 ReadsFile most (Ok source) old new file =
     (whole : List ℕ) × (IsFileOf old file whole × ((source.items ≡ take most whole) × (new ≡ with_read most old file whole)))
 ReadsFile most (Err _) old new file = IsUnread old new file
 
--- a line was said, or where that fails its front
+-- a line was printed, or after a failure a prefix of it
 abbrev pub SaysAll : Result (Unit {0}) Failed → Outside → Outside → List ℕ → Type 0
 SaysAll (Ok _) old new line = new ≡ with_said old line
 SaysAll (Err _) old new line = SaysFront old new line
 
--- the save of a run was written, where it is to be
+-- the save of a run was written, if it is to be saved
 abbrev pub WritesSave : Status → Asked → Outside → Outside → List ℕ → Type 0
 WritesSave status request old new bytes = new ≡ with_save old (save_file status request) bytes
 
@@ -125,48 +129,51 @@ pub record LosesSave (status : Status) (request : Asked) (old new : Outside) (by
 
 -- ---- reports
 
--- The listing of what there is to run but for its last line is on its way out; of what is accepted no more is pending than a spool has.
+-- The listing before its last line is written, except for what is pending; without a compile error
+-- at most one spool is pending.
 pub record Prepares (status : Status) (solving : Solving) (old new : Outside) (matter : Matter) (pending : List ℕ) : Type 0 where
   pub body : List ℕ
   pub listing : IsListing status solving matter (body ++ end_text (status_code status) (length solving.answers))
   pub passes : Passes old new body pending
   pub room : (status ≡ Compile) ⊎ (length pending ≤ 4096)
 
--- The whole listing of what there is to run was added to the output.
+-- The whole listing of the loaded input was added to the output.
 pub record Lists (status : Status) (solving : Solving) (old new : Outside) (matter : Matter) : Type 0 where
   pub text : List ℕ
   pub listing : IsListing status solving matter text
   pub written : new ≡ with_output old text
 
--- errors of a program are listed behind the echo of its script, or there are none and nothing is listed
+-- the errors of a program are listed after the echo of its script; without errors nothing is listed
 abbrev pub ListsErrors : Bool → List CompileError → Script → List ℕ → List ℕ → Type 0
 ListsErrors true errors script before after = (errors ≢ []) × (after ≡ before ++ errors_text script errors)
 ListsErrors false errors script before after = (errors ≡ []) × (after ≡ before)
 
--- What is to be done behind a listing: the remarks that are said, and the save of the last state.
+-- What follows a listing: the remarks that are printed, and the save of the last state.
 pub record Follows (status : Status) (solving : Solving) (request : Asked) (matter : Matter) (text bytes : List ℕ) : Type 0 where
   pub remarks : AreRemarks status solving request matter text
   pub saves : SavesSo status solving request matter bytes
 
--- the end of a run, by what its report came to: a fault of the host is a write fault, and want of memory has no status
+-- the end of a run, by the result of its report: a fault of the host is a write fault, and out of
+-- memory has no status
 abbrev pub EndsAs : Result Status Failed → Result Status AllocError → Type 0
 EndsAs (Ok status) end = end ≡ Ok status
 EndsAs (Err FailedSo) end = end ≡ Ok WriteFault
 EndsAs (Err Memory) end = (e : AllocError) × (end ≡ Err e)
 
--- What was taken was run: what there is to run of it.
+-- The input was run: it was loaded, and what it gives to run was run.
 pub record RanOf (status : Status) (solving : Solving) (old new : Outside) (request : Asked) (taken : Taken) : Type 0 where
   pub matter : Matter
   pub is_matter : IsMatter solving.before.names taken matter
   pub ran : RanSo status solving old new request matter
 
--- A file could not be read, and the line that says so is said.
+-- A file could not be read, and the read fault line was printed.
 pub record IsUnreadFile (old new : Meaning) (file : List ℕ) : Type 0 where
   pub before : Outside
   pub unread : IsUnread old.outside before file
   pub said : SaysLine old new before (read_fault_line file)
 
--- what a run did behind a save that was read: the file that goes on from it was taken and run, or it could not be read
+-- what a run did after it read a save: the file that resumes from the save was read and run, or it
+-- could not be read
 abbrev pub RanBehind : Status → Solving → Meaning → Meaning → Asked → List ℕ → List ℕ → Type 0
 RanBehind ReadFault solving old new request save file = IsUnreadFile old new file × SolvesNothing solving
 RanBehind status solving old new request save file =
@@ -174,13 +181,13 @@ RanBehind status solving old new request save file =
 
 -- ---- remarks
 
--- what is told of a run, by where its source comes from, its program and its last state
+-- the line on a run, by where its source comes from, its program and its last state
 abbrev pub IsTold : Origin → Program Frac → State → List (Answer Frac) → List ℕ → Type 0
 IsTold (generated size) program last answers line = IsModelLine size program last answers line
 IsTold (in_file file) program last answers line = line ≡ []
 IsTold (restarted saved file) program last answers line = line ≡ []
 
--- what is said of the ranges of a run that solved these linear programs, where they are asked for
+-- what is printed of ranges, if they are requested, for a run that solved these linear programs
 abbrev pub IsRanged : Bool → Program Frac → List (Lp Frac) → List (Answer Frac) → List ℕ → Type 0
 IsRanged true program solved answers text =
     SaysRanges program.names program.labels number_limit 1 (map (lp_numbers frac_value) solved) (numbers_of answers) text
@@ -191,25 +198,27 @@ abbrev pub IsRemarked : Asked → Program Frac → State → List (Lp Frac) → 
 IsRemarked request program last solved answers text =
     (ranges line : List ℕ) × IsRanged request.ranges program solved answers ranges × IsTold request.source program last answers line × (text ≡ ranges ++ line)
 
--- The bytes are the save of a last state over a source, and the numbers of the state are within the limit.
+-- The bytes are the save of a last state with its source, and the numbers of the state are within
+-- the limit.
 pub record KeepsState (solvers : List (List ℕ)) (source : List ℕ) (program : Program Frac) (last : State) (bytes : List ℕ) : Type 0 where
   pub text : bytes ≡ saved_text source program.names last (solver_name solvers last)
   pub fit : (name : ℕ) → name < length program.names → (t : List ℕ) → fits_at number_limit (symbol_of last name).content t ≡ true
 
--- that is so where the run is to be saved
+-- the bytes are the save of the last state, if the run is to be saved
 abbrev pub IsSave : Status → Asked → List (List ℕ) → List ℕ → Program Frac → State → List ℕ → Type 0
 IsSave status request solvers source program last bytes = IfSome (save_file status request) (λ file. KeepsState solvers source program last bytes)
 
 -- ---- counts
 
--- What a run does to the counts: what its status says. Where it is sure to meet no fault, none is counted, and it does not end by one.
+-- How a run changes the counts: as its status says. Where it surely meets no fault, it counts none,
+-- and does not end with one.
 pub record CountsRun (result : Result Status AllocError) (sure : Type 0) (old new : Counts) : Type 0 where
   pub said : IfOk result (λ status. CountsSo status old new)
   pub stay : sure → new ≡ old
   pub unmet : sure → IfOk result EndsByNoFault
 
--- What saying a line does to the counts, where a fault in it is no fault of the run: only faults of writing are counted, and a reliable host counts
--- none.
+-- How printing a line changes the counts, where a fault in it is no fault of the run: only faults
+-- of writing are counted, and a reliable host counts none.
 pub record CountsMention (old new : Counts) : Type 0 where
   pub rest : new ≡ record old { write_faults = new.write_faults }
   pub no_fall : old.write_faults ≤ new.write_faults

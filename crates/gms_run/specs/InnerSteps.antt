@@ -1,4 +1,4 @@
--- What the pieces that execute a job promise each other.
+-- The contracts between the functions that execute a program.
 use Rattle.std.specs.Prelude.{◌≡◌, ℕ, ◌+◌, ◌≤◌, Bool, true, false, List, [], ◌∷◌, ◌++◌, length, map, slice_get, Option, Some, None, option_map, IfSome, Result, Ok, Err}
 use Rattle.std.specs.List.{All, range_with_len}
 use Rattle.gq_frac.specs.declared.frac.Frac.{Frac}
@@ -29,7 +29,8 @@ use Rattle.gms_run.specs.declared.status.Status.{Status}
 use Rattle.gms_run.specs.Solving.{Solvers, Solving, HaveGrown, number_limit, numbers_of, places_of, programs_of, seen, solves_in}
 use Rattle.gms_run.specs.Jobs.{Job, IsSolved, HaltsSo, course_of, first_of, shown_by}
 
--- what work over a host comes to, by its answer: this where it is done, and that where a fault of the host ends it; want of memory says nothing
+-- what work over a host results in: `Done` on success, `Broken` on a host fault; out of memory
+-- makes no claim
 abbrev pub ComesTo : {A : Type 0} → Result A Failed → (A → Type 0) → Type 0 → Type 0
 ComesTo (Ok x) Done Broken = Done x
 ComesTo (Err FailedSo) Done Broken = Broken
@@ -37,12 +38,12 @@ ComesTo (Err Memory) Done Broken = Unit {0}
 
 -- ---- the programs of solves
 
--- the answer at a place is one of a program, by settings that held at a solve
+-- the answer at a place is one of a program, by the settings of some solve
 abbrev pub IsAnsweredAt : List SolverRule → List (Answer Frac) → ℕ → Lp Frac → Type 0
 IsAnsweredAt rules answers place lp = (settings : Settings) × IsStandingSolve frac_value number_limit rules answers lp place settings
 
--- The programs of the solves among events are kept, in order: they are those that the solves show, there is one for each answer, and the answer at
--- the place of each is one of it.
+-- The programs of the solves among events are kept, in order. They are those that the solves show,
+-- one for each answer, and each answer is one of the program at its place.
 pub record KeepsPrograms (rules : List SolverRule) (answers : List (Answer Frac)) (programs : List (Lp Frac)) (events : List Event) : Type 0 where
   pub shown : map (lp_numbers frac_value) programs ≡ programs_of (solves_in events)
   pub in_order : places_of (solves_in events) ≡ range_with_len 0 (length answers)
@@ -56,31 +57,33 @@ programs_in (other ∷ events) = programs_in events
 
 -- ---- between statements
 
--- What is seen of a run between statements: its state, its answers, the programs that these are of, and its solvers.
+-- A run between two statements: its state, its answers, their linear programs, and its solvers.
 pub record Between : Type 0 where
   pub state : State
   pub answers : List (Answer Frac)
   pub programs : List (Lp Frac)
   pub solvers : Solvers
 
--- the same, by what each solver tells
+-- the view of a run between two statements
 abbrev pub between : {S : Type 0} → (S → List ℕ) → (S → SolverRule) → (S → List (List Pivot)) → State → List (Answer Frac) → List (Lp Frac) → List S → Between
 between name rule paths state answers programs solvers =
     record { state = state; answers = answers; programs = programs; solvers = seen name rule paths solvers }
 
--- where a run stands that shows these events, and has these answers left
+-- the state of a run that has shown these events and has these answers left
 abbrev pub course_at : Between → List Event → List (Answer Number) → Option Fault → Course
 course_at at events left fault =
     record { state = at.state; events = events; left = left; taken = length at.answers; halted = option_map stopped fault }
 
--- a run goes on where no fault stopped it
+-- a run continues where no fault stopped it
 abbrev pub GoesOn : Bool → Option Fault → Type 0
 GoesOn true fault = fault ≡ None
 GoesOn false fault = (stop : Fault) × (fault ≡ Some stop)
 
--- Statements were executed: they showed events and took answers behind those that were there, and the run came to the state and the end that
--- they come to with these answers. The text of what they showed, and of the fault that stopped them, stands behind the text before. Each solve is
--- answered, its program is kept behind those that were there, and the pivots of its answer stand behind the paths of its solver.
+-- Statements were executed. They appended events and took answers, and the run reached the state
+-- and the end that these statements lead to with these answers. The text of the events, and of the
+-- fault that stopped them, is appended to the text before. Each solve is answered, its program is
+-- appended to those that are kept, and the pivots of its answer are appended to the paths of its
+-- solver.
 pub record IsListed (goes_on : Bool) (does : Course → Course) (program : Program Frac) (rules : List SolverRule) (old new : Between) (before after : List ℕ) : Type 0 where
   pub shown : List (OwnEvent Frac)
   pub fault : Option Fault
@@ -94,26 +97,27 @@ pub record IsListed (goes_on : Bool) (does : Course → Course) (program : Progr
       does (course_at old events (numbers_of fresh ++ more) None) ≡ course_at new (events ++ events_in frac_value shown) more fault
   pub text : after ≡ before ++ events_text program.names program.labels number_limit (numbers_of new.answers) (events_in frac_value shown ++ last_event (option_map stopped fault))
 
--- ---- jobs
+-- ---- programs to run
 
--- a job that is not echoed
+-- a program to run without an echo
 abbrev pub work : Program Frac → State → List (Stmt Frac) → Job
 work program state statements = record { program = program; state = state; statements = statements; source = []; file = []; line = 0 }
 
--- A job came to its end, so that the run ends with this status, in this state, and the programs of its solves were kept.
+-- A program ended with this status, in this state, and the programs of its solves were kept.
 pub record Ends (status : Status) (job : Job) (solving : Solving) (last : State) (programs : List (Lp Frac)) : Type 0 where
   pub solved : IsSolved job solving
   pub halts : HaltsSo status (course_of job solving).halted
   pub comes : (course_of job solving).state ≡ last
   pub kept : KeepsPrograms solving.before.rules solving.answers programs (course_of job solving).events
 
--- The statements of a job came to their end, and what they show is on its way out behind a text that is due.
+-- The statements ended. Their text follows the text `due`, and all of it is written except for what
+-- is pending.
 pub record EndsBehind (status : Status) (job : Job) (solving : Solving) (last : State) (programs : List (Lp Frac)) (old new : Outside) (due pending : List ℕ) : Type 0 where
   pub ends : Ends status job solving last programs
   pub passes : Passes old new (due ++ shown_by job solving) pending
   pub room : length pending ≤ 4096
 
--- Behind a text that is due the statements of a job were executed up to one whose listing was not written.
+-- The statements were executed up to one whose listing, after the text `due`, was not written.
 pub record BreaksBehind (job : Job) (solving : Solving) (old new : Outside) (due : List ℕ) : Type 0 where
   pub solved : IsSolved job solving
   pub front : WritesFront old new (due ++ shown_by job solving)

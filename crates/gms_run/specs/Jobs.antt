@@ -1,4 +1,4 @@
--- A job, and what running it comes to: how far it goes with the answers of its solvers, and the text of that.
+-- A program to run, how far its run goes with the solvers' answers, and the text of that.
 use Rattle.std.specs.Prelude.{◌≡◌, ℕ, ◌+◌, ◌≤◌, ◌⊎◌, List, [], ◌++◌, length, take, Option, Some, None}
 use Rattle.gq_frac.specs.declared.frac.Frac.{Frac}
 use Rattle.gq_frac.specs.Frac.{frac_value}
@@ -18,8 +18,8 @@ use Rattle.gms_saved.specs.SavedState.{saved_text}
 use Rattle.gms_run.specs.Scripts.{Script, first_state, statements_of}
 use Rattle.gms_run.specs.Solving.{Solving, HaveGrown, SolvesNothing, number_limit, numbers_of}
 
--- What is run: statements of a program from a state on, and the source of the program, of which the lines of a file are echoed, the first with this
--- number.
+-- What is run: statements of a program, from a state. `source` is the source of the program; the
+-- lines of `file` are echoed, and `line` is the number of the first.
 pub record Job : Type 0 where
   pub program : Program Frac
   pub state : State
@@ -28,32 +28,33 @@ pub record Job : Type 0 where
   pub file : List ℕ
   pub line : ℕ
 
--- the job of a script whose program this is
+-- what is run of a script with this program
 abbrev pub job_of : Script → Program Frac → Job
 job_of script program =
     record { program = program; state = first_state script.saved program; statements = statements_of script.saved script.line program; source = script.source; file = script.file; line = script.line }
 
--- the job of the first statements alone
+-- the first statements alone
 abbrev pub first_of : ℕ → Job → Job
 first_of n job = record job { statements = take n job.statements }
 
--- ---- how far it goes
+-- ---- the run
 
--- the run of a job with these answers
+-- the run of a program with these answers
 abbrev pub course_of : Job → Solving → Course
 course_of job solving =
     run_from frac_value number_limit (record { program = job.program; solvers = solving.before.names }) job.state (numbers_of solving.answers) job.statements
 
--- The run of a job takes all answers; each solve has an answer of the linear program that its model means at that point, under the rule of the
--- solver that is chosen there; no search breaks off that has pivots enough for that rule; and the pivots of each answer stand behind the paths of
--- the solver that gave it.
+-- The run takes all answers. Each solve has an answer of the linear program that its model means at
+-- that point, under the rule of the solver that is chosen there. No search that has pivots enough
+-- for that rule is interrupted. The pivots of each answer are appended to the paths of its solver.
 pub record IsSolved (job : Job) (solving : Solving) : Type 0 where
   pub all_taken : (course_of job solving).left ≡ []
   pub answered : AreAnswered frac_value number_limit solving.before.rules solving.answers (course_of job solving).events
   pub ended : SearchesEnd solving.before.rules solving.answers (course_of job solving).events
   pub grown : HaveGrown solving.before solving.after solving.answers (course_of job solving).events
 
--- each answer of a job's run is right: what it says is so of the model as it is written, with the data of the moment of its solve
+-- each answer of the run is right: what it says is true of the model as it is written, with the
+-- data at the moment of its solve
 abbrev pub HasRightAnswers : Job → Solving → Type 0
 HasRightAnswers job solving =
     AnswersAreSo frac_value number_limit (record { program = job.program; solvers = solving.before.names }) job.state job.statements solving.answers
@@ -67,15 +68,15 @@ status_code Execution = 3
 status_code ReadFault = 4
 status_code WriteFault = 5
 
--- how a job halts that ends with a status: it is done, or a fault stops it
+-- how the run of a program halts that ends with a status: it is done, or a fault stops it
 abbrev pub HaltsSo : Status → Option Halt → Type 0
 HaltsSo Done halted = halted ≡ None
 HaltsSo Execution halted = (fault : Fault) × (halted ≡ Some (stopped fault))
 HaltsSo _ halted = ⊥
 
--- ---- its text
+-- ---- the text of a run
 
--- the last line, by how a job halts: one that waits for an answer has none
+-- the last line, by how the run halts: one that waits for an answer has none
 abbrev pub last_line : Option Halt → ℕ → List ℕ
 last_line None solves = end_text 0 solves
 last_line (Some (stopped fault)) solves = end_text 3 solves
@@ -90,13 +91,14 @@ shown_by job solving =
 abbrev pub body_of : Job → Solving → List ℕ
 body_of job solving = echo_text job.line job.file ++ shown_by job solving
 
--- the listing of a job as far as the answers go: the echo, what the statements show, and the last line
+-- the listing of a program as far as the answers go: the echo, what the statements show, and the
+-- last line
 abbrev pub job_text : Job → Solving → List ℕ
 job_text job solving = body_of job solving ++ last_line (course_of job solving).halted (length solving.answers)
 
--- ---- its save
+-- ---- the save of a run
 
--- the save of the last state of a job, over its source
+-- the save of the last state of a run, with its source
 abbrev pub save_text : Job → Solving → List ℕ
 save_text job solving =
     saved_text job.source job.program.names (course_of job solving).state (solver_name solving.before.names (course_of job solving).state)
@@ -107,14 +109,16 @@ save_text job solving =
 abbrev pub most_held : ℕ
 most_held = 4096
 
--- So many bytes of the listing of a job were written, and at most one statement was executed beyond them: all answers are taken by
--- the statements before it and by itself, and the listing as far as those before it is written, except for the last 4,096 bytes.
+-- `written` bytes of the listing were written, and at most one statement was executed beyond them.
+-- That statement and those before it take all answers. The listing up to those before it is
+-- written, except for the last 4,096 bytes.
 pub record IsWrittenUpTo (job : Job) (solving : Solving) (written : ℕ) : Type 0 where
   -- how many statements are before it
   pub before : ℕ
   pub taken : (course_of (first_of (before + 1) job) solving).left ≡ []
   pub held : length (body_of (first_of before job) solving) ≤ written + most_held
 
--- a job whose listing was not written whole, but so many bytes of it: nothing was solved, or it was executed up to a statement
+-- only `written` bytes of a program's listing were written: nothing was solved, or statements were
+-- executed up to one
 abbrev pub IsCutOff : Job → Solving → ℕ → Type 0
 IsCutOff job solving written = SolvesNothing solving ⊎ IsWrittenUpTo job solving written

@@ -1,4 +1,4 @@
--- Laws of jobs, what the answers of a run say, and what a restarted run says.
+-- Laws of the run of a program, what its answers say, and what a restarted run says.
 use Rattle.std.specs.Prelude.{◌≡◌, ℕ, List, [], ◌++◌, length, map, None}
 use Rattle.gq_frac.specs.declared.frac.Frac.{Frac}
 use Rattle.gq_frac.specs.Frac.{frac_value}
@@ -12,27 +12,28 @@ use Rattle.gms_run.specs.Scripts.{Taken, Matter, IsMatter, first_line, from_save
 use Rattle.gms_run.specs.Jobs.{Job, course_of, first_of, HasRightAnswers}
 use Rattle.gms_run.specs.Listings.{IsExecuted, IsJob, IsListing, SavesLast}
 
--- a job with other statements
+-- a program to run with other statements
 abbrev pub with_statements : Job → List (Stmt Frac) → Job
 with_statements job statements = record job { statements = statements }
 
--- the run of statements of a job from where a run stands
+-- the run of further statements from the state that a run has reached
 abbrev pub run_on : Job → Solving → Course → List (Stmt Frac) → Course
 run_on job solving course statements =
     one_after_another (map (of_statement frac_value number_limit (record { program = job.program; solvers = solving.before.names })) statements) [] course
 
--- the run of statements, and of others behind them, is the run of the others from where the first ended
+-- the run of statements followed by others is the run of the others from where the first end
 abbrev pub RunsJoin : Type 0
 RunsJoin = (job : Job) (solving : Solving) (first others : List (Stmt Frac)) →
     course_of (with_statements job (first ++ others)) solving ≡ run_on job solving (course_of (with_statements job first) solving) others
 
 -- ---- answers
 
--- Where a run with these solvers and answers, from its start or from a save, executed what was requested, each answer is right.
+-- Where a run with these solvers and answers, from its start or from a save, executed what was
+-- requested, each answer is right.
 abbrev pub RunIsAnsweredRightly : Solving → Type 0
 RunIsAnsweredRightly solving = (taken : Taken) (matter : Matter) (text : List ℕ) → IsMatter solving.before.names taken matter → (run : IsExecuted solving matter text) → HasRightAnswers run.job solving
 
--- that is so of each run
+-- what each run executed is answered rightly
 abbrev pub RunsAreAnsweredRightly : Type 0
 RunsAreAnsweredRightly = (solving : Solving) → RunIsAnsweredRightly solving
 
@@ -52,7 +53,8 @@ pub record IsRestart (first second : Solving) (source file : List ℕ) : Type 0 
   pub run : IsExecuted second matter listing
   pub same_solvers : second.before.names ≡ first.before.names
 
--- One long run of the joint source, with the answers of both and the same solvers, is that of this job.
+-- One long run of the joint source, with the answers of both runs and the same solvers, is the run
+-- of this program.
 pub record IsLongRun (first second long : Solving) (source file : List ℕ) (job : Job) : Type 0 where
   pub is_job : IsJob long.before.names (scripted (script_of (joint_source source file))) job
   pub same_solvers : long.before.names ≡ first.before.names
@@ -62,14 +64,16 @@ pub record IsLongRun (first second long : Solving) (source file : List ℕ) (job
 abbrev pub base_course : List ℕ → Job → Solving → Course
 base_course source job long = course_of (first_of (length (saved_statements (first_line source) job.program)) job) long
 
--- The long run is that of the saved source's statements, which take the answers of the saved run, followed by the restarted run. What the restarted
--- run keeps is what the long run keeps, so that restarts may follow one another.
+-- The long run is that of the saved source's statements, which take the answers of the saved run,
+-- followed by the restarted run. The restarted run keeps what the long run keeps, so restarts may
+-- follow one another.
 pub record SaysBoth (first second long : Solving) (source file : List ℕ) (restart : IsRestart first second source file) (job : Job) : Type 0 where
   pub is : course_of job long ≡ behind_run (base_course source job long) (course_of restart.run.job second)
   pub taken : (base_course source job long).taken ≡ length first.answers
   pub keeps : (bytes : List ℕ) → SavesLast second restart.matter bytes → SavesLast long (scripted (script_of (joint_source source file))) bytes
 
--- So it is of each, where the long run executes the saved source's statements to their end.
+-- Each restart says the same as one long run, if the long run executes the saved source's
+-- statements to their end.
 abbrev pub RestartsSayTheSame : Type 0
 RestartsSayTheSame = (first second long : Solving) (source file : List ℕ) (restart : IsRestart first second source file) (job : Job) →
     IsLongRun first second long source file job → (base_course source job long).halted ≡ None → SaysBoth first second long source file restart job

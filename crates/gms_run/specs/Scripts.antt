@@ -1,4 +1,5 @@
--- What there is to run: a source that is run from its start, or a file that goes on from a saved state (GAMS User's Guide, "Save and Restart").
+-- What there is to run: a source from its start, or a file that resumes from a saved state (GAMS
+-- User's Guide, "Save and Restart").
 use Rattle.std.specs.Prelude.{◌≡◌, ℕ, ◌≤◌, List, length, drop, Option, Some, None, Result, Ok, Err}
 use Rattle.gq_frac.specs.declared.frac.Frac.{Frac}
 use Rattle.gq_frac.specs.Frac.{frac_value}
@@ -16,21 +17,21 @@ use Rattle.gms_save.specs.declared.fault.SaveFaultOrMemory.TheVariants.{Fault}
 use Rattle.gms_save.specs.JointErrors.{joint_errors, resumed, saved_statements}
 use Rattle.gms_save.specs.Saves.{most_bytes as most_save_bytes, GivesBack, IsRestored, Restores}
 
--- A source that there is to run. It is the file alone, or joint: a saved source and the file behind it. The lines of the file are echoed, and the
--- first of them has this number.
+-- A source to run: a file alone, or a joint source, which is a saved source followed by the file.
+-- The lines of the file are echoed, and `line` is the number of the first.
 pub record Script : Type 0 where
   pub source : List ℕ
   pub file : List ℕ
   pub line : ℕ
-  -- the saved state from which it goes on
+  -- the saved state from which it resumes
   pub saved : Option State
 
--- what there is to run, unless a save cannot be restored, for a fault
+-- the loaded input: a script, or the fault of a save that cannot be restored
 pub data Matter : Type 0 where
   scripted : Script → Matter
   unrestored : SaveFault → Matter
 
--- what was taken: a source that is run from its start, or a save, and a file that goes on from it
+-- the input: a source that is run from its start, or a save and a file that resumes from it
 pub data Taken : Type 0 where
   from_start : List ℕ → Taken
   from_save : List ℕ → List ℕ → Taken
@@ -41,26 +42,27 @@ pub data Taken : Type 0 where
 abbrev pub script_of : List ℕ → Script
 script_of source = record { source = source; file = source; line = 1; saved = None }
 
--- a file that goes on from a saved state, behind its source
+-- a file that resumes from a saved state, after the saved source
 abbrev pub joint_script : List ℕ → State → List ℕ → Script
 joint_script saved state file =
     record { source = joint_source saved file; file = file; line = first_line saved; saved = Some state }
 
--- The script is that of a file behind what was restored from a save.
+-- The script is that of a file after the source that was restored from a save.
 pub record IsJoint (solvers : List (List ℕ)) (save file : List ℕ) (script : Script) : Type 0 where
   pub saved : Saved
   pub short : length save ≤ most_save_bytes
   pub restored : IsRestored solvers save saved
-  -- whatever state has this save is what was restored
+  -- any state that has this save is the one that was restored
   pub back : GivesBack solvers save (let r : Result Saved SaveFaultOrMemory = Ok saved in r)
   pub joint : script ≡ joint_script saved.source.items saved.store file
 
--- A save is not restored, for a fault: of which bytes that is said, and of which states' saves it is not.
+-- A save is not restored, because of a fault: which bytes have that fault, and that no state has
+-- this save.
 pub record IsUnrestored (solvers : List (List ℕ)) (save : List ℕ) (fault : SaveFault) : Type 0 where
   pub answer : Restores solvers save (let r : Result Saved SaveFaultOrMemory = Err (Fault fault) in r)
   pub back : GivesBack solvers save (let r : Result Saved SaveFaultOrMemory = Err (Fault fault) in r)
 
--- what there is to run, of what was taken, with solvers of these names
+-- the loaded input, with solvers of these names
 abbrev pub IsMatter : List (List ℕ) → Taken → Matter → Type 0
 IsMatter solvers (from_start source) (scripted script) = script ≡ script_of source
 IsMatter solvers (from_start source) (unrestored fault) = ⊥
@@ -69,7 +71,7 @@ IsMatter solvers (from_save save file) (unrestored fault) = IsUnrestored solvers
 
 -- ---- programs of scripts
 
--- the errors of a program, of which the file begins at a line where it goes on from a saved state
+-- the errors of a program; in a restarted run, only those of the file, which begins at this line
 abbrev pub errors_of : Option State → ℕ → Program Frac → List (List ℕ) → List CompileError
 errors_of None line program solvers = compile_errors frac_value program solvers
 errors_of (Some state) line program solvers = joint_errors frac_value program line solvers
@@ -79,7 +81,7 @@ abbrev pub first_state : Option State → Program Frac → State
 first_state None program = loaded frac_value program
 first_state (Some state) program = resumed frac_value state program
 
--- the statements that are run: all, or those behind the saved source
+-- the statements that are run: all, or those after the saved source
 abbrev pub statements_of : Option State → ℕ → Program Frac → List (Stmt Frac)
 statements_of None line program = program.statements.items
 statements_of (Some state) line program = drop (length (saved_statements line program)) program.statements.items

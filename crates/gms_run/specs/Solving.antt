@@ -1,4 +1,5 @@
--- What a run solves with: the solvers that it is lent, what they are behind it, and the answers that they gave.
+-- What a run solves with: the solvers that it is lent, their state after the run, and the answers
+-- that they gave.
 use Rattle.std.specs.Prelude.{◌≡◌, ℕ, ◌-◌, ◌^◌, ◌==◌, ◌++◌, if◌then◌else◌, List, [], ◌∷◌, map, flat_map, slice_get, option_map, option_to_list}
 use Rattle.gq_number.specs.Number.{Number}
 use Rattle.gq_frac.specs.declared.frac.Frac.{Frac}
@@ -14,24 +15,25 @@ use Rattle.gms_event.specs.Events.{Event, Solved, solves}
 abbrev pub number_limit : ℕ
 number_limit = 2 ^ 127 - 1
 
--- Solvers as a run sees them: their names, their rules, and their paths, in order.
+-- The view of the solvers: their names, their rules, and their paths, in order.
 pub record Solvers : Type 0 where
   pub names : List (List ℕ)
   pub rules : List SolverRule
   -- the pivots of each answer that a solver has given
   pub paths : List (List (List Pivot))
 
--- What a run is lent and gives: the solvers before it and behind it, and the answers that these gave, in the order of the solves.
+-- What a run is lent and gives: the solvers before and after it, and their answers, in the order of
+-- the solves.
 pub record Solving : Type 0 where
   pub before : Solvers
   pub after : Solvers
   pub answers : List (Answer Frac)
 
--- solvers as they are seen, by what each of them tells
+-- the view of solvers: their names, rules and paths
 abbrev pub seen : {S : Type 0} → (S → List ℕ) → (S → SolverRule) → (S → List (List Pivot)) → List S → Solvers
 seen name rule paths solvers = record { names = map name solvers; rules = map rule solvers; paths = map paths solvers }
 
--- what a run is lent and gives, by what each solver tells
+-- the view of a run's solvers before and after it, and their answers
 abbrev pub solving : {S : Type 0} → (S → List ℕ) → (S → SolverRule) → (S → List (List Pivot)) → List S → List S → List (Answer Frac) → Solving
 solving name rule paths old new answers =
     record { before = seen name rule paths old; after = seen name rule paths new; answers = answers }
@@ -57,15 +59,16 @@ places_of all = map (λ (solved : Solved). solved.answer) all
 abbrev pub programs_of : List Solved → List (Lp Number)
 programs_of all = map (λ (solved : Solved). solved.lp) all
 
--- the pivots of each answer that the solver of a place gave at these events, one list an answer, in order
+-- the pivots of each answer that the solver at a place gave at these events, one list an answer, in
+-- order
 abbrev pub paths_of : ℕ → List (Answer Frac) → List Event → List (List Pivot)
 paths_of k answers [] = []
 paths_of k answers (solves solved ∷ events) =
     (if solved.settings.solver == k then option_to_list (option_map (λ (answer : Answer Frac). answer.pivots) (slice_get answers solved.answer)) else []) ++ paths_of k answers events
 paths_of k answers (other ∷ events) = paths_of k answers events
 
--- Solvers behind these events: they are as many, with their names and rules, and the paths of each are those that it had, followed by the pivots of
--- each answer that it gave.
+-- Solvers after these events: their number, names and rules are unchanged, and to the paths of each
+-- the pivots of each answer that it gave are appended.
 pub record HaveGrown (old new : Solvers) (answers : List (Answer Frac)) (events : List Event) : Type 0 where
   pub names : new.names ≡ old.names
   pub rules : new.rules ≡ old.rules

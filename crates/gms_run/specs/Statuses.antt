@@ -1,4 +1,5 @@
--- What a run did, by the status with which it ends: what it ran, its answers, and what stands outside.
+-- What a run did, by the status with which it ends: what it ran, its answers, and the host's state
+-- after it.
 use Rattle.std.specs.Prelude.{◌≡◌, ℕ, ◌≢◌, ◌+◌, ◌≤◌, ◌⊎◌, true, false, List, [], ◌∷◌, ◌++◌, drop, length, Option, Some, None, option_map, IfSome}
 use Rattle.std.specs.FinMap as files_map
 use Rattle.gq_frac.specs.declared.frac.Frac.{Frac}
@@ -21,58 +22,63 @@ use Rattle.gms_run.specs.Scripts.{Script, Matter, Taken, from_start, from_save, 
 use Rattle.gms_run.specs.Jobs.{Job, course_of, HaltsSo}
 use Rattle.gms_run.specs.Listings.{IsJob, IsListing, IsFront, AreClosing, SavesLast, SavesSo, save_file}
 
--- ---- what is taken
+-- ---- the input
 
--- the bytes of the file of a name, where the host tells its files
+-- the bytes of the file of a name; of a host that hides its files, any bytes
 abbrev pub IsFileOf : Outside → List ℕ → List ℕ → Type 0
 IsFileOf o file bytes = IfSome o.files (λ files. files_map.get files file ≡ Some bytes)
 
--- what is taken of an origin: the bytes of a file, or of a save and a file, or the text of a generated model
+-- the input of a request: the bytes of a file, or of a save and a file, or the text of a generated
+-- model
 abbrev pub IsTaken : Outside → Origin → Taken → Type 0
 IsTaken o (in_file file) (from_start source) = IsFileOf o file source
 IsTaken o (restarted saved file) (from_save save source) = IsFileOf o saved save × IsFileOf o file source
 IsTaken o (generated size) (from_start source) = source ≡ model_text size size size
 IsTaken o origin taken = ⊥
 
--- what stands outside behind a file that was read: its name was asked for, and no more than so many of its bytes were taken off the input
+-- the host's state after a file was read: its name was requested, and at most `most` bytes were
+-- taken from the input
 abbrev pub with_read : ℕ → Outside → List ℕ → List ℕ → Outside
 with_read most o file bytes =
     record (with_asked o (file ∷ [])) { input = option_map (λ _. drop most bytes) o.input; reading = true }
 
--- the same behind a source: one byte more is taken than it may have
+-- the host's state after a source was read: at most one byte more is taken than a source may have
 abbrev pub with_source : Outside → List ℕ → List ℕ → Outside
 with_source o file source = with_read (most_bytes + 1) o file source
 
--- and behind a save: one byte more is taken than it may have
+-- the host's state after a save was read: at most one byte more is taken than a save may have
 abbrev pub with_saved : Outside → List ℕ → List ℕ → Outside
 with_saved o file save = with_read (most_save_bytes + 1) o file save
 
--- what stands outside behind what was taken: a save is read before the file that goes on from it, and for a generated model nothing is done
+-- the host's state after reading the input: a save is read before the file that resumes from it,
+-- and a generated model is not read
 abbrev pub with_taken : Outside → Origin → Taken → Outside
 with_taken o (in_file file) (from_start source) = with_source o file source
 with_taken o (restarted saved file) (from_save save source) = with_source (with_saved o saved save) file source
 with_taken o origin taken = o
 
--- ---- what is said of no run
+-- ---- ends without a listing
 
--- A line is said and nothing else is done, or the front of it where a fault of writing was counted.
+-- A line was printed and nothing else was done; or a prefix of it was printed, and a fault of
+-- writing was counted.
 pub record SaysLine (old new : Meaning) (before : Outside) (line : List ℕ) : Type 0 where
   pub front : SaysFront before new.outside line
   pub whole : (new.outside ≡ with_said before line) ⊎ Rose old.counts.write_faults new.counts.write_faults
 
--- A file could not be read: it was asked for, or not, and what the input gives is left open. Nothing else was done.
+-- A file could not be read: it was requested or not, and how much of the input was taken is open.
+-- Nothing else was done.
 abbrev pub IsUnread : Outside → Outside → List ℕ → Type 0
 IsUnread old new file =
     (new ≡ record old { input = new.input; reading = new.reading }) ⊎ (new ≡ record (with_asked old (file ∷ [])) { input = new.input; reading = new.reading })
 
--- the file of a name is one of an origin that could not be read, where those before it were read
+-- the named file of a request could not be read; the files before it were read
 abbrev pub IsUnreadOf : Outside → Outside → Origin → List ℕ → Type 0
 IsUnreadOf old new (in_file file) name = (name ≡ file) × IsUnread old new file
 IsUnreadOf old new (restarted saved file) name =
     ((name ≡ saved) × IsUnread old new saved) ⊎ ((name ≡ file) × ((save : List ℕ) × (IsFileOf old saved save × IsUnread (with_saved old saved save) new file)))
 IsUnreadOf old new (generated size) name = ⊥
 
--- A file could not be read, and the line that says so is said.
+-- A file could not be read, and the read fault line was printed.
 pub record IsReadFault (old new : Meaning) (request : Asked) : Type 0 where
   pub file : List ℕ
   pub before : Outside
@@ -81,7 +87,7 @@ pub record IsReadFault (old new : Meaning) (request : Asked) : Type 0 where
 
 -- ---- files that are written
 
--- the output of a name has been opened, and this is in it
+-- the output of a name was opened, and has this text so far
 abbrev pub with_listing : Outside → List ℕ → List ℕ → Outside
 with_listing o output text = with_output (with_opened o output) text
 
@@ -89,7 +95,7 @@ with_listing o output text = with_output (with_opened o output) text
 abbrev pub with_file : Outside → List ℕ → List ℕ → Outside
 with_file o output text = with_kept (with_listing o output text)
 
--- the output of a name could not be opened: it is empty, and its name was asked for or not
+-- the output of a name could not be opened: it is empty, and its name was requested or not
 abbrev pub IsUnopenedFile : Outside → Outside → List ℕ → Type 0
 IsUnopenedFile old new name = (new ≡ with_emptied old false) ⊎ (new ≡ with_asked (with_emptied old false) (name ∷ []))
 
@@ -100,24 +106,26 @@ pub record AddsPrefix (old new : Outside) (bytes : List ℕ) : Type 0 where
   pub split : bytes ≡ added ++ missing
   pub outside : new ≡ with_output old added
 
--- these bytes were not written to the output of a name, or it was not closed well: how far that came
+-- these bytes were not written to the output of a name, or it was not closed well: how far writing
+-- got
 abbrev pub IsUnwrittenFile : Outside → Outside → List ℕ → List ℕ → Type 0
 IsUnwrittenFile old new name bytes =
     IsUnopenedFile old new name ⊎ (AddsPrefix (with_opened old name) new bytes ⊎ (new ≡ record (with_listing old name bytes) { writing = false }))
 
--- these bytes were written to the file of a name, where there is one
+-- these bytes were written to the file of a name, if there is a name
 abbrev pub with_save : Outside → Option (List ℕ) → List ℕ → Outside
 with_save o None bytes = o
 with_save o (Some name) bytes = with_file o name bytes
 
 -- ---- reports
 
--- the listing has been written to the output, which is closed and kept, then the save to its file, where there is one, and these lines were said
+-- the listing was written to the output, which is closed and kept; then the save to its file, if it
+-- has a name; and then these lines were printed
 abbrev pub with_report : Outside → List ℕ → List ℕ → Option (List ℕ) → List ℕ → List ℕ → Outside
 with_report o output text name bytes lines = with_said (with_save (with_file o output text) name bytes) lines
 
--- The listing of what there is to run was written to the output that is asked for, which is closed and kept, behind that the last state was saved,
--- where it is to be, and behind that the closing lines were said.
+-- The listing of the loaded input was written to the requested output, which is closed and kept.
+-- After that the last state was saved, if it is to be, and then the closing lines were printed.
 pub record IsReported (status : Status) (solving : Solving) (old new : Outside) (request : Asked) (matter : Matter) : Type 0 where
   pub text : List ℕ
   pub listing : IsListing status solving matter text
@@ -127,7 +135,8 @@ pub record IsReported (status : Status) (solving : Solving) (old new : Outside) 
   pub closing : AreClosing status solving request matter lines
   pub outside : new ≡ with_report old request.output text (save_file status request) save lines
 
--- The output could not be opened: it is empty, its name was asked for or not, and nothing was solved.
+-- The output could not be opened: it is empty, its name was requested or not, and nothing was
+-- solved.
 pub record IsUnopened (solving : Solving) (old new : Outside) (request : Asked) : Type 0 where
   pub none : SolvesNothing solving
   pub outside : IsUnopenedFile old new request.output
@@ -145,8 +154,8 @@ pub record IsUnclosed (solving : Solving) (old new : Outside) (request : Asked) 
   pub listing : IsListing status solving matter text
   pub outside : new ≡ record (with_listing old request.output text) { writing = false }
 
--- The whole listing was written, its output is closed and kept, and the save of the last state was not written to its file, or that was not closed
--- well.
+-- The whole listing was written, and its output is closed and kept. The save of the last state was
+-- not written to its file, or the file was not closed well.
 pub record IsUnsaved (solving : Solving) (old new : Outside) (request : Asked) (matter : Matter) : Type 0 where
   pub status : Status
   pub text : List ℕ
@@ -157,8 +166,8 @@ pub record IsUnsaved (solving : Solving) (old new : Outside) (request : Asked) (
   pub saves : SavesLast solving matter save
   pub outside : IsUnwrittenFile (with_file old request.output text) new name save
 
--- The whole listing was written, its output is closed and kept, the last state was saved, where it is to be, and the front of the closing lines was
--- said.
+-- The whole listing was written, its output is closed and kept, and the last state was saved, if it
+-- is to be. Of the closing lines a prefix was printed.
 pub record IsUnsaid (solving : Solving) (old new : Outside) (request : Asked) (matter : Matter) : Type 0 where
   pub status : Status
   pub text : List ℕ
@@ -169,13 +178,13 @@ pub record IsUnsaid (solving : Solving) (old new : Outside) (request : Asked) (m
   pub closing : AreClosing status solving request matter lines
   pub front : SaysFront (with_save (with_file old request.output text) (save_file status request) save) new lines
 
--- what a run did that could not write: how far it came
+-- a run that could not write, by how far it came
 abbrev pub IsWriteFault : Solving → Outside → Outside → Asked → Matter → Type 0
 IsWriteFault solving old new request matter =
     IsUnopened solving old new request
     ⊎ (IsUnwritten solving (with_opened old request.output) new matter ⊎ (IsUnclosed solving old new request matter ⊎ (IsUnsaved solving old new request matter ⊎ IsUnsaid solving old new request matter)))
 
--- what a run did of what there was to run
+-- the run of a loaded input, by its status
 abbrev pub RanSo : Status → Solving → Outside → Outside → Asked → Matter → Type 0
 RanSo Done solving old new request matter = IsReported Done solving old new request matter
 RanSo Compile solving old new request matter = IsReported Compile solving old new request matter
@@ -185,7 +194,7 @@ RanSo _ solving old new request matter = ⊥
 
 -- ---- the statuses
 
--- What is asked for was taken, and run: there is some, whatever the host tells.
+-- The requested input was read and run. If the host hides its files, some input was.
 pub record IsRunOf (status : Status) (solving : Solving) (old new : Outside) (request : Asked) : Type 0 where
   pub taken : Taken
   pub is_taken : IsTaken old request.source taken
@@ -193,63 +202,66 @@ pub record IsRunOf (status : Status) (solving : Solving) (old new : Outside) (re
   pub is_matter : IsMatter solving.before.names taken matter
   pub ran : RanSo status solving (with_taken old request.source taken) new request matter
 
--- what a run did that ends so, for what the words ask for
+-- what a run with this status did for a request
 abbrev pub OfRequest : Status → Solving → Meaning → Meaning → Asked → Type 0
 OfRequest ReadFault solving old new request = IsReadFault old new request × SolvesNothing solving
 OfRequest status solving old new request = IsRunOf status solving old.outside new.outside request
 
--- what a run did that ends so: words that are refused ask for nothing, and the usage line is said
+-- what a run with this status did: refused arguments request nothing, and the usage line is printed
 abbrev pub IsRun : Status → Solving → List (List ℕ) → Meaning → Meaning → Type 0
 IsRun Usage solving words old new = (request_of words ≡ None) × (SaysLine old new old.outside usage_line × SolvesNothing solving)
 IsRun status solving words old new = (request : Asked) × ((request_of words ≡ Some request) × OfRequest status solving old new request)
 
 -- ---- the counts of faults
 
--- what a run does to the counts, by its status: a fault was counted where it says so, and a precise host counts none where a listing was reported
+-- how a run changes the counts, by its status: where it says so a fault was counted, and a precise
+-- host counts none where a listing was reported
 abbrev pub CountsSo : Status → Counts → Counts → Type 0
 CountsSo Usage old new = Unit {0}
 CountsSo ReadFault old new = Rose old.read_faults new.read_faults
 CountsSo WriteFault old new = Rose old.write_faults new.write_faults
 CountsSo status old new = old.precise ≡ true → new ≡ old
 
--- a run that is to meet no fault does not end by one
+-- a run does not end with a fault of the host
 abbrev pub EndsByNoFault : Status → Type 0
 EndsByNoFault ReadFault = ⊥
 EndsByNoFault WriteFault = ⊥
 EndsByNoFault status = Unit {0}
 
--- the files of an origin are there, where the host tells its files
+-- a host that exposes its files has those of a request
 abbrev pub HasOrigin : Outside → Origin → Type 0
 HasOrigin o (in_file file) = IsThere o file
 HasOrigin o (restarted saved file) = IsThere o saved × IsThere o file
 HasOrigin o (generated size) = Unit {0}
 
--- The host is reliable, and the files that the words name to be read are there where the host tells its files.
+-- The host is reliable, and if it exposes its files, it has those that the arguments name.
 pub record IsReadyFor (old : Meaning) (words : List (List ℕ)) : Type 0 where
   pub reliable : old.counts.reliable ≡ true
   pub there : IfSome (request_of words) (λ request. HasOrigin old.outside request.source)
 
 -- ---- completeness
 
--- the bytes of the file of a name, of a host that tells its files
+-- the host exposes its files, and the file of this name has these bytes
 abbrev pub HasFile : Outside → List ℕ → List ℕ → Type 0
 HasFile o file bytes = (files : Files) × (o.files ≡ Some files) × (files_map.get files file ≡ Some bytes)
 
--- this is what an origin gives: the bytes of files of a host that tells them, or the text of a generated model
+-- this input is what a host that exposes its files holds: the bytes of files, or the text of a
+-- generated model
 abbrev pub Gives : Outside → Origin → Taken → Type 0
 Gives o (in_file file) (from_start source) = HasFile o file source
 Gives o (restarted saved file) (from_save save source) = HasFile o saved save × HasFile o file source
 Gives o (generated size) (from_start source) = source ≡ model_text size size size
 Gives o origin taken = ⊥
 
--- The source of a script is a program without errors: it has a program, which is seen so, and wherever the parts of that are kept
--- in memory it has no error.
+-- The source of a script is a program without errors: it has a program with this view, and a
+-- program with this view has no error, wherever its parts are in memory.
 pub record IsGood (solvers : List (List ℕ)) (script : Script) : Type 0 where
   pub view : ProgramView
   pub has_program : HasProgram number_limit script.source view
   pub no_error : (program : Program Frac) → program_view frac_value program ≡ view → errors_of script.saved script.line program solvers ≡ []
 
--- A save can be restored: it is not too long, it is the save of a state of a program, and a solver has the name that it has.
+-- A save can be restored: it is not too long, it is the save of a state of a program, and a solver
+-- has the name that it has.
 pub record IsGoodSave (solvers : List (List ℕ)) (save : List ℕ) : Type 0 where
   pub short : length save ≤ most_save_bytes
   pub source : List ℕ
@@ -259,27 +271,28 @@ pub record IsGoodSave (solvers : List (List ℕ)) (save : List ℕ) : Type 0 whe
   pub is_save : IsSaveOf save source program state solver
   pub placed : place_of_solver solvers solver ≢ None
 
--- what is taken can be run: it is a program without errors, and where it goes on from a save, that can be restored
+-- the input can be run: it is a program without errors, and if it resumes from a save, the save can
+-- be restored
 abbrev pub CanRun : List (List ℕ) → Taken → Type 0
 CanRun solvers (from_start source) = IsGood solvers (script_of source)
 CanRun solvers (from_save save file) =
     IsGoodSave solvers save × ((saved : Saved) → IsRestored solvers save saved → IsGood solvers (joint_script saved.source.items saved.store file))
 
--- The words name a source that the host has, or a generated model.
+-- The arguments name a source that the host has, or a generated model.
 pub record NamesSource (old : Outside) (words : List (List ℕ)) : Type 0 where
   pub request : Asked
   pub named : request_of words ≡ Some request
   pub taken : Taken
   pub found : Gives old request.source taken
 
--- The words name what can be run.
+-- The arguments name what can be run.
 pub record NamesProgram (solvers : List (List ℕ)) (old : Outside) (words : List (List ℕ)) : Type 0 where
   pub source : NamesSource old words
   pub can_run : CanRun solvers source.taken
 
 -- ---- execution errors
 
--- What is taken can be run, and its run with the answers that the solvers give is stopped by an execution error.
+-- The input can be run, and its run with the solvers' answers is stopped by an execution error.
 pub record IsStopped (solving : Solving) (taken : Taken) : Type 0 where
   pub matter : Matter
   pub is_matter : IsMatter solving.before.names taken matter

@@ -1,4 +1,5 @@
-//! What is done at the end of a run: the remarks on it are said, its last state is saved, and the closing line is said.
+//! What is done at the end of a run: the remarks are printed, the last state is saved, and the
+//! closing line is printed.
 ghost use Rattle.std.specs.Prelude.{◌≡◌, ◌<◌, ◌++◌, ℕ, List, true, codes, length, map, option_map, slice_get, unwrap_or, IfOk, OnOk, string_bytes};
 ghost use Rattle.gq_frac.specs.Frac.{frac_value};
 ghost use Rattle.gms_store.specs.State.{fits_at, symbol_of};
@@ -28,13 +29,13 @@ use lp_core::Answer;
 use lp_slot::LpSolver;
 use std::alloc::{AllocError, Global};
 
-/// With how many decimals the level of an objective is said.
+/// With how many decimals the level of an objective is printed.
 const DECIMALS: u8 = 3;
 
-/// What a save names where there are no solvers.
+/// The name in a save of a run without solvers.
 const NO_SOLVER: &str = "none";
 
-/// The file for the last state of a run that ends so, where a request asks for one.
+/// The file for the last state of a run that ends so, if it is requested.
 fn save_file<'a>(status: Status, request: Request<'a>) -> Option<&'a str>
     ensures { option_map (λ file. file.now) result ≡ save_file status (asked_by request.entry) }
 {
@@ -44,14 +45,14 @@ fn save_file<'a>(status: Status, request: Request<'a>) -> Option<&'a str>
     }
 }
 
-/// The name that a solver gives itself.
+/// The name of a solver, as it gives it.
 fn own_name(solver: &Box<dyn LpSolver>) -> &str
     ensures { result.now ≡ name solver.now }
 {
     solver.name()
 }
 
-/// The name that a save has for the solver of a place.
+/// The name that a save has for the solver at a place.
 fn solver_name(solvers: &[Box<dyn LpSolver>], place: u32) -> &str
     ensures { result.now ≡ unwrap_or (slice_get (map name solvers.now) place) (codes "none") }
 {
@@ -61,7 +62,8 @@ fn solver_name(solvers: &[Box<dyn LpSolver>], place: u32) -> &str
     }
 }
 
-/// Looks at what each of so many names of a state has: its numbers are within the limit, as those of a store are.
+/// Looks at each of the first `names` names of a state: its numbers are within the limit, by the
+/// invariant of the store.
 fn look_at_numbers(store: &Store<Frac>, names: u32)
     ensures { (name : ℕ) → name < names → (t : List ℕ) → fits_at number_limit (symbol_of store.now name).content t ≡ true }
 {
@@ -82,7 +84,7 @@ fn pivots_of(answers: &[Answer<Frac>]) -> u128
 }
 
 impl Run {
-    /// The status that the state has for the model `t`; 0 where there is none.
+    /// The status of the model `t` in the state; 0 without such a name.
     fn model_status(&self, program: &Program<Frac>) -> u8
         ensures { result ≡ model_status program.now self.now.store }
     {
@@ -92,7 +94,7 @@ impl Run {
         }
     }
 
-    /// The level that the state has for the variable `z`; 0 where there is none.
+    /// The level of the variable `z` in the state; 0 without such a name.
     fn objective_level(&self, alloc: Global, program: &Program<Frac>) -> Frac
         ensures { frac_value result ≡ objective_level program.now self.now.store }
     {
@@ -102,7 +104,7 @@ impl Run {
         }
     }
 
-    /// The line that tells of the run of a generated model of a size.
+    /// The line on the run of a generated model of a size.
     fn model_line(
         &self,
         alloc: Global,
@@ -123,7 +125,7 @@ impl Run {
         )
     }
 
-    /// What is told of the run, by where its source comes from: nothing, but of a generated model.
+    /// What is printed of the run before the closing line: nothing, except for a generated model.
     fn told(
         &self,
         alloc: Global,
@@ -139,7 +141,7 @@ impl Run {
         }
     }
 
-    /// What is said of the ranges of the run, where they are asked for.
+    /// What is printed of the ranges of the run, if they are requested.
     fn ranged(
         &self,
         alloc: Global,
@@ -157,7 +159,7 @@ impl Run {
         ranges_text(alloc, &program.names, &program.labels, solved, answers)
     }
 
-    /// The remarks on the run: what is said of it before the closing line.
+    /// The remarks on the run: what is printed before the closing line.
     pub(crate) fn remark(
         &self,
         alloc: Global,
@@ -174,7 +176,8 @@ impl Run {
         Ok(text)
     }
 
-    /// The save of the state over a source, where a run that ends so is to be saved; else nothing.
+    /// The save of the state with its source, if a run that ends so is to be saved; otherwise
+    /// nothing.
     pub(crate) fn saved(
         &self,
         alloc: Global,
@@ -195,7 +198,7 @@ impl Run {
     }
 }
 
-/// Writes the save of a run that ends so to its file, where it has one.
+/// Writes the save of a run that ends so to its file, if it has one.
 pub(crate) fn write_save<H: Host>(
     host: &mut H,
     status: Status,

@@ -1,4 +1,4 @@
-//! The execution of a program, whose listing goes out statement by statement.
+//! The execution of a program, whose listing is written statement by statement.
 ghost use Rattle.std.specs.Prelude.{◌≡◌, ◌<◌, ◌≤◌, ◌^◌, ◌∷◌, ◌++◌, ℕ, List, [], true, length, map, option_to_list, IfOk, OnOk, string_bytes};
 ghost use Rattle.std.specs.List.{All};
 ghost use Rattle.gq_frac.specs.Frac.{frac_value};
@@ -38,19 +38,19 @@ use lp_core::{Answer, Lp};
 use lp_slot::LpSolver;
 use std::alloc::{AllocError, Global};
 
-/// A run on its way.
+/// A run in progress.
 pub(crate) struct Run {
-    /// Its state; before its program begins, what was saved, where it goes on from that.
+    /// Its state; before its program begins, the saved state, if it resumes from one.
     pub(crate) store: Store<Frac>,
     /// The linear programs of its solves, in order.
     pub(crate) solved: Vec<Lp<Frac>>,
-    /// The remarks on it, which are said behind its listing.
+    /// The remarks on it, which are printed after its listing.
     pub(crate) remarks: String,
-    /// The save of its last state, where that is to be saved.
+    /// The save of its last state, if that is to be saved.
     pub(crate) save: Vec<u8>,
 }
 
-// Written out, so that it is proved once, and not wherever a run is let go.
+// Written out, so that it is proved once, and not wherever a run is dropped.
 impl Drop for Run {
     fn drop(self) {
         let Self {
@@ -118,7 +118,7 @@ fn show(
     keep_programs(events, solved)
 }
 
-/// Executes a statement that no loop holds.
+/// Executes a statement that no loop contains.
 fn step_alone(
     alloc: Global,
     store: &mut Store<Frac>,
@@ -158,7 +158,8 @@ fn list_fault(
     listing.event(alloc, program, &Event::Fault(stop), answers)
 }
 
-/// Executes a statement that no loop holds, and lists what it shows and the fault that stops it. Answers whether the run goes on.
+/// Executes a statement that no loop contains, and lists what it shows and the fault that stops it.
+/// Answers whether the run continues.
 fn statement(
     alloc: Global,
     store: &mut Store<Frac>,
@@ -193,7 +194,8 @@ fn statement(
     }
 }
 
-/// Executes statements of a program from a state on. What a statement shows goes out before the next one is executed; after a failed write none is.
+/// Executes statements of a program from a state. What a statement shows is written before the next
+/// one is executed; after a failed write none is.
 fn statements<H: Host>(
     alloc: Global,
     host: &mut H,
@@ -242,7 +244,8 @@ impl Run {
         })
     }
 
-    /// Executes the statements of a script's program that are run, and makes ready what is to be done behind their listing.
+    /// Executes the statements of a script's program that are run, and prepares what follows their
+    /// listing.
     fn to_end<H: Host>(
         &mut self,
         alloc: Global,
@@ -288,7 +291,7 @@ impl Run {
     }
 }
 
-/// Lists the echo of a script, which goes out.
+/// Lists the echo of a script, and writes it.
 fn pass_echo<H: Host>(
     alloc: Global,
     host: &mut H,
@@ -306,8 +309,9 @@ fn pass_echo<H: Host>(
     outlet.pass(host)
 }
 
-/// Executes an accepted script from its first state on, behind its echo. What a statement shows goes out before the next one is executed; after a
-/// failed write none is. At its end what is to be done behind the listing is made ready.
+/// Executes an accepted script from its first state, after its echo. What a statement shows is
+/// written before the next one is executed; after a failed write none is. At its end it prepares
+/// what follows the listing.
 pub(crate) fn execute<H: Host>(
     alloc: Global,
     host: &mut H,

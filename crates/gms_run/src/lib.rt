@@ -1,4 +1,5 @@
-//! Floor 7, outside. The top call: a run of `gams25` from the words of its command line to the bytes of its listing.
+//! Layer 7, outside. The top call: a run of `gams25` from the arguments of its command line to the
+//! bytes of its listing.
 #![tactic(auto)]
 
 mod closing;

@@ -1,4 +1,4 @@
-//! The way out of a listing: its text, and the spool through which it goes.
+//! The path of a listing to the output: its text, and the spool through which it is written.
 ghost use Rattle.std.specs.Prelude.{◌≡◌, ◌≤◌, ◌++◌, [], true, length, IfOk, OnOk};
 ghost use Rattle.gms_host.specs.Rules.{CountsWriting, with_output};
 ghost use Rattle.gms_host.specs.Spooling.{PutsThrough, WritesFront};
@@ -11,14 +11,14 @@ use gms_host::{Failed, Host, Spool};
 use gms_list::Listing;
 use std::alloc::{AllocError, Global};
 
-/// A listing on its way out: what is not yet put into the spool, and the spool.
+/// A listing that is being written: the text that is not yet in the spool, and the spool.
 pub(crate) struct Outlet {
     /// The text that is not yet put.
     pub(crate) listing: Listing,
     spool: Spool,
 }
 
-// Written out, so that it is proved once, and not wherever an outlet is let go.
+// Written out, so that it is proved once, and not wherever an outlet is dropped.
 impl Drop for Outlet {
     fn drop(self) {
         let Self {

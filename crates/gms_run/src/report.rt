@@ -1,4 +1,4 @@
-//! The listing of what there is to run, as it goes out.
+//! The listing of the loaded input, as it is written.
 ghost use Rattle.std.specs.Prelude.{◌≡◌, ◌<◌, ◌^◌, ◌++◌, [], true, length, map, IfOk, OnOk, string_bytes};
 ghost use Rattle.std.specs.List.{All};
 ghost use Rattle.gq_frac.specs.Frac.{frac_value};
@@ -57,7 +57,8 @@ pub(crate) fn names_of(
     Ok(names)
 }
 
-/// Whether a script that is refused for an error has an echo: one whose source is too long has none.
+/// Whether a script that is refused for an error has an echo: one whose source is too long has
+/// none.
 fn has_echo(error: SourceError) -> bool
     ensures { result ≡ has_echo error }
 {
@@ -90,7 +91,8 @@ fn list_unrestored(alloc: Global, fault: SaveFault, listing: &mut Listing) -> Re
     listing.save_fault(alloc, fault.code(), fault.name(), at)
 }
 
-/// Lists errors of a program behind the echo of its script, where there are any. Answers whether there are.
+/// Lists the errors of a program after the echo of its script, if it has any. Answers whether it
+/// has.
 fn list_errors(
     alloc: Global,
     script: Script,
@@ -121,8 +123,9 @@ fn errors_for(
     errors_of(alloc, script, program, &names)
 }
 
-/// Finds the errors of a script's program for these solvers, each of which has a name that a source can write, and lists them behind the echo.
-/// Answers whether there are any; where there are none nothing is listed.
+/// Finds the errors of a script's program for these solvers, each of which has a name that a source
+/// can write, and lists them after the echo. Answers whether there are any; if not, nothing is
+/// listed.
 fn has_errors(
     alloc: Global,
     script: Script,
@@ -137,8 +140,8 @@ fn has_errors(
     list_errors(alloc, script, errors.as_slice(), listing)
 }
 
-/// Checks and executes the program of a script, whose listing goes out as far as its last line, which is still to come; what is to be done behind it
-/// is made ready.
+/// Checks and executes the program of a script. Its listing is written except for its last line,
+/// which is still to come, and what follows the listing is prepared.
 fn checked<H: Host>(
     alloc: Global,
     host: &mut H,
@@ -172,8 +175,8 @@ fn checked<H: Host>(
     )
 }
 
-/// Parses, checks and executes a script, whose listing goes out as far as its last line, which is still to come; what is to be done behind it is made
-/// ready.
+/// Parses, checks and executes a script. Its listing is written except for its last line, which is
+/// still to come, and what follows the listing is prepared.
 fn parsed<H: Host>(
     alloc: Global,
     host: &mut H,
@@ -207,8 +210,8 @@ fn parsed<H: Host>(
     }
 }
 
-/// Lists what there is to run, as far as its last line, which is still to come: a script is executed, and of a save that cannot be restored it is
-/// listed why.
+/// Lists the loaded input except for the last line, which is still to come: a script is executed;
+/// of a save that cannot be restored the listing says why.
 fn listed<H: Host>(
     alloc: Global,
     host: &mut H,
@@ -241,7 +244,8 @@ fn listed<H: Host>(
     }
 }
 
-/// Writes the whole listing of what there is to run to the opened output, and makes ready what is to be done behind it. Answers how it ends.
+/// Writes the whole listing of the loaded input to the opened output, and prepares what follows it.
+/// Answers how the run ends.
 pub(crate) fn report<H: Host>(
     alloc: Global,
     host: &mut H,

@@ -1,4 +1,5 @@
-//! What is restored from a save, the first state of a script's program, and the statements of it that are run.
+//! What is restored from a save, the first state of a script's program, and which of its statements
+//! are run.
 ghost use Rattle.std.specs.Prelude.{◌≡◌, ◌<◌, ◌≤◌, ◌^◌, ℕ, List, [], filter, length, map, string_bytes, IfOk, OnOk};
 ghost use Rattle.gms_store.specs.State.{State};
 ghost use Rattle.gms_save.specs.JointErrors.{is_saved};
@@ -16,7 +17,8 @@ use gq_frac::Frac;
 use lp_slot::LpSolver;
 use std::alloc::{AllocError, Global};
 
-/// What a save has, with the place of its solver among these. The bytes of the save are let go.
+/// The contents of a save, with the place of its solver among these. The bytes of the save are
+/// dropped.
 pub(crate) fn restored(
     alloc: Global,
     save: Vec<u8>,
@@ -45,7 +47,8 @@ pub(crate) fn errors_of(
     check(alloc, program, solvers)
 }
 
-/// Makes of what was saved, where a script goes on from that, the state in which its program begins, where it has no errors.
+/// Makes the state in which a script's program begins, from the saved state if it resumes from one,
+/// where it has no errors.
 pub(crate) fn begin(
     alloc: Global,
     script: Script,

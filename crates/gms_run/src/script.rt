@@ -1,4 +1,4 @@
-//! What there is to run: a source, alone or joint, or a save that cannot be restored.
+//! The loaded input: a source, alone or joint, or a save that cannot be restored.
 ghost use Rattle.std.specs.Prelude.{◌≡◌, ◌≤◌, length, IfOk};
 ghost use Rattle.gms_lex.specs.Tokens.{most_bytes};
 ghost use Rattle.gms_run.specs.Scripts.{first_line, joint_source};
@@ -6,35 +6,35 @@ ghost use Rattle.gms_run.specs.Scripts.{first_line, joint_source};
 use gms_save::SaveFault;
 use std::alloc::{AllocError, Global};
 
-/// What stands between a saved source and a file that goes on from it.
+/// The text between a saved source and a file that resumes from it.
 const SEAM: &[u8] = b"\n;\n";
 
-/// How many lines of a joint source there are before its file, beside those that end in the saved source.
+/// How many lines a joint source has before its file, beside those that end in the saved source.
 const SEAM_LINES: u32 = 3;
 
-/// A source to be run.
+/// A source to run.
 #[derive(Clone, Copy)]
 pub(crate) struct Script<'a> {
-    /// The whole source: the file, or a saved source and the file behind it.
+    /// The whole source: the file, or a saved source followed by the file.
     pub source: &'a [u8],
     /// The file, whose lines are echoed.
     pub file: &'a [u8],
     /// The number of the first line of the file.
     pub line: u32,
-    /// Whether the file goes on from what was saved.
+    /// Whether the file resumes from a saved state.
     pub joint: bool,
 }
 
-/// What there is to run.
+/// The loaded input.
 #[derive(Clone, Copy)]
 pub(crate) enum Matter<'a> {
     /// A source.
     ToRun(Script<'a>),
-    /// Nothing, since a save cannot be restored.
+    /// Nothing, because a save cannot be restored.
     Unrestored(SaveFault),
 }
 
-/// The joint source of a saved source and a file that goes on from it.
+/// The joint source of a saved source and a file that resumes from it.
 pub(crate) fn joint_source(alloc: Global, saved: &[u8], file: &[u8]) -> Result<Vec<u8>, AllocError>
     ensures { IfOk result (λ joint. joint.items ≡ joint_source saved.now file.now) }
 {

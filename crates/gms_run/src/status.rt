@@ -4,26 +4,28 @@ ghost use Rattle.gms_run.specs.Jobs.{status_code};
 
 /// How a run ends.
 ///
-/// The numbers are those of `code`. After Usage and ReadFault no output was asked for; after Done, Compile and Execution the listing stands in it
-/// whole; after WriteFault a front of it may, or all of it and a front of the save.
+/// The numbers are those of `code`. After Usage and ReadFault no output was requested. After Done,
+/// Compile and Execution the output holds the whole listing. After WriteFault it may hold a prefix
+/// of it, or all of it with a prefix of the save.
 #[derive(Clone, Copy, PartialEq, Eq)]
 pub enum Status {
     /// Every statement was executed, and the whole listing was written, and with `--save` the save.
     Done,
-    /// The words are refused.
+    /// The arguments are refused.
     Usage,
     /// The source is refused, or the save cannot be restored.
     Compile,
     /// An execution error stopped the run.
     Execution,
-    /// A file that the words name could not be read: the source, or the save.
+    /// A file that the arguments name could not be read: the source, or the save.
     ReadFault,
     /// The listing, the save or the closing lines could not be written.
     WriteFault,
 }
 
 impl Status {
-    /// The exit status of the program: 0 done, 1 usage, 2 compile, 3 execution, 4 read fault, 5 write fault.
+    /// The exit status of the program: 0 done, 1 usage, 2 compile, 3 execution, 4 read fault, 5
+    /// write fault.
     pub fn code(self) -> u8
         ensures { result ≡ status_code self }
     {

@@ -1,4 +1,5 @@
-//! The top call: from the words of the command line to the bytes of the listing and of the save.
+//! The top call: from the arguments of the command line to the bytes of the listing and of the
+//! save.
 ghost use Rattle.std.specs.Prelude.{◌≡◌, ◌<◌, ◌≤◌, ◌^◌, ◌↔◌, ◌⊎◌, ℕ, List, [], true, length, map, Some, IfOk, OnOk, string_bytes};
 ghost use Rattle.gms_host.specs.Rules.{CountsWriting, IsThere};
 ghost use Rattle.gms_store.specs.State.{State};
@@ -40,8 +41,9 @@ pub struct Ended {
     pub answers: Vec<Answer<Frac>>,
 }
 
-/// Writes the listing of what there is to run to the output that a request names, closes it, saves the last state, where that is asked for, and says
-/// the closing lines: the remarks on the run, and a last line.
+/// Writes the listing of the loaded input to the output that a request names, and closes it. Then
+/// it saves the last state, if that is requested, and prints the closing lines: the remarks on the
+/// run, and the last line.
 fn write_report<H: Host>(
     alloc: Global,
     host: &mut H,
@@ -70,7 +72,7 @@ fn write_report<H: Host>(
     Ok(status)
 }
 
-/// The end of a run, by what its report came to: a fault of the host is a write fault.
+/// The end of a run, by the result of its report: a fault of the host is a write fault.
 fn status_of(reported: Result<Status, Failed>) -> Result<Status, AllocError>
     ensures { EndsAs reported result }
 {
@@ -81,7 +83,7 @@ fn status_of(reported: Result<Status, Failed>) -> Result<Status, AllocError>
     }
 }
 
-/// Says a line. A fault in saying it changes nothing else.
+/// Prints a line. A fault in printing it changes nothing else.
 fn mention<H: Host>(host: &mut H, line: &str) -> Result<(), AllocError>
     ensures said { OnOk result (SaysLine (H.meaning host.old) (H.meaning host.new) (H.meaning host.old).outside line.now) }
     ensures counts { CountsMention (H.meaning host.old).counts (H.meaning host.new).counts }
@@ -93,7 +95,7 @@ fn mention<H: Host>(host: &mut H, line: &str) -> Result<(), AllocError>
     }
 }
 
-/// Says that the file could not be read.
+/// Prints that the file could not be read.
 fn report_read_fault<H: Host>(alloc: Global, host: &mut H, file: &str) -> Result<Status, AllocError>
     ensures status { IfOk result (λ status. status ≡ Status.ReadFault) }
     ensures said { OnOk result (SaysLine (H.meaning host.old) (H.meaning host.new) (H.meaning host.old).outside (read_fault_line file.now)) }
@@ -104,7 +106,7 @@ fn report_read_fault<H: Host>(alloc: Global, host: &mut H, file: &str) -> Result
     Ok(Status::ReadFault)
 }
 
-/// Runs what there is to run for a request.
+/// Runs the loaded input for a request.
 fn run_matter<H: Host>(
     alloc: Global,
     host: &mut H,
@@ -127,7 +129,7 @@ fn run_matter<H: Host>(
     status_of(write_report(alloc, host, request, matter, name, solvers, answers, run))
 }
 
-/// Runs what there is to run for a request, where that goes on from no state.
+/// Runs the loaded input for a request, where it resumes from no state.
 fn run_anew<H: Host>(
     alloc: Global,
     host: &mut H,
@@ -170,7 +172,7 @@ fn run_source<H: Host>(
     run_anew(alloc, host, request, matter, solvers, answers)
 }
 
-/// Runs a file that goes on from what was saved, for a request.
+/// Runs a file that resumes from a restored state, for a request.
 fn run_joint<H: Host>(
     alloc: Global,
     host: &mut H,
@@ -201,7 +203,7 @@ fn run_joint<H: Host>(
     run_matter(alloc, host, request, matter, solvers, answers, &mut run)
 }
 
-/// Runs a file that goes on from a save, for a request.
+/// Runs a file that resumes from a save, for a request.
 fn run_save<H: Host>(
     alloc: Global,
     host: &mut H,
@@ -226,7 +228,7 @@ fn run_save<H: Host>(
     }
 }
 
-/// Runs the source in the file of a name, which a request asks for.
+/// Runs the source in the requested file.
 fn run_file<H: Host>(
     alloc: Global,
     host: &mut H,
@@ -249,7 +251,7 @@ fn run_file<H: Host>(
     run_source(alloc, host, request, source.as_slice(), solvers, answers)
 }
 
-/// Runs the file of a name behind a save that was read, which a request asks for.
+/// Runs the requested file after the save that was read.
 fn run_behind<H: Host>(
     alloc: Global,
     host: &mut H,
@@ -280,7 +282,7 @@ fn run_behind<H: Host>(
     )
 }
 
-/// Runs the file of a name that goes on from the save in another, which a request asks for.
+/// Runs the requested file, which resumes from the save in another file.
 fn run_restart<H: Host>(
     alloc: Global,
     host: &mut H,
@@ -304,7 +306,7 @@ fn run_restart<H: Host>(
     run_behind(alloc, host, request, save, file, solvers, answers)
 }
 
-/// Runs the generated model of a size, which a request asks for.
+/// Runs the generated model of the requested size.
 fn run_generated<H: Host>(
     alloc: Global,
     host: &mut H,
@@ -324,7 +326,7 @@ fn run_generated<H: Host>(
     run_source(alloc, host, request, source, solvers, answers)
 }
 
-/// Runs the source that a request asks for, and ends with its status.
+/// Runs the requested source, and ends with its status.
 fn run_request<H: Host>(
     alloc: Global,
     host: &mut H,
@@ -346,7 +348,7 @@ fn run_request<H: Host>(
     }
 }
 
-/// Runs what the words ask for, and ends with its status.
+/// Runs what the arguments request, and ends with its status.
 fn run_words<H: Host>(
     alloc: Global,
     words: &[String],
@@ -370,35 +372,42 @@ fn run_words<H: Host>(
 
 /// Runs `gams25` on the arguments of its command line, without the program's name, over a host.
 ///
-/// The arguments are those of a `clap` command: an optional FILE, `--out` with the name of the listing, `--generate` with
-/// a number from 1 to 30, `--save` and `--restart` with the name of a file each, and the flag `--ranges`. Exactly one of FILE
-/// and `--generate` is given, and `--restart` goes with FILE alone. The source is read, or generated, before the output is
-/// opened. The listing is written there statement by statement. After the output is closed the closing lines are printed
-/// (docs/LISTING.md); with `--ranges` they begin with how far each right side and each cost of each optimum may move.
+/// The arguments are those of a `clap` command: an optional FILE, `--out` with the name of the
+/// listing, `--generate` with a number from 1 to 30, `--save` and `--restart` with the name of a
+/// file each, and the flag `--ranges`. Exactly one of FILE and `--generate` is given, and
+/// `--restart` goes with FILE alone. The source is read, or generated, before the output is opened.
+/// The listing is written there statement by statement. After the output is closed the closing
+/// lines are printed (docs/LISTING.md); with `--ranges` they begin with how far each right side and
+/// each cost of each optimum may move.
 ///
-/// With `--restart` that file is read before FILE, and FILE resumes from the state that was saved in it: the source is the
-/// saved source followed by FILE; the lines of FILE are echoed, and its statements are executed. With `--save`, where every
-/// statement was executed, the last state is written to that file, after the output is closed and before the closing lines
-/// (docs/SAVES.md; GAMS User's Guide, "Save and Restart"). `restore` gives this state back, unless the save is too long.
+/// With `--restart` that file is read before FILE, and FILE resumes from the state that was saved
+/// in it: the source is the saved source followed by FILE; the lines of FILE are echoed, and its
+/// statements are executed. With `--save`, where every statement was executed, the last state is
+/// written to that file, after the output is closed and before the closing lines (docs/SAVES.md;
+/// GAMS User's Guide, "Save and Restart"). `restore` gives this state back, unless the save is too
+/// long.
 ///
-/// `headline` is the promise for a FILE alone: the listing is that of its source, what each answer says of plans is so, and
-/// nothing else changes outside. `answers` says the second of every run.
-/// `run` says the same of every request, and what the other statuses mean. Done and Execution: the source is accepted, its run
-/// takes all answers, each of which answers its linear program, and the listing is the text of that run. Compile: the source
-/// is refused, or the save cannot be restored, and the listing says why. Usage: the arguments request no source. ReadFault: a
-/// file was not read. WriteFault: how far the run came; where something was solved, all answers are used by the statements
-/// whose text was written and at most one statement more, except for the last 4,096 bytes. The solvers keep their
-/// names and rules, and the pivots of each answer are appended to the paths of the solver that gave it; with Usage, Compile and
-/// ReadFault nothing is solved. There are fewer than 2^32 solvers.
+/// `headline` is the promise for a FILE alone: the listing is that of its source, what each answer
+/// says of plans is so, and nothing else changes outside. `answers` says the second of every run.
+/// `run` says the same of every request, and what the other statuses mean. Done and Execution: the
+/// source is accepted, its run takes all answers, each of which answers its linear program, and the
+/// listing is the text of that run. Compile: the source is refused, or the save cannot be restored,
+/// and the listing says why. Usage: the arguments request no source. ReadFault: a file was not
+/// read. WriteFault: how far the run came; where something was solved, all answers are used by the
+/// statements whose text was written and at most one statement more, except for the last 4,096
+/// bytes. The solvers keep their names and rules, and the pivots of each answer are appended to the
+/// paths of the solver that gave it; with Usage, Compile and ReadFault nothing is solved. There are
+/// fewer than 2^32 solvers.
 ///
-/// `usage`, `compile` and `execution` say exactly where a run ends with Usage, Compile and Execution, the last two over a host
-/// that exposes its files, where no fault is met. Execution comes exactly where the run that the source means is stopped by an
-/// execution error, with the answers that the solvers give in it: later statements read them, so they may decide it.
+/// `usage`, `compile` and `execution` say exactly where a run ends with Usage, Compile and
+/// Execution, the last two over a host that exposes its files, where no fault is met. Execution
+/// comes exactly where the run that the source means is stopped by an execution error, with the
+/// answers that the solvers give in it: later statements read them, so they may decide it.
 ///
-/// What the clauses leave open: `AllocError` comes where a growth finds no memory, here or in the host. Then only `steady`
-/// holds, and the output may hold a prefix of a listing. Where the host hides its files, the source is some source, and
-/// `compile`, `execution` and `complete` are silent. Of a solver whose rule is Legal they promise legal pivots, and not which of
-/// them.
+/// What the clauses leave open: `AllocError` comes where a growth finds no memory, here or in the
+/// host. Then only `steady` holds, and the output may hold a prefix of a listing. Where the host
+/// hides its files, the source is some source, and `compile`, `execution` and `complete` are
+/// silent. Of a solver whose rule is Legal they promise legal pivots, and not which of them.
 pub fn run<H: Host>(
     alloc: Global,
     words: &[String],
@@ -406,24 +415,28 @@ pub fn run<H: Host>(
     solvers: &mut Vec<Box<dyn LpSolver>>,
 ) -> Result<Ended, AllocError>
     requires { length solvers.old.items < 2 ^ 32 }
-    // Where the words request a FILE alone: its source, the listing of that source by the status, and nothing else outside.
+    // Where the arguments request a FILE alone: its source, the listing of that source by the
+    // status, and nothing else outside.
     ensures headline { IfOk result (λ ended. (file output : List ℕ) → request_of (texts words.now) ≡ Some (file_alone file output) → HasListing ended.status →
         WritesListing ended.status (solving name rule paths solvers.old.items solvers.new.items ended.answers.items) (H.meaning host.old).outside (H.meaning host.new).outside file output) }
 
-    // The same for all words, saves and restarts, and what the other statuses mean.
+    // The same for all arguments, saves and restarts, and what the other statuses mean.
     ensures run { IfOk result (λ ended. IsRun ended.status (solving name rule paths solvers.old.items solvers.new.items ended.answers.items) (texts words.now) (H.meaning host.old) (H.meaning host.new)) }
 
-    // What each answer says of plans is so, in the run of whatever was executed, from its start or from a save.
+    // What each answer says of plans is so, in the run of whatever was executed, from its start or
+    // from a save.
     ensures answers { IfOk result (λ ended. RunIsAnsweredRightly (solving name rule paths solvers.old.items solvers.new.items ended.answers.items)) }
 
-    // A fault is answered only where one of its kind was counted, and a ready host counts none and ends by none.
+    // A fault is answered only where one of its kind was counted, and a ready host counts none and
+    // ends by none.
     ensures counts { IfOk result (λ ended. CountsSo ended.status (H.meaning host.old).counts (H.meaning host.new).counts) }
     ensures steady { IsReadyFor (H.meaning host.old) (texts words.now) → (H.meaning host.new).counts ≡ (H.meaning host.old).counts }
     ensures no_fault { IsReadyFor (H.meaning host.old) (texts words.now) → IfOk result (λ ended. EndsByNoFault ended.status) }
 
-    // The words are refused exactly where they request no source. Where no fault is met, a source of a host that exposes its
-    // files is refused exactly where it cannot be run, ends with an execution error exactly where its run with these answers is
-    // stopped by one, and a program is run.
+    // The arguments are refused exactly where they request no source. Where no fault is met, a
+    // source of a host that exposes its files is refused exactly where it cannot be run, ends with
+    // an execution error exactly where its run with these answers is stopped by one, and a program
+    // is run.
     ensures usage { IfOk result (λ ended. (ended.status ≡ Status.Usage) ↔ (request_of (texts words.now) ≡ None)) }
     ensures compile { (source : NamesSource (H.meaning host.old).outside (texts words.now)) → MeetsNoFault (H.meaning host.old).counts (H.meaning host.new).counts → IfOk result (λ ended. (ended.status ≡ Status.Compile) ↔ ¬ (CanRun (map name solvers.old.items) source.taken)) }
     ensures execution { (source : NamesSource (H.meaning host.old).outside (texts words.now)) → MeetsNoFault (H.meaning host.old).counts (H.meaning host.new).counts → IfOk result (λ ended. (ended.status ≡ Status.Execution) ↔ IsStopped (solving name rule paths solvers.old.items solvers.new.items ended.answers.items) source.taken) }

@@ -1,4 +1,4 @@
-//! Whole transfers over a host: a file read to its end, a file written, a line said.
+//! Whole transfers over a host: a file read to its end, a file written, a line printed.
 ghost use Rattle.std.specs.Prelude.{◌≡◌, ◌<◌, ◌^◌, ◌+◌, true};
 ghost use Rattle.gms_host.specs.Rules.{CountsReading, CountsWriting, IsThere};
 ghost use Rattle.gms_host.specs.Spooling.{WritesAll};
@@ -12,7 +12,7 @@ use std::alloc::Global;
 /// How many bytes are read at a time.
 const BUFFER_BYTES: usize = 4096;
 
-/// Reads the opened input to its end, or until one byte more than so many was taken.
+/// Reads the opened input to its end, or until `most + 1` bytes were taken.
 fn read_most<H: Host>(alloc: Global, host: &mut H, most: usize) -> Result<Vec<u8>, Failed>
     requires open { (H.meaning host.old).outside.reading ≡ true }
     requires few { most < 2 ^ 32 }
@@ -32,7 +32,7 @@ fn read_most<H: Host>(alloc: Global, host: &mut H, most: usize) -> Result<Vec<u8
     Ok(source)
 }
 
-/// Reads the file of a name, or one byte more of it than so many.
+/// Reads the file of a name, or its first `most + 1` bytes.
 pub(crate) fn read_file<H: Host>(
     alloc: Global,
     host: &mut H,
@@ -71,7 +71,7 @@ pub(crate) fn write_file<H: Host>(host: &mut H, file: &str, bytes: &[u8]) -> Res
     host.close_out()
 }
 
-/// Says the whole line.
+/// Prints the whole line.
 pub(crate) fn say_line<H: Host>(host: &mut H, line: &[u8]) -> Result<(), Failed>
     ensures outside { SaysAll result (H.meaning host.old).outside (H.meaning host.new).outside line.now }
     ensures counts { CountsWriting result (H.meaning host.old).counts (H.meaning host.new).counts }

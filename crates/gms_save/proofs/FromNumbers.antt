@@ -1,4 +1,5 @@
--- Values are told by the numbers that they mean, and so is what is made of values: trees of expressions, data, and what options are set to.
+-- The numbers that values mean determine the values, and so what is made of values: trees of
+-- expressions, data, and what options are set to.
 use Rattle.std.proofs.Common.{◌≡◌, Bool, true, false, List, [], ◌∷◌, map, Option, Some, None, option_map, refl, ap, ap₂}
 use Rattle.std.specs.Prelude.{pos}
 use Rattle.gq_number.specs.Number.{Number, whole}
@@ -79,7 +80,7 @@ mutual
   control_back (over sets) = refl
   control_back (over_where sets condition) = ap (λ (t : Tree Frac). over_where sets t) (tree_back condition)
 
--- a condition, where there is one
+-- a condition, if there is one
 pub condition_back : (condition : Option (Expr Frac)) → option_map (in_numbers value_of) (option_map (shown_tree frac_value) condition) ≡ option_map tree_of condition
 condition_back None = refl
 condition_back (Some e) = ap (λ (t : Tree Frac). Some t) (tree_back (tree_of e))

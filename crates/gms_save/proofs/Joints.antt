@@ -28,7 +28,7 @@ more other (error ∷ errors) (y ∷ xs) zero x within is =
 more other (error ∷ errors) (y ∷ xs) (suc i) x within is =
     ap (λ (es : List (Option CompileError)). sooner error (other y) ∷ es) (more other errors xs i x (omega arith) is)
 
--- before the first, one more, and behind the last
+-- before the first, one more, and after the last
 pub each-first : {X : Type 0} (other : X → Option CompileError) (errors : List (Option CompileError)) (xs : List X) → errors ≡ each_sooner other errors (take 0 xs)
 each-first other errors xs = sym (each-none other errors)
 
@@ -53,7 +53,7 @@ each-length other [] xs = refl
 each-length other (error ∷ errors) [] = refl
 each-length other (error ∷ errors) (x ∷ xs) = ap suc (each-length other errors xs)
 
--- where there is none, there was none before
+-- if no error is found, there was none before
 none-before : {X : Type 0} (other : X → Option CompileError) (errors : List (Option CompileError)) (xs : List X) → flat_map option_to_list (each_sooner other errors xs) ≡ [] → flat_map option_to_list errors ≡ []
 none-before other [] xs e = refl
 none-before other (error ∷ errors) [] e = e

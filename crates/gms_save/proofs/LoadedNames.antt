@@ -45,7 +45,7 @@ pub same-at : (a b : State) (n : ℕ) → declared_in a ≡ declared_in b → bl
 same-at a b n e =
     sym (blank-read a.symbols n) ∙ ap (λ (xs : List Symbol). unwrap_or (slice_get xs n) no_symbol) e ∙ blank-read b.symbols n
 
--- and what does not speak of what is given is read alike
+-- what does not depend on data is read alike
 pub same-read : {X : Type 0} (read : Content → X) → ((c : Content) → read (emptied c) ≡ read c) → (a b : State) (n : ℕ) → declared_in a ≡ declared_in b → read (symbol_at a n).content ≡ read (symbol_at b n).content
 same-read read keeps a b n e =
     sym (keeps (symbol_at a n).content) ∙ ap (λ (s : Symbol). read s.content) (same-at a b n e) ∙ keeps (symbol_at b n).content
@@ -86,7 +86,7 @@ same-put : (a b : State) (n : ℕ) (s t : Symbol) → declared_in a ≡ declared
 same-put a b n s t e f =
     blank-set a.symbols n s ∙ ap₂ (λ (xs : List Symbol) (u : Symbol). set xs n u) e f ∙ sym (blank-set b.symbols n t)
 
--- a free variable takes a later type whatever is given of it
+-- a free variable takes a later type whatever its data are
 again-free : (kind : DeclKind) (c : Content) → emptied (retyped c (content_of kind)) ≡ emptied (retyped (emptied c) (content_of kind))
 again-free kind undeclared = refl
 again-free kind (alias_of base) = refl
@@ -169,7 +169,7 @@ keeps-value (variable_of v entries) t x = refl
 keeps-value (equation_of entries) t x = refl
 keeps-value (model_with m s) t x = refl
 
--- a symbol that declares what stood there
+-- replacing a symbol by one that declares the same
 set-kept : (xs : List Symbol) (n : ℕ) (s : Symbol) → blanked s ≡ blanked (unwrap_or (slice_get xs n) no_symbol) → map blanked (set xs n s) ≡ map blanked xs
 set-kept [] n s same = refl
 set-kept (x ∷ xs) zero s same = ap (λ (u : Symbol). u ∷ map blanked xs) same
@@ -224,7 +224,7 @@ module _ {F : Type 0} (value : F → Number) where
 
 -- ---- how many names there are
 
--- a state has so many names
+-- a state has `n` names
 abbrev Counts : ℕ → State → Type 0
 Counts n state = length (declared_in state) ≡ n
 

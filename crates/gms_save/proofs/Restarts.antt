@@ -132,7 +132,7 @@ module _ {F : Type 0} where
 
 -- ---- how many names there are
 
--- a state has so many names
+-- a state has `n` names
 abbrev Counts : ℕ → State → Type 0
 Counts n state = length state.symbols ≡ n
 
@@ -212,7 +212,7 @@ marks-append : (marks : List Bool) (xs ys : List ℕ) → with_marks marks (xs +
 marks-append marks [] ys = refl
 marks-append marks (x ∷ xs) ys = marks-append (set marks x true) xs ys
 
--- ---- the statements of the saved source, one after another
+-- ---- the statements of the saved source, in sequence
 
 module _ {F : Type 0} (line : ℕ) (xs : List (Stmt F)) (i : ℕ) (x : Stmt F) (within : i < length xs) (is : x ≡ get_or xs i x) where
   kept-by : (b : Bool) → is_saved line x ≡ b → filter (is_saved line) (take (i + 1) xs) ≡ filter (is_saved line) (take i xs) ++ cond b (x ∷ []) []

@@ -26,7 +26,7 @@ use Rattle.gms_save.specs.Saves.{GivesBack, IsNoSave, IsSaveOf, IsUnfit, Restore
 use Rattle.gms_save.proofs.SavedNames.{saved-placed, text-placed}
 use Rattle.gms_save.proofs.SeenPrograms.{same-names, same-saved}
 
--- what stands in front of the source
+-- the text before the source
 abbrev pub front : List ℕ
 front = line_of (codes "gams25 save 1")
 
@@ -59,7 +59,8 @@ shapeless solvers bytes short none = ((short, none), no-save bytes none)
 memoryless : (solvers : List (List ℕ)) (bytes : List ℕ) → Both solvers bytes (Err Memory)
 memoryless solvers bytes = (tt, λ source program state solver save. tt)
 
--- A save of a program over its source is one of a program that was found, over the source that was found: the programs are seen alike, and the text is that of the state.
+-- A save of a program with its source is one of the program and of the source that were found: the
+-- programs have equal views, and the text is that of the state.
 record IsHere (source text : List ℕ) (program : Program Frac) (other : List ℕ) (found : Program Frac) (state : State) (name : List ℕ) : Type 0 where
   source_is : source ≡ other
   alike : program_view frac_value program ≡ program_view frac_value found
@@ -68,7 +69,8 @@ record IsHere (source text : List ℕ) (program : Program Frac) (other : List �
 
 -- ---- what a reader of the source finds
 
--- Bytes begin with a source, and a text stands behind it: wherever they are the text of a state over a source.
+-- Bytes begin with a source, followed by a text: in each way in which they are the text of a state
+-- with its source.
 abbrev pub Splits : List ℕ → List ℕ → List ℕ → Type 0
 Splits bytes source text = (other rest : List ℕ) → bytes ≡ front ++ (source_text other ++ rest) → (source ≡ other) × (text ≡ rest)
 
@@ -81,7 +83,7 @@ unread {A} Q r f solvers bytes short h found = answered r (fault_of_reading f) s
     by read.Shape found =
         shapeless solvers bytes short (λ source names state solver is. absurd (found source (state_text names state solver) is))
 
--- memory was wanting
+-- memory ran out
 pub wanting : (r : Result Saved SaveFaultOrMemory) (solvers : List (List ℕ)) (bytes : List ℕ) → IsErrAnd r (λ e. e ≡ Memory) → Both solvers bytes r
 wanting r solvers bytes h = answered r Memory solvers bytes h (memoryless solvers bytes)
 
@@ -105,7 +107,7 @@ unread_state {A} {B} P Q r f program text h found = let p = err_from_is_err_and 
     by read.Memory found = tt
     by read.Shape found = found
 
--- a list of errors is empty where there is none
+-- a list of errors is empty exactly where the test says so
 pub none_there : {A : Type 0} (xs ys : List A) (r : Bool) → xs ≡ ys → r ≡ (length xs == 0) → IsTrue r ↔ (ys ≡ [])
 none_there {A} xs ys r same e = (λ t. sym same ∙ is_none xs (sym e ∙ t), λ none. e ∙ ap (λ (l : List A). length l == 0) (same ∙ none))
   where
@@ -139,7 +141,7 @@ module _ (solvers : List (List ℕ)) (bytes source text : List ℕ) (short : len
     unfit-text other names state solver same none =
         subst (λ (s : List ℕ). IsUnfit s names state solver) same (inr (program, free.is_program, λ named saved. none named saved.is_saved))
 
-    -- is behind no save
+    -- no save has this text after its source
     pub no-state : (r : Result Saved SaveFaultOrMemory) (e : SaveFaultOrMemory) → IsErrAnd r (λ f. f ≡ e) → IsNoStateBy program text e → Both solvers bytes r
     no-state r e h none = answered r e solvers bytes h (by e none)
       where
@@ -163,7 +165,8 @@ module _ (solvers : List (List ℕ)) (bytes source text : List ℕ) (short : len
         }
 
     module _ (store : State) (solver : List ℕ) (found : IsStateOf program text store solver) where
-      -- the text of the state that was found, over the source, is that of each state that has this text
+      -- the text of the state that was found, with its source, is that of each state that has this
+      -- text
       same-text : (other : List ℕ) (names : List (List ℕ)) (state : State) (name : List ℕ) → bytes ≡ saved_text other names state name → names ≡ program.names → IsSavedIn program state name → bytes ≡ saved_text source program.names store solver
       same-text other names state name is named saved =
           let parts = splits other (state_text names state name) is in
@@ -184,7 +187,7 @@ module _ (solvers : List (List ℕ)) (bytes source text : List ℕ) (short : len
         save-of =
             record { is_program = free.is_program; is_saved = record { no_error = free.no_error; is_saved = found.is_saved }; text = is }
 
-        -- of a solver that is none of these
+        -- a save whose solver is none of these
         pub no-solver : place_of_solver solvers solver ≡ None → Both solvers bytes (Err (Fault SaveSolver))
         no-solver lacks = (
           (short, record { source = source; program = program; state = store; solver = solver; is_save = save-of; lacks = lacks }),
@@ -210,7 +213,7 @@ module _ (solvers : List (List ℕ)) (bytes source text : List ℕ) (short : len
             },
           )
 
-          -- and whatever they are the save of is that
+          -- and each state whose save the bytes are is that one
           is-back : GivesBack solvers bytes (Ok saved)
           is-back other one state name save =
               let h = here other one state name save in

@@ -1,4 +1,5 @@
--- A state is a saved one where it has at each name of its program what a saved one has there; and whatever solver its settings name.
+-- A state is a saved one if at each name of its program it has what a saved one may have there; the
+-- solver of its settings is free.
 use Rattle.std.proofs.Common.{◌≡◌, ℕ, zero, suc, ◌+◌, ◌<◌, ◌≤◌, Bool, true, false, ◌&&◌, List, [], ◌∷◌, ◌++◌, length, map, replicate, slice_get, refl, sym, ap, ◌∙◌, subst, Option, None, Some, unwrap_or, arith, codes}
 use Rattle.std.specs.Prelude.{nat_lt}
 use Rattle.std.proofs.lemmas.Bool.{ltb-true, lt-ltb}
@@ -34,7 +35,7 @@ past-end (x ∷ xs) (suc n) past = past-end xs n (omega arith)
 nothing-past : (state : State) (n : ℕ) → length (declared_in state) ≤ n → symbol_at state n ≡ no_symbol
 nothing-past state n past = past-end state.symbols n past
 
--- nothing is given of a name that is not declared
+-- an undeclared name has no data
 none-well : (limit labels : ℕ) (state : State) → IsGivenWell limit labels state no_symbol
 none-well limit labels state =
     record { ordered = ordered-nil; few = All-nil _; stand = All-nil _; fit = λ t. refl; differs = λ t. sym (no_difference (absent undeclared)); statuses = refl }
@@ -55,7 +56,7 @@ pub alias-too : (a b : State) (n : ℕ) (is : Bool) → declared_in a ≡ declar
 alias-too a b n is e f =
     sym (keeps-alias (symbol_at b n).content) ∙ ap (λ (s : Symbol). is_alias s.content) (sym (same-at a b n e)) ∙ keeps-alias (symbol_at a n).content ∙ f
 
--- an alias has no members of its own
+-- an alias has no members
 pub alias-members : (c : Content) → is_alias c ≡ true → members_in c ≡ []
 alias-members undeclared e = refl
 alias-members (alias_of base) e = refl
@@ -65,7 +66,7 @@ alias-members (variable_of t entries) e = refl
 alias-members (equation_of entries) e = refl
 alias-members (model_with m s) e = refl
 
--- a name that is no alias has its own
+-- the members of a name that is no alias
 pub own-members : (state : State) (n : ℕ) → is_alias (symbol_at state n).content ≡ false → members_of state n ≡ members_in (symbol_at state n).content
 own-members state n e = by (symbol_at state n).content refl e
   where

@@ -1,4 +1,5 @@
--- What acts show is all that a check and a load look at: what they use and assign, which solvers they choose, and what they declare.
+-- What acts show is all that a check and a load read: what they use and assign, which solvers they
+-- choose, and what they declare.
 use Rattle.std.proofs.Common.{◌≡◌, ℕ, Bool, List, [], ◌∷◌, ◌++◌, map, Option, None, option_map, Vec, refl, sym, ap, ap₂, ◌∙◌, subst}
 use Rattle.std.specs.Prelude.{flat_map}
 use Rattle.std.specs.declared.alloc.Global.{Global}
@@ -168,7 +169,7 @@ layer-uses (Act-F.Options options) all state at controlled = ap (flat_map option
 layer-uses (Act-F.Abort condition items) all state at controlled =
     ap (λ (c : Option (Tree Frac)). condition_uses at controlled c ++ flat_map show_uses items) (condition_back condition)
 
--- what a statement uses is told by what its act shows
+-- the view of a statement's act determines what the statement uses
 pub same-uses : (s : Stmt Frac) (state : State) (controlled : List ℕ) → uses_of (shown s.act) state s.at controlled ≡ statement_uses s state controlled
 same-uses s state controlled = each-act SameUses layers s state s.at controlled ∙ sym (uses-act s state controlled)
   where
@@ -176,7 +177,7 @@ same-uses s state controlled = each-act SameUses layers s state s.at controlled 
     layers x all state at controlled =
         ap (λ (v : Act Number). uses_of v state at controlled) (shows x) ∙ layer-uses x all state at controlled ∙ sym (ap (λ (f : OfAct Frac). f state at controlled) (used x))
 
--- ---- what statements give one after another, those of a loop's body too
+-- ---- what statements give in sequence, those of a loop's body too
 
 -- a layer that is no loop
 abbrev IsPlain : Layer → Type 0
@@ -236,7 +237,7 @@ module _ {A : Type 0} (step : Act-F Frac (List A) (List A) → List A) (own : Ac
     layer-given (Act-F.Options options) all = plain (Act-F.Options options) tt
     layer-given (Act-F.Abort condition items) all = plain (Act-F.Abort condition items) tt
 
-    -- what a statement gives is told by what its act shows
+    -- the view of a statement's act determines what the statement gives
     pub same-given : (s : Stmt Frac) → gathered (shown s.act) ≡ given_in s
     same-given s = each-act SameGiven layers s ∙ sym (given-act s)
       where
@@ -291,13 +292,13 @@ same-chosen = same-given solvers_step own_chosen (λ control body. refl) plain
 
 -- ---- what acts declare
 
--- the errors of an act at a place, where this is what it uses but for declarations
+-- the errors of an act at a place, by what it uses apart from declarations
 abbrev errors_by : Known Frac → Place → Uses Frac → ActNode Frac → List CompileError
 errors_by known at others (Declare kind items) = errors_of known (kind_uses at kind) ++ declaration_errors known kind items
 errors_by known at others (Model models) = model_errors known models
 errors_by known at others act = errors_of known others
 
--- All that the statements behind an act, and the check of its statement, take from the act.
+-- All that the statements after an act, and the check of its statement, read of the act.
 pub record Told : Type 0 where
   pub names : List ℕ
   pub equations : List ℕ
@@ -330,7 +331,7 @@ declaration (defines equation indices condition sides) = Define equation [] None
 declaration (declares_models models) = Model models
 declaration act = Display []
 
--- what is taken from an act, by what it shows
+-- what is read of an act, by its view
 abbrev pub told_by : Act Number → Told
 told_by act = told (declaration act)
 
@@ -347,7 +348,7 @@ layer-told (Act-F.Loop control body) = ap told (sym (rolls-Loop control body))
 layer-told (Act-F.Options options) = ap told (sym (rolls-Options options))
 layer-told (Act-F.Abort condition items) = ap told (sym (rolls-Abort condition items))
 
--- what is taken from an act is told by what it shows
+-- the view of an act determines what is read of it
 pub same-told : (act : ActNode Frac) → told_by (shown act) ≡ told act
 same-told act =
     subst (λ (a : ActNode Frac). told_by (shown a) ≡ told a) (roll-out-Act Frac act) (ap told_by (shows (out-Act Frac act)) ∙ layer-told (out-Act Frac act))

@@ -1,4 +1,4 @@
--- Joint programs that are seen alike have the same errors, and go on from the same state.
+-- Joint programs with equal views have the same errors, and resume from the same state.
 use Rattle.std.proofs.Common.{◌≡◌, ℕ, Bool, true, false, not, ◌&&◌, List, [], ◌∷◌, ◌++◌, length, map, Option, None, refl, sym, ap, ap₂, ◌∙◌}
 use Rattle.std.specs.Prelude.{filter, flat_map, if◌then◌else◌, nat_lt, option_to_list}
 use Rattle.gq_frac.specs.declared.frac.Frac.{Frac}
@@ -20,7 +20,7 @@ use Rattle.gms_save.specs.JointErrors.{each_sooner, is_saved, joint_errors, rest
 use Rattle.gms_save.proofs.SeenActs.{Told, assigned_of, same-targets, same-told, targets_of, told_by}
 use Rattle.gms_save.proofs.SeenPrograms.{Seen, assigned-are, declared-are, errors-are, same-assigned-sets, same-count, same-declared, same-loaded, same-seen, seen, seen_declared, seen_errors}
 
--- the statements of the saved source, as they are seen
+-- the views of the statements of the saved source
 abbrev seen_saved : ℕ → List Seen → List Seen
 seen_saved from vs = filter (λ (v : Seen). nat_lt v.0.line from) vs
 
@@ -32,7 +32,8 @@ saved-are from (x ∷ xs) = by (is_saved from x) (saved-are from xs)
     by true rest = ap (λ (vs : List Seen). seen x ∷ vs) rest
     by false rest = rest
 
--- the first Restart of a statement, by what the saved source declares and assigns, and what is declared in all
+-- the first Restart of a statement, by what the saved source declares and assigns, and what is
+-- declared in all
 abbrev restart_from : ℕ → State → List ℕ → State → Place → List (Place × ℕ) → List (Place × ℕ) → Option CompileError
 restart_from from saved assigned declared at typed targets =
     if nat_lt at.line from then None else first_of (restarts_at (λ name. is_variable (symbol_at saved name).content) typed ++ restarts_at (λ name. is_set (symbol_at saved (base_of declared name)).content && not (is_among assigned (base_of declared name))) targets)
@@ -40,7 +41,7 @@ restart_from from saved assigned declared at typed targets =
 abbrev seen_restart : ℕ → State → List ℕ → State → Seen → Option CompileError
 seen_restart from saved assigned declared v = restart_from from saved assigned declared v.0 (told_by v.1).typed (targets_of v.1)
 
--- the same error may come first by what is seen
+-- an error that may come first, by the views of statements
 sooner-seen : (f : Stmt Frac → Option CompileError) (g : Seen → Option CompileError) → ((s : Stmt Frac) → f s ≡ g (seen s)) → (errors : List (Option CompileError)) (xs : List (Stmt Frac)) → each_sooner f errors xs ≡ each_sooner g errors (map seen xs)
 sooner-seen f g same [] [] = refl
 sooner-seen f g same [] (x ∷ xs) = refl
@@ -91,6 +92,6 @@ module _ (one other : Program Frac) (alike : program_view frac_value one ≡ pro
       ∙ ap (λ (declared : State). each_sooner (seen_restart from (saved_names from other) (saved_assigned from other) declared) (statement_errors frac_value other solvers) (map seen other.statements.items)) (same-declared one other alike)
       ∙ sym (sooner-seen (restart_error from other) (seen_restart from (saved_names from other) (saved_assigned from other) (declared_state other)) (restart-is from other) (statement_errors frac_value other solvers) other.statements.items))
 
-  -- and go on from the same state
+  -- and resume from the same state
   pub same-resumed : (saved : State) → resumed frac_value saved one ≡ resumed frac_value saved other
   same-resumed saved = ap (λ (state : State). overlaid state saved) (same-loaded one other alike)

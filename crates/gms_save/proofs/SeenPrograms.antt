@@ -1,4 +1,5 @@
--- Programs that are seen alike have the same errors, declare the same, load the same and have the same saved states.
+-- Programs with equal views have the same errors, declare the same, load the same and have the same
+-- saved states.
 use Rattle.std.proofs.Common.{◌≡◌, ℕ, Bool, true, ◌&&◌, ◌||◌, List, [], ◌∷◌, ◌++◌, length, map, Option, refl, sym, ap, ap₂, ◌∙◌, subst}
 use Rattle.std.specs.Prelude.{filter, flat_map, is_none, option_to_list, if◌then◌else◌, nat_lt}
 use Rattle.std.specs.List.{fold, list_any}
@@ -31,7 +32,7 @@ use Rattle.gms_save.proofs.SeenActs.{Told, assigned_of, chosen_of, same-assigned
 
 -- ---- statements
 
--- a statement as it is seen: its place, and what its act shows
+-- the view of a statement: its place, and what its act shows
 abbrev pub Seen : Type 0
 Seen = Place × Act Number
 
@@ -49,7 +50,7 @@ listed-is (x ∷ xs) = ap listed (view-Stmt frac_value x (statements_view frac_v
 
 -- ---- what is known before a statement
 
--- statements before, each by what is taken from it and whether it has no error
+-- earlier statements, each by what is read of it and whether it has no error
 abbrev pub ToldPast : Type 0
 ToldPast = List (Told × Bool)
 
@@ -84,7 +85,7 @@ models-told declared [] = refl
 models-told declared (p ∷ past) =
     ap (λ models. (told p.0.act).models declared p.1 ++ models) (models-told (declared ++ (told p.0.act).equations) past)
 
--- what is known in a program of so many names, from these parts
+-- what is known in a program of `count` names, from these parts
 abbrev pub known_from : ℕ → List (List ℕ) → List ℕ → State → List ℕ → (ℕ → Bool) → (ℕ → Bool) → List (ℕ × List ℕ) → Known Frac
 known_from count solvers dynamic state names unordered defined models = record {
   value = frac_value;
@@ -105,7 +106,7 @@ told_unordered past name = list_any (λ (t : Told × Bool). t.1 && t.0.is_unorde
 abbrev pub told_defined : ToldPast → ℕ → Bool
 told_defined past name = list_any (λ (t : Told × Bool). t.0.is_defined name) past
 
--- what is known, from what is taken from the statements before
+-- what is known, from what is read of the earlier statements
 abbrev pub known_told : ℕ → List (List ℕ) → List ℕ → ToldPast → Known Frac
 known_told count solvers dynamic past =
     known_from count solvers dynamic (fold after_told (blank_state count) past) (flat_map (λ (t : Told × Bool). t.0.names) past) (told_unordered past) (told_defined past) (told_models [] past)
@@ -143,7 +144,7 @@ past-more : (past : Past Frac) (s : Stmt Frac) (ok fine : Bool) → ok ≡ fine 
 past-more past s ok fine same =
     map-append (λ (p : Stmt Frac × Bool). (told p.0.act, p.1)) past ((s, ok) ∷ []) ∙ ap₂ (λ (t : Told) (b : Bool). told_past past ++ (t, b) ∷ []) (sym (same-told s.act)) same
 
--- the error of a statement, and those of others behind it
+-- the error of a statement, and those of later ones
 errors-step : (count : ℕ) (solvers : List (List ℕ)) (dynamic : List ℕ) (vs : List Seen) (s : Stmt Frac) (known : Known Frac) (past : Past Frac) (others : List (Option CompileError)) → known ≡ known_told count solvers dynamic (told_past past) → others ≡ seen_errors count solvers dynamic (told_past (past ++ (s, is_none (statement_error known s)) ∷ [])) vs → (statement_error known s ∷ others) ≡ seen_errors count solvers dynamic (told_past past) (seen s ∷ vs)
 errors-step count solvers dynamic vs s known past others is rest =
     let here : statement_error known s ≡ seen_error (known_told count solvers dynamic (told_past past)) (seen s) = error-is known s ∙ ap (λ (k : Known Frac). seen_error k (seen s)) is in
@@ -177,7 +178,8 @@ chosen-are : (xs : List (Stmt Frac)) → flat_map solvers_in xs ≡ flat_map (λ
 chosen-are [] = refl
 chosen-are (x ∷ xs) = ap₂ (λ (a b : List (List ℕ)). a ++ b) (sym (same-chosen x)) (chosen-are xs)
 
--- what a program declares, and which sets it assigns, by how many names it has and what its statements show
+-- what a program declares, and which sets it assigns, by how many names it has and what its
+-- statements show
 abbrev pub seen_declared : ℕ → List Seen → State
 seen_declared count vs = fold (λ (s : State) (v : Seen). (told_by v.1).declared s) (blank_state count) vs
 
@@ -192,7 +194,7 @@ module _ (program : Program Frac) where
   dynamic-is =
       ap₂ (λ (s : State) (ns : List ℕ). map (base_of s) ns) declared-is (assigned-are program.statements.items)
 
--- ---- programs that are seen alike
+-- ---- programs with equal views
 
 module _ (one other : Program Frac) (alike : program_view frac_value one ≡ program_view frac_value other) where
   -- they have the same names

@@ -21,12 +21,12 @@ fault_name SaveShape = codes "SaveShape"
 fault_name SaveTooLong = codes "SaveTooLong"
 fault_name SaveSolver = codes "SaveSolver"
 
--- what was not read is no save, unless memory was wanting
+-- what could not be read is no save, unless memory ran out
 abbrev pub fault_of_reading : ReadFault → SaveFaultOrMemory
 fault_of_reading read.Memory = Memory
 fault_of_reading read.Shape = Fault SaveShape
 
--- what is no program has no save, unless memory was wanting
+-- a text that is no program has no save, unless memory ran out
 abbrev pub fault_of_source : SourceFaultOrMemory → SaveFaultOrMemory
 fault_of_source parsed.Memory = Memory
 fault_of_source (parsed.Fault fault) = Fault SaveShape

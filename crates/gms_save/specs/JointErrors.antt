@@ -1,5 +1,6 @@
--- The errors of the joint program of a restarted run: of the saved source and the new file behind it (GAMS User's Guide, "Save and Restart",
--- "Dynamic Sets", "Variables"). What a new file may not do to a saved name is this project's own rule.
+-- The errors of the joint program of a restarted run: of the saved source followed by the new file
+-- (GAMS User's Guide, "Save and Restart", "Dynamic Sets", "Variables"). What a new file may not do
+-- to a saved name is this project's own rule.
 use Rattle.std.specs.Prelude.{◌≡◌, ℕ, Bool, not, ◌&&◌, nat_lt, List, [], ◌∷◌, ◌++◌, map, flat_map, filter, length, Option, None, option_to_list, if◌then◌else◌}
 use Rattle.gq_number.specs.Number.{Number}
 use Rattle.gms_labels.specs.declared.place.Place.{Place}
@@ -27,12 +28,13 @@ use Rattle.gms_check.specs.Loaded.{loaded}
 abbrev pub restart_at : Place → CompileError
 restart_at at = record { kind = Restart; at = at }
 
--- the errors at those of some names, each with its place, that have a property
+-- the errors at those of some names that have a property, each at the place of the name
 abbrev pub restarts_at : (ℕ → Bool) → List (Place × ℕ) → List CompileError
 restarts_at test names =
     map (λ (named : Place × ℕ). restart_at named.0) (filter (λ (named : Place × ℕ). test named.1) names)
 
--- the error of each of some statements, where another one of it may come first: the first by place, then by number
+-- the error of each of some statements, where another one of it may come first: the first by place,
+-- then by number
 abbrev pub each_sooner : {X : Type 0} → (X → Option CompileError) → List (Option CompileError) → List X → List (Option CompileError)
 each_sooner other (error ∷ errors) (x ∷ xs) = sooner error (other x) ∷ each_sooner other errors xs
 each_sooner other errors xs = errors
@@ -62,7 +64,8 @@ module _ {F : Type 0} where
   abbrev pub is_fixed_set : ℕ → Program F → ℕ → Bool
   is_fixed_set from joint set = is_set (symbol_at (saved_names from joint) set).content && not (is_among (saved_assigned from joint) set)
 
-  -- whether a name is that of such a set, an alias as its set
+  -- whether a name is that of a set that the saved source declares and does not assign, an alias as
+  -- its set
   abbrev pub is_fixed : ℕ → Program F → ℕ → Bool
   is_fixed from joint name = is_fixed_set from joint (base_of (declared_state joint) name)
 
@@ -70,16 +73,16 @@ module _ {F : Type 0} where
   abbrev pub names_at : List (Decl F) → List (Place × ℕ)
   names_at items = map (λ (item : Decl F). (item.named.at, item.named.name)) items
 
-  -- those of them that a declaration of this kind gives a type
+  -- the names to which a declaration of this kind gives a type, each with its place
   abbrev pub names_typed : DeclKind → List (Decl F) → List (Place × ℕ)
   names_typed kind items = if is_variable (content_of kind) then names_at items else []
 
-  -- the names that an act gives a type, each with its place
+  -- the names to which an act gives a type, each with its place
   abbrev pub typed_names : Act F → List (Place × ℕ)
   typed_names (Declare kind items) = names_typed kind items
   typed_names act = []
 
-  -- the names that an act assigns, each with its place, or those that its body does
+  -- the names that an act assigns, each with its place; a loop those that its body assigns
   abbrev pub targets_step : Act-F F (List (Place × ℕ)) (List (Place × ℕ)) → List (Place × ℕ)
   targets_step (Act-F.Assign target condition right_at right) = (target.at, target.name) ∷ []
   targets_step (Act-F.Loop control body) = flat_map (λ targets. targets) body.items
@@ -89,24 +92,27 @@ module _ {F : Type 0} where
   abbrev pub targets : Stmt F → List (Place × ℕ)
   targets = fold-Stmt F (List (Place × ℕ)) (List (Place × ℕ)) targets_step (λ statement. statement.act)
 
-  -- Restart: a saved variable that a statement gives a type, or a set of the saved source that it assigns and the saved source does not
+  -- Restart: a saved variable that a statement gives a type, or a set of the saved source that the
+  -- statement assigns and the saved source does not
   abbrev pub restart_errors : ℕ → Program F → Stmt F → List CompileError
   restart_errors from joint statement =
       restarts_at (is_saved_variable from joint) (typed_names statement.act) ++ restarts_at (is_fixed from joint) (targets statement)
 
-  -- the first of these of a statement of the new file; the saved source has none
+  -- the first Restart of a statement of the new file; the saved source has none
   abbrev pub restart_error : ℕ → Program F → Stmt F → Option CompileError
   restart_error from joint statement = if is_saved from statement then None else first_of (restart_errors from joint statement)
 
-  -- the errors of the joint program: those of a check, and Restart among them, at most one a statement
+  -- the errors of the joint program: those of a check, and Restart among them, at most one a
+  -- statement
   abbrev pub joint_errors : (F → Number) → Program F → ℕ → List (List ℕ) → List CompileError
   joint_errors value joint from solvers =
       flat_map option_to_list (each_sooner (restart_error from joint) (statement_errors value joint solvers) joint.statements.items)
 
-  -- solvers of some names find no error
+  -- there are solvers with which the joint program has no error
   abbrev pub HasNoErrors : (F → Number) → Program F → ℕ → Type 0
   HasNoErrors value joint from = (solvers : List (List ℕ)) × (joint_errors value joint from solvers ≡ [])
 
-  -- the state from which a restarted run goes on: the saved one, and beside it what the joint program declares anew, with its data
+  -- the state from which a restarted run resumes: the saved one, and what the joint program
+  -- declares in addition, with its data
   abbrev pub resumed : (F → Number) → State → Program F → State
   resumed value saved joint = overlaid (loaded value joint) saved

@@ -1,4 +1,4 @@
--- The check of a joint program by what its saved source declares and assigns, kept in marks.
+-- The check of a joint program by what its saved source declares and assigns, stored in marks.
 use Rattle.std.specs.Prelude.{◌≡◌, ℕ, Bool, false, not, ◌&&◌, List, ◌++◌, length, replicate, Option, None, if◌then◌else◌}
 use Rattle.gq_frac.specs.declared.frac.Frac.{Frac}
 use Rattle.gms_ast.specs.declared.program.Program.{Program}
@@ -27,11 +27,12 @@ variable_in saved name = is_variable (symbol_at saved name).content
 abbrev pub unmarked_in : State → List Bool → ℕ → Bool
 unmarked_in saved marks set = is_set (symbol_at saved set).content && not (marked marks set)
 
--- whether the saved source declares a set and does not assign it, by what a check knows, an alias as its set
+-- whether the saved source declares a set and does not assign it, by what a check knows, an alias
+-- as its set
 abbrev pub fixed_by : RestartCheck → ℕ → Bool
 fixed_by check name = unmarked_in check.saved check.assigned (base_of check.declared name)
 
--- the first error that a check finds of a statement, where there is one
+-- the first error that a check finds of a statement, if any
 abbrev pub error_by : RestartCheck → Stmt Frac → Option CompileError
 error_by check statement =
     if is_saved check.from statement then None else first_of (restarts_at (variable_in check.saved) (typed_names statement.act) ++ restarts_at (fixed_by check) (targets statement))

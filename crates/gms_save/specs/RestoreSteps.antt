@@ -30,7 +30,7 @@ abbrev pub IsFaulty : List ℕ → Type 0
 IsFaulty source =
     ((fault : SourceFault) × IsFault number_limit source fault) ⊎ ((program : Program Frac) × IsProgram number_limit source frac_value program × (compile_errors frac_value program (solvers_chosen program) ≡ [] → ⊥))
 
--- why there is no such program: the source has none, or memory was wanting
+-- why there is no such program: the source has none, or memory ran out
 abbrev pub IsFaultyBy : List ℕ → SaveFaultOrMemory → Type 0
 IsFaultyBy source Memory = Unit {0}
 IsFaultyBy source (Fault SaveTooLong) = ⊥
@@ -44,12 +44,14 @@ abbrev pub IsSavedIn : Program Frac → State → List ℕ → Type 0
 IsSavedIn program state solver =
     IsSavedOf number_limit (length program.labels) (declared_state program) (loaded frac_value program) (is_among (dynamic_sets program)) state solver
 
--- what a saved state has at a name: what is given of it is given well, and the members of a set that is not assigned are those of the data
+-- what a saved state has at a name: its data are valid, and the members of a set that is not
+-- assigned are those of the data
 pub record IsSavedAt (labels : ℕ) (assigned : ℕ → Bool) (loaded state : State) (name : ℕ) : Type 0 where
   pub given : IsGivenWell number_limit labels state (symbol_at state name)
   pub static : assigned name ≡ false → members_in (symbol_at state name).content ≡ members_in (symbol_at loaded name).content
 
--- A state is a saved one of a program, and where a text is that of such a state, it is this one with the first solver in its settings.
+-- A state is a saved one of a program. Any saved state with this text is this state with the first
+-- solver in its settings, and has the same solver's name.
 pub record IsStateOf (program : Program Frac) (text : List ℕ) (state : State) (solver : List ℕ) : Type 0 where
   pub is_saved : IsSavedIn program state solver
   pub same_state : (other : State) (name : List ℕ) → IsSavedIn program other name → text ≡ state_text program.names other name → state ≡ with_solver other 0
@@ -59,7 +61,7 @@ pub record IsStateOf (program : Program Frac) (text : List ℕ) (state : State) 
 abbrev pub IsNoState : Program Frac → List ℕ → Type 0
 IsNoState program text = (state : State) (solver : List ℕ) → IsSavedIn program state solver → text ≡ state_text program.names state solver → ⊥
 
--- why there is no such state: the text is that of none, or memory was wanting
+-- why there is no such state: the text is that of none, or memory ran out
 abbrev pub IsNoStateBy : Program Frac → List ℕ → SaveFaultOrMemory → Type 0
 IsNoStateBy program text Memory = Unit {0}
 IsNoStateBy program text (Fault SaveTooLong) = ⊥
@@ -72,7 +74,8 @@ IsNoStateBy program text (Fault SaveSolver) = ⊥
 abbrev pub IsPlaced : List ℕ → List ℕ → List (List ℕ) → List ℕ → ℕ → Type 0
 IsPlaced bytes text solvers solver place = (bytes ≡ text) × (place_of_solver solvers solver ≡ Some place)
 
--- why there is no such place: bytes are not the text, or they are it and the solvers lack the saved one, or memory was wanting
+-- why there is no such place: the bytes are not the text; or they are, and the solvers lack the
+-- saved one; or memory ran out
 abbrev pub IsUnplacedBy : List ℕ → List ℕ → List (List ℕ) → List ℕ → SaveFaultOrMemory → Type 0
 IsUnplacedBy bytes text solvers solver Memory = Unit {0}
 IsUnplacedBy bytes text solvers solver (Fault SaveTooLong) = ⊥

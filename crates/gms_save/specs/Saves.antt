@@ -1,5 +1,5 @@
--- Saves: which bytes are one, and what is restored from them (GAMS User's Guide, "Save and Restart"). Which texts are saves, and how many bytes
--- one may have, is this project's own choice.
+-- Saves: which bytes are one, and what is restored from them (GAMS User's Guide, "Save and
+-- Restart"). Which texts are saves, and how many bytes one may have, is this project's own choice.
 use Rattle.std.specs.Prelude.{◌≡◌, ◌⊎◌, ℕ, ◌-◌, ◌^◌, ◌<◌, ◌≤◌, ◌==◌, List, [], ◌∷◌, length, flat_map, Option, Some, None, position, codes, Result, Ok, Err, if◌then◌else◌}
 use Rattle.std.specs.Str.{bytes_eq, str_eq_ignore_ascii_case}
 use Rattle.gq_frac.specs.declared.frac.Frac.{Frac}
@@ -41,7 +41,7 @@ abbrev pub option_solvers : Word × Setting Frac → List (List ℕ)
 option_solvers (word, setting.Number at value) = []
 option_solvers (word, setting.Name name) = if str_eq_ignore_ascii_case word.text (codes "lp") then name.text ∷ [] else []
 
--- the names of solvers that an act chooses, or those that its body does
+-- the names of solvers that an act chooses; a loop those that its body chooses
 abbrev pub solvers_step : Act-F Frac (List (List ℕ)) (List (List ℕ)) → List (List ℕ)
 solvers_step (Act-F.Options settings) = flat_map option_solvers settings
 solvers_step (Act-F.Loop control body) = flat_map (λ names. names) body.items
@@ -55,7 +55,8 @@ solvers_in = fold-Stmt Frac (List (List ℕ)) (List (List ℕ)) solvers_step (λ
 abbrev pub solvers_chosen : Program Frac → List (List ℕ)
 solvers_chosen program = flat_map solvers_in program.statements.items
 
--- the place of a saved solver among solvers of these names: the first of its name, letter case ignored. The word `none` says that there was no solver, and goes with no others
+-- the place of a saved solver among solvers of these names: the first of its name, letter case
+-- ignored. The word `none` says that there was no solver; it is accepted only where there is none
 abbrev pub place_of_solver : List (List ℕ) → List ℕ → Option ℕ
 place_of_solver solvers solver =
     if bytes_eq solver (codes "none") then (if length solvers == 0 then Some 0 else None) else position (λ name. str_eq_ignore_ascii_case name solver) solvers
@@ -67,22 +68,24 @@ pub record IsSavedBy (program : Program Frac) (state : State) (solver : List ℕ
   pub no_error : compile_errors frac_value program (solvers_chosen program) ≡ []
   pub is_saved : IsSavedOf number_limit (length program.labels) (declared_state program) (loaded frac_value program) (is_among (dynamic_sets program)) state solver
 
--- Bytes are the save of a state of a program, with a solver of this name, over the program's source.
+-- Bytes are the save of a state of a program, with a solver of this name and the program's source.
 pub record IsSaveOf (bytes source : List ℕ) (program : Program Frac) (state : State) (solver : List ℕ) : Type 0 where
   pub is_program : IsProgram number_limit source frac_value program
   pub is_saved : IsSavedBy program state solver
   pub text : bytes ≡ saved_text source program.names state solver
 
--- A source with these names has no such saved state: it has a fault, or a program that has other names or by which the state is no saved one.
+-- A source with these names has no such saved state: it has a fault; or its program has other
+-- names, or does not have the state as a saved one.
 abbrev pub IsUnfit : List ℕ → List (List ℕ) → State → List ℕ → Type 0
 IsUnfit source names state solver =
     ((fault : SourceFault) × IsFault number_limit source fault) ⊎ ((program : Program Frac) × IsProgram number_limit source frac_value program × (names ≡ program.names → IsSavedBy program state solver → ⊥))
 
--- Bytes are no save: wherever they are the text of a state over a source, that has no such saved state.
+-- Bytes are no save: whenever they are the text of a state with a source, that source has no such
+-- saved state.
 abbrev pub IsNoSave : List ℕ → Type 0
 IsNoSave bytes = (source : List ℕ) (names : List (List ℕ)) (state : State) (solver : List ℕ) → bytes ≡ saved_text source names state solver → IsUnfit source names state solver
 
--- a save whose solver no solver of these names is
+-- a save whose solver is none of these
 pub record LacksSolver (solvers : List (List ℕ)) (bytes : List ℕ) : Type 0 where
   pub source : List ℕ
   pub program : Program Frac
@@ -91,13 +94,14 @@ pub record LacksSolver (solvers : List (List ℕ)) (bytes : List ℕ) : Type 0 w
   pub is_save : IsSaveOf bytes source program state solver
   pub lacks : place_of_solver solvers solver ≡ None
 
--- What was restored is what the bytes are the save of, with the place of the solver in the settings.
+-- What was restored is what the bytes are the save of, with the place of the solver in the
+-- settings.
 pub record IsRestored (solvers : List (List ℕ)) (bytes : List ℕ) (saved : Saved) : Type 0 where
   pub solver : List ℕ
   pub is_save : IsSaveOf bytes saved.source.items saved.program saved.store solver
   pub placed : place_of_solver solvers solver ≡ Some saved.store.settings.solver
 
--- what restoring bytes answers, with solvers of these names
+-- the answer of restoring bytes, with solvers of these names
 abbrev pub Restores : List (List ℕ) → List ℕ → Result Saved SaveFaultOrMemory → Type 0
 Restores solvers bytes (Ok saved) = (length bytes ≤ most_bytes) × IsRestored solvers bytes saved
 Restores solvers bytes (Err Memory) = Unit {0}
@@ -105,18 +109,20 @@ Restores solvers bytes (Err (Fault SaveTooLong)) = most_bytes < length bytes
 Restores solvers bytes (Err (Fault SaveShape)) = (length bytes ≤ most_bytes) × IsNoSave bytes
 Restores solvers bytes (Err (Fault SaveSolver)) = (length bytes ≤ most_bytes) × LacksSolver solvers bytes
 
--- a state with the solver of this place
+-- a state with the solver at this place
 abbrev pub with_solver : State → ℕ → State
 with_solver state place = record { symbols = state.symbols; settings = record state.settings { solver = place } }
 
--- What was restored is this state over this source, its program is seen as this one, and the place of this solver stands in its settings.
+-- The restored state is this state with this source, its program has the same view as this one, and
+-- the settings have the place of this solver.
 pub record IsBack (solvers : List (List ℕ)) (saved : Saved) (source : List ℕ) (program : Program Frac) (state : State) (solver : List ℕ) : Type 0 where
   pub source_is : saved.source.items ≡ source
   pub program_is : program_view frac_value saved.program ≡ program_view frac_value program
   pub state_is : saved.store ≡ with_solver state saved.store.settings.solver
   pub placed : place_of_solver solvers solver ≡ Some saved.store.settings.solver
 
--- what restoring bytes answers that are the save of this state: the state itself, unless they are too long or none of the solvers has the name; want of memory is free
+-- the answer of restoring the save of this state: the state itself, unless the save is too long or
+-- none of the solvers has the name; out of memory makes no claim
 abbrev pub AnswersSave : List (List ℕ) → List ℕ → List ℕ → Program Frac → State → List ℕ → Result Saved SaveFaultOrMemory → Type 0
 AnswersSave solvers bytes source program state solver (Ok saved) = IsBack solvers saved source program state solver
 AnswersSave solvers bytes source program state solver (Err Memory) = Unit {0}
@@ -124,7 +130,8 @@ AnswersSave solvers bytes source program state solver (Err (Fault SaveTooLong)) 
 AnswersSave solvers bytes source program state solver (Err (Fault SaveShape)) = ⊥
 AnswersSave solvers bytes source program state solver (Err (Fault SaveSolver)) = place_of_solver solvers solver ≡ None
 
--- Whatever state of whatever program of whatever source the bytes are the save of, with whatever solver's name: that is what is answered.
+-- Of any state of any program of any source, with any solver's name, whose save the bytes are: that
+-- is the answer.
 abbrev pub GivesBack : List (List ℕ) → List ℕ → Result Saved SaveFaultOrMemory → Type 0
 GivesBack solvers bytes result =
     (source : List ℕ) (program : Program Frac) (state : State) (solver : List ℕ) → IsSaveOf bytes source program state solver → AnswersSave solvers bytes source program state solver result

@@ -1,4 +1,5 @@
-//! Going on from a saved state: the errors of the joint program, and the state from which its new statements run.
+//! Resuming from a saved state: the errors of the joint program, and the state from which its new
+//! statements run.
 ghost use Rattle.std.specs.Prelude.{◌≡◌, map, string_bytes, IfOk, OnErr, OnOk};
 ghost use Rattle.gq_frac.specs.Frac.{frac_value};
 ghost use Rattle.gms_save.specs.JointErrors.{HasNoErrors, joint_errors, resumed};
@@ -11,11 +12,13 @@ use gq_frac::Frac;
 use std::alloc::{AllocError, Global};
 use std::mem;
 
-/// The errors of a joint program, whose new file begins at a line, with solvers of these names: those of a check, and
-/// `Restart` of the new file among them, at most one a statement, the first by place and then by number.
+/// The errors of a joint program, whose new file begins at a line, with solvers of these names:
+/// those of a check, and `Restart` of the new file among them, at most one a statement, the first
+/// by place and then by number.
 ///
-/// `Restart` stands at a saved variable that is given a type, and at a saved set that is assigned where the saved source does
-/// not assign it; an alias counts as its set (GAMS User's Guide, "Save and Restart").
+/// The place of `Restart` is a saved variable that is given a type, or a saved set that is assigned
+/// where the saved source does not assign it; an alias counts as its set (GAMS User's Guide, "Save
+/// and Restart").
 pub fn joint_errors(
     alloc: Global,
     joint: &Program<Frac>,
@@ -31,9 +34,9 @@ pub fn joint_errors(
     found_errors(alloc, &each)
 }
 
-/// Makes a saved state the one from which a restarted run goes on: beside what was saved it has what the joint program declares
-/// anew, with its data (GAMS User's Guide, "Save and Restart"). What was saved is moved, and not copied. After want of memory the
-/// state is as it was.
+/// Makes a saved state the one from which a restarted run resumes: it also has what the joint
+/// program declares in addition, with its data (GAMS User's Guide, "Save and Restart"). The saved
+/// state is moved, and not copied. If memory runs out it is unchanged.
 pub fn resume(
     alloc: Global,
     store: &mut Store<Frac>,

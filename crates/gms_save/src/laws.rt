@@ -1,4 +1,4 @@
-//! Laws of programs that are seen alike.
+//! Laws of programs with equal views.
 ghost use Rattle.std.specs.Prelude.{◌≡◌, ℕ, List};
 ghost use Rattle.gq_frac.specs.declared.frac.Frac.{Frac};
 ghost use Rattle.gq_frac.specs.Frac.{frac_value};
@@ -12,10 +12,10 @@ ghost use Rattle.gms_check.specs.Loaded.{loaded};
 ghost use Rattle.gms_save.specs.JointErrors.{joint_errors, resumed};
 ghost use Rattle.gms_save.specs.Saves.{IsSavedBy, solvers_chosen};
 
-/// Two programs that are seen alike, by their names, their labels and the trees of their statements, have the same errors, load
-/// the same state, and have the same saved states: it does not matter where their parts are kept in memory. A source has one
-/// program as it is seen, so what is said of one program of a source is said of each (GAMS User's Guide, "GAMS Programs",
-/// "Save and Restart").
+/// Two programs with equal views (names, labels and trees of statements) have the same errors, load
+/// the same state, and have the same saved states, wherever their parts are in memory. A source has
+/// one view of a program, so a property of one program of a source is one of each (GAMS User's
+/// Guide, "GAMS Programs", "Save and Restart").
 pub fn view_laws()
     ensures errors { (one other : Program Frac) (solvers : List (List ℕ)) → program_view frac_value one ≡ program_view frac_value other →
         compile_errors frac_value one solvers ≡ compile_errors frac_value other solvers }

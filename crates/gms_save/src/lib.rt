@@ -1,4 +1,4 @@
-//! Floor 7, outside. Saving the state of a run, restoring it, and going on from it.
+//! Layer 7, outside. Saving the state of a run, restoring it, and resuming from it.
 #![tactic(auto)]
 
 mod fault;

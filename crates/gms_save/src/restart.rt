@@ -15,7 +15,8 @@ use gms_store::{Store, SymbolKind};
 use gq_frac::Frac;
 use std::alloc::{AllocError, Global};
 
-/// What the saved source declares and assigns, by which the statements of the new file are looked at.
+/// What the saved source declares and assigns, with which the statements of the new file are
+/// checked.
 pub(crate) struct RestartCheck {
     /// The first line of the new file.
     pub from: u32,
@@ -27,7 +28,7 @@ pub(crate) struct RestartCheck {
     pub assigned: Marks,
 }
 
-// Written out, so that it is proved once, and not wherever a check is let go.
+// Written out, so that it is proved once, and not wherever a check is dropped.
 impl Drop for RestartCheck {
     fn drop(self) {
         let Self {
@@ -39,7 +40,7 @@ impl Drop for RestartCheck {
     }
 }
 
-/// What the statements of a joint program declare that begin above a line.
+/// What the statements of a joint program that begin above a line declare.
 fn declared_before(
     alloc: Global,
     joint: &Program<Frac>,
@@ -93,7 +94,8 @@ impl RestartCheck {
         })
     }
 
-    /// Puts the first `Restart` of each of some statements in the place of its error, where it comes first.
+    /// Puts the first `Restart` of each of some statements in the place of its error, where it
+    /// comes first.
     pub fn add_errors(&self, statements: &[Stmt<Frac>], each: &mut [Option<CompileError>])
         requires { length each.old ≡ length statements.now }
         ensures { each.new ≡ each_sooner (error_by self.now) each.old statements.now }
@@ -103,7 +105,7 @@ impl RestartCheck {
         }
     }
 
-    /// The first `Restart` of a statement of the new file, where there is one. The saved source has none.
+    /// The first `Restart` of a statement of the new file, if any. The saved source has none.
     fn error_of(&self, statement: &Stmt<Frac>) -> Option<CompileError>
         ensures { result ≡ error_by self.now statement.now }
     {
@@ -126,7 +128,7 @@ impl RestartCheck {
         }
     }
 
-    /// The first saved variable among names that are declared, where they are given a type.
+    /// The first saved variable among declared names, if the declaration gives them a type.
     fn type_error_among(&self, kind: DeclKind, items: &[Decl<Frac>]) -> Option<CompileError>
         ensures { result ≡ first_of (restarts_at (variable_in self.now.saved) (names_typed kind items.now)) }
     {
@@ -140,7 +142,7 @@ impl RestartCheck {
         first
     }
 
-    /// `Restart` at a name that is given a type, where it is that of a saved variable.
+    /// `Restart` at a name that is given a type, if it is that of a saved variable.
     fn type_error_at(&self, named: Named) -> Option<CompileError>
         ensures { result ≡ first_of (restarts_at (variable_in self.now.saved) ((named.at, named.name) ∷ [])) }
     {
@@ -159,7 +161,7 @@ impl RestartCheck {
         }
     }
 
-    /// The first such set of some statements.
+    /// The first such set among those that some statements assign.
     #[cycle(targets)]
     fn target_error_among(&self, statements: &[Stmt<Frac>]) -> Option<CompileError>
         ensures { result ≡ first_of (restarts_at (fixed_by self.now) (flat_map targets statements.now)) }
@@ -171,7 +173,7 @@ impl RestartCheck {
         first
     }
 
-    /// `Restart` at what is assigned, where it is such a set.
+    /// `Restart` at an assigned name, if it is that of such a set.
     fn target_error_at(&self, target: &Target<Frac>) -> Option<CompileError>
         ensures { result ≡ first_of (restarts_at (fixed_by self.now) ((target.now.at, target.now.name) ∷ [])) }
     {
@@ -185,7 +187,8 @@ impl RestartCheck {
         self.saved.kind_of(name) == SymbolKind::Variable
     }
 
-    /// Whether a name is that of a set that the saved source declares and does not assign, an alias as its set.
+    /// Whether a name is that of a set that the saved source declares and does not assign, an alias
+    /// as its set.
     fn is_fixed(&self, name: u32) -> bool
         ensures { result ≡ fixed_by self.now name }
     {
@@ -194,7 +197,7 @@ impl RestartCheck {
     }
 }
 
-/// Whether a statement is one of the saved source, where the new file begins at a line.
+/// Whether a statement is one of the saved source; `from` is the line at which the new file begins.
 fn is_saved(statement: &Stmt<Frac>, from: u32) -> bool
     ensures { result ≡ is_saved from statement.now }
 {
@@ -211,7 +214,7 @@ fn gives_type(kind: DeclKind) -> bool
     }
 }
 
-/// `Restart` at a place, where it is an error there.
+/// `Restart` at a place, if there is an error.
 fn error_where(is_error: bool, at: Place) -> Option<CompileError>
     ensures { result ≡ (if is_error then Some (restart_at at) else None) }
 {
@@ -225,7 +228,7 @@ fn error_where(is_error: bool, at: Place) -> Option<CompileError>
     }
 }
 
-/// The earlier of two errors, where there are any.
+/// The earlier of two errors, if there are any.
 fn sooner(one: Option<CompileError>, other: Option<CompileError>) -> Option<CompileError>
     ensures { result ≡ sooner one other }
 {

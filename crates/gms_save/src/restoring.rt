@@ -29,10 +29,12 @@ use std::alloc::{AllocError, Global};
 /// How many bytes a save has at most.
 pub const MOST_BYTES: usize = 67_108_864;
 
-/// The save of a state of a program, over the program's source, with the name of the solver in place of its number (GAMS
-/// User's Guide, "Save and Restart"): a text that a person can read, and exactly one for each state.
+/// The save of a state of a program, with the program's source, and with the name of the solver in
+/// place of its number (GAMS User's Guide, "Save and Restart"): a text that a person can read, and
+/// exactly one for each state.
 ///
-/// `AllocError` comes where memory was wanting. A save of over 67,108,864 bytes is made, and `restore` does not take it.
+/// `AllocError` means that memory ran out. A save of over 67,108,864 bytes is made, and `restore`
+/// does not accept it.
 pub fn save(
     alloc: Global,
     source: &[u8],
@@ -45,18 +47,20 @@ pub fn save(
     text_of(alloc, source, &program.names, store, solver.as_bytes())
 }
 
-/// What a save has: the source, its program, and the state after it, with the solver's place among solvers of these names
-/// (GAMS User's Guide, "Save and Restart").
+/// The contents of a save: the source, its program, and the state after it, with the solver's place
+/// among solvers of these names (GAMS User's Guide, "Save and Restart").
 ///
-/// `SaveTooLong` comes exactly where there are over 67,108,864 bytes. Else `SaveShape` comes only where the bytes are no
-/// save: a save has the one text of a state that the program of its source can have, and that program has no error but
-/// perhaps in its choice of a solver. Else `SaveSolver` comes only where the save says that there was no solver and the
-/// list is not empty, or where the list lacks its solver. `Memory` comes where memory was wanting. Else the bytes are the
-/// save of what is restored.
+/// `SaveTooLong` comes exactly where there are over 67,108,864 bytes. Otherwise `SaveShape` comes
+/// only where the bytes are no save: a save has the one text of a state that the program of its
+/// source can have, and that program has no error, except perhaps in its choice of a solver.
+/// Otherwise `SaveSolver` comes only where the save says that there was no solver and the list is
+/// not empty, or where the list lacks its solver. `Memory` means that memory ran out. Otherwise the
+/// bytes are the save of what is restored.
 ///
-/// Whatever state of whatever program of whatever source the bytes are the save of: it is restored, over that source and with
-/// that program as it is seen, unless memory was wanting, the bytes are too long or no solver has the name. So no text is the save of two
-/// states that differ in more than the place of the solver, what `save` wrote is restored as it was but for that place, and `SaveShape`
+/// Take any state of any program of any source whose save the bytes are. It is restored, with that
+/// source and with the view of that program, unless memory runs out, the bytes are too long or no
+/// solver has the name. So no text is the save of two states that differ in more than the place of
+/// the solver; what `save` wrote is restored as it was, except for that place; and `SaveShape`
 /// comes only where no state has these bytes. There are fewer than 2^32 solvers.
 pub fn restore(alloc: Global, bytes: &[u8], solvers: &[String]) -> Result<Saved, SaveFaultOrMemory>
     requires { length solvers.now < 2 ^ 32 }
@@ -79,7 +83,7 @@ pub fn restore(alloc: Global, bytes: &[u8], solvers: &[String]) -> Result<Saved,
     })
 }
 
-/// The program of a source, where it has no error with solvers of the names that it chooses.
+/// The program of a source, if it has no error with solvers of the names that it chooses.
 fn read_program(alloc: Global, source: &[u8]) -> Result<Program<Frac>, SaveFaultOrMemory>
     ensures { MatchResult result (λ program. IsFree source.now program) (λ fault. IsFaultyBy source.now fault) }
 {
@@ -100,7 +104,8 @@ fn is_without_errors(alloc: Global, program: &Program<Frac>) -> Result<bool, All
     Ok(errors.is_empty())
 }
 
-/// The saved state of a program of which a text is, with the first solver in its settings, and the name of its solver.
+/// The saved state of a program that has this text, with the first solver in its settings, and the
+/// name of its solver.
 fn saved_state<'t>(
     alloc: Global,
     program: &Program<Frac>,
@@ -146,7 +151,7 @@ fn is_saved(
     )
 }
 
-/// Whether a state has at each of so many names what a saved one has there.
+/// Whether a state has at each of its first `names` names what a saved one may have there.
 fn are_saved(
     alloc: Global,
     store: &Store<Frac>,
@@ -166,7 +171,7 @@ fn are_saved(
     Ok(true)
 }
 
-/// Whether a state has at a name what a saved one has there.
+/// Whether a state has at a name what a saved one may have there.
 fn is_saved_at(
     alloc: Global,
     store: &Store<Frac>,
@@ -198,7 +203,8 @@ fn keeps_members(store: &Store<Frac>, first: &Store<Frac>, assigned: &Marks, nam
     has_same_members(store, first, name)
 }
 
-/// The place of a saved solver among solvers of these names, where bytes are the text of a state over a source.
+/// The place of a saved solver among solvers of these names, if bytes are the text of a state with
+/// a source.
 fn saved_place(
     alloc: Global,
     bytes: &[u8],
@@ -222,7 +228,7 @@ fn saved_place(
     }
 }
 
-/// Puts the solver of a place into the settings of a state.
+/// Puts the solver at a place into the settings of a state.
 fn put_solver(store: &mut Store<Frac>, place: u32)
     ensures { store.new ≡ with_solver store.old place }
 {

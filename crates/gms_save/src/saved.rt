@@ -5,7 +5,7 @@ use gq_frac::Frac;
 
 /// What is restored from a save: the source that was run, its program, and the state after it.
 ///
-/// The settings of the state name the solver by its place among those of the run that goes on.
+/// The settings of the state name the solver by its place among those of the resumed run.
 pub struct Saved {
     /// The source, byte for byte.
     pub source: Vec<u8>,
@@ -15,7 +15,7 @@ pub struct Saved {
     pub store: Store<Frac>,
 }
 
-// Written out, so that it is proved here alone, and not wherever what was restored is let go.
+// Written out, so that it is proved once, and not wherever a restored state is dropped.
 impl Drop for Saved {
     fn drop(self) {
         let Self {

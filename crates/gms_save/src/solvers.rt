@@ -34,7 +34,7 @@ fn push_chosen(
     Ok(())
 }
 
-/// Appends the names of solvers that a statement chooses, or those that its body does.
+/// Appends the names of solvers that a statement chooses; of a loop those that its body chooses.
 #[cycle(chosen)]
 fn push_chosen_by(
     alloc: Global,
@@ -64,7 +64,7 @@ fn push_options(
     Ok(())
 }
 
-/// Appends the name that an option gives to `lp`, where it does.
+/// Appends the name that an option gives to `lp`, if it does.
 fn push_option(
     alloc: Global,
     word: &Word,
@@ -91,8 +91,8 @@ fn is_for_solver(word: &Word) -> bool
     word.text.as_slice().eq_ignore_ascii_case(b"lp".as_slice())
 }
 
-/// The place of a saved solver among solvers of these names: the first of its name, letter case ignored. The word `none` says
-/// that there was no solver, and goes with no others.
+/// The place of a saved solver among solvers of these names: the first of its name, letter case
+/// ignored. The word `none` says that there was no solver; it is accepted only where there is none.
 pub(crate) fn place_of_solver(solvers: &[String], solver: &[u8]) -> Option<u32>
     requires { length solvers.now < 2 ^ 32 }
     ensures { result ≡ place_of_solver (map string_bytes solvers.now) solver.now }
@@ -103,7 +103,7 @@ pub(crate) fn place_of_solver(solvers: &[String], solver: &[u8]) -> Option<u32>
     place_of_name(solvers, solver)
 }
 
-/// The first place, where there are no solvers.
+/// The first place, if there are no solvers.
 fn place_of_none(solvers: &[String]) -> Option<u32>
     ensures { result ≡ (if length solvers.now == 0 then Some 0 else None) }
 {

@@ -4,7 +4,7 @@ use Rattle.std.proofs.lemmas.List.{take_all}
 use Rattle.std.proofs.lemmas.Bool.{eqb-true}
 use Rattle.gms_saved.specs.Reading.{HasNone, place_of}
 
--- ---- fronts
+-- ---- prefixes
 
 pub take_front : (xs ys : List ℕ) → take (length xs) (xs ++ ys) ≡ xs
 take_front [] ys = refl
@@ -37,7 +37,7 @@ place-found byte (b ∷ front) rest none =
     let found = place-found byte front rest none.1 in
     ap (λ t. cond (not t) (1 + place_of byte (front ++ byte ∷ rest)) 0) (apart b byte none.0) ∙ omega (arith, found)
 
--- what stands before the place of a byte, and behind it
+-- the text before the first of these bytes, and the text after it
 pub record IsCut (byte : ℕ) (text front rest : List ℕ) : Type 0 where
   pub within : place_of byte text < length text
   pub front_is : take (place_of byte text) text ≡ front

@@ -1,4 +1,5 @@
--- What is put into a state changes nothing of what it declares; and nothing is given in the state that the declarations of a program make.
+-- Writing data into a state changes nothing of what it declares; and the state that the
+-- declarations of a program make has no data.
 use Rattle.std.proofs.Common.{◌≡◌, ℕ, zero, suc, ◌==◌, Bool, true, false, List, [], ◌∷◌, length, set, map, replicate, slice_get, refl, ap, ◌∙◌, Option, unwrap_or}
 use Rattle.std.specs.Prelude.{if◌then◌else◌}
 use Rattle.std.specs.List.{AllByRecursion}
@@ -97,7 +98,7 @@ declared-statuses state name m k =
 
 -- ---- declarations give nothing
 
--- nothing is given of a symbol
+-- a symbol without data
 abbrev pub IsBlank : Symbol → Type 0
 IsBlank symbol = emptied symbol.content ≡ symbol.content
 
@@ -203,7 +204,7 @@ module _ {F : Type 0} where
 
 -- ---- declarations keep how many names there are
 
--- a state has so many names
+-- a state has `n` names
 abbrev pub Counts : ℕ → State → Type 0
 Counts n state = length state.symbols ≡ n
 

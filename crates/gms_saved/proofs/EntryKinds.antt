@@ -1,4 +1,4 @@
--- What stands in the line of an entry, and what is put for it, by the kind of the name.
+-- The line of an entry, and the entry that it means, by the kind of the name.
 use Rattle.std.proofs.Common.{◌≡◌, ◌≢◌, ℕ, List, ◌++◌, true, refl, codes}
 use Rattle.gms_store.specs.declared.kind.SymbolKind.{SymbolKind}
 use Rattle.gms_store.specs.declared.kind.SymbolKind.TheVariants as kind
@@ -7,7 +7,7 @@ use Rattle.gms_saved.specs.SavedState.{line_of, tuple_text, value_text, attribut
 use Rattle.gms_saved.specs.Reading.{HasEntries, after_given}
 use Rattle.gms_saved.proofs.Lines.{line_front}
 
--- a line behind the labels of its tuple
+-- a line after the labels of its tuple
 pub behind_tuple : (content : Content) (t rest : List ℕ) → entry_line content t ++ rest ≡ tuple_text t ++ (line_of (given_text content t) ++ rest)
 behind_tuple content t rest = line_front (tuple_text t) (given_text content t) rest (line_of (given_text content t) ++ rest) refl
 

@@ -1,4 +1,4 @@
--- That a name of which nothing is given has a content again, once what the content has at its tuples was put there one after another.
+-- A name without data has a content again, after the content's entries were written in sequence.
 use Rattle.std.proofs.Common.{◌≡◌, ℕ, zero, suc, ◌<◌, Bool, true, false, not, ◌||◌, List, [], ◌∷◌, length, set, slice_get, refl, sym, ap, ◌∙◌, Option, Some, None, unwrap_or, arith, eq-eqb}
 use Rattle.std.specs.List.{fold, AllByRecursion}
 use Rattle.std.specs.FinMap as finite
@@ -20,13 +20,13 @@ use Rattle.gms_saved.specs.Reading.{HasEntries, after_given, filled}
 
 -- ---- a content
 
--- a content after what another has at a tuple was put into it
+-- a content after the entry of another at a tuple was written into it
 abbrev pub with_given : Content → Content → List ℕ → Content
 with_given (set_of members) old t = with_membership old t true
 with_given (parameter_of entries) old t = with_value old t (value_in (parameter_of entries) t)
 with_given content old t = with_attributes old t (attributes_in content t)
 
--- the same at tuples one after another
+-- the same at tuples in sequence
 abbrev pub with_all : Content → Content → List (List ℕ) → Content
 with_all content old tuples = fold (with_given content) old tuples
 
@@ -96,7 +96,7 @@ set_again members ordered =
 
 -- ---- all
 
--- a content is made again by what it has at its tuples
+-- a content is made again from its entries
 pub again : (sort : SymbolKind) (content : Content) → HasEntries sort content → IsOrdered (given_in content) → AllDiffer content (given_in content) → with_all content (emptied content) (given_in content) ≡ content
 again sort undeclared h ordered all = absurd (none_undeclared sort h)
   where
@@ -168,7 +168,7 @@ with_given-own content old t own n = by old (own n)
     by (equation_of entries) e = refl
     by (model_with m s) e = refl
 
--- what is put at a name that stands for itself
+-- what is written at a name that stands for itself
 given_at : (state : State) (name : ℕ) (content : Content) (t : List ℕ) → after_given state name content t ≡ with_symbol state name (if_fits (symbol_of state name) t (with_given content (symbol_of state name).content t))
 given_at state name undeclared t = refl
 given_at state name (alias_of base) t = refl
@@ -191,7 +191,7 @@ read-set [] i v within = absurd (omega arith)
 read-set (x ∷ xs) zero v within = refl
 read-set (x ∷ xs) (suc i) v within = read-set xs i v (omega arith)
 
--- a list with something put somewhere is as long
+-- a write keeps the length of a list
 pub set-length : (xs : List Symbol) (i : ℕ) (v : Symbol) → length (set xs i v) ≡ length xs
 set-length [] i v = refl
 set-length (x ∷ xs) zero v = refl
@@ -217,13 +217,13 @@ module _ (state : State) (name : ℕ) (domain : List (Option ℕ)) where
       ∙ ap (λ (b : ℕ). record { symbols = set (having old).symbols b (record { domain = domain; content = with_given content old t }); settings = state.settings }) base
       ∙ ap (λ (xs : List Symbol). record { symbols = xs; settings = state.settings }) (set-set state.symbols name (record { domain = domain; content = old }) (record { domain = domain; content = with_given content old t }))
 
-  -- entries one after another
+  -- entries in sequence
   all_more : (content old : Content) (tuples : List (List ℕ)) → name < length state.symbols → IsOwn old → AllByRecursion (λ t. length t ≡ length domain) tuples → filled (having old) name content tuples ≡ having (with_all content old tuples)
   all_more content old [] within own fits = refl
   all_more content old (t ∷ tuples) within own fits =
       ap (λ (s : State). filled s name content tuples) (more content old t within own fits.0) ∙ all_more content (with_given content old t) tuples within (with_given-own content old t own) fits.1
 
--- what stands somewhere, put there again
+-- writing the symbol that is at a place changes nothing
 pub set-same : (xs : List Symbol) (i : ℕ) → i < length xs → set xs i (unwrap_or (slice_get xs i) no_symbol) ≡ xs
 set-same [] i within = absurd (omega arith)
 set-same (x ∷ xs) zero within = refl
@@ -246,7 +246,7 @@ emptied-own sort (alias_of base) h n = absurd (none_alias sort h)
     none_alias kind.Model h = h
     none_alias kind.Undeclared h = h
 
--- a name of which nothing is given has a content, once all its entries were put there
+-- a name without data has a content, once all its entries were written there
 pub filled_again : (state : State) (name : ℕ) (sort : SymbolKind) (content : Content) → name < length state.symbols → HasEntries sort content → (symbol_at state name).content ≡ emptied content → IsOrdered (given_in content) → AllDiffer content (given_in content) → AllByRecursion (λ t. length t ≡ length (symbol_at state name).domain) (given_in content) → filled state name content (given_in content) ≡ put_at state name (with_content (symbol_at state name) content)
 filled_again state name sort content within h declared ordered differ fits =
     let domain = (symbol_at state name).domain in

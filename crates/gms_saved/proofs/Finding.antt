@@ -7,7 +7,7 @@ use Rattle.gms_saved.specs.declared.fault.ReadFault.{ReadFault}
 use Rattle.gms_saved.specs.declared.fault.ReadFault.TheVariants.{Memory, Shape}
 use Rattle.gms_saved.specs.Reading.{Finds}
 
--- a fault that is handed on
+-- a fault that is returned as it is
 pub handed_on : {A B : Type 0} (r : Result B ReadFault) (e : ReadFault) (P : A → Type 0) (Q : B → Type 0) → IsErrAnd r (λ f. f ≡ e) → Finds (Err e) P → Finds r Q
 handed_on {A} {B} r e P Q h s = let p = err_from_is_err_and r h in rw (p.1, p.2) (by e s)
   where

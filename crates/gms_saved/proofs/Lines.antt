@@ -1,4 +1,4 @@
--- Lines, and what stands behind them.
+-- Lines, and the text after them.
 use Rattle.std.proofs.Common.{◌≡◌, ℕ, List, [], ◌∷◌, ◌++◌, ap, codes, append_assoc}
 use Rattle.gms_saved.specs.SavedState.{line_of}
 
@@ -6,16 +6,16 @@ use Rattle.gms_saved.specs.SavedState.{line_of}
 pub line_end : (a rest : List ℕ) → line_of a ++ rest ≡ a ++ 10 ∷ rest
 line_end a rest = append_assoc a (10 ∷ []) rest
 
--- a line from its front on
+-- a line from a prefix on
 pub line_front : (a y rest z : List ℕ) → line_of y ++ rest ≡ z → line_of (a ++ y) ++ rest ≡ a ++ z
 line_front [] y rest z e = e
 line_front (x ∷ a) y rest z e = ap (λ l. x ∷ l) (line_front a y rest z e)
 
--- an item of a line and the blank behind it
+-- an item of a line and the blank after it
 pub line_item : (a y rest z : List ℕ) → line_of y ++ rest ≡ z → line_of (a ++ 32 ∷ y) ++ rest ≡ a ++ 32 ∷ z
 line_item a y rest z e = line_front a (32 ∷ y) rest (32 ∷ z) (ap (λ l. 32 ∷ l) e)
 
--- the last item of a line, where another is in front of it
+-- the last item of a line, after another
 pub line_last : (a b rest : List ℕ) → line_of (a ++ 32 ∷ b) ++ rest ≡ a ++ 32 ∷ (b ++ 10 ∷ rest)
 line_last a b rest = line_item a b rest (b ++ 10 ∷ rest) (line_end b rest)
 

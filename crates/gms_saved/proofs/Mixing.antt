@@ -1,4 +1,4 @@
--- Parts of names that are read one after another.
+-- Parts of names that are read in sequence.
 use Rattle.std.proofs.Common.{◌≡◌, ℕ, zero, suc, ◌+◌, ◌<◌, ◌≤◌, List, [], ◌∷◌, ◌++◌, length, take, drop, set, slice_get, refl, sym, ap, ap₂, ◌∙◌, subst, Option, Some, unwrap_or, arith, append_assoc, add-one}
 use Rattle.gms_store.specs.State.{Symbol, State, no_symbol, symbol_at, with_content}
 use Rattle.gms_store.specs.Declarations.{put_at}
@@ -9,7 +9,7 @@ use Rattle.gms_saved.specs.Reading.{AreReadable, IsReadablePart}
 abbrev pub mixed : List Symbol → List Symbol → ℕ → List Symbol
 mixed news olds k = take k news ++ drop k olds
 
--- the parts of so many names were read
+-- the parts of the first `k` names were read
 pub record HasParts (old state : State) (names : List (List ℕ)) (rest now : List ℕ) (made : State) (k : ℕ) : Type 0 where
   pub now_is : now ≡ parts_from state k (drop k names) ++ rest
   pub made_is : made ≡ record { symbols = mixed state.symbols old.symbols k; settings = old.settings }
@@ -66,7 +66,7 @@ names_more [] k name there = absurd cc
 names_more (n ∷ names) zero name there = let same : n ≡ name = cc in ap (λ (x : List ℕ). x ∷ names) same
 names_more (n ∷ names) (suc k) name there = names_more names k name there
 
--- the part in front of what is left
+-- the next part of the remaining text
 pub next_part : (old state : State) (names : List (List ℕ)) (name rest now : List ℕ) (made : State) (k : ℕ) → slice_get names k ≡ Some name → HasParts old state names rest now made k → now ≡ part name (symbol_at state k).content ++ (parts_from state (k + 1) (drop (k + 1) names) ++ rest)
 next_part old state names name rest now made k there so_far =
     so_far.now_is ∙ ap (λ (xs : List (List ℕ)). parts_from state k xs ++ rest) (names_more names k name there)
@@ -116,7 +116,7 @@ mixed-length [] (o ∷ olds) (suc k) same = absurd cc
 mixed-length (n ∷ news) [] (suc k) same = absurd cc
 mixed-length (n ∷ news) (o ∷ olds) (suc k) same = ap suc (mixed-length news olds k (omega (arith, same)))
 
--- its name is one of those that are there
+-- its name is one of the state
 pub within_now : (old state : State) (names : List (List ℕ)) (rest now : List ℕ) (made : State) (k : ℕ) → length old.symbols ≡ length state.symbols → k < length old.symbols → HasParts old state names rest now made k → k < length made.symbols
 within_now old state names rest now made k same within so_far =
     let size : length made.symbols ≡ length old.symbols = ap (λ (s : State). length s.symbols) so_far.made_is ∙ mixed-length state.symbols old.symbols k same in

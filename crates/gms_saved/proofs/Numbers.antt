@@ -11,7 +11,7 @@ use Rattle.gms_saved.specs.SavedState.{value_text, bound_text}
 use Rattle.gms_saved.specs.Reading.{HasNone, IsWordForNone}
 use Rattle.gms_saved.proofs.Cuts.{none-append}
 
--- a byte that is no digit stands in none
+-- digits do not contain a byte that is no digit
 none-digits : (byte : ℕ) (xs : List ℕ) → byte < 48 → AreDigits xs → HasNone byte xs
 none-digits byte [] low h = tt
 none-digits byte (x ∷ xs) low h = (λ e. absurd (let range = h.0 in omega (arith, range, e, low)), none-digits byte xs low h.2)
@@ -83,7 +83,7 @@ whole_begins (negsuc n) ys small = let m = numeral_is (n + 1) (omega (arith, sma
 exact_begins : (limit : ℕ) (x : Number) → limit < 2 ^ 127 → fits limit x ≡ true → BeginsNumber (exact_text x)
 exact_begins limit x l f = whole_begins x.numerator (if x.denominator == 1 then [] else codes "/" ++ decimal x.denominator) (is_small limit x l f).numerator
 
--- so it is none of the words
+-- so it is none of the words for other values
 no_plus : (text : List ℕ) → BeginsNumber text → text ≡ codes "+INF" → ⊥
 no_plus text h e = by (subst BeginsNumber e h)
   where

@@ -12,7 +12,7 @@ pieces_more piece things k d within =
     ∙ flat_map-append piece (take k things) (get_or things k d ∷ [])
     ∙ ap (λ l. flat_map piece (take k things) ++ l) (append-nil (piece (get_or things k d)))
 
--- a piece behind others
+-- a piece after others
 pub piece_behind : (old a b i j : List ℕ) → i ≡ old ++ a → j ≡ i ++ b → j ≡ old ++ (a ++ b)
 piece_behind old a b i j e f = f ∙ ap (λ x. x ++ b) e ∙ append_assoc old a b
 
@@ -30,7 +30,7 @@ more_parts state n (first ∷ names) (suc k) name there =
 pub parts_more : (state : State) (names : List (List ℕ)) (k : ℕ) (name : List ℕ) → slice_get names k ≡ Some name → parts_from state 0 (take (k + 1) names) ≡ parts_from state 0 (take k names) ++ part name (symbol_at state k).content
 parts_more state names k name there = ap (λ n. parts_from state 0 (take n names)) (add-one k) ∙ more_parts state 0 names k name there ∙ ap (λ (m : ℕ). parts_from state 0 (take k names) ++ part name (symbol_at state m).content) (omega arith)
 
--- a piece behind a text that is known
+-- a piece after a known text
 pub further : (i j a x : List ℕ) → i ≡ x → j ≡ i ++ a → j ≡ x ++ a
 further i j a x e f = f ∙ ap (λ y. y ++ a) e
 

@@ -22,7 +22,7 @@ both true true e = (refl, refl)
 both true false e = absurd cc
 both false b e = absurd cc
 
--- a tuple that stands in a domain has a label for each position, each among so many
+-- a tuple in a domain has a label for each position, each below `labels`
 record Standing (labels arity : ℕ) (t : List ℕ) : Type 0 where
   pub count : length t ≡ arity
   pub small : AllByRecursion (λ label. label < labels) t

@@ -1,4 +1,4 @@
--- What names of the kinds are: where their parts begin, and what is put at them.
+-- The kinds of names: where their parts begin, and what is written at them.
 use Rattle.std.proofs.Common.{◌≡◌, ◌≢◌, ℕ, ◌<◌, ◌≤◌, Bool, true, false, List, [], ◌∷◌, ◌++◌, length, flat_map, refl, sym, ap, ◌∙◌, subst, arith, codes, decimal, append_assoc, length-append}
 use Rattle.std.specs.List.{AllByRecursion}
 use Rattle.gms_store.specs.declared.kind.SymbolKind.{SymbolKind}
@@ -64,7 +64,7 @@ own_base (model_with m s) n e = refl
 pub own_symbol : (state : State) (n : ℕ) → is_alias (symbol_at state n).content ≡ false → symbol_of state n ≡ symbol_at state n
 own_symbol state n e = ap (symbol_at state) (own_base (symbol_at state n).content n e)
 
--- nothing is given of an undeclared name
+-- an undeclared name has no data
 pub emptied_undeclared : (content : Content) → kind_in content ≡ kind.Undeclared → emptied content ≡ content
 emptied_undeclared undeclared e = refl
 emptied_undeclared (alias_of base) e = refl

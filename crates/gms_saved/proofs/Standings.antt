@@ -1,4 +1,4 @@
--- Whether tuples stand in domains, label by label.
+-- Whether tuples are in domains, label by label.
 use Rattle.std.proofs.Common.{◌≡◌, ◌∙◌, ℕ, zero, suc, ◌+◌, ◌<◌, Bool, true, false, ◌&&◌, ◌||◌, List, [], ◌∷◌, length, drop, get_or, slice_get, refl, sym, ap, ap₂, Option, Some, arith}
 use Rattle.std.specs.Prelude.{nat_lt}
 use Rattle.std.proofs.lemmas.List.Elements.{All-nil}
@@ -13,7 +13,7 @@ use Rattle.gms_saved.specs.Validity.{IsGivenWell, stands_at, stands_in}
 use Rattle.gms_saved.proofs.Readable.{both}
 
 module _ (labels : ℕ) (state : State) where
-  -- a tuple that stands in a domain has a label for each position
+  -- a tuple in a domain has a label for each position
   stands-length : (domain : List (Option ℕ)) (tuple : List ℕ) → stands_in labels state domain tuple ≡ true → length domain ≡ length tuple
   stands-length [] [] e = refl
   stands-length [] (label ∷ tuple) e = absurd cc
@@ -48,7 +48,7 @@ member_at (y ∷ ys) (suc n) x t at same = by (same_tuple y t) (member_at ys n x
     by true there = refl
     by false there = there
 
--- nothing is given of an alias
+-- an alias has no data
 pub alias_well : (limit labels : ℕ) (state : State) (symbol : Symbol) → is_alias symbol.content ≡ true → IsGivenWell limit labels state symbol
 alias_well limit labels state symbol a = by symbol.domain symbol.content a
   where

@@ -1,4 +1,4 @@
--- Tuples and entries that are read one after another.
+-- Tuples and entries that are read in sequence.
 use Rattle.std.proofs.Common.{◌≡◌, ℕ, zero, suc, ◌+◌, ◌<◌, ◌≤◌, List, [], ◌∷◌, ◌++◌, length, take, drop, get_or, flat_map, sym, ap, ◌∙◌, arith, codes, decimal, append_assoc}
 use Rattle.std.specs.List.{AllByRecursion}
 use Rattle.std.proofs.lemmas.List.{take_more, take_all, drop_more, drop_all}
@@ -9,12 +9,12 @@ all_at P [] i d within all = absurd (omega arith)
 all_at P (x ∷ xs) zero d within all = all.0
 all_at P (x ∷ xs) (suc i) d within all = all_at P xs i d (omega arith) all.1
 
--- so many of some things were read from a text of their lines, with a rest behind them
+-- the first `k` of some things were read from a text of their lines, followed by a rest
 pub record HasRead {X : Type 0} (line : X → List ℕ) (all : List X) (rest now : List ℕ) (made : List X) (k : ℕ) : Type 0 where
   pub made_is : made ≡ take k all
   pub now_is : now ≡ flat_map line (drop k all) ++ rest
 
--- what stands in front of what is left to read
+-- the next line of the text that remains to be read
 pub next_line : {X : Type 0} (line : X → List ℕ) (all : List X) (rest now : List ℕ) (made : List X) (k : ℕ) (d : X) → k < length all → HasRead line all rest now made k → now ≡ line (get_or all k d) ++ (flat_map line (drop (k + 1) all) ++ rest)
 next_line line all rest now made k d within so_far =
     so_far.now_is ∙ ap (λ xs. flat_map line xs ++ rest) (drop_more all k d within) ∙ append_assoc (line (get_or all k d)) (flat_map line (drop (k + 1) all)) rest
@@ -29,7 +29,7 @@ pub all_read : {X : Type 0} (line : X → List ℕ) (all : List X) (rest now : L
 all_read line all rest now made k past so_far =
     (so_far.made_is ∙ take_all k all past, so_far.now_is ∙ ap (λ xs. flat_map line xs ++ rest) (drop_all k all past))
 
--- a label, and the blank behind it
+-- a label, and the blank after it
 abbrev pub label_text : ℕ → List ℕ
 label_text label = decimal label ++ codes " "
 

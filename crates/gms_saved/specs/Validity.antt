@@ -1,5 +1,6 @@
--- Which states are saved ones of what a program declares (GAMS User's Guide, "Save and Restart", "Set Definition", "Variables", "The Option Statement").
--- That a saved state is looked at so is this project's own rule.
+-- Which states are saved ones of what a program declares (GAMS User's Guide, "Save and Restart",
+-- "Set Definition", "Variables", "The Option Statement"). These checks of a saved state are this
+-- project's own rule.
 use Rattle.std.specs.Prelude.{◌≡◌, ℕ, ◌≤◌, Bool, true, false, ◌&&◌, ◌||◌, ◌==◌, nat_lt, nat_le, List, [], ◌∷◌, length, map, Option, Some, None, All}
 use Rattle.std.specs.List.{list_all, list_any}
 use Rattle.std.specs.Char.{is_ascii_alphabetic, is_ascii_alphanumeric}
@@ -12,7 +13,7 @@ use Rattle.gms_store.specs.State.{Content, set_of, parameter_of, variable_of, eq
 
 -- ---- what is declared
 
--- a content of which nothing is given
+-- a content without data
 abbrev pub emptied : Content → Content
 emptied (set_of members) = set_of []
 emptied (parameter_of entries) = parameter_of finite.empty
@@ -21,18 +22,20 @@ emptied (equation_of entries) = equation_of finite.empty
 emptied (model_with model solver) = model_with 0 0
 emptied content = content
 
--- the symbols of a state with nothing given: what each name is declared as, the sets of its positions, the types of variables and the bases of aliases
+-- the symbols of a state without data: what each name is declared as, the sets of its positions,
+-- the types of variables and the bases of aliases
 abbrev pub declared_in : State → List Symbol
 declared_in state = map (λ (symbol : Symbol). with_content symbol (emptied symbol.content)) state.symbols
 
 -- ---- tuples
 
--- whether a label may stand at a position: it is a member of the position's set, where there is one
+-- whether a label fits a position: it is a member of the position's set, if it has one
 abbrev pub stands_at : State → Option ℕ → ℕ → Bool
 stands_at state None label = true
 stands_at state (Some set) label = has (members_of state set) (label ∷ [])
 
--- whether the labels of a tuple are among so many, and each may stand at its position; positions and labels are as many
+-- whether the labels of a tuple are below `labels`, and each fits its position; positions and
+-- labels are equally many
 abbrev pub stands_in : ℕ → State → List (Option ℕ) → List ℕ → Bool
 stands_in labels state [] [] = true
 stands_in labels state (set ∷ domain) (label ∷ tuple) = nat_lt label labels && (stands_at state set label && stands_in labels state domain tuple)
@@ -49,18 +52,20 @@ abbrev pub are_in_range : Settings → Bool
 are_in_range settings =
     nat_le settings.limrow 2147483647 && (nat_le settings.limcol 2147483647 && (nat_le settings.iterlim 2147483647 && nat_le settings.decimals 8))
 
--- whether a byte may stand in the name of a solver: a letter, a digit or `_`
+-- whether a byte may occur in the name of a solver: a letter, a digit or `_`
 abbrev pub is_solver_byte : ℕ → Bool
 is_solver_byte byte = is_ascii_alphanumeric byte || byte == 95
 
--- whether a text is the name of a solver, or `none`: a letter, and at most 62 letters, digits and `_` behind it
+-- whether a text is the name of a solver, or `none`: a letter, and at most 62 letters, digits and
+-- `_` after it
 abbrev pub is_solver_name : List ℕ → Bool
 is_solver_name [] = false
 is_solver_name (first ∷ rest) = is_ascii_alphabetic first && (list_all is_solver_byte rest && nat_le (length rest) 62)
 
 -- ---- names
 
--- What is given of a name is in order, stands in its domain, fits, and is what differs from an absent entry; a model has statuses.
+-- The tuples with data of a name are in order and in its domain; their numbers fit; they are those
+-- whose entry differs from an absent one; and a model has statuses.
 pub record IsGivenWell (limit labels : ℕ) (state : State) (symbol : Symbol) : Type 0 where
   pub ordered : IsOrdered (given_in symbol.content)
   -- a tuple has at most 10 labels
@@ -70,9 +75,10 @@ pub record IsGivenWell (limit labels : ℕ) (state : State) (symbol : Symbol) : 
   pub differs : (t : List ℕ) → has (given_in symbol.content) t ≡ differs_in symbol.content t
   pub statuses : are_statuses (statuses_in symbol.content).0 (statuses_in symbol.content).1 ≡ true
 
--- A state is a saved one of a program that declares so much, has so many labels, assigns these sets, and whose data give the other sets their
--- members: it declares the same, of each name only such things are given, the members of a set that is not assigned are those of the data, and
--- the settings and the name of the solver are such as there can be.
+-- A state is a saved one of a program with these declarations, `labels` labels and these assigned
+-- sets, whose data give the other sets their members. It declares the same, each name has only
+-- valid data, the members of a set that is not assigned are those of the data, and the settings and
+-- the name of the solver are possible ones.
 pub record IsSavedOf (limit labels : ℕ) (declared loaded : State) (assigned : ℕ → Bool) (state : State) (solver : List ℕ) : Type 0 where
   pub declares : declared_in state ≡ declared_in declared
   pub given : (name : ℕ) → IsGivenWell limit labels state (symbol_at state name)

@@ -1,4 +1,5 @@
-//! Whether bytes are the text of a saved state: it is written beside them piece by piece, and never stands whole in memory.
+//! Whether bytes are the text of a saved state: it is written piece by piece and compared with
+//! them, and is never whole in memory.
 ghost use Rattle.std.specs.Prelude.{◌≡◌, ◌↔◌, ◌++◌, ℕ, List, IsTrue, IfOk, OnOk};
 ghost use Rattle.gms_store.specs.State.{symbol_at};
 ghost use Rattle.gms_saved.specs.SavedState.{entry_line, entry_lines, head_line, part, parts_from, saved_text, settings_line, source_text};
@@ -15,13 +16,13 @@ use std::alloc::{AllocError, Global};
 /// A text of which the first pieces have been compared.
 #[derive(Drop)]
 struct Comparison<'t> {
-    /// What is left of it behind them, where it begins with them.
+    /// The rest of it after them, if it begins with them.
     left: Option<&'t [u8]>,
     /// The piece that is compared.
     piece: Vec<u8>,
 }
 
-/// What is left of a text behind a piece, where it begins with it.
+/// The rest of a text after a piece, if it begins with the piece.
 fn past<'t>(left: Option<&'t [u8]>, piece: &[u8]) -> Option<&'t [u8]>
     ensures { IsPast piece.now left.entry result }
 {
@@ -32,7 +33,7 @@ fn past<'t>(left: Option<&'t [u8]>, piece: &[u8]) -> Option<&'t [u8]>
 }
 
 impl<'t> Comparison<'t> {
-    /// Goes past the line of what is given of a name at a tuple, which is looked for at a place first.
+    /// Goes past the line of an entry of a name at a tuple, which is searched for at a place first.
     fn entry<F: ExactField>(
         &mut self,
         store: &Store<F>,
@@ -50,7 +51,7 @@ impl<'t> Comparison<'t> {
         Ok(())
     }
 
-    /// Goes past the lines of what is given of a name.
+    /// Goes past the lines of the entries of a name.
     fn entries<F: ExactField>(
         &mut self,
         store: &Store<F>,
@@ -67,7 +68,7 @@ impl<'t> Comparison<'t> {
         Ok(())
     }
 
-    /// Goes past the line with which the part of a name begins that has entries.
+    /// Goes past the first line of the part of a name that has entries.
     fn head<F: ExactField>(
         &mut self,
         store: &Store<F>,
@@ -89,7 +90,7 @@ impl<'t> Comparison<'t> {
         Ok(())
     }
 
-    /// Goes past the part of a name, written whole.
+    /// Goes past the part of a name, which is written whole.
     fn line<F: ExactField>(
         &mut self,
         store: &Store<F>,
@@ -136,7 +137,7 @@ impl<'t> Comparison<'t> {
         Ok(())
     }
 
-    /// Goes past the source, behind how long it is.
+    /// Goes past the source, after its length.
     fn source(&mut self, source: &[u8]) -> Result<(), AllocError>
         ensures { OnOk result (IsPast (source_text source.now) self.old.left self.new.left) }
     {
@@ -159,7 +160,8 @@ impl<'t> Comparison<'t> {
     }
 }
 
-/// Whether bytes are the text of a state over a source with these names, where its solver has this name.
+/// Whether bytes are the text of a state with a source and these names, where its solver has this
+/// name.
 pub fn is_text_of<F: ExactField>(
     alloc: Global,
     bytes: &[u8],

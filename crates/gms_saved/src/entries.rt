@@ -1,4 +1,4 @@
-//! Reading what is given of a name into a state.
+//! Reading the entries of a name into a state.
 ghost use Rattle.std.specs.Prelude.{◌≡◌, ◌++◌, ℕ, List, length, flat_map, OnOk};
 ghost use Rattle.std.specs.List.{AllByRecursion};
 ghost use Rattle.gms_store.specs.State.{Content};
@@ -24,7 +24,7 @@ pub(crate) struct Named {
     pub arity: usize,
 }
 
-/// Puts the entry with whose line a text begins into a state, and gives what stands behind it.
+/// Writes the entry of the first line of a text into a state, and answers the text after it.
 fn read_entry<'t, F: ExactField>(
     alloc: Global,
     store: &mut Store<F>,
@@ -56,7 +56,8 @@ fn read_entry<'t, F: ExactField>(
     }
 }
 
-/// Puts so many entries, with whose lines a text begins, into a state, and gives what stands behind them.
+/// Writes the entries of the first `count` lines of a text into a state, and answers the text after
+/// them.
 pub(crate) fn read_entries<'t, F: ExactField>(
     alloc: Global,
     store: &mut Store<F>,

@@ -4,7 +4,7 @@ ghost use Rattle.gms_saved.specs.Reading.{kind_word};
 
 use gms_store::SymbolKind;
 
-/// The word before a name of this kind, with a blank behind it.
+/// The word before a name of this kind, with a blank after it.
 pub(crate) fn kind_word(kind: SymbolKind) -> &'static [u8]
     ensures { result.now ≡ kind_word kind }
 {

@@ -1,4 +1,5 @@
-//! Floor 3, state and checks. The text of a saved state: how it is written, and how it is read back.
+//! Layer 3, state and checks. The text of a saved state: how it is written, and how it is read
+//! back.
 #![tactic(auto)]
 
 mod comparing;

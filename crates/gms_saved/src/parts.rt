@@ -15,7 +15,7 @@ use gms_store::{Store, SymbolKind};
 use gq_field::ExactField;
 use std::alloc::Global;
 
-/// What stands behind a word and a name.
+/// The text after a word and a name.
 fn named_at<'t>(text: &'t [u8], word: &[u8], name: &str) -> Result<&'t [u8], ReadFault>
     ensures { (rest : List ℕ) → text.now ≡ word.now ++ (name.now ++ rest) → Finds result (λ r. r.now ≡ rest) }
 {
@@ -23,7 +23,7 @@ fn named_at<'t>(text: &'t [u8], word: &[u8], name: &str) -> Result<&'t [u8], Rea
     strip(behind, name.as_bytes())
 }
 
-/// How many entries the line says with which the part of a name begins, and what stands behind the line.
+/// The number of entries in the first line of the part of a name, and the text after the line.
 fn head_at<'t>(text: &'t [u8], word: &[u8], name: &str) -> Result<(usize, &'t [u8]), ReadFault>
     ensures { (n : ℕ) (rest : List ℕ) → n ≤ length rest →
         text.now ≡ line_of (word.now ++ (name.now ++ (codes " " ++ decimal n))) ++ rest →
@@ -34,7 +34,7 @@ fn head_at<'t>(text: &'t [u8], word: &[u8], name: &str) -> Result<(usize, &'t [u
     count_line(digits)
 }
 
-/// Puts the statuses in the line of a model into a state, and gives what stands behind it.
+/// Writes the statuses in the line of a model into a state, and answers the text after it.
 fn read_statuses<'t, F: ExactField>(
     store: &mut Store<F>,
     model: u32,
@@ -53,7 +53,8 @@ fn read_statuses<'t, F: ExactField>(
     Ok(rest)
 }
 
-/// Puts what is given of a name, with whose part a text begins, into a state, and gives what stands behind it.
+/// Writes the data of a name, with whose part a text begins, into a state, and answers the text
+/// after it.
 fn read_part<'t, F: ExactField>(
     alloc: Global,
     store: &mut Store<F>,
@@ -86,8 +87,8 @@ fn read_part<'t, F: ExactField>(
     }
 }
 
-/// Puts what is given of all names, with whose parts a text begins, into a state in which nothing is given, and gives what
-/// stands behind them.
+/// Writes the data of all names, with whose parts a text begins, into a state without data, and
+/// answers the text after them.
 pub(crate) fn read_parts<'t, F: ExactField>(
     alloc: Global,
     store: &mut Store<F>,

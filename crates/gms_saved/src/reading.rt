@@ -1,4 +1,4 @@
-//! Reading from the front of a text: words, numbers, tuples.
+//! Reading from the beginning of a text: words, numbers, tuples.
 ghost use Rattle.std.specs.Prelude.{◌≡◌, ◌<◌, ◌≤◌, ◌^◌, ◌++◌, ◌∷◌, ℕ, List, true, length, decimal};
 ghost use Rattle.gq_field.specs.Fits.{fits};
 ghost use Rattle.gq_number.specs.Number.{Number};
@@ -12,7 +12,7 @@ use gq_field::ExactField;
 use gq_text::{read_exact, read_whole};
 use std::alloc::Global;
 
-/// What stands behind the front of a text.
+/// The text after a prefix.
 pub(crate) fn strip<'t>(text: &'t [u8], front: &[u8]) -> Result<&'t [u8], ReadFault>
     ensures { (rest : List ℕ) → text.now ≡ front.now ++ rest → Finds result (λ r. r.now ≡ rest) }
 {
@@ -22,7 +22,7 @@ pub(crate) fn strip<'t>(text: &'t [u8], front: &[u8]) -> Result<&'t [u8], ReadFa
     }
 }
 
-/// What stands before the first of these bytes in a text, and what stands behind it.
+/// The text before the first of these bytes, and the text after it.
 pub(crate) fn cut(text: &[u8], byte: u8) -> Result<(&[u8], &[u8]), ReadFault>
     ensures { (front rest : List ℕ) → HasNone byte front → text.now ≡ front ++ byte ∷ rest →
         Finds result (λ p. (p.0.now ≡ front) × (p.1.now ≡ rest)) }
@@ -35,14 +35,14 @@ pub(crate) fn cut(text: &[u8], byte: u8) -> Result<(&[u8], &[u8]), ReadFault>
     }
 }
 
-/// How many bytes stand before the first of these bytes.
+/// How many bytes come before the first of these bytes.
 fn place_of(text: &[u8], byte: u8) -> usize
     ensures { result ≡ place_of byte text.now }
 {
     text.iter().take_while(|other| **other != byte).count()
 }
 
-/// The whole number whose digits stand before a byte, and what stands behind that.
+/// The whole number whose digits come before a byte, and the text after that.
 pub(crate) fn whole_before(text: &[u8], byte: u8) -> Result<(u128, &[u8]), ReadFault>
     requires { byte < 48 }
     ensures { (n : ℕ) (rest : List ℕ) → n < 2 ^ 128 → text.now ≡ decimal n ++ byte ∷ rest →
@@ -55,8 +55,8 @@ pub(crate) fn whole_before(text: &[u8], byte: u8) -> Result<(u128, &[u8]), ReadF
     }
 }
 
-/// The count whose digits are the line with which a text begins, and what stands behind it. What is counted has at least a
-/// byte each, in what stands behind.
+/// The count whose digits are the first line of a text, and the text after it. Each counted thing
+/// takes at least a byte of that text.
 pub(crate) fn count_line(text: &[u8]) -> Result<(usize, &[u8]), ReadFault>
     ensures { (n : ℕ) (rest : List ℕ) → n ≤ length rest → text.now ≡ decimal n ++ 10 ∷ rest →
         Finds result (λ p. (p.0 ≡ n) × (p.1.now ≡ rest)) }
@@ -69,7 +69,7 @@ pub(crate) fn count_line(text: &[u8]) -> Result<(usize, &[u8]), ReadFault>
     }
 }
 
-/// The number below 2^32 whose digits stand before a byte, and what stands behind that.
+/// The number below 2^32 whose digits come before a byte, and the text after that.
 pub(crate) fn number_before(text: &[u8], byte: u8) -> Result<(u32, &[u8]), ReadFault>
     requires { byte < 48 }
     ensures { (n : ℕ) (rest : List ℕ) → n < 2 ^ 32 → text.now ≡ decimal n ++ byte ∷ rest →
@@ -82,7 +82,7 @@ pub(crate) fn number_before(text: &[u8], byte: u8) -> Result<(u32, &[u8]), ReadF
     }
 }
 
-/// The number below 2^8 whose digits stand before a byte, and what stands behind that.
+/// The number below 2^8 whose digits come before a byte, and the text after that.
 pub(crate) fn byte_before(text: &[u8], byte: u8) -> Result<(u8, &[u8]), ReadFault>
     requires { byte < 48 }
     ensures { (n : ℕ) (rest : List ℕ) → n < 2 ^ 8 → text.now ≡ decimal n ++ byte ∷ rest →
@@ -95,7 +95,7 @@ pub(crate) fn byte_before(text: &[u8], byte: u8) -> Result<(u8, &[u8]), ReadFaul
     }
 }
 
-/// The tuple of so many labels with which a text begins, and what stands behind it.
+/// The tuple of `arity` labels with which a text begins, and the text after it.
 pub(crate) fn tuple_at(
     alloc: Global,
     text: &[u8],
@@ -117,7 +117,7 @@ pub(crate) fn tuple_at(
     Ok((tuple, left))
 }
 
-/// The number whose exact text the word is.
+/// The number whose exact text a word is.
 pub(crate) fn exact_in<F: ExactField>(word: &[u8]) -> Result<F, ReadFault>
     ensures { (x : Number) → fits F.limit x ≡ true → word.now ≡ exact_text x → Finds result (λ y. F.value y ≡ x) }
 {

@@ -10,7 +10,8 @@ use gms_tuple::{Tuple, TupleSet};
 use gq_field::ExactField;
 use std::alloc::{AllocError, Global};
 
-/// Whether two statuses are those of a model before a solve, or after one (GAMS User's Guide, "Model and Solve Statements").
+/// Whether two statuses are those of a model before a solve, or after one (GAMS User's Guide,
+/// "Model and Solve Statements").
 fn are_statuses(model: u8, solver: u8) -> bool
     ensures { result ≡ are_statuses model solver }
 {
@@ -20,7 +21,8 @@ fn are_statuses(model: u8, solver: u8) -> bool
     }
 }
 
-/// Whether settings are in the ranges that their options allow (GAMS User's Guide, "The Option Statement").
+/// Whether settings are in the ranges that their options allow (GAMS User's Guide, "The Option
+/// Statement").
 pub fn are_in_range(settings: Settings) -> bool
     ensures { result ≡ are_in_range settings }
 {
@@ -30,7 +32,8 @@ pub fn are_in_range(settings: Settings) -> bool
         && settings.decimals <= 8
 }
 
-/// Whether a text is the name of a solver, or `none`: a letter, and at most 62 letters, digits and `_` behind it.
+/// Whether a text is the name of a solver, or `none`: a letter, and at most 62 letters, digits and
+/// `_` after it.
 pub fn is_solver_name(text: &[u8]) -> bool
     ensures { result ≡ is_solver_name text.now }
 {
@@ -40,28 +43,29 @@ pub fn is_solver_name(text: &[u8]) -> bool
     }
 }
 
-/// Whether a text may stand behind the first letter of the name of a solver: at most 62 letters, digits and `_`.
+/// Whether a text may follow the first letter of the name of a solver: at most 62 letters, digits
+/// and `_`.
 fn is_solver_rest(text: &[u8]) -> bool
     ensures { result ≡ (list_all is_solver_byte text.now && nat_le (length text.now) 62) }
 {
     are_solver_bytes(text) && text.len() <= 62
 }
 
-/// Whether each byte may stand in the name of a solver.
+/// Whether each byte may occur in the name of a solver.
 fn are_solver_bytes(text: &[u8]) -> bool
     ensures { result ≡ list_all is_solver_byte text.now }
 {
     text.iter().all(|byte| is_solver_byte(*byte))
 }
 
-/// Whether a byte may stand in the name of a solver: a letter, a digit or `_`.
+/// Whether a byte may occur in the name of a solver: a letter, a digit or `_`.
 fn is_solver_byte(byte: u8) -> bool
     ensures { result ≡ is_solver_byte byte }
 {
     byte.is_ascii_alphanumeric() || byte == b'_'
 }
 
-/// Whether a label may stand at a position: it is a member of the position's set, where there is one.
+/// Whether a label fits a position: it is a member of the position's set, if it has one.
 fn stands_at<F: ExactField>(
     alloc: Global,
     store: &Store<F>,
@@ -82,8 +86,8 @@ fn stands_at<F: ExactField>(
     Ok(members.contains(&tuple))
 }
 
-/// Whether a tuple is the member that stands as far behind the first as a label comes behind the first one's: so it is where the
-/// tuple is the label alone, and the set has all labels between.
+/// Whether the member at the place of a label, counted from the first member's label, is this
+/// tuple. That is so where the tuple is the label alone, and the set has all labels between.
 fn is_near(members: &TupleSet, label: u32, tuple: &Tuple) -> bool
     ensures { IsTrue result → has members.now tuple.now ≡ true }
 {
@@ -101,7 +105,8 @@ fn is_near(members: &TupleSet, label: u32, tuple: &Tuple) -> bool
     members.get(place) == tuple
 }
 
-/// Whether the labels of a tuple are among so many, and each may stand at its position; positions and labels are as many.
+/// Whether the labels of a tuple are below `labels`, and each fits its position; positions and
+/// labels are equally many.
 fn stands_in<F: ExactField>(
     alloc: Global,
     store: &Store<F>,
@@ -123,8 +128,8 @@ fn stands_in<F: ExactField>(
     Ok(true)
 }
 
-/// Whether what is given of a name stands in its domain, with labels that are among so many, and whether a model has the
-/// statuses of one before or after a solve.
+/// Whether the data of a name are in its domain, with labels below `labels`, and whether a model
+/// has the statuses of one before or after a solve.
 pub fn is_given_well<F: ExactField>(
     alloc: Global,
     store: &Store<F>,

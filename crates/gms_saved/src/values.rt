@@ -1,4 +1,4 @@
-//! Reading values, bounds and attributes from the front of a text.
+//! Reading values, bounds and attributes from the beginning of a text.
 ghost use Rattle.std.specs.Prelude.{◌≡◌, ◌<◌, ◌++◌, ◌∷◌, ℕ, List, Option, true, option_map};
 ghost use Rattle.gq_number.specs.Number.{Number};
 ghost use Rattle.gq_field.specs.Fits.{fits};
@@ -16,7 +16,7 @@ use gms_store::Attributes;
 use gq_extended::Ext;
 use gq_field::ExactField;
 
-/// The value whose text the line is that a text begins with, and what stands behind it.
+/// The value whose text is the first line of a text, and the text after it.
 pub(crate) fn value_line<F: ExactField>(text: &[u8]) -> Result<(Ext<F>, &[u8]), ReadFault>
     ensures { (x : Extended) (rest : List ℕ) → value_fits F.limit x ≡ true → text.now ≡ line_of (value_text x) ++ rest →
         Finds result (λ p. (extended F.value p.0 ≡ x) × (p.1.now ≡ rest)) }
@@ -43,7 +43,8 @@ fn value_in<F: ExactField>(word: &[u8]) -> Result<Ext<F>, ReadFault>
     Ok(Ext::Number(number))
 }
 
-/// The bound whose text stands before a blank, where `none` is the word for none, and what stands behind that.
+/// The bound whose text comes before a blank, where `none` is the word for none, and the text after
+/// that.
 fn bound_before<'t, F: ExactField>(
     text: &'t [u8],
     none: &[u8],
@@ -60,7 +61,7 @@ fn bound_before<'t, F: ExactField>(
     Ok((Some(bound), rest))
 }
 
-/// The number whose exact text stands before a byte, and what stands behind that.
+/// The number whose exact text comes before a byte, and the text after that.
 fn exact_before<F: ExactField>(text: &[u8], byte: u8) -> Result<(F, &[u8]), ReadFault>
     requires { byte < 45 }
     ensures { (x : Number) (rest : List ℕ) → fits F.limit x ≡ true → text.now ≡ exact_text x ++ byte ∷ rest →
@@ -71,7 +72,7 @@ fn exact_before<F: ExactField>(text: &[u8], byte: u8) -> Result<(F, &[u8]), Read
     Ok((number, rest))
 }
 
-/// The attributes whose text the line is that a text begins with, and what stands behind it.
+/// The attributes whose text is the first line of a text, and the text after it.
 pub(crate) fn attributes_line<F: ExactField>(
     text: &[u8],
 ) -> Result<(Attributes<F>, &[u8]), ReadFault>

@@ -1,4 +1,4 @@
-//! Reading a saved state: its source, and the state behind it.
+//! Reading a saved state: its source, and the state after it.
 ghost use Rattle.std.specs.Prelude.{◌≡◌, ◌≤◌, ◌^◌, ◌++◌, ◌∷◌, ℕ, Bool, List, true, length, codes, IfOk};
 ghost use Rattle.gms_store.specs.declared.settings.Settings.{Settings as StateSettings};
 ghost use Rattle.gms_store.specs.State.{State};
@@ -15,9 +15,10 @@ use gms_store::{Settings, Store};
 use gq_field::ExactField;
 use std::alloc::Global;
 
-/// The source of a saved state, and what stands behind it. Of the text of a state over a source it is that source.
+/// The source of a saved state, and the text after it. If the text is that of a state with a
+/// source, it is that source.
 ///
-/// `Shape` comes only where the text is that of no state over any source.
+/// `Shape` comes only where the text is that of no state with any source.
 pub fn read_source(text: &[u8]) -> Result<(&[u8], &[u8]), ReadFault>
     ensures { (source rest : List ℕ) → text.now ≡ line_of (codes "gams25 save 1") ++ (source_text source ++ rest) →
         Finds result (λ p. (p.0.now ≡ source) × (p.1.now ≡ rest)) }
@@ -33,7 +34,7 @@ pub fn read_source(text: &[u8]) -> Result<(&[u8], &[u8]), ReadFault>
     Ok((source, rest))
 }
 
-/// Whether the switch before a blank is on, and what stands behind that.
+/// Whether the switch before a blank is on, and the text after that.
 fn switch_before(text: &[u8]) -> Result<(bool, &[u8]), ReadFault>
     ensures { (on : Bool) (rest : List ℕ) → text.now ≡ switch_text on ++ 32 ∷ rest →
         Finds result (λ p. (p.0 ≡ on) × (p.1.now ≡ rest)) }
@@ -48,8 +49,8 @@ fn switch_before(text: &[u8]) -> Result<(bool, &[u8]), ReadFault>
     }
 }
 
-/// The settings in the line with which a text begins, with the first solver; the solver's name in it; and what stands behind
-/// it.
+/// The settings in the first line of a text, with the first solver; the solver's name in it; and
+/// the text after it.
 fn settings_at(text: &[u8]) -> Result<(Settings, &[u8], &[u8]), ReadFault>
     ensures { (settings : StateSettings) (solver rest : List ℕ) → are_in_range settings ≡ true → HasNone 10 solver →
         text.now ≡ settings_line settings solver ++ rest →
@@ -73,11 +74,12 @@ fn settings_at(text: &[u8]) -> Result<(Settings, &[u8], &[u8]), ReadFault>
     Ok((settings, solver, rest))
 }
 
-/// The state of which this is the text behind the source, over the names of a program, with the first solver in its settings; and
-/// the name of its solver.
+/// The state that has this text after the source, for the names of a program, with the first solver
+/// in its settings; and the name of its solver.
 ///
-/// Of that part of the text of each state that is a saved one of the program, with at most 2^32 labels, it is that state. It declares
-/// what the program declares. `Shape` comes only where the text is that of no such state. Other texts may be read too.
+/// If the text is that of a saved state of the program, with at most 2^32 labels, it is that state.
+/// It declares what the program declares. `Shape` comes only where the text is that of no such
+/// state. Other texts may be accepted too.
 pub fn read_state<'t, F: ExactField>(
     alloc: Global,
     program: &Program<F>,

@@ -1,4 +1,4 @@
-//! Writing the text of a saved state, piece by piece behind what is there.
+//! Writing the text of a saved state: each call appends a piece.
 ghost use Rattle.std.specs.Prelude.{◌≡◌, ◌<◌, ◌++◌, ◌∷◌, [], ℕ, true, length, decimal, option_map, codes, OnOk, IfOk};
 ghost use Rattle.gq_extended.specs.Meaning.{extended};
 ghost use Rattle.gq_text.specs.ExactText.{exact_text};
@@ -32,7 +32,7 @@ fn push_whole(into: &mut Vec<u8>, n: u128) -> Result<(), AllocError>
     push(into, digits.as_bytes())
 }
 
-/// Appends a number exactly.
+/// Appends an exact number.
 fn push_exact<F: ExactField>(into: &mut Vec<u8>, x: F) -> Result<(), AllocError>
     ensures { OnOk result (into.new.items ≡ into.old.items ++ exact_text (F.value x)) }
 {
@@ -91,7 +91,7 @@ fn push_attributes<F: ExactField>(into: &mut Vec<u8>, a: Attributes<F>) -> Resul
     push_exact(into, a.marginal)
 }
 
-/// Appends the line of what is given of a name at a tuple, which is looked for at a place first.
+/// Appends the line of an entry of a name at a tuple, which is searched for at a place first.
 pub(crate) fn push_entry<F: ExactField>(
     into: &mut Vec<u8>,
     store: &Store<F>,
@@ -112,7 +112,7 @@ pub(crate) fn push_entry<F: ExactField>(
     push(into, b"\n")
 }
 
-/// Appends the lines of what is given of a name.
+/// Appends the lines of the entries of a name.
 fn push_entries<F: ExactField>(
     into: &mut Vec<u8>,
     store: &Store<F>,
@@ -149,7 +149,7 @@ fn push_model(into: &mut Vec<u8>, name: &str, statuses: (u8, u8)) -> Result<(), 
     push(into, b"\n")
 }
 
-/// Appends the line with which the part of a name begins: what it is, and how many entries are given.
+/// Appends the first line of the part of a name: what it is, and how many entries it has.
 pub(crate) fn push_head(
     into: &mut Vec<u8>,
     word: &[u8],
@@ -239,7 +239,7 @@ pub(crate) fn push_settings(
     push(into, b"\n")
 }
 
-/// Appends the line that says how long the source is.
+/// Appends the line with the length of the source.
 pub(crate) fn push_source_head(into: &mut Vec<u8>, length: usize) -> Result<(), AllocError>
     ensures { OnOk result (into.new.items ≡ into.old.items ++ line_of (codes "source " ++ decimal length)) }
 {
@@ -248,7 +248,7 @@ pub(crate) fn push_source_head(into: &mut Vec<u8>, length: usize) -> Result<(), 
     push(into, b"\n")
 }
 
-/// Appends the source, behind how long it is.
+/// Appends the source, after its length.
 fn push_source(into: &mut Vec<u8>, source: &[u8]) -> Result<(), AllocError>
     ensures { OnOk result (into.new.items ≡ into.old.items ++ source_text source.now) }
 {
@@ -257,7 +257,7 @@ fn push_source(into: &mut Vec<u8>, source: &[u8]) -> Result<(), AllocError>
     push(into, b"\n")
 }
 
-/// The text of a state over a source with these names, where its solver has this name.
+/// The text of a state with a source and these names, where its solver has this name.
 pub fn text_of<F: ExactField>(
     alloc: Global,
     source: &[u8],

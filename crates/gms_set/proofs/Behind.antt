@@ -1,4 +1,4 @@
--- Tuples that come behind others, and what has seen which.
+-- Tuples that come after others, and which tuples are in the set of those given so far.
 use Rattle.std.proofs.Common.{ℕ, ◌≡◌, ◌++◌, ◌∷◌, [], ◌-◌, Bool, true, false, ◌||◌, ◌==◌, List, length, take, slice_get, Some, None, refl, sym, ap, subst, ◌∙◌, arith, Option}
 use Rattle.std.specs.declared.cmp.Ordering.{Ordering}
 use Rattle.std.specs.declared.cmp.Ordering.TheVariants.{Less, Equal, Greater}
@@ -17,7 +17,7 @@ use Rattle.gms_tuple.proofs.Ordered.{same_tuple-Less, ordered-join, ordered-nil,
 use Rattle.gms_set.specs.Expansion.{Given, tuples_of}
 use Rattle.gms_set.proofs.Repeats.{has-append}
 
--- a tuple that comes behind all others is none of them
+-- a tuple that comes after all others is none of them
 lacks-later : (xs : List (List ℕ)) (t : List ℕ) → All (λ x. tuple_cmp x t ≡ Less) xs → has xs t ≡ false
 lacks-later [] t before = refl
 lacks-later (x ∷ xs) t before =
@@ -26,13 +26,13 @@ lacks-later (x ∷ xs) t before =
 pub new-behind : (xs : List (List ℕ)) (t : List ℕ) → IsOrdered (xs ++ t ∷ []) → has xs t ≡ false
 new-behind xs t ordered = lacks-later xs t (All-before_last tuple_cmp xs t ordered)
 
--- a tuple behind the last of a list in order is behind all
+-- a tuple after the last of an ordered list is after all
 pub ordered-more : (front : List (List ℕ)) (last t : List ℕ) → IsOrdered (front ++ last ∷ []) → tuple_cmp last t ≡ Less → IsOrdered ((front ++ last ∷ []) ++ t ∷ [])
 ordered-more front last t ordered less =
     let before = All-weaker (λ x. tuple_cmp x last ≡ Less) (λ x. tuple_cmp x t ≡ Less) (λ x earlier. tuple_cmp-total.trans x last t earlier less) front (All-before_last tuple_cmp front last ordered) in
     ordered-join (front ++ last ∷ []) t [] ordered (All-append (λ x. tuple_cmp x t ≡ Less) front (last ∷ []) before (All-cons (λ x. tuple_cmp x t ≡ Less) last [] less (All-nil (λ x. tuple_cmp x t ≡ Less)))) ordered-nil (All-nil (λ y. tuple_cmp t y ≡ Less))
 
--- the number of an ordering tells which it is
+-- the index of an ordering determines it
 pub is-Less : (o : Ordering) → (ordering_index o == 0) ≡ true → o ≡ Less
 is-Less Less e = refl
 is-Less Equal e = absurd cc
@@ -53,13 +53,13 @@ seen-more seen after xs t same more other =
     by false false = refl
 
 module _ {F : Type 0} where
-  -- what comes behind the last of what is given in order
+  -- a tuple after the last of those that are given in order
   pub given-behind : (given : Given F) (pair : List ℕ × Option (Ext F)) (t : List ℕ) → slice_get given (length given - 1) ≡ Some pair → IsOrdered (tuples_of given) → tuple_cmp pair.0 t ≡ Less → IsOrdered (tuples_of given ++ t ∷ [])
   given-behind given pair t last ordered less =
       let whole : tuples_of given ≡ tuples_of (take (length given - 1) given) ++ pair.0 ∷ [] = ap tuples_of (ends-with given pair last) ∙ map-append (λ (pair : List ℕ × Option (Ext F)). pair.0) (take (length given - 1) given) (pair ∷ []) in
       subst (λ xs. IsOrdered (xs ++ t ∷ [])) (sym whole) (ordered-more (tuples_of (take (length given - 1) given)) pair.0 t (subst IsOrdered whole ordered) less)
 
-  -- what comes behind nothing
+  -- a tuple after none
   pub none-behind : (given : Given F) (t : List ℕ) → slice_get given (length given - 1) ≡ None → IsOrdered (tuples_of given ++ t ∷ [])
   none-behind [] t none = ordered-one t
   none-behind (pair ∷ given) t none = absurd (none-some _ (sym none ∙ slice_get-get_or (pair ∷ given) (length (pair ∷ given) - 1) pair (omega arith)))

@@ -1,4 +1,4 @@
--- Products of lists of labels: how many tuples they have, and which stands where.
+-- Products of lists of labels: how many tuples they have, and the place of each.
 use Rattle.std.proofs.Common.{ℕ, ◌≡◌, ◌≤◌, ◌<◌, ◌+◌, ◌*◌, ◌/◌, ◌%◌, ◌++◌, ◌∷◌, [], List, map, min, length, get_or, take, drop, refl, sym, ap, ◌∙◌, arith, append_assoc, append-nil, inl, inr}
 use Rattle.std.specs.List.{flat_map}
 use Rattle.std.proofs.Math.Nat.{mul-div_cancel_left, mod-lt, div-lt_iff_lt-mul, mul_assoc, le-mul_of_pos_right}
@@ -9,7 +9,7 @@ use Rattle.std.proofs.lemmas.Bool.{cases_lt}
 use Rattle.gms_tuple.specs.Products.{product}
 
 module _ {X A : Type 0} (f : X → List A) (m : ℕ) (same : (x : X) → length (f x) ≡ m) where
-  -- pieces of one length, one after another
+  -- pieces of one length, in sequence
   length-pieces : (xs : List X) → length (flat_map f xs) ≡ length xs * m
   length-pieces [] = omega arith
   length-pieces (x ∷ xs) = length-append (f x) (flat_map f xs) ∙ grind (arith, same x, length-pieces xs)
@@ -83,7 +83,8 @@ AtPosition-is labels after below rest is within = by (length (product after)) re
               ∙ get_or-map (λ tuple. get_or labels (rest / m) 0 ∷ tuple) (product after) (rest % m) [] [] (omega (arith, size)));
         }
 
--- How far the tuple at a place is made: the labels of the first i positions, and which tuple of the others is left.
+-- How far the tuple at a place is made: the labels of the first i positions, and the remaining
+-- place among the tuples of the other positions.
 pub record IsMade (parts : List (List ℕ)) (place i below rest : ℕ) (tuple : List ℕ) : Type 0 where
   pub size : below ≡ length (product (drop i parts))
   pub within : rest < below

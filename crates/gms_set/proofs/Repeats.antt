@@ -1,4 +1,4 @@
--- Tuples that stand twice in a list.
+-- Tuples that occur twice in a list.
 use Rattle.std.proofs.Common.{ℕ, ◌≡◌, ◌<◌, ◌+◌, ◌++◌, ◌∷◌, [], Bool, true, false, ◌||◌, List, length, get_or, take, drop, refl, sym, ap, ◌∙◌, append_assoc, Option}
 use Rattle.std.proofs.lemmas.List.{map-append, take_more, drop_more, take-append-drop}
 use Rattle.std.proofs.lemmas.List.Folds.{list_any-append}
@@ -13,7 +13,7 @@ use Rattle.gms_set.specs.Expansion.{Given, has_repeat, tuples_of, with_value}
 pub has-append : (xs ys : List (List ℕ)) (t : List ℕ) → has (xs ++ ys) t ≡ (has xs t || has ys t)
 has-append xs ys t = list_any-append (λ member. same_tuple member t) xs ys
 
--- a tuple after those among which it stands is a repeat
+-- a tuple after a list that contains it is a repeat
 pub has_repeat-again : (xs : List (List ℕ)) (t : List ℕ) (ys : List (List ℕ)) → has xs t ≡ true → has_repeat (xs ++ t ∷ ys) ≡ true
 has_repeat-again [] t ys there = absurd cc
 has_repeat-again (x ∷ xs) t ys there =
@@ -38,7 +38,7 @@ has_repeat-new (x ∷ xs) t distinct new =
     rw (has-append xs (t ∷ []) x, d.0, back) (has_repeat-new xs t d.1 n.1)
 
 module _ {F : Type 0} where
-  -- the tuples of what is given, with others of one value
+  -- the tuples of the given ones, followed by others of one value
   pub tuples_of-with : (given : Given F) (value : Option (Ext F)) (tuples : List (List ℕ)) → tuples_of (given ++ with_value value tuples) ≡ tuples_of given ++ tuples
   tuples_of-with given value tuples = map-append (λ (pair : List ℕ × Option (Ext F)). pair.0) given (with_value value tuples) ∙ ap (λ ts. tuples_of given ++ ts) (alone tuples)
     where
@@ -52,7 +52,7 @@ module _ {F : Type 0} where
       append_assoc given (with_value value (take i tuples)) ((get_or tuples i [], value) ∷ [])
       ∙ ap (λ pairs. given ++ pairs) (sym (ap (with_value value) (take_more tuples i [] l) ∙ map-append (λ tuple. (tuple, value)) (take i tuples) (get_or tuples i [] ∷ [])))
 
-  -- the tuple at a place stands among what is given and the tuples before it, so it is a repeat among all
+  -- the tuple at a place is among those given and the tuples before it, so it is a repeat among all
   pub repeat-at : (given : Given F) (value : Option (Ext F)) (tuples : List (List ℕ)) (i : ℕ) → i < length tuples → has (tuples_of (given ++ with_value value (take i tuples))) (get_or tuples i []) ≡ true → has_repeat (tuples_of given ++ tuples) ≡ true
   repeat-at given value tuples i l there =
       let front = tuples_of given ++ take i tuples in
@@ -60,7 +60,7 @@ module _ {F : Type 0} where
       sym (append_assoc (tuples_of given) (take i tuples) (get_or tuples i [] ∷ drop (i + 1) tuples) ∙ ap (λ ts. tuples_of given ++ ts) (ap (λ ts. take i tuples ++ ts) (sym (drop_more tuples i [] l)) ∙ take-append-drop i tuples)) in
       ap has_repeat whole ∙ has_repeat-again front (get_or tuples i []) (drop (i + 1) tuples) (sym (ap (λ ts. has ts (get_or tuples i [])) (tuples_of-with given value (take i tuples))) ∙ there)
 
-  -- one tuple more among what is given
+  -- one more tuple after the given ones
   pub tuples_of-push : (given : Given F) (t : List ℕ) (value : Option (Ext F)) → tuples_of (given ++ (t, value) ∷ []) ≡ tuples_of given ++ t ∷ []
   tuples_of-push given t value = tuples_of-with given value (t ∷ [])
 

@@ -1,5 +1,6 @@
--- What the items of a data list give: tuples with their values, in order, or the first fault.
--- GAMS User's Guide, "Set Definition", "Data Entry: Parameters, Scalars and Tables". Which fault comes first is this project's own rule.
+-- What the items of a data list give: tuples with their values, in order, or the first fault (GAMS
+-- User's Guide, "Set Definition", "Data Entry: Parameters, Scalars and Tables"). Which fault comes
+-- first is this project's own rule.
 use Rattle.std.specs.Prelude.{ℕ, ◌≡◌, Bool, false, not, ◌||◌, ◌+◌, nat_lt, List, [], ◌∷◌, ◌++◌, length, map, Option, Some, None, Result, Ok, Err, if◌then◌else◌}
 use Rattle.std.specs.List.{list_any}
 use Rattle.gms_labels.specs.declared.place.Place.{Place}
@@ -14,17 +15,17 @@ use Rattle.gms_set.specs.declared.fault.SetFault.{SetFault}
 use Rattle.gms_set.specs.declared.fault.SetFaultOrMemory.{SetFaultOrMemory}
 use Rattle.gms_set.specs.declared.fault.SetFaultOrMemory.TheVariants.{Memory, Fault}
 
--- whether a tuple stands twice in a list
+-- whether a tuple occurs twice in a list
 abbrev pub has_repeat : List (List ℕ) → Bool
 has_repeat [] = false
 has_repeat (tuple ∷ tuples) = has tuples tuple || has_repeat tuples
 
--- whether a label is none of the position's set; a position without a set takes any label
+-- whether a label is not in the position's set; a position without a set admits any label
 abbrev pub is_outside : State → Option ℕ → ℕ → Bool
 is_outside state None label = false
 is_outside state (Some set) label = not (has (members_of state set) (label ∷ []))
 
--- whether some position has a label that is none of its set
+-- whether some position has a label that is not in its set
 abbrev pub has_outside : State → List (Option ℕ) → List (List ℕ) → Bool
 has_outside state (set ∷ sets) (labels ∷ rest) = list_any (is_outside state set) labels || has_outside state sets rest
 has_outside state sets parts = false
@@ -42,18 +43,19 @@ module _ {F : Type 0} where
   abbrev pub with_value : Option (Ext F) → List (List ℕ) → Given F
   with_value value tuples = map (λ tuple. (tuple, value)) tuples
 
-  -- what is wrong with an item, where the items before it gave these tuples: a label outside its set comes before a bad
-  -- range, that before more than 1,048,576 tuples in all, and that before a tuple that is given twice
+  -- what is wrong with an item, where the items before it gave these tuples: a label outside its
+  -- set comes before a bad range, that before more than 1,048,576 tuples in all, and that before a
+  -- tuple that is given twice
   abbrev pub error_of : State → List (Option ℕ) → List (List ℕ) → Item F → Option SetError
   error_of state domain before item =
       if has_outside state domain item.parts then Some Outside else if item.bad_range then Some BadRange else if nat_lt 1048576 (length before + length (product item.parts)) then Some Full else if has_repeat (before ++ product item.parts) then Some Repeated else None
 
-  -- the fault of an item that has an error, and else what the items give from there on
+  -- the fault of an item that has an error; otherwise what the items give from there on
   abbrev pub unless : Option SetError → Place → Result (Given F) SetFault → Result (Given F) SetFault
   unless (Some error) at rest = Err (record { error = error; at = at })
   unless None at rest = rest
 
-  -- the items one after another, where those before them gave these tuples
+  -- the items in sequence, where those before them gave these tuples
   abbrev pub with_items : State → List (Option ℕ) → Given F → List (Item F) → Result (Given F) SetFault
   with_items state domain given [] = Ok given
   with_items state domain given (item ∷ items) =
@@ -63,7 +65,7 @@ module _ {F : Type 0} where
   abbrev pub expanded : State → List (Option ℕ) → List (Item F) → Result (Given F) SetFault
   expanded state domain items = with_items state domain [] items
 
-  -- the error is the fault that the list has, or want of memory
+  -- the error is the fault of the list, or memory ran out
   abbrev pub IsFaultOf : Result (Given F) SetFault → SetFaultOrMemory → Type 0
   IsFaultOf meant Memory = Unit {0}
   IsFaultOf meant (Fault fault) = meant ≡ Err fault

@@ -1,5 +1,5 @@
--- Ranges of labels: `a1*a3` is `a1`, `a2`, `a3`.
--- GAMS User's Guide, "Set Definition". The limits, and when digits keep their width, are this project's own rule.
+-- Ranges of labels: `a1*a3` is `a1`, `a2`, `a3` (GAMS User's Guide, "Set Definition"). The limits,
+-- and when digits keep their width, are this project's own rule.
 use Rattle.std.specs.Prelude.{ℕ, ◌+◌, ◌-◌, ◌≡◌, Bool, false, not, ◌&&◌, ◌==◌, nat_le, nat_lt, List, ◌++◌, length, map, take, drop, get_or, replicate, decimal, if◌then◌else◌}
 use Rattle.std.specs.List.{range_with_len, suffix_len}
 use Rattle.std.specs.Char.{is_ascii_digit}
@@ -10,7 +10,7 @@ use Rattle.gms_set.specs.declared.fault.SetFault.{SetFault}
 use Rattle.gms_set.specs.declared.fault.SetFaultOrMemory.{SetFaultOrMemory}
 use Rattle.gms_set.specs.declared.fault.SetFaultOrMemory.TheVariants.{Memory, Fault}
 
--- how long a label is without the digits at its end
+-- the length of a label without the digits at its end
 abbrev pub text_length : List ℕ → ℕ
 text_length label = length label - suffix_len is_ascii_digit label
 
@@ -34,20 +34,23 @@ is_padded digits = nat_lt 1 (length digits) && get_or digits 0 0 == 48
 abbrev pub is_numbered : List ℕ → Bool
 is_numbered label = nat_le 1 (length (digits_of label)) && nat_le (length (digits_of label)) 9
 
--- whether the digits of two labels go together: as wide as each other where the first are padded, and else not padded
+-- whether the digits of two labels fit: as wide as each other if the first are padded, otherwise
+-- not padded
 abbrev pub go_together : List ℕ → List ℕ → Bool
 go_together first last = if is_padded first then length first == length last else not (is_padded last)
 
--- whether the numbers from one to another are at least one and at most 65,536
+-- whether there are numbers from one to another, at most 65,536
 abbrev pub is_short : ℕ → ℕ → Bool
 is_short first last = nat_le first last && nat_lt (last - first) 65536
 
--- whether `from*to` is a range: a common text, letter case ignored, with numbers that go together, and at most 65,536 members
+-- whether `from*to` is a range: a common text, letter case ignored, with numbers that fit, and at
+-- most 65,536 members
 abbrev pub is_range : List ℕ → List ℕ → Bool
 is_range from to =
     str_eq_ignore_ascii_case (text_of from) (text_of to) && (is_numbered from && (is_numbered to && (go_together (digits_of from) (digits_of to) && is_short (number_of from) (number_of to))))
 
--- how many digits the members of a range have at least: as many as the first, where that one's are padded
+-- how many digits the members of a range have at least: as many as the first, if that one's are
+-- padded
 abbrev pub width_of : List ℕ → ℕ
 width_of digits = if is_padded digits then length digits else 0
 
@@ -60,11 +63,11 @@ abbrev pub members : List ℕ → List ℕ → List (List ℕ)
 members from to =
     map (λ n. text_of from ++ written (width_of (digits_of from)) n) (range_with_len (number_of from) (number_of to - number_of from + 1))
 
--- a fault of a range by itself, which stands nowhere
+-- the fault of a range by itself, which has no place
 abbrev pub no_range : SetFault
 no_range = record { error = BadRange; at = record { line = 0; column = 0 } }
 
--- the error of a range is that it is none, or want of memory
+-- the error of a range is that it is none, or memory ran out
 abbrev pub IsRangeError : Bool → SetFaultOrMemory → Type 0
 IsRangeError range Memory = Unit {0}
 IsRangeError range (Fault fault) = (range ≡ false) × (fault ≡ no_range)

@@ -19,9 +19,10 @@ use std::marker::Model;
 /// How many tuples the data of a symbol may have.
 pub(crate) const MOST_TUPLES: usize = 1_048_576;
 
-/// The tuples that are given so far, each with its value. No tuple stands twice.
+/// The tuples that are given so far, each with its value. No tuple occurs twice.
 ///
-/// As long as each comes behind the one before it, nothing more is kept; from the first that does not on, their set is.
+/// As long as each comes after the one before it, nothing more is kept; from the first that does
+/// not on, their set is.
 #[derive(Drop)]
 pub struct Expansion<F> {
     given: Vec<(Tuple, Option<Ext<F>>)>,
@@ -60,7 +61,7 @@ impl<F: ExactField> Expansion<F> {
         given
     }
 
-    /// Adds the tuples of an item, and tells its error where it has one.
+    /// Adds the tuples of an item. Answers its error if it has one.
     pub fn add(
         &mut self,
         alloc: Global,
@@ -91,7 +92,7 @@ impl<F: ExactField> Expansion<F> {
         }
     }
 
-    /// Adds the tuples of the product with a value. False where one is given twice.
+    /// Adds the tuples of the product with a value. False if one is given twice.
     fn add_product(
         &mut self,
         alloc: Global,
@@ -115,7 +116,7 @@ impl<F: ExactField> Expansion<F> {
         Ok(true)
     }
 
-    /// Adds a tuple with a value. False where it is given already.
+    /// Adds a tuple with a value. False if it was given already.
     fn add_tuple(
         &mut self,
         alloc: Global,

@@ -56,7 +56,7 @@ impl SetError {
 pub struct SetFault {
     /// The error.
     pub error: SetError,
-    /// Where the item is; line 0 and column 0 for a range by itself.
+    /// The place of the item; line 0 and column 0 for a range by itself.
     pub at: Place,
 }
 

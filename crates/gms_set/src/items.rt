@@ -13,10 +13,11 @@ use std::alloc::Global;
 
 /// The tuples that the items give, in the order of the data, each with the value of its item.
 ///
-/// The item `(a1*a3).x 5` gives three tuples, the last position fastest. The fault is that of the first item that has one:
-/// a label that the set of its position does not have, then a range that is none, then the 1,048,577th tuple, then a tuple
-/// that is given twice. A position without a set takes any label. Every item has one list of labels for each position, and
-/// there are at most ten positions, whose sets are one-dimensional. GAMS User's Guide, "Set Definition", "Data Entry:
+/// The item `(a1*a3).x 5` gives three tuples, the last position fastest. The fault is that of the
+/// first item that has one: a label that the set of its position does not have, then a range that
+/// is none, then the 1,048,577th tuple, then a tuple that is given twice. A position without a set
+/// admits any label. Every item has one list of labels for each position, and there are at most ten
+/// positions, whose sets are one-dimensional. GAMS User's Guide, "Set Definition", "Data Entry:
 /// Parameters, Scalars and Tables".
 pub fn expand<F: ExactField>(
     alloc: Global,

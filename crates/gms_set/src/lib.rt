@@ -1,4 +1,4 @@
-//! Floor 3, state and checks. Lists of data: ranges of labels, and the tuples that items give.
+//! Layer 3, state and checks. Lists of data: ranges of labels, and the tuples that items give.
 #![tactic(auto)]
 
 mod expansion;

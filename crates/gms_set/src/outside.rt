@@ -11,7 +11,7 @@ use gms_tuple::Tuple;
 use gq_field::ExactField;
 use std::alloc::{AllocError, Global};
 
-/// Whether some position has a label that is none of its set.
+/// Whether some position has a label that is not in its set.
 pub fn has_outside<F: ExactField>(
     alloc: Global,
     store: &Store<F>,
@@ -29,7 +29,7 @@ pub fn has_outside<F: ExactField>(
     Ok(false)
 }
 
-/// Whether some label is none of the position's set.
+/// Whether some label is not in the position's set.
 fn is_part_outside<F: ExactField>(
     alloc: Global,
     store: &Store<F>,

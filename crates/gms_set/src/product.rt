@@ -6,7 +6,7 @@ use gms_ast::Sequence;
 use gms_tuple::Tuple;
 use std::alloc::{AllocError, Global};
 
-/// How many tuples have at each position one of the labels there, or the greatest number where there are more.
+/// How many tuples have at each position one of the labels there, at most the greatest `usize`.
 pub fn count(parts: &[Sequence<u32>]) -> usize
     ensures { result ≡ min (length (product parts.now)) (2 ^ 64 - 1) }
 {
@@ -17,7 +17,7 @@ pub fn count(parts: &[Sequence<u32>]) -> usize
     count
 }
 
-/// The tuple at a place of the product, of which this is the number.
+/// The tuple at a place of the product.
 pub fn tuple_at(
     alloc: Global,
     parts: &[Sequence<u32>],

@@ -16,12 +16,15 @@ const MOST_MEMBERS: u32 = 65_536;
 /// How many digits the number of a label may have.
 const MOST_DIGITS: usize = 9;
 
-/// The members of the range `from*to`, in order: the text of `from` with each number from that of `from` to that of `to`.
+/// The members of the range `from*to`, in order: the text of `from` with each number from that of
+/// `from` to that of `to`.
 ///
-/// It is none where the texts before the digits differ, letter case ignored; where a label ends in no digits or in more than
-/// nine; where the second number is less, or there would be more than 65,536 members; and where the first number is
-/// written with zeros before it and the second with another number of digits, or the second alone with zeros. Members keep the width of
-/// a first number with zeros before it. The fault is then BadRange at line 0 and column 0. GAMS User's Guide, "Set Definition".
+/// There is no range in these cases: the texts before the digits differ, letter case ignored; a
+/// label ends in no digits or in more than nine; the second number is less, or there would be more
+/// than 65,536 members; the first number is written with zeros before it and the second with
+/// another number of digits, or the second alone with zeros. Members keep the width of a first
+/// number with zeros before it. The fault is then BadRange at line 0 and column 0. GAMS User's
+/// Guide, "Set Definition".
 pub fn range(alloc: Global, from: &str, to: &str) -> Result<Vec<String>, SetFaultOrMemory>
     ensures members { IfOk result (λ labels. (is_range from.now to.now ≡ true) × (map string_bytes labels.items ≡ members from.now to.now)) }
     ensures fault { IfErr result (IsRangeError (is_range from.now to.now)) }
@@ -54,7 +57,7 @@ fn numbers(from: &str, to: &str) -> Option<(u32, u32)>
     }
 }
 
-/// So many labels, with the text of this one and the numbers from the first on.
+/// `count` labels, with the text of this one and the numbers from the first on.
 fn labels(alloc: Global, from: &str, first: u32, count: u32) -> Result<Vec<String>, AllocError>
     requires room { first + count ≤ 2 ^ 32 }
     ensures { IfOk result (λ labels. map string_bytes labels.items
@@ -69,7 +72,7 @@ fn labels(alloc: Global, from: &str, first: u32, count: u32) -> Result<Vec<Strin
     Ok(labels)
 }
 
-/// The text, and behind it the number with zeros before it up to this width.
+/// The text, followed by the number with zeros before it up to this width.
 fn label(alloc: Global, text: &str, width: usize, number: u32) -> Result<String, AllocError>
     ensures { IfOk result (λ label. string_bytes label ≡ text.now ++ written width number) }
 {
@@ -111,7 +114,7 @@ fn width(digits: &str) -> usize
     if is_padded(digits) { digits.len() } else { 0 }
 }
 
-/// Whether digits begin with a 0 that is not all of them.
+/// Whether digits begin with a 0 and are more than one.
 fn is_padded(digits: &str) -> bool
     ensures { result ≡ is_padded digits.now }
 {
@@ -119,7 +122,7 @@ fn is_padded(digits: &str) -> bool
     digits.len() > 1 && digits[0] == b'0'
 }
 
-/// A label without the digits at its end, and these.
+/// A label without the digits at its end, and these digits.
 fn parts(label: &str) -> (&str, &str)
     ensures text { result.0.now ≡ text_of label.now }
     ensures digits { result.1.now ≡ digits_of label.now }
@@ -128,7 +131,7 @@ fn parts(label: &str) -> (&str, &str)
     label.split_at(text_length(label))
 }
 
-/// How long a label is without the digits at its end.
+/// The length of a label without the digits at its end.
 fn text_length(label: &str) -> usize
     ensures value { result ≡ text_length label.now }
     ensures boundary { IsCharBoundary label.now result }

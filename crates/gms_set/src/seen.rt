@@ -1,4 +1,4 @@
-//! Which tuples are given already.
+//! Which tuples were given already.
 ghost use Rattle.std.specs.Prelude.{◌≡◌, ◌++◌, ◌∷◌, [], ℕ, List, false, not, IfOk, IsTrue, OnErr};
 ghost use Rattle.gms_tuple.specs.TupleOrder.{IsOrdered};
 ghost use Rattle.gms_tuple.specs.TupleSet.{has};
@@ -10,9 +10,10 @@ use gq_extended::Ext;
 use std::alloc::{AllocError, Global};
 use std::cmp::Ordering;
 
-/// Whether a tuple is new among those that are given. It is seen from then on.
+/// Whether a tuple is new among those that are given. From then on it is one of them.
 ///
-/// One that comes behind all others is new. From the first that does not on, the set of those that are seen is kept.
+/// A tuple that comes after all others is new. From the first that does not on, the set of the
+/// given tuples is kept.
 pub fn see<F>(
     alloc: Global,
     seen: &mut Option<TupleSet>,
@@ -39,7 +40,7 @@ pub fn see<F>(
     Ok(new)
 }
 
-/// Whether a tuple comes behind the last of those that are given in order, and so behind all.
+/// Whether a tuple comes after the last of those that are given in order, and so after all.
 fn is_behind<F>(given: &[(Tuple, Option<Ext<F>>)], tuple: &Tuple) -> bool
     requires { IsOrdered (tuples_of given.now) }
     ensures { IsTrue result → IsOrdered (tuples_of given.now ++ tuple.now ∷ []) }
@@ -50,7 +51,7 @@ fn is_behind<F>(given: &[(Tuple, Option<Ext<F>>)], tuple: &Tuple) -> bool
     }
 }
 
-/// The set of the tuples that are given.
+/// The set of the tuples that were given.
 fn set_of<F>(alloc: Global, given: &[(Tuple, Option<Ext<F>>)]) -> Result<TupleSet, AllocError>
     ensures { IfOk result (λ set. (tuple : List ℕ) → has set tuple ≡ has (tuples_of given.now) tuple) }
 {

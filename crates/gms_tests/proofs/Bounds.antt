@@ -36,7 +36,7 @@ module _ {F : Type 0} (value : F → Number) (k r : Key) (zero one hundred two :
   abbrev cost : Number
   cost = whole (pos 1) -ℚ (value two *ℚ (value hundred +ℚ whole (pos 0)) +ℚ whole (pos 0))
 
-  -- the bound is there, by the signs of the dual and of the reduced cost
+  -- the bound exists, by the signs of the dual and of the reduced cost
   by_signs : number_cmp (value two) (whole (pos 0)) ≡ Greater → number_cmp cost (whole (pos 0)) ≡ Less → bound_of value true (the_program (the_column ∷ []) (the_row ((0, hundred) ∷ []) ∷ [])) (value two ∷ []) ≢ None
   unfolding sum_by_ℚ
   by_signs above below none =

@@ -46,7 +46,7 @@ const FIRST: Tuples<'static> = &[&[1], &[1, 2], &[3], &[7, 7]];
 
 const SECOND: Tuples<'static> = &[&[3], &[1, 2], &[2], &[9]];
 
-/// A set, an operation by its sign in a source, another set, and what it makes of them.
+/// A set, an operation by its sign in a source, another set, and the result.
 const SETS: [(Tuples<'static>, char, Tuples<'static>, &str); 6] = [
     (FIRST, '+', SECOND, "[1][1, 2][2][3][7, 7][9]"),
     (FIRST, '-', SECOND, "[1][7, 7]"),
@@ -56,7 +56,7 @@ const SETS: [(Tuples<'static>, char, Tuples<'static>, &str); 6] = [
     (&[], '*', FIRST, ""),
 ];
 
-/// What an operation makes of two sets.
+/// The result of an operation on two sets.
 fn combined(
     rt: &impl Abort,
     alloc: Global,
@@ -72,7 +72,7 @@ fn combined(
     made.expect(rt, "memory")
 }
 
-/// The members of what an operation makes of sets of these tuples.
+/// The members of the result of an operation on sets of these tuples.
 fn members(rt: &impl Abort, alloc: Global, first: Tuples, sign: char, second: Tuples) -> String {
     let first = set(rt, alloc, first);
     let second = set(rt, alloc, second);
@@ -95,7 +95,7 @@ fn operations_on_sets(rt: HostRuntime) {
 /// A constant, and labels with their numbers.
 type Numbers<'a> = (i128, &'a [(u32, i128)]);
 
-/// A whole number.
+/// An integer.
 fn whole(rt: &impl Abort, number: i128) -> Tiny {
     Tiny::from_parts(number, 1).expect(rt, "a number of one byte")
 }
@@ -137,7 +137,8 @@ const OTHER: Numbers<'static> = (1, &[(1, -2), (2, 7)]);
 /// Numbers close to the limit, which is 127.
 const LARGE: Numbers<'static> = (100, &[(1, 1), (2, 100), (3, 100)]);
 
-/// A form, the sign of an operation, another form, and what it makes of them, or the first step that does not fit.
+/// A form, the sign of an operation, another form, and what it makes of them, or the first step
+/// that does not fit.
 const FORMS: [(Numbers<'static>, char, Numbers<'static>, &str); 6] = [
     (SOME, '+', OTHER, "6 7[2]=7 7[4]=3"),
     (SOME, '-', OTHER, "4 7[1]=4 7[2]=-7 7[4]=3"),
@@ -147,7 +148,7 @@ const FORMS: [(Numbers<'static>, char, Numbers<'static>, &str); 6] = [
     (LARGE, '+', (-27, &[(2, 27)]), "73 7[1]=1 7[2]=127 7[3]=100"),
 ];
 
-/// What an operation makes of two forms.
+/// The result of an operation on two forms.
 fn summed(
     alloc: Global,
     first: &Form<Tiny>,
@@ -168,7 +169,7 @@ fn put_sum(rt: &impl Abort, made: &Result<Form<Tiny>, FormFault>, text: &mut Str
     }
 }
 
-/// The numbers of what an operation makes of two forms, or its fault.
+/// The numbers of the result of an operation on two forms, or its fault.
 fn sum_of(rt: &impl Abort, alloc: Global, first: Numbers, sign: char, second: Numbers) -> String {
     let first = form(rt, alloc, first);
     let second = form(rt, alloc, second);

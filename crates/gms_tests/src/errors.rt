@@ -31,7 +31,7 @@ const BEYOND: &str = "beyond the field's limit";
 
 const MEMORY: &str = "out of memory";
 
-/// Compares the message of each error with what is due.
+/// Compares the message of each error with the expected one.
 fn check<E: Display>(rt: &impl Abort, alloc: Global, rows: &[(E, &str)]) {
     for (error, due) in rows {
         let text = format!(in alloc; "{error}").expect(rt, "memory");

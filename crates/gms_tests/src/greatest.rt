@@ -16,7 +16,7 @@ use std::marker::Model;
 /// The programs of these tests have fewer variables.
 const VARIABLES: u32 = 1_000;
 
-/// The way by which the variable with the greatest number of those that improve enters.
+/// The rule by which of the improving variables the one with the greatest number enters.
 #[derive(Drop)]
 pub(crate) struct Greatest;
 
@@ -39,7 +39,7 @@ impl<F: ExactField> Choosing<F> for Greatest {
     ghost improving = { λ _ _ _ _ improves. improves };
 }
 
-/// The solver of that way.
+/// The solver by that rule.
 #[derive(Drop)]
 pub(crate) struct GreatestFirst {
     taken: Vec<Sequence<Pivot>>,

@@ -1,11 +1,12 @@
-//! That a run ends as it is due where any call of its host fails, and what a host in memory answers.
+//! That a run ends as expected if any call of its host fails, and what a host in memory answers.
 use crate::runs::{Left, host_of, run_words};
 use gms_host::{Failed, Host, MemHost, Spool};
 use std::alloc::Global;
 use std::process::Abort;
 
-/// How many bytes go in a call (0 is no bound), the calls that fail, the status that is due, how many bytes of the due listing stand in
-/// the output, what is said, how many calls are made, and the output that is kept since it was closed, by its name and its bytes.
+/// How many bytes a call moves (0 is no bound), the calls that fail, the expected status, how many
+/// bytes of the expected listing are in the output, what is printed, how many calls are made, and
+/// the output that is kept since it was closed, by its name and its bytes.
 type Row<'a> = (u32, &'a [u64], u8, usize, &'a str, u64, &'a str);
 
 /// A source, and its whole listing.
@@ -14,17 +15,18 @@ const LOOPED: (&str, &str) = (
     "     1  set t /1*2/; scalar a /1/; loop(t, a = a*3; display a;);\n---- 1 SCALAR a = 3.000\n---- 1 SCALAR a = 9.000\nEND status 0 solves 0\n",
 );
 
-/// What is said of a file that is not read.
+/// What is printed of a file that is not read.
 const UNREAD: &str = "cannot read a.gms\n";
 
-/// What is said at the end of that source.
+/// What is printed at the end of that source.
 const DONE: &str = "status 0, solves 0, output a.lst\n";
 
-/// What is kept of it.
+/// The output that is kept.
 const KEPT: &str = "a.lst 135\n";
 
-/// Runs of that source. Whole, the calls are open_in, two reads, open_out, write, close_out and say. Byte by byte, the 56 bytes of the
-/// source are read in the calls 1 to 57, the 135 of its listing written in 59 to 193, and the 33 of what is said in 195 to 227.
+/// Runs of that source. Whole, the calls are open_in, two reads, open_out, write, close_out and
+/// say. Byte by byte, the 56 bytes of the source are read in the calls 1 to 57, the 135 of its
+/// listing written in 59 to 193, and the 33 that are printed in 195 to 227.
 const LOOPED_ROWS: [Row<'static>; 18] = [
     (0, &[7], 0, 135, DONE, 7, KEPT),
     (0, &[0], 4, 0, UNREAD, 2, ""),
@@ -57,7 +59,7 @@ PROOF Optimal
 END status 0 solves 1
 ";
 
-/// Whether a run left what is due by a row, and a front of the due listing.
+/// Whether a run had the expected results of a row, and a prefix of the expected listing.
 fn is_due(left: &Left, due: &str, row: &Row) -> bool {
     let (_, _, status, length, said, calls, kept) = *row;
     left.status == status
@@ -68,7 +70,8 @@ fn is_due(left: &Left, due: &str, row: &Row) -> bool {
         && left.kept.as_str() == kept
 }
 
-/// Compares the run of these words with what is due, and the first that its solver tells.
+/// Compares the run of these arguments with the expected one, and the first text that its solver
+/// tells.
 fn check(
     rt: &impl Abort,
     alloc: Global,
@@ -92,7 +95,7 @@ fn a_failed_call_ends_a_run(rt: HostRuntime) {
     }
 }
 
-/// What is said at the end of the generated model of size 1.
+/// What is printed at the end of the generated model of size 1.
 const SOLVED: &str =
     "generated 1 by 1, model status 1, objective 252.000, pivots 3\nstatus 0, solves 1, output generate.lst\n";
 
@@ -121,8 +124,8 @@ fn a_failed_call_ends_a_generated_run(rt: HostRuntime) {
     check_generated(&rt, alloc, words, whole.output.as_str());
 }
 
-/// Runs of a source whose echo alone is more than is pending at most, so that it has two writes, calls 5 and 6; what stands in front of its
-/// solve, and what its solver tells.
+/// Runs of a source whose echo alone is longer than what may be pending, so that it has two writes,
+/// calls 5 and 6; the statement before its solve, and what its solver tells.
 const WRITES: [(&str, Row<'static>, &str); 3] = [
     ("", (0, &[5], 5, 0, "", 6, ""), "bland\n"),
     ("display a; ", (0, &[5], 5, 0, "", 6, ""), "bland\n"),
@@ -133,7 +136,7 @@ const WRITES: [(&str, Row<'static>, &str); 3] = [
     ),
 ];
 
-/// That source, with a statement in front of its solve.
+/// That source, with a statement before its solve.
 fn long_source(rt: &impl Abort, alloc: Global, before: &str) -> String {
     let blanks = " ".repeat(alloc, 5_000).expect(rt, "memory");
     format!(in alloc;
@@ -141,7 +144,7 @@ fn long_source(rt: &impl Abort, alloc: Global, before: &str) -> String {
     ).expect(rt, "memory")
 }
 
-/// Compares the run of that source, one write of which fails, with what is due.
+/// Compares the run of that source, one write of which fails, with the expected one.
 fn check_write(rt: &impl Abort, alloc: Global, before: &str, row: &Row, tells: &str) {
     let source = long_source(rt, alloc, before);
     let echo = format!(in alloc; "     1  {source}\n").expect(rt, "memory");
@@ -156,8 +159,9 @@ fn nothing_is_executed_after_a_failed_write(rt: HostRuntime) {
     }
 }
 
-/// Whether a run of that first source, whose call of this number fails, left what is due: a front of the listing, and nothing behind a
-/// call that failed but what is said of a file that cannot be read.
+/// Whether a run of that first source, whose call of this number fails, had the expected results: a
+/// prefix of the listing, and nothing after the failed call, except what is printed of a file that
+/// cannot be read.
 fn is_faulted(left: &Left, fail: u64) -> bool {
     let (_, due) = LOOPED;
     if left.status == 4 {
@@ -171,7 +175,7 @@ fn is_faulted(left: &Left, fail: u64) -> bool {
         && (is_whole || left.said.is_empty())
 }
 
-/// Compares the run of that first source, one call of which fails, with what is due.
+/// Compares the run of that first source, one call of which fails, with the expected one.
 fn check_fault(rt: &impl Abort, alloc: Global, most: u32, fail: u64) {
     let (source, _) = LOOPED;
     let left = run_words(rt, alloc, (source, most, &[fail]), &["a.gms"], &["bland"]);
@@ -190,10 +194,11 @@ fn each_call_fails_in_turn(rt: HostRuntime) {
 /// Three files, two of them of one name.
 const FILES: [(&str, &str); 3] = [("a", "first"), ("b", "x"), ("a", "second")];
 
-/// What the first byte of a file is, how many calls were made, how many names were noted, and how often this one.
+/// What the first byte of a file is, how many calls were made, how many names were noted, and how
+/// often this one.
 type Opened = (Result<u8, Failed>, u64, usize, usize);
 
-/// A name, the call that fails, and what is due of that file.
+/// A name, the call that fails, and the expected results for that file.
 const NAMES: [(&str, u64, Opened); 5] = [
     ("a", 7, (Ok(b'f'), 2, 1, 1)),
     ("b", 7, (Ok(b'x'), 2, 1, 1)),
@@ -221,7 +226,7 @@ fn times_asked(host: &MemHost, name: &str) -> usize {
     times
 }
 
-/// What comes of the file of this name, where this call fails.
+/// The results for the file of this name, where this call fails.
 fn opened(rt: &impl Abort, alloc: Global, name: &str, fail: u64) -> Opened {
     let mut host = host_of(rt, alloc, &FILES, &[fail], 0);
     let first = first_byte(&mut host, name);

@@ -1,4 +1,5 @@
-//! Floor 7, outside. What only a call in code can show: hosts that fail or go byte by byte, solvers of other rules, and calls that no program makes.
+//! Layer 7, outside. What only a call in code can show: hosts that fail or go byte by byte, solvers
+//! of other rules, and calls that no program makes.
 #![tactic(auto)]
 
 #[cfg(test)]

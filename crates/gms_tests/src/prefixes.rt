@@ -39,7 +39,7 @@ solve transport using lp minimizing z ;
 display x.l, x.m ;
 ";
 
-/// Whether a run left a whole listing, whose last line tells its status, and said so.
+/// Whether a run left a whole listing whose last line has its status, and printed its closing line.
 fn is_whole(left: &Left) -> bool {
     let end = match left.status {
         0 => "END status 0 solves ",
@@ -52,7 +52,7 @@ fn is_whole(left: &Left) -> bool {
         && left.kept.starts_with("a.lst ")
 }
 
-/// Compares the run of a source with what is due of any.
+/// Compares the run of a source with what is expected of any.
 fn check(rt: &impl Abort, alloc: Global, source: &str) {
     let left = run_words(rt, alloc, (source, 0, &[]), &["a.gms"], &["bland"]);
     let length = source.len();

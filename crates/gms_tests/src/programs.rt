@@ -1,4 +1,5 @@
-//! Linear programs made in code: what solves them over three fields, and what is known of their points and bounds.
+//! Linear programs made in code: what solves them over three fields, and what is known of their
+//! points and bounds.
 ghost use Rattle.std.specs.Prelude.{◌≡◌, ◌∷◌, []};
 ghost use Rattle.gq_number.specs.Number.{ratio};
 
@@ -24,7 +25,7 @@ type Bounds = (Option<Part>, Option<Part>);
 /// A row: its sense, its right side, and its columns with their coefficients.
 type Line<'a> = (Sense, Part, &'a [(u32, Part)]);
 
-/// A program: its columns, its rows, its objective and whether that is to be greatest.
+/// A program: its columns, its rows, its objective and whether that is maximized.
 type Given<'a> = (&'a [Bounds], &'a [Line<'a>], u32, bool);
 
 /// The key of the only element of the symbol of this number.
@@ -44,7 +45,7 @@ fn number<F: ExactField>(rt: &impl Abort, part: Part) -> F
     F::from_parts(top, below).expect(rt, "a number of the field")
 }
 
-/// The bound, where there is one.
+/// The bound, if there is one.
 fn bound<F: ExactField>(rt: &impl Abort, part: Option<Part>) -> Option<F> {
     match part {
         Some(part) => Some(number(rt, part)),
@@ -84,7 +85,7 @@ fn entries<F: ExactField + Drop>(
     entries
 }
 
-/// The rows that are given so.
+/// The rows with these parts.
 fn rows<F: ExactField + Drop>(rt: &impl Abort, alloc: Global, given: &[Line]) -> Vec<Row<F>> {
     let mut rows = Vec::new(alloc);
     for (sense, right, terms) in given {
@@ -99,7 +100,7 @@ fn rows<F: ExactField + Drop>(rt: &impl Abort, alloc: Global, given: &[Line]) ->
     rows
 }
 
-/// The program that is given so.
+/// The program with these parts.
 fn program<F: ExactField + Drop>(rt: &impl Abort, alloc: Global, given: &Given) -> Lp<F> {
     let (bounds, lines, objective, maximize) = *given;
     let columns = columns(rt, alloc, bounds);
@@ -142,7 +143,7 @@ fn put_end<F: ExactField>(rt: &impl Abort, end: &End<F>, text: &mut String) {
     }
 }
 
-/// The pivots and the end of an answer.
+/// The text of the pivots and the end of an answer.
 fn told<F: ExactField>(rt: &impl Abort, alloc: Global, answer: &Answer<F>) -> String {
     let mut text = String::new(alloc);
     put_pivots(rt, answer.pivots.as_slice(), &mut text);
@@ -311,8 +312,8 @@ fn an_answer_over_half_is_made_wide(rt: HostRuntime) {
     assert!(rt; narrow_lp(alloc, &wide).expect(&rt, "memory").is_none());
 }
 
-/// Programs that are not well formed: an objective that is not a column, an entry of 0, an entry of no column, and entries out of
-/// order.
+/// Programs that are not well formed: an objective that is not a column, an entry of 0, an entry of
+/// no column, and entries out of order.
 const ILL_FORMED: [Given<'static>; 4] = [
     (&[FREE], &[], 1, true),
     (&[FREE], &[(Sense::L, (1, 1), &[(0, (0, 1))])], 0, true),
@@ -325,8 +326,9 @@ const ILL_FORMED: [Given<'static>; 4] = [
     ),
 ];
 
-/// Points x and z of the program with a cap, and whether each is feasible: the optimum, one over the cap, one below a bound, one off the
-/// equation, and one whose check stops, where -4 - 127 is the step 5.
+/// Points x and z of the program with a cap, and whether each is feasible: the optimum, one over
+/// the cap, one below a bound, one off the equation, and one whose check stops, where -4 - 127 is
+/// the step 5.
 const POINTS: [(i128, i128, &str); 5] = [
     (4, 4, "true"),
     (5, 5, "false"),
@@ -355,7 +357,8 @@ fn one_of<T: Drop>(rt: &impl Abort, alloc: Global, value: T) -> Sequence<T>
     Sequence::new(values)
 }
 
-/// The bound that the dual 2 gives of the least z that is at most 0 with 100 z at least 1, or the step that does not fit.
+/// The bound that the dual 2 gives of the least z that is at most 0 with 100 z at least 1, or the
+/// step that does not fit.
 fn bound_by_two<F: ExactField + Drop>(rt: &impl Abort, alloc: Global) -> Result<F, StepName> {
     let zero = number(rt, (0, 1));
     let right = number(rt, (1, 1));

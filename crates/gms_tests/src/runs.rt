@@ -1,4 +1,4 @@
-//! A run over a host in memory and lent solvers, and what it leaves.
+//! A run over a host in memory and lent solvers, and its results.
 use crate::greatest::GreatestFirst;
 use gms_host::MemHost;
 use gms_run::{Ended, run};
@@ -14,25 +14,25 @@ use std::alloc::Global;
 use std::fmt::Write;
 use std::process::Abort;
 
-/// What a run leaves.
+/// The results of a run.
 pub(crate) struct Left {
     /// Its status.
     pub(crate) status: u8,
-    /// What stands in its output.
+    /// The text of its output.
     pub(crate) output: String,
-    /// What it said.
+    /// What it printed.
     pub(crate) said: String,
     /// How many calls of its host it made.
     pub(crate) calls: u64,
-    /// The names that it asked for, each with a blank behind it.
+    /// The names that it requested, each with a blank after it.
     pub(crate) asked: String,
     /// The outputs that were closed, each by its name and how many bytes it has, a line.
     pub(crate) kept: String,
-    /// What its solvers tell, and then the rays of its answers.
+    /// What its solvers tell, followed by the rays of its answers.
     pub(crate) told: String,
 }
 
-// Written out, so that it is proved here alone, and not at each exit that lets one go.
+// Written out, so that it is proved once, and not at each exit that drops one.
 impl Drop for Left {
     fn drop(self) {
         let Self {
@@ -47,7 +47,7 @@ impl Drop for Left {
     }
 }
 
-/// Files, each of its name and text.
+/// Files, by their names and texts.
 fn files_of(rt: &impl Abort, alloc: Global, named: &[(&str, &str)]) -> Vec<(String, Vec<u8>)> {
     let mut files = Vec::new(alloc);
     for (name, text) in named {
@@ -64,7 +64,8 @@ fn file_of(rt: &impl Abort, alloc: Global, name: &str, text: &str) -> (String, V
     (name, bytes)
 }
 
-/// A host with these files, whose calls of these numbers fail, and of which a call moves at most so many bytes; 0 is no bound.
+/// A host with these files, whose calls of these numbers fail; a call moves at most `most` bytes; 0
+/// is no bound.
 pub(crate) fn host_of(
     rt: &impl Abort,
     alloc: Global,
@@ -107,7 +108,7 @@ fn lent(rt: &impl Abort, alloc: Global, names: &[&str]) -> Vec<Box<dyn LpSolver>
     solvers
 }
 
-/// The words of a command line.
+/// The arguments of a command line.
 fn words_of(rt: &impl Abort, alloc: Global, words: &[&str]) -> Vec<String> {
     let mut list = Vec::new(alloc);
     for word in words {
@@ -143,7 +144,7 @@ fn put_numbers(rt: &impl Abort, numbers: &[Frac], text: &mut String) {
     text.push('\n').expect(rt, "memory");
 }
 
-/// Puts what solvers tell, a line each, and then the rays of answers.
+/// Puts what solvers tell, a line each, followed by the rays of answers.
 fn put_told(
     rt: &impl Abort,
     solvers: &[Box<dyn LpSolver>],
@@ -160,7 +161,7 @@ fn put_told(
     }
 }
 
-/// Runs these words over a host and solvers.
+/// Runs these arguments over a host and solvers.
 fn ended(
     rt: &impl Abort,
     alloc: Global,
@@ -173,7 +174,8 @@ fn ended(
     run(alloc, words.as_slice(), host, solvers).expect(rt, "memory")
 }
 
-/// Runs these words over a host and the solvers of these names, and tells the status and what the solvers tell.
+/// Runs these arguments over a host and the solvers of these names, and tells the status and what
+/// the solvers tell.
 fn ran(
     rt: &impl Abort,
     alloc: Global,
@@ -194,7 +196,8 @@ fn put_text(rt: &impl Abort, bytes: &[u8], text: &mut String) {
     text.push_str(bytes).expect(rt, "memory");
 }
 
-/// Puts the outputs that a host keeps, each by its name and how many bytes it has, a line: `a.lst 135`.
+/// Puts the outputs that a host keeps, each by its name and how many bytes it has, a line: `a.lst
+/// 135`.
 fn put_kept(rt: &impl Abort, host: &MemHost, text: &mut String) {
     for (name, bytes) in host.closed() {
         let count = bytes.len();
@@ -202,14 +205,14 @@ fn put_kept(rt: &impl Abort, host: &MemHost, text: &mut String) {
     }
 }
 
-/// Puts the names that a host was asked for, each with a blank behind it: `a.gms a.lst `.
+/// Puts the names that were requested from a host, each with a blank after it: `a.gms a.lst `.
 fn put_asked(rt: &impl Abort, host: &MemHost, text: &mut String) {
     for name in host.asked() {
         write!(text, "{name} ").expect(rt, "memory");
     }
 }
 
-/// What a run with this status left, whose solvers tell this.
+/// The results of a run with this status, whose solvers tell this.
 fn left_by(rt: &impl Abort, alloc: Global, host: &MemHost, status: u8, told: String) -> Left {
     let mut left = Left {
         status,
@@ -227,7 +230,7 @@ fn left_by(rt: &impl Abort, alloc: Global, host: &MemHost, status: u8, told: Str
     left
 }
 
-/// Runs these words over a host with these files, and over the solvers of these names.
+/// Runs these arguments over a host with these files, and over the solvers of these names.
 pub(crate) fn run_files(
     rt: &impl Abort,
     alloc: Global,
@@ -240,7 +243,8 @@ pub(crate) fn run_files(
     left_by(rt, alloc, &host, status, told)
 }
 
-/// Runs these words over a host with the source in `a.gms`, and over the solvers of these names.
+/// Runs these arguments over a host with the source in `a.gms`, and over the solvers of these
+/// names.
 pub(crate) fn run_words(
     rt: &impl Abort,
     alloc: Global,

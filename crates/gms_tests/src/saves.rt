@@ -1,24 +1,25 @@
-//! That a run which saves, and one which goes on from a save, ends as it is due where any call of its host fails; and over other solvers.
+//! That a run which saves, and one which resumes from a save, ends as expected if any call of its
+//! host fails; and over other solvers.
 use crate::runs::{Left, run_files};
 use std::alloc::Global;
 use std::process::Abort;
 
-/// Files and the words of a run over them, and what is due of it where no call fails.
+/// Files and the arguments of a run over them, and the expected results if no call fails.
 #[derive(Clone, Copy)]
 struct Due<'a> {
     /// The files, each with its text.
     files: &'a [(&'a str, &'a str)],
-    /// The words.
+    /// The arguments.
     words: &'a [&'a str],
     /// The whole listing.
     listing: &'a str,
-    /// What stands in the output at the end: the save, or the listing where nothing is saved.
+    /// The text of the output at the end: the save, or the listing if nothing is saved.
     last: &'a str,
-    /// The names that are asked for.
+    /// The names that are requested.
     asked: &'a str,
     /// The outputs that are kept, each by its name and how many bytes it has.
     kept: &'a str,
-    /// What is said.
+    /// What is printed.
     said: &'a str,
 }
 
@@ -68,7 +69,7 @@ const SAVING: Due<'static> = Due {
     said: DONE,
 };
 
-/// A run that goes on from that.
+/// A run that resumes from that.
 const GOING_ON: Due<'static> = Due {
     files: &[("b.gms", LATER), ("s.sav", SAVE)],
     words: &["--restart", "s.sav", "b.gms"],
@@ -79,7 +80,7 @@ const GOING_ON: Due<'static> = Due {
     said: LATER_DONE,
 };
 
-/// A run that does both.
+/// A run that resumes and saves.
 const DOING_BOTH: Due<'static> = Due {
     files: &[("b.gms", LATER), ("s.sav", SAVE)],
     words: &["--restart", "s.sav", "--save", "t.sav", "b.gms"],
@@ -90,10 +91,12 @@ const DOING_BOTH: Due<'static> = Due {
     said: LATER_DONE,
 };
 
-/// The call that fails, the status that is due, what is asked for, kept and said, and how many bytes stand in the output.
+/// The call that fails, the expected status, what is requested, kept and printed, and how many
+/// bytes the output has.
 type Row<'a> = (u64, u8, &'a str, &'a str, &'a str, usize);
 
-/// Its calls are open_in, two reads, open_out, write, close_out, and for the save open_out, write, close_out, and say.
+/// Its calls are open_in, two reads, open_out, write, close_out, and for the save open_out, write,
+/// close_out, and say.
 const SAVING_ROWS: [Row<'static>; 11] = [
     (0, 4, "", "", "cannot read a.gms\n", 0),
     (1, 4, "a.gms ", "", "cannot read a.gms\n", 0),
@@ -115,7 +118,8 @@ const SAVING_ROWS: [Row<'static>; 11] = [
     ),
 ];
 
-/// Its calls are open_in and two reads for the save, the same for the file, and open_out, write, close_out and say.
+/// Its calls are open_in and two reads for the save, the same for the file, and open_out, write,
+/// close_out and say.
 const GOING_ON_ROWS: [Row<'static>; 11] = [
     (0, 4, "", "", "cannot read s.sav\n", 0),
     (1, 4, "s.sav ", "", "cannot read s.sav\n", 0),
@@ -130,7 +134,8 @@ const GOING_ON_ROWS: [Row<'static>; 11] = [
     (10, 0, "s.sav b.gms b.lst ", "b.lst 74\n", LATER_DONE, 74),
 ];
 
-/// Runs this over a host of which a call moves at most so many bytes (0 is no bound), and one call fails.
+/// Runs this over a host of which a call moves at most `most` bytes (0 is no bound), and one call
+/// fails.
 fn left_of(rt: &impl Abort, alloc: Global, due: &Due, most: u32, fail: u64) -> Left {
     let fail = [fail];
     let host = (due.files, most, fail.as_slice());
@@ -143,7 +148,7 @@ fn left_of(rt: &impl Abort, alloc: Global, due: &Due, most: u32, fail: u64) -> L
     )
 }
 
-/// Whether a run left what is due by a row, and fronts of what is due of any.
+/// Whether a run had the expected results of a row, and prefixes of what is expected of any.
 fn is_row(left: &Left, due: &Due, row: &Row) -> bool {
     let (_, status, asked, kept, said, length) = *row;
     left.status == status
@@ -154,8 +159,8 @@ fn is_row(left: &Left, due: &Due, row: &Row) -> bool {
         && has_fronts(left, due)
 }
 
-/// Whether a run, one call of which failed, left what is due of any: in the output stands a front of the text that is due there, and what
-/// is asked for, kept and said are fronts of that.
+/// Whether a run, one call of which failed, had results as expected of any: the output is a prefix
+/// of the expected text, and what is requested, kept and printed are prefixes of what is expected.
 fn has_fronts(left: &Left, due: &Due) -> bool {
     let text = if left.kept.is_empty() {
         due.listing
@@ -168,8 +173,8 @@ fn has_fronts(left: &Left, due: &Due) -> bool {
         && says_front(left, due)
 }
 
-/// Whether what was said is that a file cannot be read, with an empty output, or else a front of what is due, and nothing before all that
-/// is due was kept.
+/// Whether the printed text says that a file cannot be read, with an empty output; or is a prefix
+/// of the expected one, and empty before all expected outputs were kept.
 fn says_front(left: &Left, due: &Due) -> bool {
     if left.status == 4 {
         return left.output.is_empty() && left.said.starts_with("cannot read ");
@@ -178,7 +183,7 @@ fn says_front(left: &Left, due: &Due) -> bool {
     due.said.starts_with(left.said.as_str()) && (is_whole || left.said.is_empty())
 }
 
-/// Compares a run, one call of which fails, with what is due.
+/// Compares a run, one call of which fails, with the expected one.
 fn check(rt: &impl Abort, alloc: Global, due: &Due, row: &Row) {
     let (fail, ..) = *row;
     let left = left_of(rt, alloc, due, 0, fail);
@@ -199,11 +204,13 @@ fn a_failed_call_ends_a_run_that_goes_on(rt: HostRuntime) {
     }
 }
 
-/// How many calls a run makes that does both, byte by byte, where none fails: 104 for the save of 102 bytes, 21 for the file of 19,
-/// 76 for the listing of 74, 124 for the save of 122, and 33 for what is said.
+/// How many calls a run makes that does both, byte by byte, where none fails: 104 for the save of
+/// 102 bytes, 21 for the file of 19, 76 for the listing of 74, 124 for the save of 122, and 33 for
+/// what is printed.
 const CALLS: u64 = 358;
 
-/// Whether a run that does both, whose call of this number fails, left what is due; there is no call `CALLS`.
+/// Whether a run that does both, whose call of this number fails, had the expected results; there
+/// is no call `CALLS`.
 fn is_faulted(left: &Left, fail: u64) -> bool {
     match left.status {
         0 => fail == CALLS && left.calls == CALLS && left.output.as_str() == LATER_SAVE,
@@ -213,7 +220,7 @@ fn is_faulted(left: &Left, fail: u64) -> bool {
     }
 }
 
-/// Compares a run that does both, byte by byte, one call of which fails, with what is due.
+/// Compares a run that does both, byte by byte, one call of which fails, with the expected one.
 fn check_fault(rt: &impl Abort, alloc: Global, fail: u64) {
     let left = left_of(rt, alloc, &DOING_BOTH, 1, fail);
     assert!(rt; is_faulted(&left, fail), "{fail}");
@@ -237,11 +244,11 @@ parameter a 1
 end
 ";
 
-/// What is listed of a save whose solver is not there.
+/// What is listed of a save whose solver does not exist.
 const NO_SOLVER: &str =
     "*** Source error 43 SaveSolver at line 1 column 1\nEND status 2 solves 0\n";
 
-/// A save, the solvers that are lent, and what is listed of the file that goes on from it.
+/// A save, the solvers that are lent, and what is listed of the file that resumes from it.
 const LENT: [(&str, &[&str], &str); 6] = [
     (SAVE, &["bland"], LATER_LISTING),
     (SAVE, &["greatest", "bland"], LATER_LISTING),
@@ -251,7 +258,7 @@ const LENT: [(&str, &[&str], &str); 6] = [
     (ALONE, &["bland"], NO_SOLVER),
 ];
 
-/// Compares the output of a run of these words with what is due.
+/// Compares the output of a run of these arguments with the expected one.
 fn check_output(
     rt: &impl Abort,
     alloc: Global,

@@ -1,10 +1,12 @@
-//! That a run takes the solver which its source chooses, whatever its rule, and that no other one is asked.
+//! That a run takes the solver which its source chooses, whatever its rule, and that it calls no
+//! other one.
 use crate::prefixes::TRANSPORT;
 use crate::runs::{Left, run_words};
 use std::alloc::Global;
 use std::process::Abort;
 
-/// Solvers, a model, its solves, what is listed of the last one, and what the solvers tell, with the rays of the answers.
+/// Solvers, a model, its solves, what is listed of the last one, and what the solvers tell, with
+/// the rays of the answers.
 type Row<'a> = (&'a [&'a str], &'a str, &'a str, &'a str, &'a str);
 
 /// Bland's solver is the first.
@@ -13,11 +15,11 @@ const BOTH: &[&str] = &["bland", "greatest"];
 /// Bland's solver alone.
 const BLAND: &[&str] = &["bland"];
 
-/// A model whose objective has no end along x and along y.
+/// A model that is unbounded along x and along y.
 const TWO_WAYS: &str =
     "option limrow = 0, limcol = 0, solprint = off; positive variables x, y; variable z; equation obj; obj.. z =e= x + y; model m /all/;";
 
-/// What is listed where the least variable enters.
+/// What is listed if the least variable enters.
 const ALONG_X: &str = "\
 SOLVER bland PIVOTS 1 LIMIT 1000
 SOLVER STATUS 1 Normal Completion
@@ -28,7 +30,7 @@ PROOF Unbounded
   ray z = 1
 END";
 
-/// What is listed where the greatest one enters.
+/// What is listed if the greatest variable enters.
 const ALONG_Y: &str = "\
 SOLVER greatest PIVOTS 1 LIMIT 1000
 SOLVER STATUS 1 Normal Completion
@@ -43,7 +45,7 @@ END";
 const CAPPED: &str =
     "option limrow = 0, limcol = 0, solprint = off; positive variable x; variable z; equations cap, obj; cap.. x =l= 4; obj.. z =e= x; model m /all/;";
 
-/// A plan that cannot be: what is listed, with no pivot.
+/// A model without a feasible plan: what is listed, with no pivot.
 const CROSSED: &str = "\
 SOLVER greatest PIVOTS 0 LIMIT 1000
 SOLVER STATUS 1 Normal Completion
@@ -97,7 +99,8 @@ const ROWS: [Row<'static>; 16] = [
         "OBJECTIVE 4.000\nPROOF Optimal\n  level x = 4\n  level z = 4\n",
         "bland | 2>5 1>4\ngreatest | 2>5 1>4\n",
     ),
-    // The rule of the largest coefficient goes round once, and the turn to Bland's rule ends it.
+    // The rule of the largest coefficient goes round the cycle once, and the turn to Bland's rule
+    // ends it.
     (
         LENT,
         CYCLING,
@@ -179,14 +182,14 @@ const ROWS: [Row<'static>; 16] = [
     ),
 ];
 
-/// Compares the run of a source with what is due.
+/// Compares the run of a source with the expected one.
 fn check(rt: &impl Abort, alloc: Global, source: &str, row: &Row) {
     let (names, _, solves, lists, tells) = *row;
     let left = run_words(rt, alloc, (source, 0, &[]), &["a.gms"], names);
     assert!(rt; is_due(&left, lists, tells), "{solves}");
 }
 
-/// Whether a run ended well, with this in its listing, and its solvers tell this.
+/// Whether a run ended with Done, with this in its listing, and its solvers tell this.
 fn is_due(left: &Left, lists: &str, tells: &str) -> bool {
     left.status == 0 && left.output.contains(lists) && left.told.as_str() == tells
 }

@@ -16,7 +16,7 @@ use Rattle.gms_tuple.specs.Operations.{takes, turn}
 use Rattle.gms_tuple.proofs.Ordered.{same_tuple-Decides, same_tuple_refl, tuple_cmp-Equal, tuple_cmp-flip, first-before, rest-ordered, ordered-cons, ordered-nil}
 use Rattle.gms_tuple.proofs.Members.{joined, has-joined, has-difference, has-intersection, IsOrdered-joined, IsOrdered-filter, same_from_members, not-after, after-first}
 
--- what an operation makes of two lists
+-- the result of an operation on two lists
 abbrev pub combine : Operation → List (List ℕ) → List (List ℕ) → List (List ℕ)
 combine Union xs ys = joined xs ys
 combine Difference xs ys = difference xs ys
@@ -49,7 +49,8 @@ takes-some Difference false b e = absurd cc
 takes-some Intersection true b e = refl
 takes-some Intersection false b e = absurd cc
 
--- The next tuple of two lists, beside one of them: whether it is the first of that list, and what of that list comes after it.
+-- The next tuple of two lists, for one of them: whether it is the first of that list, and what
+-- comes after it in that list.
 pub record IsNext (next : List ℕ) (own : Bool) (xs rest : List (List ℕ)) : Type 0 where
   pub members : (t : List ℕ) → has xs t ≡ ((own && same_tuple next t) || has rest t)
   pub after : All (λ z. tuple_cmp next z ≡ Less) rest
@@ -72,7 +73,8 @@ all-after next (z ∷ zs) each =
     or-true true = refl
     or-true false = refl
 
--- what an operation makes of two lists is the next tuple, where it takes it, and what it makes of the rest
+-- what an operation makes of two lists is the next tuple, if it takes it, followed by what it makes
+-- of the rest
 module _ (op : Operation) (next : List ℕ) (a b : Bool) (xs xs' ys ys' : List (List ℕ)) (first : IsNext next a xs xs') (second : IsNext next b ys ys') where
   made-members : (c : Bool) → takes op a b ≡ c → (t : List ℕ) → has (combine op xs ys) t ≡ has (cond c (next ∷ combine op xs' ys') (combine op xs' ys')) t
   made-members c e t = has-combine op xs ys t ∙ rw (first.members t, second.members t) (by (same_tuple next t) refl c e)
@@ -132,7 +134,7 @@ abbrev pub one_if : Bool → ℕ
 one_if true = 1
 one_if false = 0
 
--- What a turn of two lists in order says, of which one has some.
+-- The result of a turn of two ordered lists, not both empty.
 pub record IsTurn (xs ys : List (List ℕ)) (a b : Bool) (next : List ℕ) : Type 0 where
   pub first : IsNext next a xs (drop (one_if a) xs)
   pub second : IsNext next b ys (drop (one_if b) ys)
@@ -150,14 +152,15 @@ IsTurn-is (x ∷ xs) (y ∷ ys) ordered others some = by (tuple_cmp x y) refl
         record { first = own-next x xs ordered; second = subst (λ z. IsNext z true (y ∷ ys) ys) same (own-next y ys others) }
     by Greater e = record { first = later-next y x xs ordered (tuple_cmp-flip x y Greater e); second = own-next y ys others }
 
--- ---- the walk
+-- ---- the loop
 
 pub ordered-drop : (n : ℕ) (xs : List (List ℕ)) → IsOrdered xs → IsOrdered (drop n xs)
 ordered-drop zero xs ordered = ordered
 ordered-drop (suc n) [] ordered = ordered-nil
 ordered-drop (suc n) (x ∷ xs) ordered = ordered-drop n xs (rest-ordered x xs ordered)
 
--- How far two lists are walked: what is made, before what the operation makes of the rest, is what it makes of the whole.
+-- How far two lists are merged: what is made, followed by what the operation makes of the rest, is
+-- what it makes of the whole.
 pub record IsWalked (op : Operation) (first second made : List (List ℕ)) (i j : ℕ) : Type 0 where
   pub first_in : i ≤ length first
   pub second_in : j ≤ length second
@@ -193,7 +196,7 @@ turn-within (x ∷ xs) (y ∷ ys) = (at-most (not (is_gt (tuple_cmp x y))) (leng
     at-most true n = omega arith
     at-most false n = omega arith
 
--- one turn of the walk
+-- one turn of the loop
 pub IsWalked-turn : (op : Operation) (first second made : List (List ℕ)) (i j : ℕ) (turns : Bool × Bool) (next : List ℕ) (made' : List (List ℕ)) (i' j' : ℕ) → IsOrdered first → IsOrdered second → IsWalked op first second made i j → 0 < length (drop i first) + length (drop j second) → turns ≡ turn (drop i first) (drop j second) → next ≡ cond turns.0 (get_or (drop i first) 0 []) (get_or (drop j second) 0 []) → made' ≡ cond (takes op turns.0 turns.1) (made ++ next ∷ []) made → i' ≡ i + one_if turns.0 → j' ≡ j + one_if turns.1 → IsWalked op first second made' i' j'
 IsWalked-turn op first second made i j turns next made' i' j' ordered others walked some turned is pushed up across =
     let xs = drop i first in

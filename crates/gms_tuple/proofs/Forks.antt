@@ -1,4 +1,5 @@
--- Lists around a tuple: what stands where, what is put in or taken out, and how many pass a test that an ordered list fails from some tuple on.
+-- Lists around a tuple: what is at each place, what is inserted or removed, and how many tuples
+-- pass a test that an ordered list fails from some tuple on.
 use Rattle.std.proofs.Common.{◌≡◌, ℕ, ◌+◌, ◌-◌, ◌<◌, ◌≤◌, Bool, true, false, ◌||◌, List, [], ◌∷◌, ◌++◌, filter, length, get_or, suc, zero, refl, sym, ap, subst, ◌∙◌, cond, arith, insert, remove, Some, slice_get}
 use Rattle.std.specs.declared.cmp.Ordering.{Ordering}
 use Rattle.std.specs.declared.cmp.Ordering.TheVariants.{Less, Equal, Greater}
@@ -24,7 +25,7 @@ module _ {X : Type 0} (l : List X) (x : X) (r : List X) where
   length-fork = length-append l (x ∷ r) ∙ omega arith
 
 module _ {X : Type 0} (l m r : List X) where
-  -- the tuples of a fork are those of its sides and its own
+  -- the number of the tuples of a fork is that of its sides and its own
   pub length-block : length (l ++ (m ++ r)) ≡ length l + (length m + length r)
   length-block = length-append l (m ++ r) ∙ ap (λ n. length l + n) (length-append m r)
 
@@ -67,7 +68,8 @@ all-left : (P : List ℕ → Type 0) (l m : List (List ℕ)) → All P (l ++ m) 
 all-left P [] m all = All-nil P
 all-left P (y ∷ l) m all = All-cons P y l (All-head P y (l ++ m) all) (all-left P l m (All-tail P y (l ++ m) all))
 
--- the sides of an ordered fork are in order, its tuple comes after those on the left and before those on the right
+-- the sides of an ordered fork are in order; its tuple comes after those on the left and before
+-- those on the right
 pub ordered-left : (l m : List (List ℕ)) → IsOrdered (l ++ m) → IsOrdered l
 ordered-left [] m ordered = ordered-nil
 ordered-left (y ∷ l) m ordered =
@@ -135,7 +137,7 @@ module _ (p : List ℕ → Bool) (closed : IsClosed p) where
           let none : count_by p (x ∷ m) ≡ 0 = count-fails p closed [] x m (second l ordered) fails in
           absurd (omega (arith, none, some))
 
--- how many pass in a fork, by the first of its own
+-- how many pass in a fork, by its first own tuple
 module _ (p : List ℕ → Bool) (closed : IsClosed p) (l m r : List (List ℕ)) (ordered : IsOrdered (l ++ (m ++ r))) (some : 0 < length m) where
   pub first-fails : p (get_or m 0 []) ≡ false → count_by p (l ++ (m ++ r)) ≡ count_by p l
   first-fails fails = by m ordered some fails
@@ -204,7 +206,7 @@ count-through xs prefix =
 
 -- ---- the place of a tuple
 
--- no tuple of an ordered list that begins with one which does not come before another comes before that
+-- if the first tuple of an ordered list does not come before another, no tuple of the list does
 none-before : (x : List ℕ) (xs : List (List ℕ)) (t : List ℕ) → IsOrdered (x ∷ xs) → is_before x t ≡ false → count_before (x ∷ xs) t ≡ 0
 none-before x xs t ordered not-before = count-fails (λ member. is_before member t) (λ x y less before. before-closed t x y less before) [] x xs ordered not-before
 
@@ -212,7 +214,7 @@ one-before : (x : List ℕ) (xs : List (List ℕ)) (t : List ℕ) → IsOrdered 
 one-before x xs t ordered before =
     let e = count-passes (λ member. is_before member t) (λ x y less before. before-closed t x y less before) [] x xs ordered before in omega arith
 
--- the tuple that stands after those before another is that one, and so its place is found
+-- if the first tuple that does not come before another equals it, that is its place
 first-same : (xs : List (List ℕ)) (t : List ℕ) → IsOrdered xs → count_before xs t < length xs → same_tuple (get_or xs (count_before xs t) []) t ≡ true → position_or_len (λ member. same_tuple member t) xs ≡ count_before xs t
 first-same [] t ordered within same = absurd (omega arith)
 first-same (x ∷ xs) t ordered within same = by (first-same xs t (rest-ordered x xs ordered)) (tuple_cmp x t) refl
@@ -234,7 +236,7 @@ place_of-counted xs t ordered within same =
     let e = first-same xs t ordered within same in
     rw (e, lt-ltb (count_before xs t) (length xs) within) refl
 
--- where another stands there, or none, the list lacks the tuple
+-- if at that place another tuple is, or none, the list lacks the tuple
 pub has-not : (xs : List (List ℕ)) (t : List ℕ) → IsOrdered xs → (count_before xs t < length xs → same_tuple (get_or xs (count_before xs t) []) t ≡ false) → has xs t ≡ false
 has-not [] t ordered other = refl
 has-not (x ∷ xs) t ordered other = by (has-not xs t (rest-ordered x xs ordered)) (tuple_cmp x t) refl

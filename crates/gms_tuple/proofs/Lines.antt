@@ -1,4 +1,5 @@
--- A list in two parts, of which the second stands behind the first, and how many of its tuples pass a test.
+-- A list in two parts, of which the second follows the first, and how many of its tuples pass a
+-- test.
 use Rattle.std.proofs.Common.{◌≡◌, ◌⊎◌, inl, inr, ℕ, ◌+◌, ◌<◌, ◌≤◌, Bool, true, false, List, [], ◌∷◌, ◌++◌, length, take, drop, subst, get_or, slice_get, Some, ◌-◌, sym, ap, ◌∙◌, arith, append_assoc, add-one, zero, suc}
 use Rattle.std.specs.List.{count_by}
 use Rattle.std.specs.List.Sorted.{IsPartitionedBy, IsPartitionPoint}
@@ -44,7 +45,7 @@ module _ (p : List ℕ → Bool) (closed : IsClosed p) where
   pub count-all : (l : List (List ℕ)) (x : List ℕ) → IsOrdered (l ++ x ∷ []) → p x ≡ true → count_by p (l ++ x ∷ []) ≡ length l + 1
   count-all l x ordered passes = let both = count-passes p closed l x [] ordered passes in omega (arith, both)
 
-  -- where those before a place pass and the others fail, so many pass
+  -- if exactly the tuples before a place pass, their number is that place
   pub count-partitioned : (xs : List (List ℕ)) (i : ℕ) → IsOrdered xs → i ≤ length xs → ((k : ℕ) (d : List ℕ) → k < i → p (get_or xs k d) ≡ true) → ((k : ℕ) (d : List ℕ) → i ≤ k → k < length xs → p (get_or xs k d) ≡ false) → count_by p xs ≡ i
   count-partitioned [] i ordered within passes fails = omega (arith, within)
   count-partitioned (x ∷ xs) zero ordered within passes fails = count-fails p closed [] x xs ordered (fails 0 x (omega arith) (omega arith))
@@ -89,7 +90,8 @@ module _ (through : Bool) (prefix : List ℕ) (whole l m : List (List ℕ)) (x :
       let e : whole ≡ l ++ x ∷ drop 1 m = sym is ∙ ap (λ r. l ++ r) (begins-with m x first) in
       ap (count_by (is_within through prefix)) e ∙ count-fails (is_within through prefix) (is_within-closed through prefix) l x (drop 1 m) (subst IsOrdered e ordered) fails
 
-  -- where it is within, so is all of the first part, and of the second part as many as come before the first that is not
+  -- if it is within, so is all of the first part, and of the second part as many as come before the
+  -- first that is not
   pub some-pass : slice_get m 0 ≡ Some x → is_within through prefix x ≡ true → (i : ℕ) → IsPartitionPoint (λ y. is_within through prefix y ≡ true) (λ y. is_within through prefix y ≡ false) m i → i ≤ length m → length l + i ≡ count_by (is_within through prefix) whole
   some-pass first passes i point most =
       let p : List ℕ → Bool = is_within through prefix in
@@ -97,7 +99,7 @@ module _ (through : Bool) (prefix : List ℕ) (whole l m : List (List ℕ)) (x :
       let own : count_by p m ≡ i = count-partitioned p (is_within-closed through prefix) m i (second-ordered l m (subst IsOrdered (sym is) ordered)) most (λ k d below. point.0 k d (omega arith) below) (λ k d from below. point.1 k d from below) in
       sym (ap (count_by p) e ∙ count-behind p (is_within-closed through prefix) l x (drop 1 m) (subst IsOrdered e ordered) passes ∙ ap (λ r. length l + count_by p r) (sym (begins-with m x first)) ∙ ap (λ n. length l + n) own)
 
-  -- the second part has those that are within in front
+  -- in the second part those that are within come first
   pub partitioned : IsPartitionedBy (is_within through prefix) m
   partitioned i j d le less within = by (cases_lt i j)
     where

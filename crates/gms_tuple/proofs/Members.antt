@@ -34,7 +34,7 @@ after-first x (y ∷ ys) t before there =
       | false ↦ λ _ later. after-first x ys t (All-tail (λ y. tuple_cmp x y ≡ Less) y ys before) later
     ] refl there
 
--- what does not come after all of a list that it is to be the first of is not among them
+-- a tuple that does not come after another is not in a list that the other may be the first of
 pub not-after : (x : List ℕ) (xs : List (List ℕ)) (t : List ℕ) → All (λ y. tuple_cmp x y ≡ Less) xs → (o : Ordering) → tuple_cmp x t ≡ o → is_lt o ≡ false → has xs t ≡ false
 not-after x xs t before o e other =
     false_from_ne_true (has xs t) (λ there. both_ways (is_lt o) other (ap is_lt (sym e ∙ after-first x xs t before there)))
@@ -58,7 +58,7 @@ has-filter p (x ∷ xs) t = by (has-filter p xs t) (same_tuple x t) refl (p x) r
 pub has-join : (xs : List (List ℕ)) (t : List ℕ) (ys : List (List ℕ)) (other : List ℕ) → has (xs ++ t ∷ ys) other ≡ (has xs other || (same_tuple t other || has ys other))
 has-join xs t ys other = list_any-append (λ member. same_tuple member other) xs (t ∷ ys)
 
--- what an insertion puts in: the members are the old ones and the tuple
+-- the members after an insertion: the old ones and the tuple
 pub has-inserted : (xs : List (List ℕ)) (t other : List ℕ) → has (inserted xs t) other ≡ (same_tuple t other || has xs other)
 has-inserted xs t other = by (has xs t) refl
   where
@@ -81,7 +81,7 @@ has-inserted xs t other = by (has xs t) refl
         has-join (filter (λ member. is_before member t) xs) t (filter (λ member. is_before t member) xs) other
         ∙ rw (has-filter (λ member. is_before member t) xs other, has-filter (λ member. is_before t member) xs other) (old-or-new (tuple_cmp other t) refl (has xs other))
 
--- what a removal leaves: the members are the old ones other than the tuple
+-- the members after a removal: the old ones other than the tuple
 pub has-removed : (xs : List (List ℕ)) (t other : List ℕ) → has (removed xs t) other ≡ (has xs other && not (same_tuple t other))
 has-removed xs t other = has-filter (λ member. not (same_tuple member t)) xs other ∙ ap (λ b. has xs other && not b) (nat_list_eq_equiv.symm other t)
 
@@ -92,7 +92,7 @@ has-difference xs ys t = has-filter (λ member. not (has ys member)) xs t
 pub has-intersection : (xs ys : List (List ℕ)) (t : List ℕ) → has (intersection xs ys) t ≡ (has xs t && has ys t)
 has-intersection xs ys t = has-filter (λ member. has ys member) xs t
 
--- the members, with others put in one after another
+-- the members, with others inserted in sequence
 abbrev pub joined : List (List ℕ) → List (List ℕ) → List (List ℕ)
 joined members others = fold inserted members others
 
@@ -108,11 +108,11 @@ has-joined xs (y ∷ ys) t = has-joined (inserted xs y) ys t ∙ rw (has-inserte
 
 -- ---- order
 
--- what a test keeps of an ordered list is in order
+-- filtering an ordered list gives one in order
 pub IsOrdered-filter : (p : List ℕ → Bool) (xs : List (List ℕ)) → IsOrdered xs → IsOrdered (filter p xs)
 IsOrdered-filter p xs ordered = IsStrictlySortedBy-filter tuple_cmp p xs ordered
 
--- a test that says of a tuple whether it comes before another
+-- if the test says that a tuple comes before another, it does
 pub Less-from_before : (a b : List ℕ) → is_before a b ≡ true → tuple_cmp a b ≡ Less
 Less-from_before a b before = by (tuple_cmp a b) before
   where
@@ -136,11 +136,11 @@ pub IsOrdered-joined : (xs ys : List (List ℕ)) → IsOrdered xs → IsOrdered 
 IsOrdered-joined xs [] ordered = ordered
 IsOrdered-joined xs (y ∷ ys) ordered = IsOrdered-joined (inserted xs y) ys (IsOrdered-inserted xs y ordered)
 
--- a list that a tuple is put into between two parts
+-- inserting a tuple between the two parts of a list
 insert-between : (xs front back : List (List ℕ)) (t : List ℕ) (n : ℕ) → xs ≡ front ++ back → length front ≡ n → insert xs n t ≡ front ++ t ∷ back
 insert-between xs front back t n e at = rw e (ap (λ ys. ys ++ t ∷ drop n (front ++ back)) (take_at front back n at) ∙ ap (λ ys. front ++ t ∷ ys) (drop_at front back n at))
 
--- a tuple that is another either comes first or second
+-- of two different tuples exactly one comes first
 before-either : (x t : List ℕ) → same_tuple x t ≡ false → not (is_before x t) ≡ is_before t x
 before-either x t other = by (tuple_cmp x t) refl
   where
@@ -149,7 +149,7 @@ before-either x t other = by (tuple_cmp x t) refl
     by Equal e = absurd (both_ways (same_tuple x t) other ((same_tuple-Decides x t).1 (tuple_cmp-Equal x t e)))
     by Greater e = rw (tuple_cmp-flip x t Greater e) refl
 
--- a new tuple, put in after as many members as come before it, is inserted
+-- a new tuple that is inserted after the members before it is at its place in the order
 pub insert-counted : (xs : List (List ℕ)) (t : List ℕ) → IsOrdered xs → has xs t ≡ false → insert xs (count_before xs t) t ≡ inserted xs t
 insert-counted xs t ordered new =
     let cut = cut-by (λ _. true) (λ member. is_before member t) (λ x y _ less before. ap is_lt (tuple_cmp-total.trans x y t less (Less-from_before y t before))) xs ordered (λ k d l. refl) in
@@ -198,14 +198,14 @@ same_from_members (x ∷ xs) (y ∷ ys) ordered others same =
     let same' : (t : List ℕ) → has (x ∷ xs) t ≡ has (x ∷ ys) t = λ t. same t ∙ sym (ap (λ z. has (z ∷ ys) t) first) in
     λ i. first i ∷ same_from_members xs ys (rest-ordered x xs ordered) (rest-ordered y ys others) (same-rest x xs ys ordered others' same') i
 
--- what a test keeps of an ordered set by the members of another is in order
+-- the members of an ordered set that another has, or lacks, are in order
 pub IsOrdered-chosen : (there : Bool) (xs ys made : List (List ℕ)) → IsOrdered xs → made ≡ cond there (intersection xs ys) (difference xs ys) → IsOrdered made
 IsOrdered-chosen true xs ys made ordered e = rw e (IsOrdered-filter (λ member. has ys member) xs ordered)
 IsOrdered-chosen false xs ys made ordered e = rw e (IsOrdered-filter (λ member. not (has ys member)) xs ordered)
 
 -- ---- removal
 
--- where the tuple is the first that is found, taking it out leaves the other members
+-- removing the first tuple that is found leaves the other members
 removed-first : (xs : List (List ℕ)) (t : List ℕ) (n : ℕ) → IsOrdered xs → position_or_len (λ member. same_tuple member t) xs ≡ n → n < length xs → remove xs n ≡ removed xs t
 removed-first [] t n ordered at l = absurd (omega arith)
 removed-first (x ∷ xs) t n ordered at l =
@@ -229,7 +229,7 @@ place_of-Some xs t n found =
       | false ↦ λ _ e. absurd cc
     ] refl found
 
--- taking out the tuple at its place leaves the other members
+-- removing the tuple at its place leaves the other members
 pub remove-at : (xs : List (List ℕ)) (t : List ℕ) (n : ℕ) → IsOrdered xs → place_of xs t ≡ Some n → remove xs n ≡ removed xs t
 remove-at xs t n ordered found =
     let at = place_of-Some xs t n found in removed-first xs t n ordered at.1 at.0
@@ -263,7 +263,7 @@ pub has-searched : (xs : List (List ℕ)) (t : List ℕ) (r : Result ℕ ℕ) �
 has-searched xs t (Ok n) found absent = sym (has-place xs t n found)
 has-searched xs t (Err n) found absent = sym absent.0
 
--- a member stands in the list
+-- a member is in the list
 pub Contains-has : (xs : List (List ℕ)) (t : List ℕ) → has xs t ≡ true → Contains xs t
 Contains-has [] t there = absurd cc
 Contains-has (x ∷ xs) t there =

@@ -1,4 +1,4 @@
--- Lists of tuples in order: what stands where, and how such a list is cut by a test.
+-- Ordered lists of tuples: what is at each place, and how such a list is cut by a test.
 use Rattle.std.proofs.Common.{◌≡◌, ℕ, Bool, true, false, not, List, [], ◌∷◌, ◌++◌, filter, refl, ap, ◌∙◌, cond, Decides}
 use Rattle.std.specs.declared.cmp.Ordering.{Ordering}
 use Rattle.std.specs.declared.cmp.Ordering.TheVariants.{Less, Equal, Greater}
@@ -12,7 +12,7 @@ use Rattle.std.proofs.lemmas.Slice.Eq.{bytes_eq-Decides}
 use Rattle.gms_tuple.specs.TupleOrder.{tuple_cmp, same_tuple, IsOrdered}
 use Rattle.gms_tuple.specs.OrderLaws.{tuple_cmp-total, same_tuple-tuple_cmp}
 
--- two tuples are the same just where they are equal lists
+-- two tuples are the same exactly where they are equal lists
 pub same_tuple-Decides : (a b : List ℕ) → Decides (same_tuple a b) (a ≡ b)
 same_tuple-Decides a b = bytes_eq-Decides a b
 
@@ -20,7 +20,7 @@ same_tuple-Decides a b = bytes_eq-Decides a b
 pub same_tuple_refl : (a : List ℕ) → same_tuple a a ≡ true
 same_tuple_refl a = (same_tuple-Decides a a).1 refl
 
--- a tuple that comes before another is another
+-- a tuple that comes before another is a different one
 pub same_tuple-Less : (a b : List ℕ) → tuple_cmp a b ≡ Less → same_tuple a b ≡ false
 same_tuple-Less a b less = rw (same_tuple-tuple_cmp a b, less) refl
 
@@ -44,7 +44,7 @@ first-before x xs ordered = All-from_recursion (λ y. tuple_cmp x y ≡ Less) xs
 pub rest-ordered : (x : List ℕ) (xs : List (List ℕ)) → IsOrdered (x ∷ xs) → IsOrdered xs
 rest-ordered x xs ordered = sorted_tail tuple_cmp x xs ordered
 
--- a list is in order where its first comes before all others and these are in order
+-- a list is in order if its first comes before all others and these are in order
 pub ordered-cons : (x : List ℕ) (xs : List (List ℕ)) → All (λ y. tuple_cmp x y ≡ Less) xs → IsOrdered xs → IsOrdered (x ∷ xs)
 unfolding IsStrictlySortedBy
 ordered-cons x xs before ordered = (recursion_from_All (λ y. tuple_cmp x y ≡ Less) xs before, ordered)
@@ -54,7 +54,8 @@ pub ordered-nil : IsOrdered []
 unfolding IsStrictlySortedBy
 ordered-nil = tt
 
--- a tuple between two lists in order, of which all in the first come before it and all in the second after it
+-- a tuple between two ordered lists, where all in the first come before it and all in the second
+-- after it
 pub ordered-join : (xs : List (List ℕ)) (t : List ℕ) (ys : List (List ℕ)) → IsOrdered xs → All (λ x. tuple_cmp x t ≡ Less) xs → IsOrdered ys → All (λ y. tuple_cmp t y ≡ Less) ys → IsOrdered (xs ++ t ∷ ys)
 ordered-join [] t ys ordered before others after = ordered-cons t ys after others
 ordered-join (x ∷ xs) t ys ordered before others after =
@@ -83,7 +84,8 @@ module _ {X : Type 0} (p : X → Bool) where
   filter_agree_on q (x ∷ xs) all =
       ap (λ b. cond b (x ∷ filter p xs) (filter p xs)) (All-head (λ x. p x ≡ q x) x xs all) ∙ ap (λ ys. cond (q x) (x ∷ ys) ys) (filter_agree_on q xs (All-tail (λ x. p x ≡ q x) x xs all))
 
--- A test that passes, among the tuples that pass `r`, each that comes before one which it passes cuts an ordered list in two.
+-- A test cuts an ordered list in two if, among the tuples that pass `r`, it passes each that comes
+-- before one which it passes.
 module _ (r p : List ℕ → Bool) (closed : (x y : List ℕ) → r x ≡ true → tuple_cmp x y ≡ Less → p y ≡ true → p x ≡ true) where
   pub cut-by : (xs : List (List ℕ)) → IsOrdered xs → All (λ x. r x ≡ true) xs → xs ≡ filter p xs ++ filter (λ x. not (p x)) xs
   cut-by [] ordered all = refl

@@ -1,4 +1,4 @@
--- The members that begin with a prefix stand together in the order.
+-- The members that begin with a prefix are adjacent in the order.
 use Rattle.std.proofs.Common.{◌≡◌, ℕ, ◌+◌, ◌-◌, ◌≤◌, Bool, true, false, not, ◌&&◌, List, [], ◌∷◌, ◌++◌, filter, length, take, drop, refl, sym, ap, ◌∙◌, cond, nat_eq, arith, slice_range}
 use Rattle.std.specs.declared.cmp.Ordering.{Ordering}
 use Rattle.std.specs.declared.cmp.Ordering.TheVariants.{Less, Equal, Greater}
@@ -14,7 +14,7 @@ use Rattle.gms_tuple.specs.TupleSet.{count_before, count_with, those_with}
 use Rattle.gms_tuple.proofs.Ordered.{cut-by}
 use Rattle.gms_tuple.proofs.Members.{IsOrdered-filter, Less-from_before}
 
--- two tests of which the second implies the first keep what the second alone keeps
+-- if the second of two tests implies the first, filtering by both is filtering by the second
 filter-filter : {X : Type 0} (p q : X → Bool) → ((x : X) → q x ≡ true → p x ≡ true) → (xs : List X) → filter q (filter p xs) ≡ filter q xs
 filter-filter p q implies [] = refl
 filter-filter p q implies (x ∷ xs) = by (filter-filter p q implies xs) (p x) refl (q x) refl
@@ -52,7 +52,8 @@ begins-between (a ∷ prefix) (b ∷ x) (c ∷ y) after before begins =
         and_from (nat_eq a b) (begins_with x prefix) (eq-eqb a b (sym at)) (rest after before later)
     by rest later Greater e after before = absurd cc
 
--- what comes after a tuple that is not before a prefix is not before it either, so those before it stand first
+-- what comes after a tuple that is not before a prefix is not before it either, so those before it
+-- come first
 pub before-closed : (prefix x y : List ℕ) → tuple_cmp x y ≡ Less → is_before y prefix ≡ true → is_before x prefix ≡ true
 before-closed prefix x y less before = ap is_lt (tuple_cmp-total.trans x y prefix less (Less-from_before y prefix before))
 

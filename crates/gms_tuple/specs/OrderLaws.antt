@@ -1,4 +1,4 @@
--- Laws of the order of tuples: it is total, and tells apart all tuples that differ.
+-- Laws of the order of tuples: it is total, and distinguishes all tuples that differ.
 use Rattle.std.proofs.Common.{◌≡◌, ℕ, List}
 use Rattle.std.specs.Cmp.{IsTotalOrder, IsPartialOrder, po, unsigned_ties}
 use Rattle.std.specs.Cmp.Lexicographic.{lists_ties}
@@ -10,10 +10,10 @@ use Rattle.gms_tuple.specs.TupleOrder.{tuple_cmp, same_tuple}
 pub tuple_cmp-total : IsTotalOrder tuple_cmp
 tuple_cmp-total = nat_list_cmp_total
 
--- two tuples are the same just where neither comes first
+-- two tuples are the same exactly where neither comes first
 pub same_tuple-tuple_cmp : (a b : List ℕ) → same_tuple a b ≡ eq_by_cmp tuple_cmp a b
 same_tuple-tuple_cmp a b = lists_ties nat_cmp unsigned_ties a b
 
--- the order as one that always answers
+-- the order as a partial order that always answers
 pub tuple_cmp-partial : IsPartialOrder same_tuple (as_partial_cmp tuple_cmp)
 tuple_cmp-partial = po tuple_cmp-total same_tuple-tuple_cmp

@@ -1,5 +1,4 @@
--- Products of lists of labels.
--- GAMS User's Guide, "Set Definition" (sets over several sets).
+-- Products of lists of labels (GAMS User's Guide, "Set Definition", sets over several sets).
 use Rattle.std.specs.Prelude.{ℕ, List, [], ◌∷◌, map}
 use Rattle.std.specs.List.{flat_map}
 

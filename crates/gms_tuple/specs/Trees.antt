@@ -1,4 +1,4 @@
--- What a balanced tree of tuples holds: its tuples from left to right, and at each fork how many these are.
+-- The tuples of a balanced tree: from left to right, and at each fork their number.
 use Rattle.std.specs.Prelude.{◌≡◌, ◌<◌, ℕ, List, [], ◌++◌, length}
 use Rattle.gms_tuple.specs.declared.tree.Fork.{Fork as ForkOf}
 use Rattle.gms_tuple.specs.declared.tree.Node.{Node}
@@ -13,11 +13,11 @@ abbrev pub tuples : Node → List (List ℕ)
 tuples Leaf = []
 tuples (Fork fork) = listed fork.value
 
--- a fork has the number of its tuples, and some of its own
+-- a fork has the number of its tuples, and at least one is in the fork itself
 abbrev pub IsFork : ForkOf → Type 0
 IsFork fork = (fork.size ≡ length (listed fork)) × (0 < length fork.own.items)
 
--- what a node promises
+-- the invariant of a node
 abbrev pub IsCounted : Node → Type 0
 IsCounted Leaf = Unit {0}
 IsCounted (Fork fork) = IsFork fork.value

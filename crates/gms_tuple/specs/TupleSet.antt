@@ -1,4 +1,4 @@
--- Sets of tuples, each seen as the ordered list of its members.
+-- Sets of tuples; the view of each is the ordered list of its members.
 use Rattle.std.specs.Prelude.{ℕ, Bool, not, ◌||◌, ◌&&◌, List, ◌∷◌, ◌++◌, filter, count_by, Option, position, if◌then◌else◌}
 use Rattle.std.specs.List.{list_any}
 use Rattle.gms_tuple.specs.TupleOrder.{is_before, same_tuple, begins_with}
@@ -36,7 +36,7 @@ count_before members prefix = count_by (λ member. is_before member prefix) memb
 abbrev pub count_with : List (List ℕ) → List ℕ → ℕ
 count_with members prefix = count_by (λ member. begins_with member prefix) members
 
--- whether a member comes before a prefix, or where `through` is so begins with it
+-- whether a member comes before a prefix; with `through`, also whether it begins with it
 abbrev pub is_within : Bool → List ℕ → List ℕ → Bool
 is_within through prefix member = is_before member prefix || (through && begins_with member prefix)
 

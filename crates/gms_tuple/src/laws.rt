@@ -1,4 +1,4 @@
-//! Which number the limit of a tuple is.
+//! The limit of the length of a tuple.
 ghost use Rattle.std.specs.Prelude.{◌≡◌};
 
 use crate::tuple::MOST_LABELS;

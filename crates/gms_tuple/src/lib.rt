@@ -1,4 +1,5 @@
-//! Floor 3, state and checks. Tuples of labels in their one order, and sets of tuples as ordered lists.
+//! Layer 3, state and checks. Tuples of labels in their one order, and sets of tuples as ordered
+//! lists.
 #![tactic(auto)]
 
 mod laws;

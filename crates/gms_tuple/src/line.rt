@@ -1,4 +1,4 @@
-//! Tuples in a list: a tree, and behind it the last few as they came.
+//! Tuples in a list: a tree, followed by the last few as they came.
 ghost use Rattle.std.specs.Prelude.{◌≡◌, ◌<◌, ◌≤◌, ◌+◌, ◌^◌, ◌++◌, [], length, count_by, slice_get, Some, IfOk, OnOk, OnErr};
 ghost use Rattle.std.specs.List.{insert, remove};
 ghost use Rattle.gms_tuple.specs.TupleOrder.{IsOrdered};
@@ -9,17 +9,18 @@ use crate::tuple::Tuple;
 use std::alloc::{AllocError, Global};
 use std::marker::Model;
 
-/// How many tuples stand behind the tree at most.
+/// How many tuples follow the tree at most.
 const MOST_BEHIND: usize = 64;
 
-/// Tuples in a list. A tuple is reached, put in and taken out by its place, in as many steps as the logarithm of their number. One that
-/// is put in behind all others is put there without a search, and with `MOST_BEHIND` others at a time into the tree.
+/// Tuples in a list. A tuple is reached, inserted and removed by its place, in as many steps as the
+/// logarithm of their number. One that is put after all others is put there without a search, and
+/// with `MOST_BEHIND` others at a time into the tree.
 pub struct Line {
     tree: Tree,
     behind: Vec<Tuple>,
 }
 
-// Written out, so that it is proved here alone, and not in each crate that lets one go.
+// Written out, so that it is proved once, and not in each crate that drops one.
 impl Drop for Line {
     fn drop(self) {
         let Self { tree: _, behind: _ } = self;
@@ -67,7 +68,8 @@ impl Line {
         }
     }
 
-    /// How many tuples come before one, or where `through` is so begin with it, in a list that is in order.
+    /// How many tuples of an ordered list come before one; with `through`, also those that begin
+    /// with it.
     pub fn count(&self, t: &Tuple, through: bool) -> usize
         requires { IsOrdered self.now }
         ensures { result ≡ count_by (is_within through t.now) self.now }
@@ -87,7 +89,7 @@ impl Line {
         self.tree.len() + within
     }
 
-    /// Puts the tuples behind the tree into it, where they are many. No tuple changes its place.
+    /// Puts the tuples after the tree into it, if they are many. No tuple changes its place.
     fn settle(&mut self, alloc: Global) -> Result<(), AllocError>
         ensures { self.new ≡ self.old }
     {
@@ -97,7 +99,7 @@ impl Line {
         self.tree.take_in(alloc, &mut self.behind)
     }
 
-    /// Puts a tuple at a place. After want of memory all is as it was.
+    /// Inserts a tuple at a place. If memory runs out nothing changes.
     pub fn insert(&mut self, alloc: Global, place: usize, tuple: Tuple) -> Result<(), AllocError>
         requires place { place ≤ length self.old }
         requires room { length self.old + 1 < 2 ^ 64 }
@@ -114,7 +116,7 @@ impl Line {
         Ok(())
     }
 
-    /// Takes the tuple at a place out.
+    /// Removes the tuple at a place.
     pub fn remove(&mut self, place: usize)
         requires { place < length self.old }
         ensures { self.new ≡ remove self.old place }
@@ -145,7 +147,7 @@ impl Line {
         push_copies(alloc, &self.behind, list)
     }
 
-    /// The last so many tuples of a list, which gives them up.
+    /// The last `size` tuples of a list, which are moved out of it.
     pub fn build(alloc: Global, tuples: &mut Vec<Tuple>, size: usize) -> Result<Line, AllocError>
         requires { size ≤ length tuples.old.items }
         ensures { IfOk result (λ line. (tuples.old.items ≡ tuples.new.items ++ line) × (length line ≡ size)) }

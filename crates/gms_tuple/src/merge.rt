@@ -1,4 +1,4 @@
-//! Two lists of tuples in order, walked side by side.
+//! Two ordered lists of tuples, traversed side by side.
 ghost use Rattle.std.specs.Prelude.{◌≡◌, ◌<◌, ◌+◌, ℕ, List, [], length, IfOk};
 ghost use Rattle.gms_tuple.specs.TupleOrder.{IsOrdered};
 ghost use Rattle.gms_tuple.specs.TupleSet.{has};
@@ -8,7 +8,7 @@ use crate::tuple::Tuple;
 use std::alloc::{AllocError, Global};
 use std::cmp::Ordering;
 
-/// What is made of two sets.
+/// An operation on two sets.
 #[derive(Clone, Copy)]
 pub enum Operation {
     /// The members of either.
@@ -59,7 +59,7 @@ pub fn combined(
     Ok(made)
 }
 
-/// Whether the next tuple of two lists, of which one has some, is the first of each.
+/// Whether the next tuple of two lists, not both empty, is the first of each.
 fn turn(first: &[Tuple], second: &[Tuple]) -> (bool, bool)
     ensures { result ≡ turn first.now second.now }
 {

@@ -1,4 +1,4 @@
-//! A set of tuples, kept in order in a balanced tree.
+//! A set of tuples, stored in order in a balanced tree.
 ghost use Rattle.std.specs.Prelude.{◌≡◌, ◌<◌, ◌≤◌, ◌+◌, ◌^◌, ◌↔◌, ◌||◌, ◌&&◌, ℕ, List, [], length, not, slice_get, slice_range, Contains, IsTrue, IsOk, IfOk, IfErr, OnOk, OnErr, Some, false};
 ghost use Rattle.gms_tuple.specs.TupleOrder.{same_tuple, IsOrdered};
 ghost use Rattle.gms_tuple.specs.TupleSet.{has, place_of, inserted, removed, difference, intersection, count_before, count_with, those_with};
@@ -10,15 +10,15 @@ use crate::tuple::Tuple;
 use std::alloc::{AllocError, Global};
 use std::marker::Model;
 
-/// A set of tuples, seen as the list of its members: distinct, and in the order of tuples.
+/// A set of tuples. Its view is the list of its members: distinct, and in the order of tuples.
 ///
-/// A member is found, put in and taken out, by its labels or by its place, in as many steps as the logarithm of their
-/// number; one that comes behind all others is put in without a search.
+/// A member is found, inserted and removed, by its labels or by its place, in as many steps as the
+/// logarithm of their number; one that comes after all others is inserted without a search.
 pub struct TupleSet {
     line: Line,
 }
 
-// Written out, so that it is proved here alone, and not in each crate that lets one go.
+// Written out, so that it is proved once, and not in each crate that drops one.
 impl Drop for TupleSet {
     fn drop(self) {
         let Self { line: _ } = self;
@@ -78,7 +78,8 @@ impl TupleSet {
         self.place(t).is_ok()
     }
 
-    /// Puts a tuple at its place in the order. True where it was new. After want of memory the set is as it was.
+    /// Inserts a tuple at its place in the order. True if it was new. If memory runs out the set is
+    /// unchanged.
     pub fn insert(&mut self, alloc: Global, t: Tuple) -> Result<bool, AllocError>
         ensures new { IfOk result (λ new. new ≡ not (has self.old t)) }
         ensures ok { OnOk result (self.new ≡ inserted self.old t) }
@@ -100,7 +101,7 @@ impl TupleSet {
         Ok(true)
     }
 
-    /// Takes a tuple out. True where it was a member.
+    /// Removes a tuple. True if it was a member.
     pub fn remove(&mut self, t: &Tuple) -> bool
         ensures had { result ≡ has self.old t.now }
         ensures rest { self.new ≡ removed self.old t.now }
@@ -118,7 +119,7 @@ impl TupleSet {
 
     /// The places from and up to which the members begin with `prefix`.
     ///
-    /// Where none begins with it, both are the place at which one that does would stand.
+    /// If none begins with it, both are the place at which one that does would be.
     pub fn span(&self, prefix: &Tuple) -> (usize, usize)
         ensures from { result.0 ≡ count_before self.now prefix.now }
         ensures upto { result.1 ≡ result.0 + count_with self.now prefix.now }
@@ -131,7 +132,7 @@ impl TupleSet {
         )
     }
 
-    /// The place of a member, counted from 0; where the tuple is none, the place at which it would stand.
+    /// The place of a member, counted from 0; if the tuple is none, the place at which it would be.
     pub fn place(&self, t: &Tuple) -> Result<usize, usize>
         ensures member { IfOk result (λ place. place_of self.now t.now ≡ Some place) }
         ensures absent { IfErr result (λ place. (has self.now t.now ≡ false) × (place ≡ count_before self.now t.now)) }

@@ -1,4 +1,4 @@
-//! Tuples in a list, kept in a balanced tree of blocks.
+//! Tuples in a list, stored in a balanced tree of blocks.
 ghost use Rattle.std.specs.Prelude.{◌≡◌, ◌<◌, ◌≤◌, ◌+◌, ◌^◌, ◌++◌, ◌∷◌, [], length, count_by, get_or, slice_get, Some, true, IfOk, IfSome, IfNone, OnOk, OnErr};
 ghost use Rattle.std.specs.declared.cmp.Ordering.TheVariants.{Less, Equal, Greater};
 ghost use Rattle.std.specs.List.{insert, remove};
@@ -12,11 +12,12 @@ use std::cmp::Ordering;
 use std::marker::Model;
 use std::mem;
 
-/// How many tuples a fork has in its block at most. It shares a longer block between two forks.
+/// How many tuples the block of a fork has at most. A longer block is split into two forks.
 const MOST_OWN: usize = 64;
 
-/// Tuples in a list. A tuple is reached, put in and taken out by its place, in as many steps as the tree is deep. No side of
-/// a fork is more than about three times as long as the other, so the depth grows as the logarithm of their number.
+/// Tuples in a list. A tuple is reached, inserted and removed by its place, in as many steps as the
+/// tree is deep. No side of a fork is more than about three times as long as the other, so the
+/// depth grows as the logarithm of their number.
 #[cycle(tree)]
 #[derive(Drop)]
 pub struct Tree {
@@ -66,7 +67,7 @@ impl Tree {
         Tree { node: Node::Leaf }
     }
 
-    /// The tuples of a fork.
+    /// The tree of a fork.
     fn of(fork: Box<Fork>) -> Tree
         requires { IsFork fork.value }
         ensures { result ≡ listed fork.value }
@@ -76,7 +77,7 @@ impl Tree {
         }
     }
 
-    /// Takes all tuples out.
+    /// Moves all tuples out.
     fn take(&mut self) -> Tree
         ensures all { result ≡ self.old }
         ensures none { self.new ≡ [] }
@@ -122,7 +123,8 @@ impl Tree {
         }
     }
 
-    /// How many tuples come before one, or where `through` is so begin with it, in a list that is in order.
+    /// How many tuples of an ordered list come before one; with `through`, also those that begin
+    /// with it.
     pub fn count(&self, t: &Tuple, through: bool) -> usize
         requires { IsOrdered self.now }
         ensures { result ≡ count_by (is_within through t.now) self.now }
@@ -137,7 +139,7 @@ impl Tree {
         fork.count_past(t, through, after)
     }
 
-    /// Puts a tuple at a place. Out of memory leaves all as it was.
+    /// Inserts a tuple at a place. Out of memory leaves all as it was.
     pub fn insert(&mut self, alloc: Global, place: usize, tuple: Tuple) -> Result<(), AllocError>
         requires place { place ≤ length self.old }
         requires room { length self.old + 1 < 2 ^ 64 }
@@ -163,7 +165,7 @@ impl Tree {
         put
     }
 
-    /// Takes the tuple at a place out.
+    /// Removes the tuple at a place.
     pub fn remove(&mut self, place: usize)
         requires place { place < length self.old }
         requires room { length self.old < 2 ^ 64 }
@@ -184,7 +186,7 @@ impl Tree {
         *self = Tree::made(fork);
     }
 
-    /// One tuple.
+    /// The tree of one tuple.
     fn single(alloc: Global, tuple: Tuple) -> Result<Tree, AllocError>
         ensures { IfOk result (λ tree. tree ≡ tuple ∷ []) }
     {
@@ -194,7 +196,8 @@ impl Tree {
         Ok(Tree::of(fork))
     }
 
-    /// The tuples of a fork, whose number it may have to count.
+    /// The tree of a fork. If its block is empty the sides are joined; the number of tuples is
+    /// counted.
     fn made(mut fork: Box<Fork>) -> Tree
         requires { length (listed fork.value) < 2 ^ 64 }
         ensures { result ≡ listed fork.value }
@@ -208,7 +211,7 @@ impl Tree {
         Tree::of(fork)
     }
 
-    /// Puts the tuples of a fork that has no others in front of all others.
+    /// Puts the tuples of a fork without sides before all others.
     fn prepend(&mut self, new: Box<Fork>)
         requires room { length new.value.own.items + length self.old < 2 ^ 64 }
         requires single { IsSingle new.value }
@@ -222,7 +225,7 @@ impl Tree {
         *self = Tree::made(fork);
     }
 
-    /// The tuples of two trees, one after another, which are so many.
+    /// The tuples of two trees in sequence; their number is `size`.
     fn joined(left: Tree, mut right: Tree, size: usize) -> Tree
         requires { size ≡ length left + length right }
         ensures { result ≡ left ++ right }
@@ -237,7 +240,7 @@ impl Tree {
         Tree::of(fork)
     }
 
-    /// Takes the first block out, in a fork in which only it counts.
+    /// Removes the first block, and answers it in a fork in which only the block counts.
     fn take_first(&mut self) -> Option<Box<Fork>>
         ensures first { IfSome result (λ fork. self.old ≡ fork.value.own.items ++ self.new) }
         ensures some { IfSome result (λ fork. 0 < length fork.value.own.items) }
@@ -286,7 +289,7 @@ impl Tree {
         fork.right.push_all(alloc, list)
     }
 
-    /// The last so many tuples of a list, which gives them up.
+    /// The last `size` tuples of a list, which are moved out of it.
     pub fn build(alloc: Global, tuples: &mut Vec<Tuple>, size: usize) -> Result<Tree, AllocError>
         requires { size ≤ length tuples.old.items }
         ensures { IfOk result (λ tree. (tuples.old.items ≡ tuples.new.items ++ tree) × (length tree ≡ size)) }
@@ -308,7 +311,7 @@ impl Tree {
         Ok(Tree::of(Box::new(alloc, fork)?))
     }
 
-    /// Puts the tuples of a list, which gives them up, behind all others. Out of memory leaves all as it was.
+    /// Moves the tuples of a list after all others. Out of memory leaves all as it was.
     pub fn take_in(&mut self, alloc: Global, behind: &mut Vec<Tuple>) -> Result<(), AllocError>
         requires { length self.old + length behind.old.items < 2 ^ 64 }
         ensures ok { OnOk result ((self.new ≡ self.old ++ behind.old.items) × (behind.new.items ≡ [])) }
@@ -321,7 +324,7 @@ impl Tree {
         Ok(())
     }
 
-    /// Puts the tuples of another tree behind all others.
+    /// Puts the tuples of another tree after all others.
     pub fn append(&mut self, behind: Tree)
         requires { length self.old + length behind < 2 ^ 64 }
         ensures { self.new ≡ self.old ++ behind }
@@ -341,7 +344,8 @@ impl Tree {
         *self = Tree::of(fork);
     }
 
-    /// Turns the right side of the tree up where it is the longer one, and else the left one where that is longer.
+    /// Rotates the right side of the tree up if it is the longer one, or else the left one if that
+    /// is longer.
     fn lean(&mut self, to_left: bool)
         ensures { self.new ≡ self.old }
     {
@@ -373,7 +377,8 @@ impl Fork {
         Ok(Box::new(alloc, fork)?)
     }
 
-    /// How many tuples come within a prefix, where the fork's own first does, and so many do on the right.
+    /// How many tuples come within a prefix, where the fork's first own tuple does, and `after`
+    /// tuples on the right do.
     fn count_past(&self, t: &Tuple, through: bool, after: usize) -> usize
         requires fork { IsFork self.now }
         requires ordered { IsOrdered (listed self.now) }
@@ -388,7 +393,8 @@ impl Fork {
         upto - self.own.len() + count_in(&self.own, t, through)
     }
 
-    /// Where a tuple is put that comes to a place: on the left, among the fork's own, or on the right.
+    /// The part into which a tuple for a place is inserted: the left side, the fork itself, or the
+    /// right side.
     fn side(&self, place: usize) -> Ordering
         requires { length (listed self.now) < 2 ^ 64 }
         ensures left { result ≡ Less → place ≤ length self.now.left }
@@ -407,7 +413,7 @@ impl Fork {
         }
     }
 
-    /// Puts a tuple among the fork's own, at a place counted from the first of them.
+    /// Inserts a tuple into the fork's block, at a place in it.
     fn insert_own(&mut self, alloc: Global, at: usize, tuple: Tuple) -> Result<(), AllocError>
         requires at { at ≤ length self.old.own.items }
         requires room { length (listed self.old) + 1 < 2 ^ 64 }
@@ -421,7 +427,7 @@ impl Fork {
         Ok(())
     }
 
-    /// Puts a tuple among the fork's own, the second half of which become a fork on the right.
+    /// Inserts a tuple into the fork's block, the second half of which becomes a fork on the right.
     fn halve(&mut self, alloc: Global, at: usize, tuple: Tuple) -> Result<(), AllocError>
         requires at { at ≤ length self.old.own.items }
         requires room { length (listed self.old) + 1 < 2 ^ 64 }
@@ -438,7 +444,8 @@ impl Fork {
         put
     }
 
-    /// Turns the longer side up where it is more than about three times as long as the other and some blocks.
+    /// Rotates the longer side up if it is more than about three times as long as the other and
+    /// some blocks.
     fn balance(&mut self)
         requires { IsFork self.old }
         ensures tuples { listed self.new ≡ listed self.old }
@@ -455,7 +462,7 @@ impl Fork {
         }
     }
 
-    /// Turns `(a, x, (b, y, c))` into `((a, x, b), y, c)`.
+    /// Rotates `(a, x, (b, y, c))` into `((a, x, b), y, c)`.
     fn turn_left(&mut self)
         requires { IsFork self.old }
         ensures tuples { listed self.new ≡ listed self.old }
@@ -472,7 +479,7 @@ impl Fork {
         self.left = Tree::of(other);
     }
 
-    /// Turns `((a, x, b), y, c)` into `(a, x, (b, y, c))`.
+    /// Rotates `((a, x, b), y, c)` into `(a, x, (b, y, c))`.
     fn turn_right(&mut self)
         requires { IsFork self.old }
         ensures tuples { listed self.new ≡ listed self.old }
@@ -495,7 +502,8 @@ fn is_longer(side: usize, other: usize) -> bool {
     side > other.saturating_mul(2)
 }
 
-/// Puts a tuple at a place of two lists, one after the other. Out of memory leaves both as they were.
+/// Inserts a tuple at a place of two lists, one after the other. Out of memory leaves both as they
+/// were.
 fn insert_in(
     first: &mut Vec<Tuple>,
     second: &mut Vec<Tuple>,
@@ -516,7 +524,8 @@ fn insert_in(
     Ok(())
 }
 
-/// How many tuples of a list in order come before one, or where `through` is so begin with it.
+/// How many tuples of an ordered list come before one; with `through`, also those that begin with
+/// it.
 fn count_in(tuples: &[Tuple], t: &Tuple, through: bool) -> usize
     requires { IsOrdered tuples.now }
     ensures { result ≡ count_by (is_within through t.now) tuples.now }

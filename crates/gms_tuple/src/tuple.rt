@@ -11,10 +11,11 @@ use std::marker::Model;
 /// How many labels a tuple has at most.
 pub const MOST_LABELS: usize = 10;
 
-/// How many labels a tuple holds in itself.
+/// How many labels a tuple stores without an allocation.
 const MOST_INSIDE: usize = 4;
 
-/// A tuple of labels, each by its number: at most 10. It takes 32 bytes, and more than four labels take up to 40 more.
+/// A tuple of labels, each by its number: at most 10. It takes 32 bytes, and more than four labels
+/// take up to 40 more.
 ///
 /// Tuples are ordered label by label, and a proper prefix comes before the longer tuple. In
 /// `parameter c(i,j) /seattle.chicago 1.7/` the element is a tuple of two labels.
@@ -22,7 +23,7 @@ pub struct Tuple {
     labels: SmallVec<u32, 4>,
 }
 
-// Written out, so that it is proved here alone, and not in each crate that lets one go.
+// Written out, so that it is proved once, and not in each crate that drops one.
 impl Drop for Tuple {
     fn drop(self) {
         let Self { labels: _ } = self;
@@ -49,7 +50,7 @@ impl Tuple {
         }
     }
 
-    /// Adds a label at the end. After want of memory the tuple is as it was.
+    /// Adds a label at the end. If memory runs out the tuple is unchanged.
     pub fn push(&mut self, _alloc: Global, label: u32) -> Result<(), AllocError>
         requires { length self.old < 10 }
         ensures ok { OnOk result (self.new ≡ self.old ++ label ∷ []) }
@@ -92,7 +93,7 @@ impl Tuple {
         self.labels.as_slice().starts_with(prefix.labels.as_slice())
     }
 
-    /// Whether the tuple comes before `prefix`, or where `through` is so begins with it.
+    /// Whether the tuple comes before `prefix`; with `through`, also whether it begins with it.
     pub(crate) fn is_within(&self, prefix: &Tuple, through: bool) -> bool
         ensures { result ≡ is_within through prefix.now self.now }
     {
@@ -121,7 +122,7 @@ fn compared(labels: &[u32], others: &[u32]) -> Ordering
     }
 }
 
-/// Whether a list of labels comes before a prefix, or where `through` is so begins with it.
+/// Whether a list of labels comes before a prefix; with `through`, also whether it begins with it.
 fn comes_within(labels: &[u32], prefix: &[u32], through: bool) -> bool
     ensures { result ≡ is_within through prefix.now labels.now }
 {

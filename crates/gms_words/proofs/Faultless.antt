@@ -1,4 +1,4 @@
--- The command takes the words at which no step of its parse has a fault.
+-- The command accepts the arguments for which no step of its parse has a fault.
 use Rattle.std.proofs.Common.{◌≡◌, ◌⊎◌, ◌∙◌, ◌&&◌, ◌||◌, ◌==◌, ℕ, Bool, true, false, not, zero, suc, inl, inr, ⊎_elim, refl, sym, ap, arith, List, [], ◌∷◌, length, drop, min, codes, Option, Some, None, is_some, true≢false, nat_le, nat_lt, if◌then◌else◌}
 use Rattle.std.specs.Prelude.{◌+◌, encode_utf8, slice_get}
 use Rattle.std.proofs.lemmas.Bool.Decides.{nat_tests}
@@ -50,7 +50,7 @@ unless_both true true ks k e = refl
 unless_both true false ks k e = absurd (some_kind k ks e)
 unless_both false b ks k e = refl
 
--- the faults of a step that a test passes over
+-- the faults of a step that a test skips
 or_clean : (a b : Bool) (ks : Kinds) → (ks ≡ [] → b ≡ true) → (if a then [] else ks) ≡ [] → (a || b) ≡ true
 or_clean true b ks h e = refl
 or_clean false b ks h e = h e
@@ -118,7 +118,7 @@ module _ (a : Rule) where
       let within = range_clean least (most_values a) (length values) (first_none counts does e) in
       and_both (nat_le least (length values)) (nat_le (length values) (most_values a) && action_passes (action_of a) again a (values_or_missing a values) rows) within.0 (and_both (nat_le (length values) (most_values a)) (action_passes (action_of a) again a (values_or_missing a values) rows) within.1 (action_clean (action_of a) again (values_or_missing a values) rows (then_none counts does e)))
 
--- ---- the words
+-- ---- the arguments
 
 module _ (c : List Rule) (again : Bool) where
   pending_clean : (rows : List Row) (p : Option (Text × List Text))
@@ -237,7 +237,7 @@ module _ (s : Shape) where
       let others = walk_fault s names (walked s.rules names w word) rest in
       and_both (turn_passes s names w word) (walk_passes s names (walked s.rules names w word) rest) (turn_clean names w word (first_none turns others e)) (walk_clean names (walked s.rules names w word) rest (then_none turns others e))
 
-  -- one level without subcommands, where defaults and what is required hold of any words
+  -- one level without subcommands, where defaults and required values are right for any arguments
   level_clean : (h : Held) (words : List Text) → list_all default_passes s.rules ≡ true → is_valid s (finished s.rules (walk s.rules [] h words).held) false ≡ true
       → level_fault s [] h words false [] ≡ [] → level_passes s [] h words false ≡ true
   level_clean h words defaults valid e =
@@ -248,13 +248,13 @@ module _ (s : Shape) where
       let behind : or_else settles last ≡ [] = then_none walks (or_else settles last) e in
       and_both (walk_passes s [] (walk_from h) words) (settle_passes s.rules s.args_override_self end && (list_all default_passes s.rules && is_valid s (finished s.rules end) false)) (walk_clean [] (walk_from h) words (first_none walks (or_else settles last) e)) (and_both (settle_passes s.rules s.args_override_self end) (list_all default_passes s.rules && is_valid s (finished s.rules end) false) (settle_clean s.rules s.args_override_self end (first_none settles last behind)) (and_both (list_all default_passes s.rules) (is_valid s (finished s.rules end) false) defaults valid))
 
--- the command takes words that have no fault
+-- the command accepts arguments that have no fault
 pub takes_faultless : (words : List Text) → fault_of gams25 words ≡ [] → takes gams25 words ≡ true
 takes_faultless words e =
     let level = level_clean (built gams25).top nothing_held words refl refl (sym (leaf_fault (built gams25) nothing_held words refl) ∙ e) in
     leaf_takes (built gams25) nothing_held words refl level
 
--- what the command finds in words that it takes, and in others
+-- what the command finds in arguments that it accepts, and in others
 pub rows_found : (words : List Text) (rows : List Row) → takes gams25 words ≡ true → rows ≡ matches_of gams25 words → Some rows ≡ rows_taken words
 rows_found words rows taken e = rw taken (ap (λ (xs : List Row). Some xs) e)
 

@@ -1,4 +1,4 @@
--- Single forms of words, and parts that are given twice.
+-- Single forms of arguments, and parts that are given twice.
 use Rattle.std.proofs.Common.{◌≡◌, ◌∙◌, ◌&&◌, ◌||◌, ℕ, Bool, true, false, not, List, [], ◌∷◌, ◌++◌, Option, Some, None, option_map, refl, ap, if◌then◌else◌}
 use Rattle.std.proofs.lemmas.Slice.Eq.{bytes_eq-Decides}
 use Rattle.gms_words.specs.CommandLine.{asked, generated, size_of}

@@ -154,7 +154,7 @@ settled_as before (Some (option_with generate_option value)) w new = gains befor
 
 -- ---- one word
 
--- a word that does not begin with `-` is a value, or goes to the option that waits
+-- an argument that does not begin with `-` is a value, or goes to the option that waits
 met : (c : List Rule) (position : ℕ) (word : Text) (h : Held) → is_plain word ≡ true → word_met c [] false idle position word h ≡ plain_word c idle word h
 met c position word h plain =
     ap₂ (λ (d : Bool) (l : Option (Text × Option Text)). if d then (h, trailing position) else long_or_other c idle word l h) (no_dashes word plain) (no_long word plain) ∙ ap (λ (s : Option Text). short_or_plain c idle word s h) (no_short word plain)
@@ -168,9 +168,9 @@ passes : (s : Shape) (waiting : Waiting) (word : Text) (h : Held) → is_plain w
 passes s waiting word h plain =
     ap₂ (λ (d : Bool) (l : Option (Text × Option Text)). d || flag_word_passes s.rules s.args_override_self l word h) (no_dashes word plain) (no_long word plain) ∙ ap (λ (o : Option Text). option_map_or (λ flags. bundle_passes s.rules s.args_override_self flags h) o true) (no_short word plain)
 
--- ---- the walk over the words of parts
+-- ---- the traversal of the arguments of parts
 
--- the walk passes, and so does the use of what is pending at its end
+-- the traversal passes, and so does the use of what is pending at its end
 abbrev ends : Walk → List Text → Bool
 ends w words = walk_passes shape [] w words && settle_passes shape.rules false (fold (walked shape.rules []) w words).held
 
@@ -178,7 +178,7 @@ ends_after : (w : Walk) (word : Text) (words : List Text) → ends w (word ∷ w
 unfolding walk_passes
 ends_after w word words = and_assoc (turn_passes shape [] w word) (walk_passes shape [] (walked shape.rules [] w word) words) (settle_passes shape.rules false (fold (walked shape.rules []) (walked shape.rules [] w word) words).held)
 
--- the state after the word of an option, whose value comes next
+-- the state after the argument of an option, whose value comes next
 abbrev named : Valued → List Row → ℕ → Walk
 named name all position = record {
   held = record { rows = all; pending = Some (option_name name, []); skip = 0 };
@@ -330,13 +330,13 @@ flag_onward before last waits new first =
     at_flag (rows before) (pending last) (place (has_part (codes "file") (seen before last)))
     ∙ ap₂ (λ (all : List Row) (k : ℕ). read_by all None k) (ap (λ (all : List Row). with_values (codes "ranges") AsWritten CommandLine (codes "true" ∷ []) (without (codes "ranges") all)) (settled_as before last waits new) ∙ gains (seen before last) ranges_flag first) (kept_by_flag (seen before last))
 
--- ---- the words of all parts
+-- ---- the arguments of all parts
 
 pub never : (a : Bool) → (a && false) ≡ false
 never true = refl
 never false = refl
 
--- the words are accepted where each part is given once
+-- the arguments are accepted if each part is given once
 are_accepted : (parts before : List Part) (last : Option Part) → Waits last → are_plain parts ≡ true
     → ends (state before last) (all_words parts) ≡ (is_new before last && differ_from (seen before last) parts)
 unfolding walk_passes
@@ -510,7 +510,7 @@ by_rows parts = by_test (has_part (codes "ranges") parts) refl
 
 -- ---- the command
 
--- a command without subcommands takes what its own level takes
+-- a command without subcommands accepts what its own level accepts
 leaf_test : (words : List Text) → built_takes (built gams25) nothing_held words ≡ level_passes shape [] nothing_held words false
 leaf_test words = by_stop (walk shape.rules [] nothing_held words).stopped
   where

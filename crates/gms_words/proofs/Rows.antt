@@ -1,10 +1,10 @@
--- What words that are written out ask for, by the definition.
+-- What some written out arguments request, by the definition.
 use Rattle.std.proofs.Common.{◌≡◌, true, false, [], ◌∷◌, Some, None, refl, codes}
 use Rattle.std.specs.Fmt.{digits}
 use Rattle.clap.proofs.OnLiterals.{clap_on_literals}
 use Rattle.gms_words.specs.CommandLine.{in_file, restarted, generated, request_of}
 
--- a FILE alone, an empty one, one behind `--`, and `-`
+-- a FILE alone, an empty one, one after `--`, and `-`
 pub file : request_of (codes "a.gms" ∷ []) ≡ Some (record { source = in_file (codes "a.gms"); output = codes "a.lst"; save = None; ranges = false })
 unfolding clap_on_literals
 file = refl
@@ -39,7 +39,7 @@ pub thirty : request_of (codes "--generate=30" ∷ codes "--out" ∷ codes "b" �
 unfolding clap_on_literals digits
 thirty = refl
 
--- ranges asked for, in any place
+-- requested ranges, in any place
 pub with_ranges : request_of (codes "--ranges" ∷ codes "a.gms" ∷ []) ≡ Some (record { source = in_file (codes "a.gms"); output = codes "a.lst"; save = None; ranges = true })
 unfolding clap_on_literals
 with_ranges = refl
@@ -48,7 +48,7 @@ pub ranges_last : request_of (codes "--generate" ∷ codes "1" ∷ codes "--rang
 unfolding clap_on_literals digits
 ranges_last = refl
 
--- a save of the last state, and a file that goes on from one
+-- a save of the last state, and a file that resumes from one
 pub saved : request_of (codes "--save" ∷ codes "s.sav" ∷ codes "a.gms" ∷ []) ≡ Some (record { source = in_file (codes "a.gms"); output = codes "a.lst"; save = Some (codes "s.sav"); ranges = false })
 unfolding clap_on_literals
 saved = refl
@@ -65,7 +65,7 @@ pub restart_and_save : request_of (codes "--restart=s.sav" ∷ codes "--save=t.s
 unfolding clap_on_literals
 restart_and_save = refl
 
--- refused: a generated model that goes on, a saved state alone, a save twice
+-- refused: a generated model that resumes, a saved state alone, a save twice
 pub restart_of_model : request_of (codes "--restart" ∷ codes "s.sav" ∷ codes "--generate" ∷ codes "1" ∷ []) ≡ None
 unfolding clap_on_literals digits
 restart_of_model = refl

@@ -1,15 +1,15 @@
--- What words that are written part by part request.
+-- What arguments that are written part by part request.
 use Rattle.std.specs.Prelude.{◌≡◌, ◌&&◌, ℕ, ◌==◌, Bool, true, false, not, if◌then◌else◌, List, [], ◌∷◌, ◌++◌, find, codes, Option, Some, None, option_map}
 use Rattle.std.specs.List.{list_all, list_any}
 use Rattle.std.specs.Str.{bytes_eq}
 use Rattle.gms_words.specs.CommandLine.{Asked, asked, generated, in_file, origin_of, output_name, request_of, restarted, size_of}
 
--- the word does not begin with `-`
+-- the argument does not begin with `-`
 abbrev pub is_plain : List ℕ → Bool
 is_plain [] = true
 is_plain (b ∷ word) = not (b == 45)
 
--- ---- parts of the words
+-- ---- parts of the arguments
 
 -- an option with a value
 pub data Valued : Type 0 where
@@ -18,8 +18,8 @@ pub data Valued : Type 0 where
   restart_option : Valued
   generate_option : Valued
 
--- a part of the words: the name of a FILE, an option with its value in the next word, or the flag
--- `--ranges`
+-- a part of the arguments: the name of a FILE, an option with its value in the next argument, or
+-- the flag `--ranges`
 pub data Part : Type 0 where
   file_name : List ℕ → Part
   option_with : Valued → List ℕ → Part
@@ -38,19 +38,19 @@ part_name (file_name file) = codes "file"
 part_name (option_with option value) = option_name option
 part_name ranges_flag = codes "ranges"
 
--- the value that a part has: the file, the value of the option, or `true`
+-- the value of a part: the file, the value of the option, or `true`
 abbrev pub part_value : Part → List ℕ
 part_value (file_name file) = file
 part_value (option_with option value) = value
 part_value ranges_flag = codes "true"
 
--- the words of a part
+-- the arguments of a part
 abbrev pub words_of : Part → List (List ℕ)
 words_of (file_name file) = file ∷ []
 words_of (option_with option value) = (codes "--" ++ option_name option) ∷ value ∷ []
 words_of ranges_flag = codes "--ranges" ∷ []
 
--- the words of all parts, in their order
+-- the arguments of all parts, in their order
 abbrev pub all_words : List Part → List (List ℕ)
 all_words [] = []
 all_words (part ∷ parts) = words_of part ++ all_words parts
@@ -61,7 +61,7 @@ are_plain parts = list_all (λ part. is_plain (part_value part)) parts
 
 -- ---- what they request
 
--- a part has this name
+-- some part has this name
 abbrev pub has_part : List ℕ → List Part → Bool
 has_part name parts = list_any (λ part. bytes_eq (part_name part) name) parts
 
@@ -78,15 +78,15 @@ are_once parts = differ_from [] parts
 abbrev pub value_given : List ℕ → List Part → Option (List ℕ)
 value_given name parts = option_map part_value (find (λ part. bytes_eq (part_name part) name) parts)
 
--- what the parts request, where each is given once: the source of FILE, `--restart` and
--- `--generate`; the output of `--out`, or else of the source; the save of `--save`; and the ranges,
--- where `--ranges` is there
+-- what the parts request, if each is given once: the source of FILE, `--restart` and `--generate`;
+-- the output of `--out`, or else of the source; the save of `--save`; and the ranges, if `--ranges`
+-- is given
 abbrev pub requested : List Part → Option Asked
 requested parts =
     option_map (asked (has_part (codes "ranges") parts) (value_given (codes "save") parts) (value_given (codes "out") parts)) (origin_of (value_given (codes "file") parts) (value_given (codes "generate") parts) (value_given (codes "restart") parts))
 
--- The words request what their parts request, in whatever order the parts are; they are refused
--- where a part is given twice.
+-- The arguments request what their parts request, in any order of the parts; they are refused if a
+-- part is given twice.
 abbrev pub IsByParts : Type 0
 IsByParts = (parts : List Part) → are_plain parts ≡ true → request_of (all_words parts) ≡ (if are_once parts then requested parts else None)
 
@@ -121,18 +121,19 @@ IsRestart = (saved file : List ℕ) → is_plain saved ≡ true → is_plain fil
 abbrev pub IsRanges : Type 0
 IsRanges = (file : List ℕ) → is_plain file ≡ true → request_of (codes "--ranges" ∷ file ∷ []) ≡ Some (record (run_of file) { ranges = true })
 
--- `--generate` requests the model of a size, and is refused where its value is no size
+-- `--generate` requests the model of a size, and is refused if its value is no size
 abbrev pub IsGenerate : Type 0
 IsGenerate = (text : List ℕ) → is_plain text ≡ true → request_of (codes "--generate" ∷ text ∷ []) ≡ option_map run_of_model (size_of text)
 
--- no words are refused
+-- an empty list of arguments is refused
 abbrev pub IsRefusedEmpty : Type 0
 IsRefusedEmpty = request_of [] ≡ None
 
--- a FILE beside `--generate` is refused, and so is `--restart` beside it
+-- a FILE together with `--generate` is refused, and so is `--restart`
 abbrev pub IsRefusedBesideGenerate : Type 0
 IsRefusedBesideGenerate = (text other : List ℕ) → is_plain text ≡ true → is_plain other ≡ true → (request_of (codes "--generate" ∷ text ∷ other ∷ []) ≡ None) × (request_of (codes "--generate" ∷ text ∷ codes "--restart" ∷ other ∷ []) ≡ None)
 
--- two FILEs, or an option given twice, are refused, whatever stands before, between and after them
+-- two FILEs, or an option given twice, are refused, with any arguments before, between and after
+-- them
 abbrev pub IsRefusedTwice : Type 0
 IsRefusedTwice = (before between after : List Part) (one other : Part) → part_name one ≡ part_name other → are_plain (before ++ one ∷ (between ++ other ∷ after)) ≡ true → request_of (all_words (before ++ one ∷ (between ++ other ∷ after))) ≡ None

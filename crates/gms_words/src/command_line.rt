@@ -1,4 +1,4 @@
-//! The words of the command line, what they ask for, and what is said on standard output.
+//! The arguments of the command line, what they request, and what is printed on standard output.
 ghost use Rattle.std.specs.Prelude.{◌≡◌, false, IfOk, IfSome, string_bytes, option_map, codes};
 ghost use Rattle.clap.specs.Words.{app_of, found_of, rows_of, rule_of};
 ghost use Rattle.gms_words.specs.Laws.{is_plain};
@@ -8,11 +8,11 @@ use clap::error::ErrorKind;
 use clap::{Arg, ArgAction, ArgMatches, Command};
 use std::alloc::{AllocError, Global};
 
-/// What is said where the words are refused.
+/// What is printed if the arguments are refused.
 const USAGE: &str =
     "usage: gams25 [--ranges] [--save FILE] [--restart FILE] [--out FILE] FILE | gams25 [--ranges] [--save FILE] [--out FILE] --generate N\n";
 
-/// The sizes that a generated model can have, from the least on.
+/// The sizes that a generated model can have, in ascending order.
 const SIZES: [&str; 30] = [
     "1", "2", "3", "4", "5", "6", "7", "8", "9", "10", "11", "12", "13", "14", "15", "16", "17",
     "18", "19", "20", "21", "22", "23", "24", "25", "26", "27", "28", "29", "30",
@@ -23,18 +23,18 @@ const SIZES: [&str; 30] = [
 pub enum Source<'a> {
     /// The file of this name.
     File(&'a str),
-    /// A file that goes on from a saved state.
+    /// A file that resumes from a saved state.
     Restart {
         /// The name of the file with the saved state.
         saved: &'a str,
-        /// The name of the file that goes on from it.
+        /// The name of the file that resumes from it.
         file: &'a str,
     },
-    /// A generated model with so many plants and markets.
+    /// A generated model with this many plants and markets.
     Generate(u32),
 }
 
-/// What the words ask for.
+/// What the arguments request.
 #[derive(Clone, Copy)]
 pub struct Request<'a> {
     /// Where the source comes from.
@@ -43,11 +43,12 @@ pub struct Request<'a> {
     pub out: Option<&'a str>,
     /// The name that `--save` gives the file for the last state.
     pub save: Option<&'a str>,
-    /// Whether `--ranges` asks for the ranges of each optimum.
+    /// Whether `--ranges` requests the ranges of each optimum.
     pub ranges: bool,
 }
 
-/// The command with the words for its source: an optional FILE, and `--generate` and `--restart` with one value each.
+/// The command with the arguments for its source: an optional FILE, and `--generate` and
+/// `--restart` with one value each.
 fn with_source<'a>(alloc: Global) -> Result<Command<'a>, AllocError>
     ensures { IfOk result (λ command. app_of command ≡ with_source) }
 {
@@ -58,7 +59,7 @@ fn with_source<'a>(alloc: Global) -> Result<Command<'a>, AllocError>
     bare.arg(file)?.arg(generate)?.arg(restart)
 }
 
-/// The command without its flag: with `--out` and `--save` besides, which have one value each.
+/// The command without its flag: also with `--out` and `--save`, which have one value each.
 fn with_values<'a>(alloc: Global) -> Result<Command<'a>, AllocError>
     ensures { IfOk result (λ command. app_of command ≡ with_values) }
 {
@@ -86,7 +87,7 @@ fn command<'a>(alloc: Global) -> Result<Command<'a>, AllocError>
     values.arg(ranges_flag(alloc))
 }
 
-/// What the command finds in the words, where it takes them.
+/// What the command finds in the arguments, if it accepts them.
 fn found_in<'a>(alloc: Global, words: &'a [String]) -> Result<Option<ArgMatches<'a>>, AllocError>
     ensures { IfOk result (λ found. option_map (λ matches. rows_of (found_of matches)) found ≡ rows_taken (texts words.now)) }
 {
@@ -100,7 +101,8 @@ fn found_in<'a>(alloc: Global, words: &'a [String]) -> Result<Option<ArgMatches<
     }
 }
 
-/// The size that a text names: a whole number from 1 to 30 in decimal digits, without a sign or a leading zero.
+/// The size that a text names: a whole number from 1 to 30 in decimal digits, without a sign or a
+/// leading zero.
 fn size_of(text: &str) -> Option<u32>
     ensures { result ≡ size_of text.now }
 {
@@ -108,8 +110,9 @@ fn size_of(text: &str) -> Option<u32>
     Some(place as u32 + 1)
 }
 
-/// The source that the values of FILE and of `--generate` name, where exactly one of them is there. It goes on from the saved
-/// state in the file that `--restart` names, where that is given: a generated model does not.
+/// The source that the values of FILE and of `--generate` name, if exactly one of them is given. A
+/// file resumes from the saved state in the file that `--restart` names, if that is given; a
+/// generated model does not.
 fn source_of<'a>(
     file: Option<&'a str>,
     size: Option<&'a str>,
@@ -135,7 +138,7 @@ fn is_given(value: Option<&str>) -> bool
     }
 }
 
-/// What the matches ask for, where they name exactly one source.
+/// What the matches request, if they name exactly one source.
 fn request_in<'a>(matches: &ArgMatches<'a>) -> Option<Request<'a>>
     ensures { option_map asked_by result ≡ request_in (rows_of (found_of matches.now)) }
 {
@@ -154,14 +157,15 @@ fn request_in<'a>(matches: &ArgMatches<'a>) -> Option<Request<'a>>
     })
 }
 
-/// Whether a word does not begin with `-`.
+/// Whether an argument does not begin with `-`.
 fn is_plain(word: &str) -> bool
     ensures { result ≡ is_plain word.now }
 {
     !matches!(word.as_bytes(), [b'-', ..])
 }
 
-/// What one word that does not begin with `-` asks for: a run of the file of this name. The command need not be made for it.
+/// What one argument that does not begin with `-` requests: a run of the file of this name. For it
+/// the command need not be made.
 fn request_of_file<'a>(words: &'a [String]) -> Option<Request<'a>>
     ensures { IfSome result (λ request. request_of (texts words.now) ≡ Some (asked_by request)) }
 {
@@ -176,8 +180,9 @@ fn request_of_file<'a>(words: &'a [String]) -> Option<Request<'a>>
     }
 }
 
-/// What the words ask for. They are refused where there is `None`: where the command does not take them, they name not exactly
-/// one source, the value of `--generate` is no number from 1 to 30 in plain digits, or a generated model is to go on from a saved state.
+/// What the arguments request. `None` means that they are refused: the command does not accept
+/// them, they do not name exactly one source, the value of `--generate` is no number from 1 to 30
+/// in plain digits, or a generated model is to resume from a saved state.
 pub fn request_of<'a>(alloc: Global, words: &'a [String]) -> Result<Option<Request<'a>>, AllocError>
     ensures { IfOk result (λ request. option_map asked_by request ≡ request_of (texts words.now)) }
 {
@@ -190,7 +195,8 @@ pub fn request_of<'a>(alloc: Global, words: &'a [String]) -> Result<Option<Reque
     }
 }
 
-/// The name of the output after a file: FILE with a last `.gms` replaced by `.lst`, or with `.lst` behind it.
+/// The name of the output after a file: FILE with a last `.gms` replaced by `.lst`, or with `.lst`
+/// added.
 fn output_name(alloc: Global, file: &str) -> Result<String, AllocError>
     ensures { IfOk result (λ name. string_bytes name ≡ output_name file.now) }
 {
@@ -200,7 +206,7 @@ fn output_name(alloc: Global, file: &str) -> Result<String, AllocError>
     }
 }
 
-/// The name of the output: the value of `--out`, or else the name that comes of the source.
+/// The name of the output: the value of `--out`, or else the name that results from the source.
 pub fn output_of(alloc: Global, request: Request) -> Result<String, AllocError>
     ensures { IfOk result (λ name. string_bytes name ≡ (asked_by request.entry).output) }
 {
@@ -211,21 +217,22 @@ pub fn output_of(alloc: Global, request: Request) -> Result<String, AllocError>
     }
 }
 
-/// What is said where the words are refused: how the program is called, and a line feed.
+/// What is printed if the arguments are refused: how the program is called, and a line feed.
 pub fn usage_line() -> &'static str
     ensures { result.now ≡ usage_line }
 {
     USAGE
 }
 
-/// What is said where the input cannot be read.
+/// What is printed if the input cannot be read.
 pub fn read_fault_line(alloc: Global, file: &str) -> Result<String, AllocError>
     ensures { IfOk result (λ line. string_bytes line ≡ read_fault_line file.now) }
 {
     format!(in alloc; "cannot read {file}\n")
 }
 
-/// What is said of a generated model of a size that was solved: the status of the model, the text of the objective's level, and how many pivots there were.
+/// What is printed of a generated model of a size that was solved: the status of the model, the
+/// text of the objective's level, and how many pivots there were.
 pub fn generated_line(
     alloc: Global,
     size: u32,
@@ -240,7 +247,7 @@ pub fn generated_line(
     )
 }
 
-/// What is said in the end, where the listing of a source was written to its output.
+/// What is printed at the end, after the listing of a source was written to its output.
 pub fn closing_line(
     alloc: Global,
     status: u8,
@@ -252,14 +259,15 @@ pub fn closing_line(
     format!(in alloc; "status {status}, solves {solves}, output {output}\n")
 }
 
-/// What is said before the ranges of a solve, by its number from 1.
+/// What is printed before the ranges of a solve, by its number from 1.
 pub fn ranges_line(alloc: Global, solve: usize) -> Result<String, AllocError>
     ensures { IfOk result (λ line. string_bytes line ≡ ranges_line solve) }
 {
     format!(in alloc; "ranges of solve {solve}\n")
 }
 
-/// What is said of the range of a `right` side or a `cost`: its element, and the texts of its ends, where it has them.
+/// What is printed of the range of a `right` side or a `cost`: its element, and the texts of its
+/// ends, if it has them.
 pub fn range_line(
     alloc: Global,
     what: &str,
@@ -274,7 +282,7 @@ pub fn range_line(
     format!(in alloc; "  {what} {element} from {from} to {to}\n")
 }
 
-/// What is said of it where a step does not fit.
+/// What is printed of it if a step does not fit.
 pub fn not_shown_line(alloc: Global, what: &str, element: &str) -> Result<String, AllocError>
     ensures { IfOk result (λ line. string_bytes line ≡ not_shown_line what.now element.now) }
 {

@@ -1,15 +1,15 @@
-//! What words that are written part by part request.
+//! What arguments that are written part by part request.
 ghost use Rattle.gms_words.specs.Laws.{IsByParts, IsFile, IsOut, IsSave, IsRestart, IsRanges, IsGenerate, IsRefusedEmpty, IsRefusedBesideGenerate, IsRefusedTwice};
 
-/// What words request that are written part by part: the name of a FILE, an option with its value
-/// in the next word, and `--ranges`.
+/// What arguments that are written part by part request: the name of a FILE, an option with its
+/// value in the next argument, and `--ranges`.
 ///
-/// They request what their parts say, in whatever order the parts are, and are refused where a part
-/// is given twice (`parts`). So a FILE alone is run with the output named after it, nothing saved,
-/// and no ranges (`file`); and each option changes what it says (`out`, `save`, `restart`,
-/// `ranges`, `generate`). No words are refused (`empty`), a FILE or `--restart` beside `--generate`
-/// is (`beside_generate`), and two FILEs or an option given twice are, wherever they are (`twice`).
-/// No file's name and no value of an option begins with `-` here.
+/// They request what their parts say, in any order of the parts, and are refused if a part is given
+/// twice (`parts`). So a FILE alone is run with the output named after it, nothing saved, and no
+/// ranges (`file`); and each option changes what it says (`out`, `save`, `restart`, `ranges`,
+/// `generate`). An empty list of arguments is refused (`empty`), a FILE or `--restart` together
+/// with `--generate` is (`beside_generate`), and two FILEs or an option given twice are, wherever
+/// they are (`twice`). No file's name and no value of an option begins with `-` here.
 pub fn words_laws()
     ensures parts { IsByParts }
     ensures file { IsFile }

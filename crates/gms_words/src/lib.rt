@@ -1,4 +1,4 @@
-//! Floor 7, outside. The words of the command line.
+//! Layer 7, outside. The arguments of the command line.
 #![tactic(auto)]
 
 mod command_line;

@@ -2,7 +2,7 @@ use Rattle.std.proofs.Common.{◌≡◌, map, drop}
 use Rattle.gms_exec.specs.Options.{after_options}
 use Rattle.gms_exec.proofs.options.after_options.Given as goal
 
--- the options that are left lead from here to where all lead from the first settings
+-- the remaining options lead from here to where all lead from the first settings
 abbrev pub invariant-loop-word : goal.invariant-loop-word
 invariant-loop-word g l =
     let names = map (λ b. (goal.LpSolver-dyn g (b.vtable, b.value)).name b.value) l.solvers in

@@ -5,7 +5,7 @@ use Rattle.gms_exec.specs.Solved.{column_keys, points, with_point}
 use Rattle.gms_exec.proofs.Levels.{left_at}
 use Rattle.gms_exec.proofs.solving.put_columns.Given as goal
 
--- the points that are left lead from here to where all lead from the first state
+-- the remaining points lead from here to where all lead from the first state
 abbrev pub invariant-loop-place : goal.invariant-loop-place
 invariant-loop-place g l =
     let v = g.F.ExactField.value in

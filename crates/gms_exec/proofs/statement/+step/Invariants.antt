@@ -6,7 +6,7 @@ use Rattle.gms_exec.proofs.Loops.{Between, Within, step_of}
 use Rattle.gms_exec.proofs.statement.+step.Given as goal
 use Rattle.gms_exec.specs.contracts.statement.step.dyn-1 as dyn
 
--- the loop stands in front of an element
+-- the loop is before an element
 abbrev pub invariant-loop-element : goal.invariant-loop-element
 invariant-loop-element g l =
     Between frac_value (2 ^ 127 - 1) (λ b. (dyn.members g.dyn-1 (b.vtable, b.value)).name b.value) (λ b. (dyn.members g.dyn-1 (b.vtable, b.value)).rule b.value) (λ b. (dyn.members g.dyn-1 (b.vtable, b.value)).paths b.value) l.program
@@ -14,7 +14,7 @@ invariant-loop-element g l =
     (sets_of (control_tree l.control)) l.b l.body.items l.element-items l.fn.solvers.items (record { state = l.fn.store; events = l.fn.events.items; answers = l.fn.answers.items })
     l.element-index l.inner l.solvers.items (record { state = l.store; events = l.events.items; answers = l.answers.items })
 
--- and in front of a statement under an element
+-- and before a statement under an element
 abbrev pub invariant-loop-statement : goal.invariant-loop-statement
 invariant-loop-statement g l =
     Within frac_value (2 ^ 127 - 1) (λ b. (dyn.members g.dyn-1 (b.vtable, b.value)).name b.value) (λ b. (dyn.members g.dyn-1 (b.vtable, b.value)).rule b.value) (λ b. (dyn.members g.dyn-1 (b.vtable, b.value)).paths b.value) l.program

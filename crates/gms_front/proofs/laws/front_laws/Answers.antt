@@ -1,4 +1,4 @@
--- What the program of a joint source has in front.
+-- What the program of a joint source begins with.
 use Rattle.gms_front.proofs.FrontPrograms.{is_front}
 use Rattle.gms_front.proofs.laws.front_laws.Goals as goal
 

@@ -1,4 +1,4 @@
--- The echo, the statements behind it, and what is to be done behind the listing.
+-- The echo, the statements after it, and what follows the listing.
 use Rattle.std.proofs.Common.{◌∙◌, ap, map}
 use Rattle.std.specs.Prelude.{string_bytes}
 use Rattle.std.proofs.lemmas.Result.{err_from_is_err_and}

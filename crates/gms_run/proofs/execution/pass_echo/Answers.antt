@@ -1,4 +1,4 @@
--- The echo stands behind nothing.
+-- The echo comes first: nothing is pending before it.
 use Rattle.std.proofs.Common.{◌++◌, ◌∙◌, ap}
 use Rattle.std.proofs.lemmas.Result.{err_from_is_err_and}
 use Rattle.gms_list.specs.ListingText.{echo_text}

@@ -4,7 +4,7 @@ use Rattle.gms_run.specs.Solving.{seen}
 use Rattle.gms_run.proofs.Executing.{AtStatement}
 use Rattle.gms_run.proofs.execution.statements.Given as goal
 
--- the loop stands in front of a statement
+-- the loop is before a statement
 abbrev pub invariant-loop-s : goal.invariant-loop-s
 invariant-loop-s g l =
     AtStatement (work l.program l.fn.store l.list) (seen (λ b. (goal.LpSolver-dyn g (b.vtable, b.value)).name b.value) (λ b. (goal.LpSolver-dyn g (b.vtable, b.value)).rule b.value) (λ b. (goal.LpSolver-dyn g (b.vtable, b.value)).paths b.value) l.fn.solvers.items)

@@ -1,4 +1,4 @@
--- The listing so far, and the last line behind it.
+-- The listing so far, and the last line after it.
 use Rattle.std.proofs.Common.{◌++◌, ap, ap₂, ◌∙◌}
 use Rattle.std.proofs.lemmas.Result.{err_from_is_err_and}
 use Rattle.gms_host.specs.Meaning.{Outside}

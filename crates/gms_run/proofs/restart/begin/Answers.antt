@@ -1,4 +1,4 @@
--- A joint script goes on from what was saved.
+-- A joint script resumes from the saved state.
 use Rattle.gms_run.proofs.Passed.{first_alone, first_joint, none_alone, none_joint}
 use Rattle.gms_run.proofs.restart.begin.Goals as goal
 

@@ -1,4 +1,4 @@
--- The names of the solvers are those that are looked at.
+-- The names of the solvers are those that are examined.
 use Rattle.std.proofs.Common.{◌≡◌, ◌<◌, ◌^◌, ◌∙◌, length, map, List, ℕ, ap, subst, sym}
 use Rattle.std.specs.Prelude.{string_bytes}
 use Rattle.std.proofs.lemmas.List.{length-map}

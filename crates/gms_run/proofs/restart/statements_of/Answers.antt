@@ -1,4 +1,4 @@
--- Of a joint script those behind the saved source.
+-- Of a joint script, the statements after those of the saved source.
 use Rattle.std.proofs.Common.{◌∙◌}
 use Rattle.gms_run.proofs.Passed.{statements_alone, statements_sliced}
 use Rattle.gms_run.proofs.restart.statements_of.Goals as goal

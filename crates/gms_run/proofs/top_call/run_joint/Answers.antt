@@ -1,4 +1,4 @@
--- What was saved stands in the run, behind its source.
+-- The run holds the restored state, and the joint source begins with the saved one.
 use Rattle.std.proofs.Common.{◌∙◌, List, ap, map, subst, sym, ℕ}
 use Rattle.gms_store.specs.State.{State}
 use Rattle.gms_words.specs.CommandLine.{asked_by}

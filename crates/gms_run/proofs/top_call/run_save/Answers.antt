@@ -1,4 +1,4 @@
--- What was restored goes on, and of what was not it is listed why.
+-- A restored save is resumed; of any other save the listing says why not.
 use Rattle.std.proofs.Common.{◌≡◌, ◌<◌, ◌^◌, length, map, List, ℕ, ap, refl, subst, sym}
 use Rattle.std.specs.Prelude.{Ok}
 use Rattle.gms_save.specs.Saves.{GivesBack, IsRestored}

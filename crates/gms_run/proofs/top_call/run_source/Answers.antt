@@ -1,4 +1,4 @@
--- A source goes on from no state.
+-- A source resumes from no state.
 use Rattle.std.proofs.Common.{false, refl}
 use Rattle.gms_words.specs.CommandLine.{asked_by}
 use Rattle.gms_run.specs.declared.script.Matter.TheVariants.{ToRun}

@@ -1,4 +1,4 @@
--- Programs that are seen alike have the same errors, load the same, and have the same saved states.
+-- Programs with equal views have the same errors, load the same, and have the same saved states.
 use Rattle.gms_save.proofs.SeenJoints.{same-joint-errors, same-resumed}
 use Rattle.gms_save.proofs.SeenPrograms.{same-assigned-sets, same-declared, same-errors, same-loaded, same-saved, same-solvers}
 use Rattle.gms_save.proofs.laws.view_laws.Goals as goal

@@ -8,7 +8,7 @@ use Rattle.gms_saved.proofs.Finding.{handed_on}
 use Rattle.gms_saved.proofs.Lines.{line_front, line_item, line_last}
 use Rattle.gms_saved.proofs.parts.read_statuses.Goals as goal
 
--- what stands behind a model's name
+-- the text after a model's name
 abbrev behind_name : ℕ → ℕ → List ℕ → List ℕ
 behind_name m s rest = decimal m ++ 32 ∷ (decimal s ++ 10 ∷ rest)
 

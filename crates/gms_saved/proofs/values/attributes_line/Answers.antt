@@ -28,7 +28,7 @@ fit_all limit a h = by (bound_fits limit a.lower) (bound_fits limit a.upper) (fi
 attributes_are : (a : Attributes) (l u : Option Number) (v m : Number) → l ≡ a.lower → u ≡ a.upper → v ≡ a.level → m ≡ a.marginal → record { lower = l; upper = u; level = v; marginal = m } ≡ a
 attributes_are a l u v m e f i j = rw (e, f, i, j) refl
 
--- what stands behind the first three
+-- the text after the first three
 abbrev behind_level : Attributes → List ℕ → List ℕ
 behind_level a rest = exact_text a.marginal ++ 10 ∷ rest
 

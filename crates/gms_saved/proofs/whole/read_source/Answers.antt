@@ -5,7 +5,7 @@ use Rattle.gms_saved.proofs.Finding.{handed_on}
 use Rattle.gms_saved.proofs.Lines.{line_end, line_front}
 use Rattle.gms_saved.proofs.whole.read_source.Goals as goal
 
--- what stands behind the count
+-- the text after the count
 abbrev behind_count : List ℕ → List ℕ → List ℕ
 behind_count source rest = source ++ 10 ∷ rest
 
@@ -16,7 +16,7 @@ line source rest =
     ∙ ap (λ l. line_of (codes "source " ++ decimal (length source)) ++ l) (line_end source rest)
     ∙ line_front (codes "source ") (decimal (length source)) (behind_count source rest) (decimal (length source) ++ 10 ∷ behind_count source rest) (line_end (decimal (length source)) (behind_count source rest))
 
--- a source is no longer than what stands behind its count
+-- a source is shorter than the text after its count
 short : (source rest : List ℕ) → length source < length (behind_count source rest)
 short source rest = let size = length-append source (10 ∷ rest) in omega (arith, size)
 

@@ -10,7 +10,7 @@ use Rattle.gms_saved.proofs.Lines.{line_front, line_item, line_last}
 use Rattle.gms_saved.proofs.Readable.{both}
 use Rattle.gms_saved.proofs.whole.settings_at.Goals as goal
 
--- what stands behind the items of the line
+-- the text after the items of the line
 abbrev behind_solver : List ℕ → List ℕ → List ℕ
 behind_solver solver rest = solver ++ 10 ∷ rest
 

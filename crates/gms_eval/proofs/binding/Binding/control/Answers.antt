@@ -4,7 +4,7 @@ use Rattle.std.proofs.lemmas.Bool.{cases_lt}
 use Rattle.gms_eval.specs.Bindings.{Pairs, paired}
 use Rattle.gms_eval.proofs.binding.Binding.control.Goals as goal
 
--- one more pair, behind those that are there
+-- one more pair, after the pairs so far
 one_more : (done : Pairs) (xs ys : List ℕ) (i : ℕ) → i < length xs → i < length ys → done ++ paired (drop i xs) (drop i ys) ≡ (done ++ (get_or xs i 0, get_or ys i 0) ∷ []) ++ paired (drop (i + 1) xs) (drop (i + 1) ys)
 one_more done xs ys i l m =
     ap (λ zs. done ++ paired zs (drop i ys)) (drop_more xs i 0 l)
@@ -15,7 +15,7 @@ none_left : (xs ys : List ℕ) → ys ≡ [] → paired xs ys ≡ []
 none_left [] ys e = refl
 none_left (x ∷ xs) ys e = ap (paired (x ∷ xs)) e
 
--- no pair is left where one of the lists ends
+-- no pair remains where one of the lists ends
 ended : (done : Pairs) (xs ys : List ℕ) (i : ℕ) → (length xs ≤ i) ⊎ (length ys ≤ i) → done ++ paired (drop i xs) (drop i ys) ≡ done
 ended done xs ys i (inl all) = ap (λ zs. done ++ paired zs (drop i ys)) (drop_all i xs all) ∙ append-nil done
 ended done xs ys i (inr all) = ap (λ zs. done ++ zs) (none_left (drop i xs) (drop i ys) (drop_all i ys all)) ∙ append-nil done

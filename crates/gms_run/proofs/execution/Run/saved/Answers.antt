@@ -1,4 +1,4 @@
--- The text is the save, and the numbers were looked at.
+-- The text is the save, and the numbers were examined.
 use Rattle.std.proofs.Common.{◌≡◌, ◌<◌, ◌∙◌, List, Vec, ap, codes, map, slice_get, subst, sym, unwrap_or, ℕ}
 use Rattle.std.specs.Prelude.{IfOk}
 use Rattle.std.specs.declared.alloc.Global.{Global}

@@ -1,4 +1,4 @@
--- The statements, and what is to be done behind their listing.
+-- The statements, and what follows their listing.
 use Rattle.std.proofs.Common.{List, length, subst, sym}
 use Rattle.std.specs.Prelude.{string_bytes}
 use Rattle.std.proofs.lemmas.Result.{err_from_is_err_and}
