@@ -15,12 +15,12 @@ use Rattle.lp_exact.specs.Tableau.{Tableau, dictionary, IsTableau}
 use Rattle.lp_exact.proofs.Rows.{number_first, number_later}
 use Rattle.lp_exact.proofs.Kept.{index_default, index_past, length-rows}
 use Rattle.lp_exact.proofs.Filling.{push_here, push_other}
-use Rattle.lp_whole.specs.declared.line.Line.{Line}
-use Rattle.lp_whole.specs.declared.parts.Part.{Part}
-use Rattle.lp_whole.specs.Form.{wholes, line_number, lines_number, IsLine, AreLines}
-use Rattle.lp_whole.specs.Parts.{AreThere, AreApart, AreParts}
+use Rattle.lp_lines.specs.declared.line.Line.{Line}
+use Rattle.lp_lines.specs.declared.parts.Part.{Part}
+use Rattle.lp_lines.specs.Form.{wholes, line_number, lines_number, IsLine, AreLines}
+use Rattle.lp_lines.specs.Parts.{AreThere, AreApart, AreParts}
 use Rattle.lp_whole.specs.Whole.{WholeTableau, row_of, whole_dictionary, dictionary as dictionary_of}
-use Rattle.lp_whole.proofs.Plans.{some_at}
+use Rattle.lp_lines.proofs.Plans.{some_at}
 use Rattle.lp_whole.proofs.Reading.{at_line}
 use Rattle.lp_whole.proofs.Wholes.{row_within, row_past}
 use Rattle.lp_dict.specs.Turning.{part_of, all_rows, IsLineOf, AreLinesOf}

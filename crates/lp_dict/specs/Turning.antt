@@ -13,9 +13,9 @@ use Rattle.lp_exact.specs.First.{IsFilled}
 use Rattle.lp_exact.specs.Pivots.{StopsAt}
 use Rattle.lp_exact.specs.Tableau as exact
 use Rattle.lp_dict.specs.declared.body.Body.{Body}
-use Rattle.lp_whole.specs.declared.line.Line.{Line}
-use Rattle.lp_whole.specs.declared.parts.Part.{Part}
-use Rattle.lp_whole.specs.Form.{wholes, line_number, IsLine}
+use Rattle.lp_lines.specs.declared.line.Line.{Line}
+use Rattle.lp_lines.specs.declared.parts.Part.{Part}
+use Rattle.lp_lines.specs.Form.{wholes, line_number, IsLine}
 use Rattle.lp_dict.specs.Tableau.{kept, upcoming_of, IsBounded}
 
 -- an entry's number, numerator and denominator

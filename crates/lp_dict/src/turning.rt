@@ -14,8 +14,9 @@ use crate::number::number_at;
 use gq_field::ExactField;
 use lp_core::Pivot;
 use lp_exact::{Entry, ExactDict, push_unless_zero};
+use lp_lines::{Line, Part, line_of_parts};
 use lp_std::Stop;
-use lp_whole::{Line, Part, Whole, line_of_parts};
+use lp_whole::Whole;
 use std::alloc::{AllocError, Global};
 
 /// The entries of a row as numerators and denominators.

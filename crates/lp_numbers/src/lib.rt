@@ -4,6 +4,7 @@
 
 mod common;
 mod compare;
+mod divisor;
 mod kept;
 mod narrow;
 mod numbers;

@@ -3,7 +3,7 @@ ghost use Rattle.std.specs.Prelude.{◌≡◌, ◌⊎◌, ℕ, ◌+◌, ◌*◌,
 ghost use Rattle.std.specs.Int.{◌∣◌};
 ghost use Rattle.lp_numbers.specs.Lines.{whole_at, AreWithin, AreDivided, HaveRoom, AreLessened, ArePlaces, AreLessenedFrom, AreOver, AreNegated};
 
-use crate::common::shared_by;
+use crate::divisor::Divisor;
 use std::alloc::{AllocError, Global};
 
 /// The product of two whole numbers.
@@ -124,28 +124,14 @@ pub(crate) fn divisor_of(numbers: &[i64], denominator: u64) -> u64
     ensures numbers { AreDivided numbers.now result }
     ensures greatest { (k : ℕ) → k ∣ denominator → AreDivided numbers.now k → k ∣ result }
 {
-    let mut divisor = denominator;
+    let mut divisor = Divisor::of(denominator);
     for n in numbers {
-        if divisor == 1 {
+        if divisor.value == 1 {
             return 1;
         }
-        divisor = shared_by(n.unsigned_abs(), divisor);
+        divisor = divisor.shared_with(*n);
     }
-    divisor
-}
-
-/// A number divided by a divisor of it. 0 is not divided: most numbers of a row are 0.
-#[inline(always)]
-fn quotient(n: i64, divisor: u64) -> i64
-    requires positive { 0 < divisor }
-    requires small { divisor < 2 ^ 63 }
-    requires divides { divisor ∣ nat_abs n }
-    ensures { result *ℤ pos divisor ≡ n }
-{
-    if n == 0 {
-        return 0;
-    }
-    n / divisor as i64
+    divisor.value
 }
 
 /// Divides each number by a common divisor.
@@ -155,8 +141,9 @@ pub(crate) fn divide(numbers: &mut [i64], divisor: u64)
     requires divides { AreDivided numbers.old divisor }
     ensures { AreOver divisor numbers.old numbers.new }
 {
+    let quick = Divisor::of(divisor);
     for c in 0..numbers.len() {
-        let over = quotient(numbers[c], divisor);
+        let over = quick.quotient(numbers[c]);
         numbers[c] = over;
     }
 }

@@ -63,6 +63,20 @@ pub(crate) fn lessen(numbers: &mut [i128], a: i128, b: i128, others: &[i128]) ->
     most
 }
 
+/// The quotient of a multiple of a divisor. 0, which most integers of a row are, is not divided.
+#[inline(always)]
+fn quotient(n: i128, divisor: u128) -> i128
+    requires positive { 0 < divisor }
+    requires small { divisor < 2 ^ 127 }
+    requires divides { divisor ∣ nat_abs n }
+    ensures { result *ℤ pos divisor ≡ n }
+{
+    if n == 0 {
+        return 0;
+    }
+    n / divisor as i128
+}
+
 /// Divides each number by a common divisor.
 pub(crate) fn divide(numbers: &mut [i128], divisor: u128)
     requires positive { 0 < divisor }
@@ -70,9 +84,9 @@ pub(crate) fn divide(numbers: &mut [i128], divisor: u128)
     requires divides { AreDivided numbers.old divisor }
     ensures { AreOver divisor numbers.old numbers.new }
 {
-    let divisor = divisor as i128;
     for c in 0..numbers.len() {
-        numbers[c] = numbers[c] / divisor;
+        let over = quotient(numbers[c], divisor);
+        numbers[c] = over;
     }
 }
 

@@ -8,10 +8,10 @@ use Rattle.gq_number.specs.Number.{Number, ratio, ◌-ℚ◌, ◌*ℚ◌, ◌/�
 use Rattle.gq_number.proofs.Whole.{nat_abs-*ℤ}
 use Rattle.gq_number.proofs.Naming.{times_one}
 use Rattle.lp_core.specs.Dictionary.{Dictionary}
-use Rattle.lp_whole.specs.Turning.{turned_at, IsAbove}
+use Rattle.lp_lines.specs.Turning.{turned_at, IsAbove}
 use Rattle.lp_whole.specs.Bounds.{IsBounded, HasRoomAbove, over_denominators}
-use Rattle.lp_whole.proofs.Turning.{turned_row, turned_other}
-use Rattle.lp_whole.proofs.Lessening.{divided_line, lessened}
+use Rattle.lp_lines.proofs.Turning.{turned_row, turned_other}
+use Rattle.lp_lines.proofs.Lessening.{divided_line, lessened}
 
 module _ (n : ℕ → ℕ → ℤ) (d : ℕ → ℕ) (z k u : ℕ) (pivot : n k z ≡ pos u) (above : 0 < u) (positive : (i : ℕ) → 0 < d i) where
   abbrev kept : ℕ → ℕ → Number

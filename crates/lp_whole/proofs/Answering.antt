@@ -9,7 +9,7 @@ use Rattle.lp_exact.proofs.Kept.{contains_get}
 use Rattle.lp_whole.specs.Pairs.{ArePairsFit, IsSomePairCrowded}
 use Rattle.lp_whole.specs.Whole.{WholeTableau, dictionary, IsWhole, AreCrowded, IsPivotCrowded, IsPivoted}
 use Rattle.lp_whole.proofs.Pairing.{steps_fit}
-use Rattle.lp_whole.proofs.Plans.{get_within}
+use Rattle.lp_lines.proofs.Plans.{get_within}
 use Rattle.lp_whole.proofs.Pivoting.{pivot_there}
 
 module _ (t : WholeTableau) (w : IsWhole t) (p : Pivot) (legal : (k : ℕ) × IsLegal (dictionary t) p k) where

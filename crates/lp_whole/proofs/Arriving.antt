@@ -4,12 +4,12 @@ use Rattle.std.specs.Prelude.{slice_get}
 use Rattle.std.proofs.lemmas.Bool.{cases_eq}
 use Rattle.std.proofs.Math.Nat.{mul-le-mul}
 use Rattle.lp_numbers.specs.Lines.{whole_at}
-use Rattle.lp_whole.specs.declared.line.Line.{Line}
-use Rattle.lp_whole.specs.declared.line.Factors.{Factors}
-use Rattle.lp_whole.specs.Form.{wholes, lines_number, AreBounded, AreSameLines, AreTurned, IsWithinFactors, AreLowest}
+use Rattle.lp_lines.specs.declared.line.Line.{Line}
+use Rattle.lp_lines.specs.declared.line.Factors.{Factors}
+use Rattle.lp_lines.specs.Form.{wholes, lines_number, AreBounded, AreSameLines, AreTurned, IsWithinFactors, AreLowest}
 use Rattle.lp_whole.specs.Room.{HasRoomFor, KeepsRoom, zero_after, IsRoomyPlan, HaveRoomAfter, AreTurnedInRoom, AreMade}
-use Rattle.lp_whole.proofs.Turning.{turned_same}
-use Rattle.lp_whole.proofs.Plans.{get_within, some_at, same_some}
+use Rattle.lp_lines.proofs.Turning.{turned_same}
+use Rattle.lp_lines.proofs.Plans.{get_within, some_at, same_some}
 use Rattle.lp_whole.proofs.Sameness.{same_are, same_numbers}
 
 -- ---- by factors

@@ -21,7 +21,7 @@ use Rattle.lp_core.specs.Dictionary.{Dictionary}
 use Rattle.lp_core.specs.Steps.{AllFit, product_fits, quotient_fits, difference_fits, ratio_steps}
 use Rattle.lp_whole.specs.Bounds.{IsBounded}
 use Rattle.lp_whole.specs.Pairs.{HasPairRoom}
-use Rattle.lp_whole.proofs.Lessening.{with_sign, with_sign_within, quotient_means}
+use Rattle.lp_lines.proofs.Lessening.{with_sign, with_sign_within, quotient_means}
 use Rattle.lp_whole.proofs.Steps.{ratios_fit}
 
 -- ---- a fraction that a number means is a multiple of its reduced one

@@ -12,14 +12,14 @@ use Rattle.gq_number.proofs.Order.{<ℚ_trans, <ℚ-≤ℚ_trans, ≤ℚ_from_<�
 use Rattle.gq_number.proofs.Compares.{number_cmp_decides}
 use Rattle.lp_core.specs.Dictionary.{Dictionary, basic_at, constant_at, entry_at, OpeningIsDue, IsOpening, ratio_at, IsLeast}
 use Rattle.lp_exact.specs.Pivots.{IsLeaving}
-use Rattle.lp_whole.specs.declared.line.Line.{Line}
+use Rattle.lp_lines.specs.declared.line.Line.{Line}
 use Rattle.lp_whole.specs.declared.choice.Candidate.{Candidate}
 use Rattle.lp_numbers.specs.Lines.{whole_at}
-use Rattle.lp_whole.specs.Form.{wholes}
+use Rattle.lp_lines.specs.Form.{wholes}
 use Rattle.lp_whole.specs.Choice.{fraction, IsFraction, ComesFirst, IsLesser, IsFirstOf, IsFirstAbove}
-use Rattle.lp_whole.proofs.Plans.{index_get}
+use Rattle.lp_lines.proofs.Plans.{index_get}
 use Rattle.lp_numbers.proofs.Lines.{whole_past}
-use Rattle.lp_whole.proofs.Lessening.{divided_line, compare_is}
+use Rattle.lp_lines.proofs.Lessening.{divided_line, compare_is}
 
 comes_first_itself : (x : Number) (v : ℕ) → ComesFirst x v x v
 comes_first_itself x v = inr (refl, omega arith)

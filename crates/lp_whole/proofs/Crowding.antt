@@ -11,17 +11,17 @@ use Rattle.lp_core.specs.Dictionary.{Dictionary, entry_at, IsLegal, exchanged}
 use Rattle.lp_exact.specs.Pivots.{IsProper}
 use Rattle.lp_exact.specs.Tableau.{IsPlace}
 use Rattle.lp_exact.proofs.Proper.{enters_new}
-use Rattle.lp_whole.specs.declared.line.Line.{Line}
+use Rattle.lp_lines.specs.declared.line.Line.{Line}
 use Rattle.lp_numbers.specs.Lines.{whole_at}
-use Rattle.lp_whole.specs.Form.{wholes, line_number, number_or_none, lines_number, numbers_above, IsLine, AreLines, AreSameLines, IsRaisedAt, IsRaisedLine}
+use Rattle.lp_lines.specs.Form.{wholes, line_number, number_or_none, lines_number, numbers_above, IsLine, AreLines, AreSameLines, IsRaisedAt, IsRaisedLine}
 use Rattle.lp_whole.specs.Room.{HasRoomFor, IsPutOff, HasRoom}
-use Rattle.lp_whole.specs.Turning.{turned_at, negated}
+use Rattle.lp_lines.specs.Turning.{turned_at, negated}
 use Rattle.lp_whole.specs.Whole.{row_of, WholeTableau, dictionary, IsWhole}
-use Rattle.lp_whole.proofs.Turning.{turned_same, turned_negated}
-use Rattle.lp_whole.proofs.Plans.{get_within, some_at, same_some, set_same}
+use Rattle.lp_lines.proofs.Turning.{turned_same, turned_negated}
+use Rattle.lp_lines.proofs.Plans.{get_within, some_at, same_some, set_same}
 use Rattle.lp_whole.proofs.Reading.{at_line, above_number, number_above}
 use Rattle.lp_whole.proofs.Sameness.{same_are, same_bounded, same_numbers}
-use Rattle.lp_whole.proofs.Updating.{ratio_none}
+use Rattle.lp_lines.proofs.Updating.{ratio_none}
 use Rattle.lp_whole.proofs.Wholes.{row_within, row_apart, row_turned}
 use Rattle.lp_whole.proofs.Pivoting.{IsAfter, after_is, plain_numbers, plain_stays, stays_numbers, k_in, pivot_there}
 

@@ -9,9 +9,9 @@ use Rattle.gq_number.proofs.Means.{ratio_means}
 use Rattle.gq_number.proofs.Order as order
 use Rattle.lp_core.specs.Dictionary.{Dictionary, entry_at, IsPriced, Improves}
 use Rattle.lp_core.specs.LargestCoefficient.{HasGreatest}
-use Rattle.lp_whole.specs.declared.line.Line.{Line}
+use Rattle.lp_lines.specs.declared.line.Line.{Line}
 use Rattle.lp_numbers.specs.Lines.{whole_at}
-use Rattle.lp_whole.specs.Form.{wholes}
+use Rattle.lp_lines.specs.Form.{wholes}
 use Rattle.lp_whole.specs.Choice.{IsBetter, IsBest, IsGreatestAbove}
 use Rattle.lp_numbers.proofs.Lines.{whole_past}
 

@@ -1,17 +1,12 @@
-pub mod Turning
-pub mod Lessening
 pub mod Steps
 pub mod Bounds
 pub mod Above
-pub mod Updating
-pub mod Plans
 pub mod Reading
 pub mod Rooms
 pub mod Choices
 pub mod Sameness
 pub mod Largest
 pub mod Wholes
-pub mod Putting
 pub mod Arriving
 pub mod Settling
 pub mod Pivoting
@@ -19,5 +14,3 @@ pub mod Crowding
 pub mod Answering
 pub mod Pairing
 pub mod Lowest
-pub mod Results
-pub mod Filling

@@ -10,9 +10,9 @@ use Rattle.gq_number.proofs.Whole.{nat_abs-*ℤ, int_div-*ℤ}
 use Rattle.lp_numbers.specs.Lines.{whole_at}
 use Rattle.lp_numbers.proofs.Lines.{whole_past}
 use Rattle.lp_numbers.proofs.Places.{times_none}
-use Rattle.lp_whole.specs.declared.line.Line.{Line}
+use Rattle.lp_lines.specs.declared.line.Line.{Line}
 use Rattle.lp_whole.specs.declared.pairs.Measure.{Measure}
-use Rattle.lp_whole.specs.Form.{wholes, lines_number, numbers_above, AreLines}
+use Rattle.lp_lines.specs.Form.{wholes, lines_number, numbers_above, AreLines}
 use Rattle.lp_whole.specs.Room.{AreWhole, whole_or_zero, row_denominator, row_number}
 use Rattle.lp_whole.specs.Pairs.{IsRowOver, IsLowestRow}
 use Rattle.lp_whole.proofs.Pairing.{IsRow, rows_are}

@@ -11,19 +11,19 @@ use Rattle.gq_number.proofs.Means.{Means}
 use Rattle.gq_number.proofs.Naming.{times_one}
 use Rattle.lp_core.specs.Dictionary.{Dictionary, entry_at}
 use Rattle.lp_core.specs.Steps.{AllFit, product_fits, quotient_fits, difference_fits, exchange_steps}
-use Rattle.lp_whole.specs.declared.line.Line.{Line}
+use Rattle.lp_lines.specs.declared.line.Line.{Line}
 use Rattle.lp_whole.specs.declared.pairs.Measure.{Measure}
 use Rattle.lp_numbers.specs.Lines.{whole_at}
-use Rattle.lp_whole.specs.Form.{wholes, lines_number, numbers_above, IsLine, AreFactors, AreBounded}
+use Rattle.lp_lines.specs.Form.{wholes, lines_number, numbers_above, IsLine, AreFactors, AreBounded}
 use Rattle.lp_whole.specs.Room.{AreWhole, most_or_one, denominator_or_one, zero_or_one, whole_or_zero, row_denominator, row_most, row_number}
 use Rattle.lp_whole.specs.Pairs.{HasPairRoom, HasNoPairRoom, IsSomePairCrowded, IsMeasured, IsRowOver, IsLowestRow, IsRoomy, IsPairFit, ArePairsFit, rows_top}
 use Rattle.lp_whole.specs.Whole.{row_of, WholeTableau, dictionary, IsWhole}
 use Rattle.lp_whole.proofs.Bounds.{fits_by_means, pair_product, pair_difference}
-use Rattle.lp_whole.proofs.Lessening.{with_sign, with_sign_within, quotient_means}
-use Rattle.lp_whole.proofs.Plans.{some_at}
+use Rattle.lp_lines.proofs.Lessening.{with_sign, with_sign_within, quotient_means}
+use Rattle.lp_lines.proofs.Plans.{some_at}
 use Rattle.lp_whole.proofs.Reading.{at_line, own_number_is, other_number_is, own_shared, other_shared, own_named, other_named, some_v, top_within, low_within}
 use Rattle.lp_whole.proofs.Steps.{exchange_fits, BothFit}
-use Rattle.lp_whole.proofs.Updating.{ratio_none}
+use Rattle.lp_lines.proofs.Updating.{ratio_none}
 use Rattle.lp_whole.proofs.Wholes.{row_within, row_below, row_apart}
 
 -- ---- the rows of what lines stand for

@@ -12,17 +12,17 @@ use Rattle.lp_exact.specs.Pivots.{IsProper}
 use Rattle.lp_exact.specs.Tableau.{IsPlace}
 use Rattle.lp_exact.proofs.Proper.{proper_after, place_within, pivot_some, enters_there, basic_after}
 use Rattle.lp_exact.proofs.Kept.{get_index, contains_get}
-use Rattle.lp_whole.specs.declared.line.Line.{Line}
+use Rattle.lp_lines.specs.declared.line.Line.{Line}
 use Rattle.lp_numbers.specs.Lines.{whole_at}
-use Rattle.lp_whole.specs.Form.{wholes, line_number, number_or_none, lines_number, numbers_above, IsLine, AreLines, AreBounded, AreForgotten, IsRaisedAt, IsRaisedLine, AreSwapped}
+use Rattle.lp_lines.specs.Form.{wholes, line_number, number_or_none, lines_number, numbers_above, IsLine, AreLines, AreBounded, AreForgotten, IsRaisedAt, IsRaisedLine, AreSwapped}
 use Rattle.lp_whole.specs.Room.{HasRoomFor, IsPutOff, AreWhole, AreTurnedInRoom}
-use Rattle.lp_whole.specs.Turning.{turned_at, swapped, negated, IsAbove}
+use Rattle.lp_lines.specs.Turning.{turned_at, swapped, negated, IsAbove}
 use Rattle.lp_whole.specs.Whole.{row_of, WholeTableau, dictionary, IsWhole}
-use Rattle.lp_whole.proofs.Turning.{turned_same, turned_negated, swapped_first, swapped_second, swapped_third, above, leaves}
-use Rattle.lp_whole.proofs.Plans.{get_within, index_get, some_at, same_some, set_other}
+use Rattle.lp_lines.proofs.Turning.{turned_same, turned_negated, swapped_first, swapped_second, swapped_third, above, leaves}
+use Rattle.lp_lines.proofs.Plans.{get_within, index_get, some_at, same_some, set_other}
 use Rattle.lp_whole.proofs.Reading.{at_line, above_number, bounded_lines}
 use Rattle.lp_whole.proofs.Wholes.{row_within, row_below, row_apart, row_turned, sign_off}
-use Rattle.lp_whole.proofs.Updating.{ratio_none}
+use Rattle.lp_lines.proofs.Updating.{ratio_none}
 
 -- ---- lines that were exchanged
 

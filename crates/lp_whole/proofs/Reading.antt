@@ -9,15 +9,15 @@ use Rattle.gq_number.specs.Order.{◌<ℚ◌}
 use Rattle.gq_number.proofs.Naming.{times_one, ratio-one}
 use Rattle.gq_number.proofs.Means.{ratio_means}
 use Rattle.gq_number.proofs.Order
-use Rattle.lp_whole.specs.declared.line.Line.{Line}
+use Rattle.lp_lines.specs.declared.line.Line.{Line}
 use Rattle.lp_numbers.specs.Lines.{whole_at}
-use Rattle.lp_whole.specs.Form.{wholes, line_number, number_or_none, lines_number, numbers_above, IsLine, AreBounded}
+use Rattle.lp_lines.specs.Form.{wholes, line_number, number_or_none, lines_number, numbers_above, IsLine, AreBounded}
 use Rattle.lp_whole.specs.Room.{HasRoom, AreWhole, denominator_or_one, zero_or_one, whole_or_zero, row_denominator, row_number}
-use Rattle.lp_whole.proofs.Turning.{turned_row, turned_other}
-use Rattle.lp_whole.proofs.Lessening.{divided_line, lessened}
+use Rattle.lp_lines.proofs.Turning.{turned_row, turned_other}
+use Rattle.lp_lines.proofs.Lessening.{divided_line, lessened}
 use Rattle.lp_numbers.proofs.Lines.{left_within}
-use Rattle.lp_whole.proofs.Updating.{zero_times}
-use Rattle.lp_whole.proofs.Plans.{same_some, get_within, index_get}
+use Rattle.lp_lines.proofs.Updating.{zero_times}
+use Rattle.lp_lines.proofs.Plans.{same_some, get_within, index_get}
 
 -- ---- signs
 

@@ -5,12 +5,12 @@ use Rattle.std.proofs.lemmas.Bool.{cases_eq}
 use Rattle.std.proofs.Math.Nat.{mul-le-mul, mul-le-mul_left}
 use Rattle.lp_numbers.specs.Lines.{whole_at}
 use Rattle.lp_numbers.proofs.Lines.{left_within}
-use Rattle.lp_whole.specs.declared.line.Line.{Line}
-use Rattle.lp_whole.specs.declared.line.Factors.{Factors}
-use Rattle.lp_whole.specs.Form.{wholes, IsLine, AreLines, IsPlan, own_factors}
+use Rattle.lp_lines.specs.declared.line.Line.{Line}
+use Rattle.lp_lines.specs.declared.line.Factors.{Factors}
+use Rattle.lp_lines.specs.Form.{wholes, IsLine, AreLines, IsPlan, own_factors}
 use Rattle.lp_whole.specs.Room.{zero_after, KeepsRoom, AreFactorsWithin}
-use Rattle.lp_whole.proofs.Plans.{index_get, same_some}
-use Rattle.lp_whole.proofs.Updating.{own_number}
+use Rattle.lp_lines.proofs.Plans.{index_get, same_some}
+use Rattle.lp_lines.proofs.Updating.{own_number}
 
 abbrev pub none : Factors
 none = record { line = pos 0; pivot = pos 0; most = 0 }

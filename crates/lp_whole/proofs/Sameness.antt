@@ -4,12 +4,12 @@ use Rattle.std.specs.Prelude.{slice_get}
 use Rattle.std.proofs.lemmas.Bool.{cases_lt}
 use Rattle.gq_number.specs.Number.{whole}
 use Rattle.gq_number.specs.Order.{◌<ℚ◌}
-use Rattle.lp_whole.specs.declared.line.Line.{Line}
-use Rattle.lp_whole.specs.declared.line.Factors.{Factors}
+use Rattle.lp_lines.specs.declared.line.Line.{Line}
+use Rattle.lp_lines.specs.declared.line.Factors.{Factors}
 use Rattle.lp_numbers.specs.Lines.{whole_at}
-use Rattle.lp_whole.specs.Form.{wholes, AreLines, AreBounded, AreSameLines, IsSameLine, ArePlanned, IsPlan, lines_number, number_or_none}
-use Rattle.lp_whole.proofs.Plans.{get_within, some_at, same_some, get_past}
-use Rattle.lp_whole.proofs.Updating.{same_itself}
+use Rattle.lp_lines.specs.Form.{wholes, AreLines, AreBounded, AreSameLines, IsSameLine, ArePlanned, IsPlan, lines_number, number_or_none}
+use Rattle.lp_lines.proofs.Plans.{get_within, some_at, same_some, get_past}
+use Rattle.lp_lines.proofs.Updating.{same_itself}
 use Rattle.lp_whole.proofs.Reading.{at_line, number_above}
 
 pub same_lines : (width : ℕ) (lines : List Line) → AreLines width lines → AreSameLines lines lines

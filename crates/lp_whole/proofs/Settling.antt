@@ -3,9 +3,9 @@ use Rattle.std.proofs.Common.{◌≡◌, ℕ, ◌+◌, ◌<◌, inl, inr, List, 
 use Rattle.std.specs.Prelude.{slice_get, slice_set, IfOk, Result}
 use Rattle.std.proofs.Common.{Ok, Err}
 use Rattle.std.proofs.lemmas.Bool.{cases_eq}
-use Rattle.lp_whole.specs.declared.line.Line.{Line}
-use Rattle.lp_whole.specs.Form.{IsLowest}
-use Rattle.lp_whole.proofs.Plans.{AreReduced, set_same, set_other, same_some}
+use Rattle.lp_lines.specs.declared.line.Line.{Line}
+use Rattle.lp_lines.specs.Form.{IsLowest}
+use Rattle.lp_lines.proofs.Plans.{AreReduced, set_same, set_other, same_some}
 
 -- the first n lines are in lowest terms
 abbrev pub AreLowestTo : List Line → ℕ → Type 0

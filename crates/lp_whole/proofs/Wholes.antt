@@ -15,21 +15,21 @@ use Rattle.lp_core.specs.Dictionary.{Dictionary, basic_at, constant_at, entry_at
 use Rattle.lp_core.specs.LargestCoefficient.{HasGreatest}
 use Rattle.lp_exact.specs.Tableau.{IsPlace}
 use Rattle.lp_exact.proofs.Kept.{contains_get}
-use Rattle.lp_whole.specs.declared.line.Line.{Line}
+use Rattle.lp_lines.specs.declared.line.Line.{Line}
 use Rattle.lp_whole.specs.declared.choice.Candidate.{Candidate}
 use Rattle.lp_numbers.specs.Lines.{whole_at}
-use Rattle.lp_whole.specs.Form.{wholes, number_or_none, lines_number, numbers_above, IsLine, AreLines}
+use Rattle.lp_lines.specs.Form.{wholes, number_or_none, lines_number, numbers_above, IsLine, AreLines}
 use Rattle.lp_whole.specs.Room.{AreWhole}
-use Rattle.lp_whole.specs.Turning.{turned_at, IsAbove}
+use Rattle.lp_lines.specs.Turning.{turned_at, IsAbove}
 use Rattle.lp_whole.specs.Bounds.{IsBounded, HasRoomAbove, over_denominators}
 use Rattle.lp_whole.specs.Choice.{IsFirstOf, IsLeastConstant, IsLeastRatio, IsFirstAbove, IsGreatestAbove}
 use Rattle.lp_whole.specs.Whole.{row_of, WholeTableau, whole_dictionary, dictionary, IsWhole}
-use Rattle.lp_whole.proofs.Turning.{turned_row, turned_other}
+use Rattle.lp_lines.proofs.Turning.{turned_row, turned_other}
 use Rattle.lp_whole.proofs.Above.{bounded_above}
 use Rattle.lp_numbers.proofs.Lines.{whole_past}
-use Rattle.lp_whole.proofs.Updating.{ratio_none}
+use Rattle.lp_lines.proofs.Updating.{ratio_none}
 use Rattle.lp_whole.proofs.Largest.{greatest_tells}
-use Rattle.lp_whole.proofs.Plans.{get_within, index_get, some_at, same_some}
+use Rattle.lp_lines.proofs.Plans.{get_within, index_get, some_at, same_some}
 use Rattle.lp_whole.proofs.Reading.{at_line, number_above, above_number, own_number_is, some_v}
 
 -- ---- rows

@@ -3,11 +3,11 @@
 use Rattle.std.specs.Prelude.{◌≡◌, ◌⊎◌, ℕ, ◌+◌, ◌<◌, ◌≤◌, ◌^◌, pos, ◌<ℤ◌, List, slice_index_or, Option, Some, None}
 use Rattle.gq_number.specs.Number.{Number, whole, ratio, ◌/ℚ◌}
 use Rattle.gq_number.specs.Order.{◌<ℚ◌}
-use Rattle.lp_whole.specs.declared.line.Line.{Line}
+use Rattle.lp_lines.specs.declared.line.Line.{Line}
 use Rattle.lp_whole.specs.declared.read.Fraction.{Fraction}
 use Rattle.lp_whole.specs.declared.choice.Candidate.{Candidate}
 use Rattle.lp_numbers.specs.Lines.{whole_at}
-use Rattle.lp_whole.specs.Form.{wholes}
+use Rattle.lp_lines.specs.Form.{wholes}
 
 -- the number of a fraction
 abbrev pub fraction : Fraction → Number

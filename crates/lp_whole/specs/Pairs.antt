@@ -3,9 +3,9 @@
 use Rattle.std.specs.Prelude.{◌≡◌, ◌≢◌, ℕ, ◌+◌, ◌*◌, ◌<◌, ◌≤◌, ℤ, pos, ◌*ℤ◌, ◌<ℤ◌, nat_abs, List, length, Option, Some, None}
 use Rattle.std.specs.Int.{◌∣◌}
 use Rattle.gq_number.specs.Number.{ratio}
-use Rattle.lp_whole.specs.declared.line.Line.{Line}
+use Rattle.lp_lines.specs.declared.line.Line.{Line}
 use Rattle.lp_whole.specs.declared.pairs.Measure.{Measure}
-use Rattle.lp_whole.specs.Form.{lines_number, numbers_above, AreFactors}
+use Rattle.lp_lines.specs.Form.{lines_number, numbers_above, AreFactors}
 use Rattle.lp_whole.specs.Room.{row_denominator, row_most}
 
 -- A row has the integer f for the entering variable, and the row of the leaving variable has p.

@@ -1,10 +1,10 @@
 -- Stored rows with variable 0 deferred or not, whose numbers stay within a bound.
 use Rattle.std.specs.Prelude.{◌≡◌, ◌≢◌, ℕ, ◌+◌, ◌*◌, ◌<◌, ◌≤◌, ◌^◌, ◌-◌, ◌==◌, ◌⊎◌, ℤ, pos, ◌-ℤ◌, ◌*ℤ◌, ◌<ℤ◌, nat_abs, List, length, slice_get, Option, Some, None, if◌then◌else◌}
-use Rattle.lp_whole.specs.declared.line.Line.{Line}
-use Rattle.lp_whole.specs.declared.line.Factors.{Factors}
+use Rattle.lp_lines.specs.declared.line.Line.{Line}
+use Rattle.lp_lines.specs.declared.line.Factors.{Factors}
 use Rattle.lp_numbers.specs.Lines.{whole_at}
-use Rattle.lp_whole.specs.Form.{wholes, lines_number, AreLines, AreBounded, AreLowest, IsPlan, IsSomeCrowded}
-use Rattle.lp_whole.specs.Turning.{turned_at}
+use Rattle.lp_lines.specs.Form.{wholes, lines_number, AreLines, AreBounded, AreLowest, IsPlan, IsSomeCrowded}
+use Rattle.lp_lines.specs.Turning.{turned_at}
 
 -- If p is the row k that variable 0 is to enter, that exchange keeps each row within the bound.
 pub record HasRoomFor (k : ℕ) (p : Line) (lines : List Line) (bound : ℕ) : Type 0 where

@@ -5,8 +5,8 @@ use Rattle.lp_core.specs.declared.answer.Pivot.{Pivot}
 use Rattle.lp_core.specs.Dictionary.{Dictionary, exchanged}
 use Rattle.lp_exact.specs.Pivots.{IsProper}
 use Rattle.lp_exact.specs.Tableau.{IsPlace}
-use Rattle.lp_whole.specs.declared.line.Line.{Line}
-use Rattle.lp_whole.specs.Form.{lines_number, numbers_above}
+use Rattle.lp_lines.specs.declared.line.Line.{Line}
+use Rattle.lp_lines.specs.Form.{lines_number, numbers_above}
 use Rattle.lp_whole.specs.Room.{AreWhole, HasNoRoomFor, LinesHaveNoRoom}
 use Rattle.lp_whole.specs.Pairs.{IsSomePairCrowded}
 

@@ -2,12 +2,11 @@
 ghost use Rattle.std.specs.Prelude.{◌≡◌, ℕ, ◌<◌, ◌^◌, pos, true, false, length, IfOk, IsTrue, ◌↔◌, MatchOption};
 ghost use Rattle.gq_number.specs.Number.{whole};
 ghost use Rattle.gq_number.specs.Order.{◌<ℚ◌};
-ghost use Rattle.lp_whole.specs.Form.{AreLines, AreSameLines, AreLowest, lines_number};
+ghost use Rattle.lp_lines.specs.Form.{AreLines, AreSameLines, AreLowest, lines_number};
 ghost use Rattle.lp_whole.specs.Room.{HaveRoomAfter, AreTurnedInRoom, HaveNoRoomMade};
 
-use crate::exchange::{exchange_lines, plan_lines};
-use crate::line::{Line, copied_line, settle};
 use crate::room::{all_within, has_room};
+use lp_lines::{Line, copied_line, exchange_lines, plan_lines, settle};
 use std::alloc::{AllocError, Global};
 
 /// The greatest magnitude of an intermediate integer.

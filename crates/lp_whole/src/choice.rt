@@ -3,12 +3,12 @@
 ghost use Rattle.std.specs.Prelude.{◌≡◌, ℕ, ◌+◌, ◌*◌, ◌<◌, ◌^◌, pos, length, MatchOption};
 ghost use Rattle.gq_number.specs.Number.{whole, ◌/ℚ◌};
 ghost use Rattle.gq_number.specs.Order.{◌<ℚ◌, number_cmp};
-ghost use Rattle.lp_whole.specs.Form.{wholes, lines_number, numbers_above};
+ghost use Rattle.lp_lines.specs.Form.{wholes, lines_number, numbers_above};
 ghost use Rattle.lp_whole.specs.Room.{AreWhole};
 ghost use Rattle.lp_whole.specs.Choice.{fraction, IsFraction, IsLesser, IsLeastConstant, IsLeastRatio, IsFirstAbove};
 
-use crate::line::{Line, number_at};
 use crate::read::{Fraction, read};
+use lp_lines::{Line, number_at};
 use lp_numbers::compare_ratios;
 use std::cmp::Ordering;
 

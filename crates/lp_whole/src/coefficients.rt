@@ -1,9 +1,9 @@
 //! The variable whose number in a row is greatest.
 ghost use Rattle.std.specs.Prelude.{◌↔◌, ◌<◌, ◌^◌, length, IsTrue, MatchOption};
-ghost use Rattle.lp_whole.specs.Form.{wholes};
+ghost use Rattle.lp_lines.specs.Form.{wholes};
 ghost use Rattle.lp_whole.specs.Choice.{IsBetter, IsBest, IsGreatestAbove};
 
-use crate::line::{Line, number_at};
+use lp_lines::{Line, number_at};
 
 /// Whether the number at a column is above 0 and greater than that at the best column so far.
 fn is_better(line: &Line, column: usize, best: Option<usize>) -> bool

@@ -6,7 +6,7 @@ ghost use Rattle.lp_core.specs.Dictionary.{Dictionary, basic_at, entry_at, excha
 ghost use Rattle.lp_core.specs.Steps.{AllFit, product_fits, difference_fits, ratio_steps};
 ghost use Rattle.lp_whole.specs.Bounds.{IsBounded, HasRoomAbove, over_denominators};
 ghost use Rattle.lp_whole.specs.Pairs.{HasPairRoom};
-ghost use Rattle.lp_whole.specs.Turning.{turned_at, swapped, negated, IsAbove};
+ghost use Rattle.lp_lines.specs.Turning.{turned_at, swapped, negated, IsAbove};
 
 /// Two exchanges in one row equal the second alone; and an exchange of a dictionary with variable 0
 /// deferred is an exchange of the stored rows: Chvatal, Linear Programming, chapter 3.

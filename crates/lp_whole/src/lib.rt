@@ -5,20 +5,13 @@
 mod apart;
 mod choice;
 mod coefficients;
-mod exchange;
 mod laws;
-mod line;
-mod marks;
 mod pairs;
-mod parts;
-mod put_off;
 mod read;
 mod room;
 mod step;
 mod whole;
 
 pub use laws::{bound_laws, line_laws, reading_laws, turning_laws};
-pub use line::Line;
-pub use parts::{Part, line_of_parts};
 pub use read::Fraction;
 pub use whole::Whole;

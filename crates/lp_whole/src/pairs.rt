@@ -1,12 +1,12 @@
 //! Whether each step of an exchange fits, by a bound for each two rows.
 ghost use Rattle.std.specs.Prelude.{◌≡◌, ◌≢◌, ℕ, ◌<◌, ◌≤◌, ◌^◌, pos, ◌*ℤ◌, nat_abs, length, false, IsTrue, IfSome};
 ghost use Rattle.std.specs.Int.{◌∣◌};
-ghost use Rattle.lp_whole.specs.Form.{AreBounded};
+ghost use Rattle.lp_lines.specs.Form.{AreBounded};
 ghost use Rattle.lp_whole.specs.Room.{AreWhole, row_most, row_denominator, row_number};
 ghost use Rattle.lp_whole.specs.Pairs.{HasPairRoom, HasNoPairRoom, IsPairFit, ArePairsFit, IsSomePairCrowded, IsMeasured, IsLowestRow, IsRoomy, rows_top};
 
-use crate::line::{Line, magnitude_at, reduced_pair, room};
 use crate::read::read;
+use lp_lines::{Line, magnitude_at, reduced_pair, room};
 use lp_numbers::{gcd, sum_within};
 
 /// A row in an exchange: its integer for the entering variable, and a bound of the magnitudes of

@@ -2,10 +2,10 @@
 ghost use Rattle.std.specs.Prelude.{◌≡◌, ℕ, ◌+◌, ◌*◌, ◌<◌, ◌≤◌, ◌^◌, pos, ◌<ℤ◌, ◌-ℤ◌, ◌*ℤ◌, nat_abs, length};
 ghost use Rattle.gq_number.specs.Number.{ratio};
 ghost use Rattle.lp_numbers.specs.Lines.{whole_at};
-ghost use Rattle.lp_whole.specs.Form.{wholes, IsLine, lines_number, numbers_above};
+ghost use Rattle.lp_lines.specs.Form.{wholes, IsLine, lines_number, numbers_above};
 ghost use Rattle.lp_whole.specs.Room.{AreWhole, HasRoom, row_denominator, row_number};
 
-use crate::line::{Line, magnitude_at, marked_number_at, number_at};
+use lp_lines::{Line, magnitude_at, marked_number_at, number_at};
 use lp_numbers::cross_difference;
 
 /// A number: an integer over a denominator above 0.
@@ -46,7 +46,8 @@ fn read_pivot(pivot: &Line, column: usize) -> Fraction
 }
 
 /// The integer of a row at a column, in the dictionary that the exchange of variable 0 into the
-/// pivot row makes. The row's stored integer is read only if the column has a mark.
+/// pivot row makes. The row's list is read only if the column has a mark and is not that
+/// of the constant.
 #[inline(always)]
 fn number_above(line: &Line, pivot: &Line, column: usize) -> i128
     requires line { IsLine line.now }
@@ -57,14 +58,14 @@ fn number_above(line: &Line, pivot: &Line, column: usize) -> i128
     requires room { line.now.most * nat_abs (whole_at (wholes pivot.now) 1) + nat_abs (whole_at (wholes line.now) 1) * pivot.now.most < 2 ^ 127 }
     ensures { result ≡ whole_at (wholes pivot.now) 1 *ℤ whole_at (wholes line.now) column -ℤ whole_at (wholes line.now) 1 *ℤ whole_at (wholes pivot.now) column }
 {
-    if line.marks.includes(column) {
+    if column > 1 && line.marks.includes(column) {
         return line.numbers.cross_at(&pivot.numbers, 1, column);
     }
     cross_difference(
-        number_at(pivot, 1),
-        0,
-        number_at(line, 1),
-        number_at(pivot, column),
+        marked_number_at(pivot, 1),
+        marked_number_at(line, column),
+        marked_number_at(line, 1),
+        marked_number_at(pivot, column),
     )
 }
 

@@ -1,12 +1,12 @@
 //! Whether the meaning of stored rows stays within the bound when variable 0 is deferred.
 ghost use Rattle.std.specs.Prelude.{◌≡◌, ℕ, ◌+◌, ◌-◌, ◌*◌, ◌<◌, ◌≤◌, ◌^◌, ◌-ℤ◌, ◌*ℤ◌, nat_abs, length, slice_get, Some, false, IsTrue, ◌↔◌};
-ghost use Rattle.lp_whole.specs.declared.line.Line.{Line};
-ghost use Rattle.lp_whole.specs.declared.line.Factors.{Factors};
+ghost use Rattle.lp_lines.specs.declared.line.Line.{Line};
+ghost use Rattle.lp_lines.specs.declared.line.Factors.{Factors};
 ghost use Rattle.lp_numbers.specs.Lines.{whole_at};
-ghost use Rattle.lp_whole.specs.Form.{wholes, IsLine, AreLines, AreBounded, IsPlan};
+ghost use Rattle.lp_lines.specs.Form.{wholes, IsLine, AreLines, AreBounded, IsPlan};
 ghost use Rattle.lp_whole.specs.Room.{HasRoomFor, KeepsRoom, AreFactorsWithin, IsSomeGreat};
 
-use crate::line::{Factors, Line, magnitude_at, number_at};
+use lp_lines::{Factors, Line, magnitude_at, marked_number_at};
 use lp_numbers::{cross_difference, sum_within};
 
 /// Whether `most` times `u` plus `zero` times `other` is at most a bound.
@@ -30,9 +30,9 @@ fn magnitude_after(line: &Line, pivot: &Line, factors: Factors) -> u128
 {
     let left = cross_difference(
         factors.line,
-        number_at(line, 1),
+        marked_number_at(line, 1),
         factors.pivot,
-        number_at(pivot, 1),
+        marked_number_at(pivot, 1),
     );
     left.unsigned_abs()
 }

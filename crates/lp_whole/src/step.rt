@@ -2,13 +2,12 @@
 ghost use Rattle.std.specs.Prelude.{◌≡◌, ℕ, ◌<◌, ◌^◌, pos, true, false, length, IfOk, MatchOption};
 ghost use Rattle.gq_number.specs.Number.{whole};
 ghost use Rattle.gq_number.specs.Order.{◌<ℚ◌};
-ghost use Rattle.lp_whole.specs.Form.{AreLines, AreBounded, AreSameLines, lines_number};
+ghost use Rattle.lp_lines.specs.Form.{AreLines, AreBounded, AreSameLines, lines_number};
 ghost use Rattle.lp_whole.specs.Room.{IsRoomyPlan, AreTurnedInRoom, FactorsHaveNoRoom, LinesHaveNoRoom};
 
 use crate::apart::turn_apart;
-use crate::exchange::{exchange_lines, plan_lines, reduce_lines};
-use crate::line::{Factors, Line};
 use crate::room::keeps_room;
+use lp_lines::{Factors, Line, exchange_lines, plan_lines, reduce_lines};
 use std::alloc::{AllocError, Global};
 
 /// The factors of an exchange at a place and a column, if it and what follows it stay within the

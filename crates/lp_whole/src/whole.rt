@@ -8,19 +8,17 @@ ghost use Rattle.lp_exact.specs.Pivots.{IsProper, IsLeaving};
 ghost use Rattle.lp_exact.specs.Tableau.{IsPlace};
 ghost use Rattle.lp_whole.specs.Whole.{dictionary, whole_dictionary, AreCrowded, IsPivotCrowded, IsPivoted};
 ghost use Rattle.lp_whole.specs.Pairs.{IsSomePairCrowded};
-ghost use Rattle.lp_whole.specs.Form.{AreLines, AreBounded};
+ghost use Rattle.lp_lines.specs.Form.{AreLines, AreBounded};
 ghost use Rattle.lp_whole.specs.Room.{IsSomeGreat};
 
 use crate::choice::{first_above, least_constant, least_ratio};
 use crate::coefficients::greatest_above;
-use crate::exchange::reduce_lines;
-use crate::line::Line;
 use crate::pairs::pairs_fit;
-use crate::put_off::{forget_zero, raise_at, swap_lines};
 use crate::read::{Fraction, read};
 use crate::room::{all_within, has_room};
 use crate::step::turn_lines;
 use lp_core::Pivot;
+use lp_lines::{Line, forget_zero, raise_at, reduce_lines, swap_lines};
 use std::alloc::{AllocError, Global};
 use std::marker::Model;
 

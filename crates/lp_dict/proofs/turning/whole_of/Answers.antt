@@ -2,8 +2,8 @@ use Rattle.std.proofs.Common.{◌+◌, Vec, Global, None, sym, ◌∙◌, subst}
 use Rattle.std.specs.Prelude.{IfSome}
 use Rattle.lp_exact.specs.Pivots.{IsProper}
 use Rattle.lp_exact.specs.Tableau as exact
-use Rattle.lp_whole.specs.declared.line.Line.{Line}
-use Rattle.lp_whole.specs.Form.{AreLines}
+use Rattle.lp_lines.specs.declared.line.Line.{Line}
+use Rattle.lp_lines.specs.Form.{AreLines}
 use Rattle.lp_whole.specs.Whole.{whole_dictionary}
 use Rattle.lp_dict.specs.Turning.{all_rows, AreLinesOf}
 use Rattle.lp_dict.proofs.Parts.{are_lines, same_dictionary, found_same}

@@ -5,4 +5,4 @@ use Rattle.lp_numbers.proofs.narrow.divisor_of.Given as goal
 
 abbrev pub invariant-loop-n : goal.invariant-loop-n
 invariant-loop-n l =
-    (0 < l.divisor) × (l.divisor ∣ l.denominator) × ((c : ℕ) → c < l.n-index → l.divisor ∣ nat_abs (whole_at l.numbers c)) × ((k : ℕ) → k ∣ l.denominator → AreDivided l.numbers k → k ∣ l.divisor)
+    (0 < l.divisor.value) × (l.divisor.value ∣ l.denominator) × ((c : ℕ) → c < l.n-index → l.divisor.value ∣ nat_abs (whole_at l.numbers c)) × ((k : ℕ) → k ∣ l.denominator → AreDivided l.numbers k → k ∣ l.divisor.value)

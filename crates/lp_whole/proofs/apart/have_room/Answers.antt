@@ -1,5 +1,5 @@
 use Rattle.std.proofs.Common.{◌≡◌, ◌<◌, ◌≤◌, true≢false, refl, sym, ◌∙◌, arith}
-use Rattle.lp_whole.proofs.Plans.{some_at}
+use Rattle.lp_lines.proofs.Plans.{some_at}
 use Rattle.lp_whole.proofs.apart.have_room.Goals as goal
 
 pub returns-then-not-all_within : goal.returns-then-not-all_within

@@ -1,9 +1,9 @@
 use Rattle.std.proofs.Common.{◌≡◌, ◌<◌, ◌≤◌, ◌-◌, ◌^◌, length, inl, inr, true≢false, List, Some, sym, ap, ◌∙◌, subst, arith}
 use Rattle.std.specs.Prelude.{slice_get, MatchOption}
-use Rattle.lp_whole.specs.declared.line.Line.{Line}
-use Rattle.lp_whole.specs.Form.{AreLines, ArePlanned, IsPlan, IsSomeCrowded, AreTurned, AreSameLines}
+use Rattle.lp_lines.specs.declared.line.Line.{Line}
+use Rattle.lp_lines.specs.Form.{AreLines, ArePlanned, IsPlan, IsSomeCrowded, AreTurned, AreSameLines}
 use Rattle.lp_whole.specs.Room.{HaveRoomAfter, AreMade, AreTurnedInRoom}
-use Rattle.lp_whole.proofs.Plans.{index_get}
+use Rattle.lp_lines.proofs.Plans.{index_get}
 use Rattle.lp_whole.proofs.Sameness.{line_above, plan_of, same_are}
 use Rattle.lp_whole.proofs.Arriving.{by_copies, made_so}
 use Rattle.lp_whole.proofs.apart.made_apart.Goals as goal

@@ -1,6 +1,6 @@
 use Rattle.std.proofs.Common.{◌≡◌, ◌<◌, length, Some, refl, sym, ◌∙◌, arith}
 use Rattle.std.specs.Prelude.{slice_get}
-use Rattle.lp_whole.proofs.Plans.{index_get, get_within, reduced_more, reduced_all}
+use Rattle.lp_lines.proofs.Plans.{index_get, get_within, reduced_more, reduced_all}
 use Rattle.lp_whole.proofs.Settling.{lowest_more, reduced_none}
 use Rattle.lp_whole.proofs.apart.settle_lines.Goals as goal
 

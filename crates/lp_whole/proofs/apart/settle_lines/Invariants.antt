@@ -1,4 +1,4 @@
-use Rattle.lp_whole.proofs.Plans.{AreReduced}
+use Rattle.lp_lines.proofs.Plans.{AreReduced}
 use Rattle.lp_whole.proofs.Settling.{AreLowestTo}
 use Rattle.lp_whole.proofs.apart.settle_lines.Given as goal
 

@@ -2,7 +2,7 @@ use Rattle.std.proofs.Common.{pos, sym, subst}
 use Rattle.std.specs.Prelude.{MatchOption}
 use Rattle.gq_number.specs.Number.{whole}
 use Rattle.gq_number.specs.Order.{◌<ℚ◌}
-use Rattle.lp_whole.specs.Form.{AreLines, lines_number}
+use Rattle.lp_lines.specs.Form.{AreLines, lines_number}
 use Rattle.lp_whole.specs.Room.{AreTurnedInRoom, HaveNoRoomMade}
 use Rattle.lp_whole.proofs.apart.turn_apart.Goals as goal
 

@@ -2,7 +2,7 @@ use Rattle.std.proofs.Common.{pos, refl, subst, arith}
 use Rattle.std.specs.Prelude.{slice_index_or}
 use Rattle.gq_number.specs.Number.{whole}
 use Rattle.gq_number.specs.Order.{◌<ℚ◌}
-use Rattle.lp_whole.specs.Form.{lines_number, numbers_above}
+use Rattle.lp_lines.specs.Form.{lines_number, numbers_above}
 use Rattle.lp_whole.specs.Choice.{IsLeastConstant}
 use Rattle.lp_whole.proofs.Choices.{first_skips, first_takes, best_is}
 use Rattle.lp_whole.proofs.choice.least_constant.Goals as goal

@@ -1,4 +1,4 @@
-use Rattle.lp_whole.specs.Form.{lines_number, numbers_above}
+use Rattle.lp_lines.specs.Form.{lines_number, numbers_above}
 use Rattle.lp_whole.specs.Choice.{IsLeastRatio}
 use Rattle.lp_whole.proofs.choice.least_ratio.Given as goal
 

@@ -3,7 +3,7 @@ use Rattle.std.specs.Int.{w128}
 use Rattle.std.proofs.lemmas.Int.{ints, to_z-of_z}
 use Rattle.gq_number.specs.Number.{whole, ratio}
 use Rattle.gq_number.specs.Order.{◌<ℚ◌}
-use Rattle.lp_whole.specs.Form.{lines_number, numbers_above}
+use Rattle.lp_lines.specs.Form.{lines_number, numbers_above}
 use Rattle.lp_whole.proofs.Reading.{number_above, above_number}
 use Rattle.lp_whole.proofs.Choices.{ratio_is_fraction}
 use Rattle.lp_whole.proofs.choice.ratio_of.Goals as goal

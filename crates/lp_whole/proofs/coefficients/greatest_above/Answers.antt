@@ -1,5 +1,5 @@
 use Rattle.std.proofs.Common.{◌-◌, length, Some, subst, arith}
-use Rattle.lp_whole.specs.Form.{wholes}
+use Rattle.lp_lines.specs.Form.{wholes}
 use Rattle.lp_whole.proofs.Largest.{GreatestTo, greatest_begins, best_within, best_goes, none_found, some_found}
 use Rattle.lp_whole.proofs.coefficients.greatest_above.Goals as goal
 

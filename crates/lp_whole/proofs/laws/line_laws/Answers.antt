@@ -1,5 +1,5 @@
 -- The laws of a line in an exchange.
-use Rattle.lp_whole.proofs.Lessening.{divided_line, lessened, compare_most, compare_below}
+use Rattle.lp_lines.proofs.Lessening.{divided_line, lessened, compare_most, compare_below}
 use Rattle.lp_whole.proofs.laws.line_laws.Goals as goal
 
 pub returns-clause-divided : goal.returns-clause-divided

@@ -1,5 +1,5 @@
 -- The laws of the exchange with variable 0 deferred.
-use Rattle.lp_whole.proofs.Turning.{own, other, turned_negated, above, leaves}
+use Rattle.lp_lines.proofs.Turning.{own, other, turned_negated, above, leaves}
 use Rattle.lp_whole.proofs.laws.turning_laws.Goals as goal
 
 pub returns-clause-own : goal.returns-clause-own

@@ -1,7 +1,7 @@
 use Rattle.std.proofs.Common.{rules, ℤ, nat_abs, ◌≡◌, ◌+◌, ◌*◌, ◌<◌, FitsSigned, to_z, of_z, sym, ◌∙◌, subst₂}
 use Rattle.std.specs.Int.{w128}
 use Rattle.std.proofs.lemmas.Int.{to_z-of_z}
-use Rattle.lp_whole.specs.Form.{AreFactors}
+use Rattle.lp_lines.specs.Form.{AreFactors}
 use Rattle.lp_whole.proofs.Pairing.{found_past}
 use Rattle.lp_whole.proofs.pairs.has_pair_room.Goals as goal
 

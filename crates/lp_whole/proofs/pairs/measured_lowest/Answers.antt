@@ -3,9 +3,9 @@ use Rattle.std.specs.Prelude.{slice_get}
 use Rattle.std.specs.Int.{◌∣◌, w128}
 use Rattle.std.proofs.lemmas.Int.{to_z-of_z}
 use Rattle.std.proofs.lemmas.Nat.Gcd.{le_of_dvd}
-use Rattle.lp_whole.specs.Form.{wholes}
+use Rattle.lp_lines.specs.Form.{wholes}
 use Rattle.lp_whole.specs.Room.{AreWhole, row_denominator, row_number}
-use Rattle.lp_whole.proofs.Plans.{index_get}
+use Rattle.lp_lines.proofs.Plans.{index_get}
 use Rattle.lp_whole.proofs.Pairing.{IsRow, rows_are}
 use Rattle.lp_whole.proofs.Lowest.{IsReckoned, lowest}
 use Rattle.lp_whole.proofs.pairs.measured_lowest.Goals as goal

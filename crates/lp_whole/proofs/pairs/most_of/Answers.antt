@@ -1,8 +1,8 @@
 use Rattle.std.proofs.Common.{rules, ◌≡◌, ◌+◌, ◌*◌, ◌<◌, ◌^◌, nat_abs, sym, ap, ap₂, ◌∙◌, arith}
 use Rattle.lp_numbers.specs.Lines.{whole_at}
-use Rattle.lp_whole.specs.Form.{wholes}
+use Rattle.lp_lines.specs.Form.{wholes}
 use Rattle.lp_whole.proofs.Pairing.{most_plain, most_own, most_other}
-use Rattle.lp_whole.proofs.Plans.{index_get}
+use Rattle.lp_lines.proofs.Plans.{index_get}
 use Rattle.lp_whole.proofs.Reading.{pivot_within, ready}
 use Rattle.lp_whole.proofs.pairs.most_of.Goals as goal
 

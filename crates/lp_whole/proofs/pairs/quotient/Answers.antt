@@ -1,4 +1,4 @@
-use Rattle.lp_whole.proofs.Updating.{divided_by}
+use Rattle.lp_lines.proofs.Updating.{divided_by}
 use Rattle.lp_whole.proofs.pairs.quotient.Goals as goal
 
 pub returns : goal.returns

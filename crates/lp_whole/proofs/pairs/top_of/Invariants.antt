@@ -1,6 +1,6 @@
 use Rattle.std.proofs.Common.{◌≡◌, ℕ, ◌<◌, ◌≤◌, Some}
 use Rattle.std.specs.Prelude.{slice_get}
-use Rattle.lp_whole.specs.declared.line.Line.{Line}
+use Rattle.lp_lines.specs.declared.line.Line.{Line}
 use Rattle.lp_whole.proofs.pairs.top_of.Given as goal
 
 abbrev pub invariant-loop-i : goal.invariant-loop-i

@@ -1,5 +1,5 @@
 use Rattle.std.proofs.Common.{rules, ◌<◌, length, sym, arith}
-use Rattle.lp_whole.proofs.Plans.{index_get}
+use Rattle.lp_lines.proofs.Plans.{index_get}
 use Rattle.lp_whole.proofs.Reading.{read_at_plain, read_at_pivot, read_at_other, pivot_within, ready}
 use Rattle.lp_whole.proofs.read.read.Goals as goal
 

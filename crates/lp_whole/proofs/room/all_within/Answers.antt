@@ -1,8 +1,8 @@
 use Rattle.std.proofs.Common.{◌≡◌, ◌<◌, ◌≤◌, inl, inr, Some, sym, ◌∙◌, subst, arith}
 use Rattle.std.specs.Prelude.{slice_get}
 use Rattle.std.proofs.lemmas.Bool.{cases_eq}
-use Rattle.lp_whole.specs.declared.line.Line.{Line}
-use Rattle.lp_whole.proofs.Plans.{index_get, get_within, same_some}
+use Rattle.lp_lines.specs.declared.line.Line.{Line}
+use Rattle.lp_lines.proofs.Plans.{index_get, get_within, same_some}
 use Rattle.lp_whole.proofs.room.all_within.Goals as goal
 
 pub loop-i-preserved : goal.loop-i-preserved

@@ -2,10 +2,10 @@ use Rattle.std.proofs.Common.{◌≡◌, ◌+◌, ◌*◌, ◌≤◌, inl, inr, 
 use Rattle.std.specs.Prelude.{slice_get}
 use Rattle.std.proofs.lemmas.Bool.{cases_eq}
 use Rattle.std.proofs.lemmas.Bool.Decides.{nat_tests}
-use Rattle.lp_whole.specs.declared.line.Line.{Line}
+use Rattle.lp_lines.specs.declared.line.Line.{Line}
 use Rattle.lp_numbers.specs.Lines.{whole_at}
-use Rattle.lp_whole.specs.Form.{wholes}
-use Rattle.lp_whole.proofs.Plans.{index_get, get_within, same_some}
+use Rattle.lp_lines.specs.Form.{wholes}
+use Rattle.lp_lines.proofs.Plans.{index_get, get_within, same_some}
 use Rattle.lp_whole.proofs.room.has_room.Goals as goal
 use Rattle.lp_whole.proofs.room.has_room.Goals.{else-i-k-via-then-i-k+else-not-fits, else-i-k-via-else-i-k}
 

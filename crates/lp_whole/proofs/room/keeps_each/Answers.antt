@@ -1,9 +1,9 @@
 use Rattle.std.proofs.Common.{◌≡◌, ◌<◌, length, true≢false, refl, sym, ap, ap₂, ◌+◌, ◌*◌, ◌≤◌, ◌∙◌, subst, subst₂, arith}
 use Rattle.std.specs.Prelude.{slice_index_or}
-use Rattle.lp_whole.specs.declared.line.Line.{Line}
-use Rattle.lp_whole.specs.declared.line.Factors.{Factors}
+use Rattle.lp_lines.specs.declared.line.Line.{Line}
+use Rattle.lp_lines.specs.declared.line.Factors.{Factors}
 use Rattle.lp_whole.specs.Room.{zero_after}
-use Rattle.lp_whole.proofs.Plans.{index_get, same_some, get_within}
+use Rattle.lp_lines.proofs.Plans.{index_get, same_some, get_within}
 use Rattle.lp_whole.proofs.Rooms.{none, at, plans_sized, room_more}
 use Rattle.lp_whole.proofs.room.keeps_each.Goals as goal
 use Rattle.lp_whole.proofs.room.keeps_each.Goals.{else-i-leaving-via-then-i-leaving+else-not-fits, else-i-leaving-via-else-i-leaving}

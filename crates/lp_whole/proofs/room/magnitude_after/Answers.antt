@@ -3,7 +3,7 @@ use Rattle.std.specs.Int.{w128}
 use Rattle.std.proofs.lemmas.Int.{to_z-of_z}
 use Rattle.std.proofs.Math.Nat.{mul-le-mul_left}
 use Rattle.lp_numbers.specs.Lines.{whole_at}
-use Rattle.lp_whole.specs.Form.{wholes}
+use Rattle.lp_lines.specs.Form.{wholes}
 use Rattle.lp_numbers.proofs.Lines.{left_within}
 use Rattle.lp_whole.proofs.room.magnitude_after.Goals as goal
 
@@ -15,10 +15,10 @@ cross_difference-left-requires c =
     let x : ℤ = whole_at (wholes c.args.pivot.now) 1 in
     let fits_a : FitsSigned w128 c.args.factors.line = search rules in
     let fits_b : FitsSigned w128 c.args.factors.pivot = search rules in
-    let fits_n : FitsSigned w128 c.number_at.result = search rules in
-    let fits_x : FitsSigned w128 c.number_at-2.result = search rules in
-    let n_is : to_z w128 (of_z w128 c.number_at.result) ≡ n = to_z-of_z w128 c.number_at.result fits_n ∙ c.number_at.ensures in
-    let x_is : to_z w128 (of_z w128 c.number_at-2.result) ≡ x = to_z-of_z w128 c.number_at-2.result fits_x ∙ c.number_at-2.ensures in
+    let fits_n : FitsSigned w128 c.marked_number_at.result = search rules in
+    let fits_x : FitsSigned w128 c.marked_number_at-2.result = search rules in
+    let n_is : to_z w128 (of_z w128 c.marked_number_at.result) ≡ n = to_z-of_z w128 c.marked_number_at.result fits_n ∙ c.marked_number_at.ensures in
+    let x_is : to_z w128 (of_z w128 c.marked_number_at-2.result) ≡ x = to_z-of_z w128 c.marked_number_at-2.result fits_x ∙ c.marked_number_at-2.ensures in
     let first : nat_abs a * nat_abs n ≤ nat_abs a * c.args.line.now.most = mul-le-mul_left (nat_abs a) (c.requires.line.numbers_within 1) in
     let second : nat_abs b * nat_abs x ≤ nat_abs b * c.args.pivot.now.most = mul-le-mul_left (nat_abs b) (c.requires.pivot.numbers_within 1) in
     let room = c.requires.room in
@@ -29,11 +29,11 @@ pub returns-clause-value : goal.returns-clause-value
 returns-clause-value c =
     let fits_a : FitsSigned w128 c.args.factors.line = search rules in
     let fits_b : FitsSigned w128 c.args.factors.pivot = search rules in
-    let fits_n : FitsSigned w128 c.number_at.result = search rules in
-    let fits_x : FitsSigned w128 c.number_at-2.result = search rules in
+    let fits_n : FitsSigned w128 c.marked_number_at.result = search rules in
+    let fits_x : FitsSigned w128 c.marked_number_at-2.result = search rules in
     let fits : FitsSigned w128 c.cross_difference-left.result = search rules in
-    let n_is : to_z w128 (of_z w128 c.number_at.result) ≡ whole_at (wholes c.args.line.now) 1 = to_z-of_z w128 c.number_at.result fits_n ∙ c.number_at.ensures in
-    let x_is : to_z w128 (of_z w128 c.number_at-2.result) ≡ whole_at (wholes c.args.pivot.now) 1 = to_z-of_z w128 c.number_at-2.result fits_x ∙ c.number_at-2.ensures in
+    let n_is : to_z w128 (of_z w128 c.marked_number_at.result) ≡ whole_at (wholes c.args.line.now) 1 = to_z-of_z w128 c.marked_number_at.result fits_n ∙ c.marked_number_at.ensures in
+    let x_is : to_z w128 (of_z w128 c.marked_number_at-2.result) ≡ whole_at (wholes c.args.pivot.now) 1 = to_z-of_z w128 c.marked_number_at-2.result fits_x ∙ c.marked_number_at-2.ensures in
     c.unsigned_abs.ensures.value ∙ ap nat_abs (to_z-of_z w128 c.cross_difference-left.result fits ∙ c.cross_difference-left.ensures
     ∙ ap₂ (λ s t. s -ℤ t) (ap₂ (λ s t. s *ℤ t) (to_z-of_z w128 c.args.factors.line fits_a) n_is) (ap₂ (λ s t. s *ℤ t) (to_z-of_z w128 c.args.factors.pivot fits_b) x_is))
 
@@ -41,11 +41,11 @@ pub returns-clause-small : goal.returns-clause-small
 returns-clause-small c =
     let fits_a : FitsSigned w128 c.args.factors.line = search rules in
     let fits_b : FitsSigned w128 c.args.factors.pivot = search rules in
-    let fits_n : FitsSigned w128 c.number_at.result = search rules in
-    let fits_x : FitsSigned w128 c.number_at-2.result = search rules in
+    let fits_n : FitsSigned w128 c.marked_number_at.result = search rules in
+    let fits_x : FitsSigned w128 c.marked_number_at-2.result = search rules in
     let fits : FitsSigned w128 c.cross_difference-left.result = search rules in
-    let n_is : to_z w128 (of_z w128 c.number_at.result) ≡ whole_at (wholes c.args.line.now) 1 = to_z-of_z w128 c.number_at.result fits_n ∙ c.number_at.ensures in
-    let x_is : to_z w128 (of_z w128 c.number_at-2.result) ≡ whole_at (wholes c.args.pivot.now) 1 = to_z-of_z w128 c.number_at-2.result fits_x ∙ c.number_at-2.ensures in
+    let n_is : to_z w128 (of_z w128 c.marked_number_at.result) ≡ whole_at (wholes c.args.line.now) 1 = to_z-of_z w128 c.marked_number_at.result fits_n ∙ c.marked_number_at.ensures in
+    let x_is : to_z w128 (of_z w128 c.marked_number_at-2.result) ≡ whole_at (wholes c.args.pivot.now) 1 = to_z-of_z w128 c.marked_number_at-2.result fits_x ∙ c.marked_number_at-2.ensures in
     let value : c.unsigned_abs.result ≡ nat_abs (c.args.factors.line *ℤ whole_at (wholes c.args.line.now) 1 -ℤ c.args.factors.pivot *ℤ whole_at (wholes c.args.pivot.now) 1) =
     c.unsigned_abs.ensures.value ∙ ap nat_abs (to_z-of_z w128 c.cross_difference-left.result fits ∙ c.cross_difference-left.ensures
     ∙ ap₂ (λ s t. s -ℤ t) (ap₂ (λ s t. s *ℤ t) (to_z-of_z w128 c.args.factors.line fits_a) n_is) (ap₂ (λ s t. s *ℤ t) (to_z-of_z w128 c.args.factors.pivot fits_b) x_is)) in

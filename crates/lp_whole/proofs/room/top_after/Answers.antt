@@ -1,9 +1,9 @@
 use Rattle.std.proofs.Common.{◌≡◌, ◌≤◌, inl, inr, Some, refl, sym, ◌∙◌, subst, arith}
 use Rattle.std.specs.Prelude.{slice_get, slice_index_or}
 use Rattle.std.proofs.lemmas.Bool.{cases_eq}
-use Rattle.lp_whole.specs.declared.line.Factors.{Factors}
+use Rattle.lp_lines.specs.declared.line.Factors.{Factors}
 use Rattle.lp_whole.proofs.Pairing.{first_most, second_most}
-use Rattle.lp_whole.proofs.Plans.{index_get, get_within, same_some}
+use Rattle.lp_lines.proofs.Plans.{index_get, get_within, same_some}
 use Rattle.lp_whole.proofs.Rooms.{none}
 use Rattle.lp_whole.proofs.room.top_after.Goals as goal
 

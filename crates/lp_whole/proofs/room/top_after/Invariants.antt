@@ -1,6 +1,6 @@
 use Rattle.std.proofs.Common.{◌≡◌, ℕ, ◌<◌, ◌≤◌, Some}
 use Rattle.std.specs.Prelude.{slice_get}
-use Rattle.lp_whole.specs.declared.line.Factors.{Factors}
+use Rattle.lp_lines.specs.declared.line.Factors.{Factors}
 use Rattle.lp_whole.proofs.room.top_after.Given as goal
 
 abbrev pub invariant-loop-i : goal.invariant-loop-i

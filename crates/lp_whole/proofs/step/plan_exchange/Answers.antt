@@ -2,10 +2,10 @@ use Rattle.std.proofs.Common.{pos, sym, subst}
 use Rattle.std.specs.Prelude.{IfOk, MatchOption}
 use Rattle.gq_number.specs.Number.{whole}
 use Rattle.gq_number.specs.Order.{◌<ℚ◌}
-use Rattle.lp_whole.specs.Form.{AreLines, AreBounded, AreSameLines, lines_number}
+use Rattle.lp_lines.specs.Form.{AreLines, AreBounded, AreSameLines, lines_number}
 use Rattle.lp_whole.specs.Room.{IsRoomyPlan, FactorsHaveNoRoom}
 use Rattle.lp_whole.proofs.Sameness.{same_are, same_bounded, same_lines, same_numbers}
-use Rattle.lp_whole.proofs.Results.{ok_anyway}
+use Rattle.lp_lines.proofs.Results.{ok_anyway}
 use Rattle.lp_whole.proofs.step.plan_exchange.Goals as goal
 
 pub plan_once-requires-2-clause-lines : goal.plan_once-requires-2-clause-lines

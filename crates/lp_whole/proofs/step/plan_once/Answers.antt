@@ -1,8 +1,8 @@
 use Rattle.std.proofs.Common.{◌≡◌, length, inl, inr, true≢false, Some, sym, ◌∙◌, subst, arith}
 use Rattle.std.specs.Prelude.{slice_get, MatchOption}
-use Rattle.lp_whole.specs.Form.{ArePlanned, IsPlan, IsSomeCrowded}
+use Rattle.lp_lines.specs.Form.{ArePlanned, IsPlan, IsSomeCrowded}
 use Rattle.lp_whole.specs.Room.{KeepsRoom}
-use Rattle.lp_whole.proofs.Plans.{index_get, some_at}
+use Rattle.lp_lines.proofs.Plans.{index_get, some_at}
 use Rattle.lp_whole.proofs.Sameness.{line_above, plan_of}
 use Rattle.lp_whole.proofs.step.plan_once.Goals as goal
 

@@ -1,11 +1,11 @@
 use Rattle.std.proofs.Common.{◌≡◌, ◌<◌, true, false, true≢false, length, pos, sym, ◌∙◌, subst, arith}
 use Rattle.gq_number.specs.Number.{whole}
 use Rattle.gq_number.specs.Order.{◌<ℚ◌}
-use Rattle.lp_whole.specs.Form.{AreLines, AreSameLines, lines_number}
+use Rattle.lp_lines.specs.Form.{AreLines, AreSameLines, lines_number}
 use Rattle.lp_whole.specs.Room.{AreTurnedInRoom, FactorsHaveNoRoom, HaveNoRoomMade, LinesHaveNoRoom}
 use Rattle.lp_whole.proofs.Sameness.{same_are, same_numbers}
 use Rattle.lp_whole.proofs.Arriving.{same_turned}
-use Rattle.lp_whole.proofs.Results.{if_ok, if_both}
+use Rattle.lp_lines.proofs.Results.{if_ok, if_both}
 use Rattle.lp_whole.proofs.step.turn_lines.Goals as goal
 
 pub returns-then-planned-clause-turned : goal.returns-then-planned-clause-turned

@@ -1,6 +1,6 @@
 use Rattle.std.proofs.Common.{◌<◌, length, sym, subst, arith}
 use Rattle.std.specs.Prelude.{MatchOption}
-use Rattle.lp_whole.specs.Form.{IsPlan, AreTurned}
+use Rattle.lp_lines.specs.Form.{IsPlan, AreTurned}
 use Rattle.lp_whole.specs.Room.{IsRoomyPlan, FactorsHaveNoRoom}
 use Rattle.lp_whole.proofs.Sameness.{same_are, same_bounded}
 use Rattle.lp_whole.proofs.Arriving.{turned_by_plan, same_turned}

@@ -3,7 +3,7 @@ use Rattle.std.specs.Prelude.{slice_get, Contains}
 use Rattle.lp_exact.specs.Tableau.{IsPlace}
 use Rattle.lp_whole.specs.Room.{AreWhole}
 use Rattle.lp_whole.specs.Whole.{WholeTableau, IsWhole}
-use Rattle.lp_whole.proofs.Plans.{get_within, index_get}
+use Rattle.lp_lines.proofs.Plans.{get_within, index_get}
 use Rattle.lp_whole.proofs.Wholes.{sign_plain, sign_off, entering_tells}
 use Rattle.lp_whole.proofs.whole.Whole.entering.Goals as goal
 
@@ -42,3 +42,12 @@ returns-in-None c =
     let is : t.deferred ≡ None = sym (ap (λ (t : WholeTableau). t.deferred) c.self.view_is) ∙ c.in-None.is in
     let none : ¬ (Contains t.basic 0) = subst (λ o. IsPlace t.basic 0 o) is (subst IsWhole c.self.view_is c.self.invariant).put_off in
     entering_tells t (subst IsWhole c.self.view_is c.self.invariant) (length t.basic) (inr (none, refl)) c.index-in-None.result.now there (sign_plain t (subst IsWhole c.self.view_is c.self.invariant) is c.index-in-None.result.now there) c.first_above-in-None.result c.first_above-in-None.ensures
+
+pub first_above-requires-in-None : goal.first_above-requires-in-None
+first_above-requires-in-None c =
+    let len : c.len.result ≡ length c.self.inside.basic.items = let told = c.len.ensures in omega (arith, c.self.inside.basic.ok.0) in
+    let within : c.len.result < length c.self.inside.lines.items = let paired = c.self.invariant.paired in omega arith in
+    let there : slice_get c.self.inside.lines.items c.len.result ≡ Some c.index-in-None.result.now = index_get c.self.inside.lines.items c.len.result c.index-in-None.result.now c.index-in-None.result.now within (sym c.index-in-None.ensures) in
+    let wide = (c.self.invariant.are_whole.are_lines c.len.result c.index-in-None.result.now there).1 in
+    let sized = c.self.invariant.sized in
+    omega arith

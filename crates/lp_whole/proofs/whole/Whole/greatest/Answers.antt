@@ -3,7 +3,7 @@ use Rattle.std.specs.Prelude.{slice_get, Contains}
 use Rattle.lp_exact.specs.Tableau.{IsPlace}
 use Rattle.lp_whole.specs.Room.{AreWhole}
 use Rattle.lp_whole.specs.Whole.{WholeTableau, IsWhole}
-use Rattle.lp_whole.proofs.Plans.{get_within, index_get}
+use Rattle.lp_lines.proofs.Plans.{get_within, index_get}
 use Rattle.lp_whole.proofs.Wholes.{number_plain, number_off, sign_plain, sign_off, coefficients_tell}
 use Rattle.lp_whole.proofs.whole.Whole.greatest.Goals as goal
 
@@ -46,3 +46,12 @@ returns-in-None c =
     let kept = subst IsWhole c.self.view_is c.self.invariant in
     let of_line = (kept.are_whole.are_lines (length t.basic) c.index-in-None.result.now there).0 in
     coefficients_tell t kept (length t.basic) (inr (none, refl)) c.index-in-None.result.now there (sign_plain t kept is c.index-in-None.result.now there) c.index-in-None.result.now.denominator of_line.positive (number_plain t is c.index-in-None.result.now there) c.greatest_above-in-None.result c.greatest_above-in-None.ensures
+
+pub greatest_above-requires-in-None : goal.greatest_above-requires-in-None
+greatest_above-requires-in-None c =
+    let len : c.len.result ≡ length c.self.inside.basic.items = let told = c.len.ensures in omega (arith, c.self.inside.basic.ok.0) in
+    let within : c.len.result < length c.self.inside.lines.items = let paired = c.self.invariant.paired in omega arith in
+    let there : slice_get c.self.inside.lines.items c.len.result ≡ Some c.index-in-None.result.now = index_get c.self.inside.lines.items c.len.result c.index-in-None.result.now c.index-in-None.result.now within (sym c.index-in-None.ensures) in
+    let wide = (c.self.invariant.are_whole.are_lines c.len.result c.index-in-None.result.now there).1 in
+    let sized = c.self.invariant.sized in
+    omega arith

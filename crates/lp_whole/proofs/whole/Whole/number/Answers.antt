@@ -1,5 +1,5 @@
 use Rattle.std.proofs.Common.{◌+◌, ◌≤◌, nat_abs, length, sym, ap, ap₂, ◌∙◌, subst, arith}
-use Rattle.lp_whole.specs.Form.{lines_number, numbers_above}
+use Rattle.lp_lines.specs.Form.{lines_number, numbers_above}
 use Rattle.lp_whole.specs.Room.{AreWhole}
 use Rattle.lp_whole.specs.Whole.{WholeTableau}
 use Rattle.lp_whole.proofs.Wholes.{row_number}

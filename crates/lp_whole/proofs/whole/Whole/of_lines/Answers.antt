@@ -1,5 +1,5 @@
 use Rattle.std.proofs.Common.{ℕ, ◌+◌, ◌<◌, refl, subst, arith}
-use Rattle.lp_whole.specs.Form.{AreBounded}
+use Rattle.lp_lines.specs.Form.{AreBounded}
 use Rattle.lp_whole.specs.Room.{IsSomeGreat}
 use Rattle.lp_whole.proofs.whole.Whole.of_lines.Goals as goal
 

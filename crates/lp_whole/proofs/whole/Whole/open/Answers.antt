@@ -2,11 +2,11 @@ use Rattle.std.proofs.Common.{◌≡◌, ◌+◌, length, inl, true≢false, Som
 use Rattle.std.specs.Prelude.{slice_get}
 use Rattle.lp_core.specs.Dictionary.{IsLegal, exchanged}
 use Rattle.lp_whole.specs.Whole.{WholeTableau, dictionary}
-use Rattle.lp_whole.specs.Form.{AreLines}
+use Rattle.lp_lines.specs.Form.{AreLines}
 use Rattle.lp_whole.specs.Room.{HasRoomFor, HasNoRoomFor}
 use Rattle.lp_whole.proofs.Crowding.{opens_some, after_open}
 use Rattle.lp_whole.proofs.Pivoting.{tableau_after, k_in}
-use Rattle.lp_whole.proofs.Plans.{some_at}
+use Rattle.lp_lines.proofs.Plans.{some_at}
 use Rattle.lp_whole.proofs.whole.Whole.open.Goals as goal
 
 pub has_room-requires-clause-lines : goal.has_room-requires-clause-lines

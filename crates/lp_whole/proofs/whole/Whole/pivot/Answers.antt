@@ -4,7 +4,7 @@ use Rattle.lp_core.specs.Dictionary.{Dictionary}
 use Rattle.lp_core.specs.Steps.{AllFit, exchange_steps}
 use Rattle.lp_whole.specs.Whole.{dictionary, IsPivotCrowded}
 use Rattle.lp_whole.proofs.Answering.{pivot_crowded}
-use Rattle.lp_whole.proofs.Results.{ok_ok_anyway}
+use Rattle.lp_lines.proofs.Results.{ok_ok_anyway}
 use Rattle.lp_whole.proofs.whole.Whole.pivot.Goals as goal
 
 pub returns-then-fits-clause-fits : goal.returns-then-fits-clause-fits

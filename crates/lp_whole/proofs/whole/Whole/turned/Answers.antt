@@ -3,7 +3,7 @@ use Rattle.std.specs.Prelude.{slice_get, Contains, IfOk, IfErr}
 use Rattle.lp_core.specs.Dictionary.{exchanged}
 use Rattle.lp_whole.specs.Whole.{WholeTableau, IsWhole, AreCrowded, IsPivoted, dictionary}
 use Rattle.lp_whole.proofs.Answering.{must_be, legal_at, exchanged_at, bound_at, same_at, cause_at}
-use Rattle.lp_whole.proofs.Results.{if_ok}
+use Rattle.lp_lines.proofs.Results.{if_ok}
 use Rattle.lp_whole.proofs.whole.Whole.turned.Goals as goal
 
 pub unreachable-requires : goal.unreachable-requires

@@ -1,0 +1,4 @@
+pub mod Turning
+pub mod Marks
+pub mod Form
+pub mod Parts
