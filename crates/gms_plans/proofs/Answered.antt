@@ -7,9 +7,9 @@ use Rattle.lp_core.specs.declared.answer.End.TheVariants.{Optimal, Infeasible, U
 use Rattle.lp_core.specs.declared.answer.Pivot.{Pivot}
 use Rattle.lp_core.specs.declared.answer.Rule.{Rule}
 use Rattle.lp_core.specs.declared.program.Lp.{Lp}
-use Rattle.lp_core.specs.Answers.{IsAnswer}
+use Rattle.lp_core.specs.Answers.{IsAnswer, bounds_cross, form_stops, search_ends}
 use Rattle.lp_core.specs.Dictionary.{Dictionary}
-use Rattle.lp_core.specs.Ends.{EndsSoBy}
+use Rattle.lp_core.specs.Ends.{EndsSoBy, ends_by_kind, limit_is_met, step_stops}
 use Rattle.lp_core.specs.Feasible.{Feasible}
 use Rattle.lp_core.specs.Pivots.{IsChosen, ByRule}
 use Rattle.lp_core.specs.Proofs.{IsProved}
@@ -31,14 +31,12 @@ module _ {F : Type 0} (value : F → Number) (lp : Lp F) where
 
   module _ (limit iterlim : ℕ) where
     ended : (Allowed : Pivot → ℕ → Type 0) (Chosen : ℕ → Type 0) (pivots : ℕ) (d : Dictionary) (end : End F) → EndsSoBy value limit lp iterlim Allowed Chosen pivots d end → Proves end
-    ended Allowed Chosen pivots d end (inl (how, last, at, inl told)) = proved end told.2
-    ended Allowed Chosen pivots d end (inl (how, last, at, inr refused)) = subst Proves (sym refused.1) tt
-    ended Allowed Chosen pivots d end (inr (inl early)) = subst Proves (sym early.3) (λ two. absurd (let e : ◌≡◌ {A = ℕ} 1 2 = two in omega (arith, e)))
-    ended Allowed Chosen pivots d end (inr (inr refused)) = subst Proves (sym refused.1.1) tt
+    ended Allowed Chosen pivots d end (ends_by_kind how last at (inl told)) = proved end told.2
+    ended Allowed Chosen pivots d end (ends_by_kind how last at (inr refused)) = subst Proves (sym refused.1) tt
+    ended Allowed Chosen pivots d end (limit_is_met most one goes is) = subst Proves (sym is) (λ two. absurd (let e : ◌≡◌ {A = ℕ} 1 2 = two in omega (arith, e)))
+    ended Allowed Chosen pivots d end (step_stops less step is stops) = subst Proves (sym is) tt
 
     pub answer-proves : (rule : Rule) (answer : Answer F) → IsAnswer value limit lp iterlim rule answer → Proves answer.end
-    answer-proves rule answer (inl crossed) = subst Proves (sym crossed.1.2) crossed.1.3
-    answer-proves rule answer (inr (inl unformed)) = subst Proves (sym unformed.1.1.1) tt
-    answer-proves rule answer (inr (inr searched)) =
-        let last = searched.3.0 in
-        ended (ByRule rule answer.pivots last) (IsChosen rule last) _ last answer.end searched.3.2
+    answer-proves rule answer (bounds_cross none crossed) = subst Proves (sym crossed.2) crossed.3
+    answer-proves rule answer (form_stops none unformed) = subst Proves (sym unformed.1.1) tt
+    answer-proves rule answer (search_ends ordered fit few last way ends) = ended (ByRule rule answer.pivots last) (IsChosen rule last) _ last answer.end ends

@@ -13,8 +13,8 @@ use Rattle.lp_core.specs.declared.program.Row.{Row}
 use Rattle.lp_core.specs.declared.program.Lp.{Lp}
 use Rattle.lp_core.specs.Proofs.{FirstCrossed}
 use Rattle.lp_core.specs.Pivots.{IsChosen, ByRule, LeadsWithin}
-use Rattle.lp_core.specs.Ends.{EndsSoBy}
-use Rattle.lp_core.specs.Answers.{IsAnswer}
+use Rattle.lp_core.specs.Ends.{EndsSoBy, ends_by_kind, limit_is_met, step_stops}
+use Rattle.lp_core.specs.Answers.{IsAnswer, bounds_cross, form_stops, search_ends}
 use Rattle.lp_core.specs.Dictionary.{Dictionary, Improves, first_dictionary}
 use Rattle.lp_core.specs.Numbers.{answer_numbers, column_numbers, end_numbers, lp_numbers, row_numbers}
 use Rattle.lp_core.specs.StandardForm.{Standard, standard_form}
@@ -67,32 +67,27 @@ module _ {F : Type 0} (value : F → Number) (limit : ℕ) (lp : Lp F) (iterlim 
 
   module _ (none : FirstCrossed itself numbers.columns None) (d : Dictionary) (of_form : IsDictionaryOf (standard_form itself numbers) d) (Allowed : Pivot → ℕ → Type 0) (Chosen : ℕ → Type 0) (improves : (q : ℕ) → Chosen q → Improves d q) (pivots : ℕ) where
     ends_over : (end : End F) → EndsSoBy value limit lp iterlim Allowed Chosen pivots d end → EndsSoBy itself limit numbers iterlim Allowed Chosen pivots d (end_numbers value end)
-    ends_over end (inl (how, last, at, inl told)) =
+    ends_over end (ends_by_kind how last at (inl told)) =
         let well = well_formed_same value itself lp numbers same formed in
         let tells = told_same value itself lp numbers same how last end (end_numbers value end) (end_again (end_numbers value end)) told.0 in
-        inl (how, last, at, inl (tells, subst AllFit (sym (steps_back_same value limit how lp last)) told.1, proved_at itself numbers well none d of_form how last (read_of value itself lp numbers same limit limit (omega arith) well iterlim none d of_form Allowed Chosen improves pivots how last at) (end_numbers value end) tells))
-    ends_over end (inl (how, last, at, inr refused)) =
-        inl (how, last, at, inr (refused.0, refused_too end refused.0 refused.1, subst (λ steps. FirstStop steps refused.0) (sym (steps_back_same value limit how lp last)) refused.2))
-    ends_over end (inr (inl h)) = inr (inl (h.0, h.1, h.2, ap (end_numbers value) h.3))
-    ends_over end (inr (inr h)) = inr (inr (h.0, (h.1.0, refused_too end h.1.0 h.1.1, h.1.2)))
+        ends_by_kind how last at (inl (tells, subst AllFit (sym (steps_back_same value limit how lp last)) told.1, proved_at itself numbers well none d of_form how last (read_of value itself lp numbers same limit limit (omega arith) well iterlim none d of_form Allowed Chosen improves pivots how last at) (end_numbers value end) tells))
+    ends_over end (ends_by_kind how last at (inr refused)) =
+        ends_by_kind how last at (inr (refused.0, refused_too end refused.0 refused.1, subst (λ steps. FirstStop steps refused.0) (sym (steps_back_same value limit how lp last)) refused.2))
+    ends_over end (limit_is_met most one goes is) = limit_is_met most one goes (ap (end_numbers value) is)
+    ends_over end (step_stops less step is stops) = step_stops less step (refused_too end step is) stops
 
   -- an answer over a field is one over the numbers
   pub over_numbers : (answer : Answer F) → IsAnswer value limit lp iterlim rule answer → IsAnswer itself limit numbers iterlim rule (answer_numbers value answer)
-  over_numbers answer (inl h) =
-      inl (h.0, crossed_so value itself limit limit (omega arith) lp numbers same (well_formed_same value itself lp numbers same formed) iterlim rule answer.end (end_numbers value answer.end) (end_again (end_numbers value answer.end)) h.1)
-  over_numbers answer (inr (inl h)) =
-      inr (inl (h.0, (none_cross value itself lp numbers same h.1.0, (h.1.1.0, refused_too answer.end h.1.1.0 h.1.1.1, subst (λ steps. FirstStop steps h.1.1.0) (sym (standard_steps_same value limit lp)) h.1.1.2))))
-  over_numbers answer (inr (inr h)) =
-      let last = h.3.0 in
+  over_numbers answer (bounds_cross nothing crossed) =
+      bounds_cross nothing (crossed_so value itself limit limit (omega arith) lp numbers same (well_formed_same value itself lp numbers same formed) iterlim rule answer.end (end_numbers value answer.end) (end_again (end_numbers value answer.end)) crossed)
+  over_numbers answer (form_stops nothing (ordered, (step, is, stop))) =
+      form_stops nothing (none_cross value itself lp numbers same ordered, (step, refused_too answer.end step is, subst (λ steps. FirstStop steps step) (sym (standard_steps_same value limit lp)) stop))
+  over_numbers answer (search_ends ordered fit few last way ends) =
       let n = length answer.pivots in
-      let none = none_cross value itself lp numbers same h.0 in
+      let none = none_cross value itself lp numbers same ordered in
       let well = well_formed_same value itself lp numbers same formed in
       let start = first_dictionary (standard_form itself numbers) in
-      let moved : LeadsWithin (ByRule rule) limit 1 [] start answer.pivots last = subst (λ (s : Standard). LeadsWithin (ByRule rule) limit 1 [] (first_dictionary s) answer.pivots last) (sym (form_same value lp)) h.3.1 in
+      let moved : LeadsWithin (ByRule rule) limit 1 [] start answer.pivots last = subst (λ (s : Standard). LeadsWithin (ByRule rule) limit 1 [] (first_dictionary s) answer.pivots last) (sym (form_same value lp)) way in
       let stands = stands_last (standard_form itself numbers) (ByRule rule) (λ done d p k allowed. legal_of rule d p k allowed) [] start answer.pivots last (first_stands itself numbers well) moved.0 in
-      inr (inr (
-        none,
-        subst AllFit (sym (standard_steps_same value limit lp)) h.1,
-        h.2,
-        (last, moved, ends_over none last stands.of_form (ByRule rule answer.pivots last) (IsChosen rule last) (λ q chosen. improves_of rule last q chosen) n answer.end h.3.2),
-      ))
+      search_ends none (subst AllFit (sym (standard_steps_same value limit lp)) fit) few last moved
+      (ends_over none last stands.of_form (ByRule rule answer.pivots last) (IsChosen rule last) (λ q chosen. improves_of rule last q chosen) n answer.end ends)

@@ -15,8 +15,8 @@ use Rattle.lp_core.specs.StandardForm.{standard_form, Last, levels_back, duals_b
 use Rattle.lp_core.specs.Dictionary.{Dictionary, Improves, first_dictionary, exchanged}
 use Rattle.lp_core.specs.Steps.{AllFit, standard_steps, steps_back}
 use Rattle.lp_core.specs.Pivots.{IsChosen, ByRule, Leads, PivotsFit, LeadsWithin}
-use Rattle.lp_core.specs.Ends.{IsGoingOnBy, EndsAt, LeadsTo, EndsSoBy}
-use Rattle.lp_core.specs.Answers.{EndsCrossed, IsAnswer}
+use Rattle.lp_core.specs.Ends.{IsGoingOnBy, EndsAt, LeadsTo, EndsSoBy, ends_by_kind, limit_is_met, step_stops}
+use Rattle.lp_core.specs.Answers.{EndsCrossed, IsAnswer, bounds_cross, form_stops, search_ends}
 use Rattle.lp_std.specs.Last.{IsDictionaryOf, IsReadAt}
 use Rattle.lp_std.proofs.Ends.{proved_at}
 use Rattle.lp_core.specs.Numbers.{lp_numbers, end_numbers, answer_numbers}
@@ -119,12 +119,12 @@ module _ {F G : Type 0} (value : F → Number) (other : G → Number) (lp : Lp F
       interrupted_is made e = absurd (cc)
 
       end_so : (end : End F) (made : End G) → end_numbers other made ≡ end_numbers value end → ¬ (IsRefused end) → EndsSoBy value low lp iterlim Allowed Chosen pivots d end → EndsSoBy other high wide iterlim Allowed Chosen pivots d made
-      end_so end made e fine (inl (how, last, at, inl told)) =
+      end_so end made e fine (ends_by_kind how last at (inl told)) =
           let tells = told_same how last end made e told.0 in
-          inl (how, last, at, inl (tells, back_fit how last told.1, proved_at other wide formed none d of_form how last (read_of how last at) made tells))
-      end_so end made e fine (inl (how, last, at, inr refused)) = absurd (fine (subst IsRefused (sym refused.1) tt))
-      end_so end made e fine (inr (inl h)) = inr (inl (h.0, h.1, h.2, interrupted_is made (e ∙ ap (end_numbers value) h.3)))
-      end_so end made e fine (inr (inr h)) = absurd (fine (subst IsRefused (sym h.1.1) tt))
+          ends_by_kind how last at (inl (tells, back_fit how last told.1, proved_at other wide formed none d of_form how last (read_of how last at) made tells))
+      end_so end made e fine (ends_by_kind how last at (inr refused)) = absurd (fine (subst IsRefused (sym refused.1) tt))
+      end_so end made e fine (limit_is_met most one goes is) = limit_is_met most one goes (interrupted_is made (e ∙ ap (end_numbers value) is))
+      end_so end made e fine (step_stops few step is stops) = absurd (fine (subst IsRefused (sym is) tt))
 
 -- An answer that is not refused is one over a greater limit, for a program of the same numbers.
 module _ {F G : Type 0} (value : F → Number) (other : G → Number) (low high : ℕ) (less : low ≤ high) (lp : Lp F) (wide : Lp G) (same : lp_numbers value lp ≡ lp_numbers other wide) (formed : IsWellFormed other wide) (iterlim : ℕ) (rule : Rule) where
@@ -140,33 +140,24 @@ module _ {F G : Type 0} (value : F → Number) (other : G → Number) (low high 
       let found = infeasible_is duals j made (e ∙ ap (end_numbers value) is) in
       (found.0, j, found.1, crossed_same value other lp wide same j (map value duals) (map other found.0) found.2 h)
 
+  pivots_same : (answer : Answer F) (made : Answer G) → answer_numbers other made ≡ answer_numbers value answer → answer.pivots ≡ made.pivots
+  pivots_same answer made e = sym (ap (λ (a : Answer Number). a.pivots) e)
+
+  end_same : (answer : Answer F) (made : Answer G) → answer_numbers other made ≡ answer_numbers value answer → end_numbers other made.end ≡ end_numbers value answer.end
+  end_same answer made e = ap (λ (a : Answer Number). a.end) e
+
   pub widened : (answer : Answer F) (made : Answer G) → answer_numbers other made ≡ answer_numbers value answer → ¬ (IsRefused answer.end) → IsAnswer value low lp iterlim rule answer → IsAnswer other high wide iterlim rule made
-  widened answer made e fine h =
-      let pivots : answer.pivots ≡ made.pivots = sym (ap (λ (a : Answer Number). a.pivots) e) in
-      let ends : end_numbers other made.end ≡ end_numbers value answer.end = ap (λ (a : Answer Number). a.end) e in
-      elim h [
-        | inl crossed ↦ inl (sym pivots ∙ crossed.0, crossed_so answer.end made.end ends crossed.1)
-        | inr rest ↦ elim rest [
-          | inl stopped ↦ absurd (fine (subst IsRefused (sym stopped.1.1.1) tt))
-          | inr walked ↦
-              let none = none_cross value other lp wide same walked.0 in
-              let start = first_dictionary (standard_form other wide) in
-              let form = ap first_dictionary (form_is value other lp wide same) in
-              let last = walked.3.0 in
-              let fits = fits_eased low high less (ByRule rule) 1 [] (first_dictionary (standard_form value lp)) answer.pivots last walked.3.1.0 walked.3.1.1 in
-              let way : LeadsWithin (ByRule rule) high 1 [] (first_dictionary (standard_form value lp)) answer.pivots last = (walked.3.1.0, fits) in
-              let moved : LeadsWithin (ByRule rule) high 1 [] start made.pivots last = subst₂ (λ d (p : List Pivot). LeadsWithin (ByRule rule) high 1 [] d p last) form pivots way in
-              let stands = stands_last (standard_form other wide) (ByRule rule) (λ done d p k allowed. legal_of rule d p k allowed) [] start made.pivots last (first_stands other wide formed) moved.0 in
-              inr (inr (
-                none,
-                standard_fit value other lp wide same low high less walked.1,
-                subst (λ (p : List Pivot). length p ≤ iterlim) pivots walked.2,
-                (
-                  last,
-                  moved,
-                  subst (λ (p : List Pivot). EndsSoBy other high wide iterlim (ByRule rule p last) (IsChosen rule last) (length p) last made.end) pivots
-                      (end_so value other lp wide same low high less formed iterlim none last stands.of_form (ByRule rule answer.pivots last) (IsChosen rule last) (λ q chosen. improves_of rule last q chosen) (length answer.pivots) answer.end made.end ends fine walked.3.2),
-                ),
-              ))
-        ]
-      ]
+  widened answer made e fine (bounds_cross nothing crossed) = bounds_cross (sym (pivots_same answer made e) ∙ nothing) (crossed_so answer.end made.end (end_same answer made e) crossed)
+  widened answer made e fine (form_stops nothing stopped) = absurd (fine (subst IsRefused (sym stopped.1.1) tt))
+  widened answer made e fine (search_ends ordered fit few last way ends) =
+      let pivots = pivots_same answer made e in
+      let none = none_cross value other lp wide same ordered in
+      let start = first_dictionary (standard_form other wide) in
+      let form = ap first_dictionary (form_is value other lp wide same) in
+      let fits = fits_eased low high less (ByRule rule) 1 [] (first_dictionary (standard_form value lp)) answer.pivots last way.0 way.1 in
+      let on : LeadsWithin (ByRule rule) high 1 [] (first_dictionary (standard_form value lp)) answer.pivots last = (way.0, fits) in
+      let moved : LeadsWithin (ByRule rule) high 1 [] start made.pivots last = subst₂ (λ d (p : List Pivot). LeadsWithin (ByRule rule) high 1 [] d p last) form pivots on in
+      let stands = stands_last (standard_form other wide) (ByRule rule) (λ done d p k allowed. legal_of rule d p k allowed) [] start made.pivots last (first_stands other wide formed) moved.0 in
+      search_ends none (standard_fit value other lp wide same low high less fit) (subst (λ (p : List Pivot). length p ≤ iterlim) pivots few) last moved
+      (subst (λ (p : List Pivot). EndsSoBy other high wide iterlim (ByRule rule p last) (IsChosen rule last) (length p) last made.end) pivots
+      (end_so value other lp wide same low high less formed iterlim none last stands.of_form (ByRule rule answer.pivots last) (IsChosen rule last) (λ q chosen. improves_of rule last q chosen) (length answer.pivots) answer.end made.end (end_same answer made e) fine ends))

@@ -11,8 +11,8 @@ use Rattle.lp_core.specs.declared.program.Lp.{Lp}
 use Rattle.lp_core.specs.StandardForm.{Last}
 use Rattle.lp_core.specs.Dictionary.{Dictionary}
 use Rattle.lp_core.specs.Pivots.{IsChosen, ByRule}
-use Rattle.lp_core.specs.Ends.{IsGoingOnBy, EndsAt, EndsWith, EndsSoBy}
-use Rattle.lp_core.specs.Answers.{IsAnswer}
+use Rattle.lp_core.specs.Ends.{IsGoingOnBy, EndsAt, EndsWith, EndsSoBy, ends_by_kind, limit_is_met, step_stops}
+use Rattle.lp_core.specs.Answers.{IsAnswer, bounds_cross, form_stops, search_ends}
 
 module _ {F : Type 0} (value : F → Number) (limit : ℕ) (lp : Lp F) (iterlim : ℕ) where
   -- an optimum does not look at the limit
@@ -24,16 +24,16 @@ module _ {F : Type 0} (value : F → Number) (limit : ℕ) (lp : Lp F) (iterlim 
   optimum_at Chosen pivots other d kind.Interrupted last levels row_levels duals reduced at (inr refused) = absurd (let e = refused.1 in cc)
 
   optimum_so : (Allowed : Pivot → ℕ → Type 0) (Chosen : ℕ → Type 0) (pivots other : ℕ) (d : Dictionary) (levels row_levels duals reduced : List F) → EndsSoBy value limit lp iterlim Allowed Chosen pivots d (Optimal levels row_levels duals reduced) → EndsSoBy value limit lp other Allowed Chosen pivots d (Optimal levels row_levels duals reduced)
-  optimum_so Allowed Chosen pivots other d levels row_levels duals reduced (inl (how, last, at, told)) = inl (how, last, optimum_at Chosen pivots other d how last levels row_levels duals reduced at told, told)
-  optimum_so Allowed Chosen pivots other d levels row_levels duals reduced (inr (inl h)) = absurd (let e = h.3 in cc)
-  optimum_so Allowed Chosen pivots other d levels row_levels duals reduced (inr (inr h)) = absurd (let e = h.1.1 in cc)
+  optimum_so Allowed Chosen pivots other d levels row_levels duals reduced (ends_by_kind how last at told) = ends_by_kind how last (optimum_at Chosen pivots other d how last levels row_levels duals reduced at told) told
+  optimum_so Allowed Chosen pivots other d levels row_levels duals reduced (limit_is_met most one goes is) = absurd (cc)
+  optimum_so Allowed Chosen pivots other d levels row_levels duals reduced (step_stops less step is stops) = absurd (cc)
 
   pub optimum_within : (rule : Rule) (answer : Answer F) (levels row_levels duals reduced : List F) (other : ℕ) → answer.end ≡ Optimal levels row_levels duals reduced → length answer.pivots ≤ other → IsAnswer value limit lp iterlim rule answer → IsAnswer value limit lp other rule answer
-  optimum_within rule answer levels row_levels duals reduced other is few (inl h) = inl h
-  optimum_within rule answer levels row_levels duals reduced other is few (inr (inl h)) = inr (inl h)
-  optimum_within rule answer levels row_levels duals reduced other is few (inr (inr h)) =
-      let last = h.3.0 in
+  optimum_within rule answer levels row_levels duals reduced other is few (bounds_cross none crossed) = bounds_cross none crossed
+  optimum_within rule answer levels row_levels duals reduced other is few (form_stops none unformed) = form_stops none unformed
+  optimum_within rule answer levels row_levels duals reduced other is few (search_ends ordered fit fewer last way ends) =
       let n = length answer.pivots in
       let Allowed = ByRule rule answer.pivots last in
       let Chosen = IsChosen rule last in
-      inr (inr (h.0, h.1, few, (last, h.3.1, subst (EndsSoBy value limit lp other Allowed Chosen n last) (sym is) (optimum_so Allowed Chosen n other last levels row_levels duals reduced (subst (EndsSoBy value limit lp iterlim Allowed Chosen n last) is h.3.2)))))
+      search_ends ordered fit few last way
+      (subst (EndsSoBy value limit lp other Allowed Chosen n last) (sym is) (optimum_so Allowed Chosen n other last levels row_levels duals reduced (subst (EndsSoBy value limit lp iterlim Allowed Chosen n last) is ends)))

@@ -13,8 +13,8 @@ use Rattle.lp_core.specs.declared.program.Lp.{Lp}
 use Rattle.lp_core.specs.StandardForm.{standard_form, Last}
 use Rattle.lp_core.specs.Dictionary.{Dictionary, Improves, IsLegal, first_dictionary, exchanged}
 use Rattle.lp_core.specs.Pivots.{IsAllowed, IsChosen, ByRule, ByChoice, LeadsWithin}
-use Rattle.lp_core.specs.Ends.{IsUnlimitedBy, IsGoingOnBy, PivotStopsBy, EndsAt, EndsSoBy}
-use Rattle.lp_core.specs.Answers.{IsAnswerBy, IsAnswer, IsAnswerByChoice}
+use Rattle.lp_core.specs.Ends.{IsUnlimitedBy, IsGoingOnBy, PivotStopsBy, EndsAt, EndsSoBy, ends_by_kind, limit_is_met, step_stops}
+use Rattle.lp_core.specs.Answers.{IsAnswerBy, bounds_cross, form_stops, search_ends, IsAnswer, IsAnswerByChoice}
 
 -- ---- the rules
 
@@ -55,9 +55,9 @@ module _ {F : Type 0} (value : F → Number) (limit : ℕ) (lp : Lp F) (iterlim 
   at_by kind.Interrupted last h = (h.0, h.1, (h.2.0, going_on_by h.2.1), h.3)
 
   pub ends_by : (end : End F) → EndsSoBy value limit lp iterlim Allowed Chosen pivots d end → EndsSoBy value limit lp iterlim More Wider pivots d end
-  ends_by end (inl h) = inl (h.0, h.1, at_by h.0 h.1 h.2, h.3)
-  ends_by end (inr (inl h)) = inr (inl (h.0, h.1, going_on_by h.2, h.3))
-  ends_by end (inr (inr h)) = inr (inr (h.0, (h.1.0, h.1.1, stops_by (pivots + 1) h.1.0 h.1.2)))
+  ends_by end (ends_by_kind how last at told) = ends_by_kind how last (at_by how last at) told
+  ends_by end (limit_is_met most one goes is) = limit_is_met most one (going_on_by goes) is
+  ends_by end (step_stops less step is stops) = step_stops less step is (stops_by (pivots + 1) step stops)
 
 -- ---- pivots in turn, and answers
 
@@ -69,13 +69,12 @@ module _ (Allowed More : List Pivot → Dictionary → Pivot → ℕ → Type 0)
       ((way.0.0, allowed done d p way.0.0 way.0.1, rest.0), (way.1.0, way.1.1, rest.1))
 
   pub answers_by : {F : Type 0} (value : F → Number) (limit : ℕ) (lp : Lp F) (iterlim : ℕ) (Chosen Wider : List Pivot → Dictionary → ℕ → Type 0) (answer : Answer F) → ((done : List Pivot) (d : Dictionary) (q : ℕ) → Chosen done d q → Wider done d q) → IsAnswerBy value limit lp iterlim Allowed Chosen answer → IsAnswerBy value limit lp iterlim More Wider answer
-  answers_by value limit lp iterlim Chosen Wider answer chosen (inl h) = inl h
-  answers_by value limit lp iterlim Chosen Wider answer chosen (inr (inl h)) = inr (inl h)
-  answers_by value limit lp iterlim Chosen Wider answer chosen (inr (inr h)) =
+  answers_by value limit lp iterlim Chosen Wider answer chosen (bounds_cross none crossed) = bounds_cross none crossed
+  answers_by value limit lp iterlim Chosen Wider answer chosen (form_stops none unformed) = form_stops none unformed
+  answers_by value limit lp iterlim Chosen Wider answer chosen (search_ends ordered fit few last way ends) =
       let first = first_dictionary (standard_form value lp) in
-      let last = h.3.0 in
-      let way = way_by limit 1 [] first answer.pivots last h.3.1 in
-      inr (inr (h.0, h.1, h.2, (last, way, ends_by value limit lp iterlim (length answer.pivots) last (Allowed answer.pivots last) (More answer.pivots last) (Chosen answer.pivots last) (Wider answer.pivots last) (allowed answer.pivots last) (chosen answer.pivots last) answer.end h.3.2)))
+      search_ends ordered fit few last (way_by limit 1 [] first answer.pivots last way)
+      (ends_by value limit lp iterlim (length answer.pivots) last (Allowed answer.pivots last) (More answer.pivots last) (Chosen answer.pivots last) (Wider answer.pivots last) (allowed answer.pivots last) (chosen answer.pivots last) answer.end ends)
 
 module _ {F : Type 0} (value : F → Number) (limit : ℕ) (lp : Lp F) (iterlim : ℕ) where
   pub legal_answer : (choice : Dictionary → List Pivot → Dictionary → ℕ → Type 0) (answer : Answer F) → ((first : Dictionary) (pivots : List Pivot) (d : Dictionary) (q : ℕ) → choice first pivots d q → Improves d q) → IsAnswerByChoice value limit lp iterlim choice answer → IsAnswer value limit lp iterlim Legal answer

@@ -1,6 +1,6 @@
 -- When an answer is an answer of a program, under a limit of pivots and a rule (Chvatal, Linear
 -- Programming, chapters 2, 3 and 8).
-use Rattle.std.specs.Prelude.{◌≡◌, ℕ, ◌≤◌, ◌⊎◌, List, [], length, map, Some, None}
+use Rattle.std.specs.Prelude.{◌≡◌, ℕ, ◌≤◌, List, [], length, map, Some, None}
 use Rattle.gq_number.specs.Number.{Number}
 use Rattle.lp_core.specs.declared.answer.Pivot.{Pivot}
 use Rattle.lp_core.specs.declared.answer.Rule.{Rule}
@@ -28,18 +28,18 @@ EndsUnformed value limit lp end =
 
 module _ {F : Type 0} (value : F → Number) (limit : ℕ) (lp : Lp F) (iterlim : ℕ) where
   -- An answer of a program under a limit of pivots. Which pivots are allowed and which variables
-  -- may be chosen depends on the pivots so far and the dictionary they lead to. There are three
-  -- cases: the bounds of a column cross; or none cross and a step of the standard form does not
-  -- fit; or none cross, the steps fit, at most `iterlim` allowed pivots lead from the first
-  -- dictionary to a final one with all their steps fitting, and the search ends there.
-  abbrev pub IsAnswerBy : (List Pivot → Dictionary → Pivot → ℕ → Type 0) → (List Pivot → Dictionary → ℕ → Type 0) → Answer F → Type 0
-  IsAnswerBy Allowed Chosen answer =
-      let first : Dictionary = first_dictionary (standard_form value lp) in
-      ((answer.pivots ≡ []) × EndsCrossed value lp answer.end)
-      ⊎ ((answer.pivots ≡ []) × EndsUnformed value limit lp answer.end)
-      ⊎ (FirstCrossed value lp.columns None × AllFit (standard_steps value limit lp) × (length answer.pivots ≤ iterlim)
-      × ((last : Dictionary) × LeadsWithin Allowed limit 1 [] first answer.pivots last
-      × EndsSoBy value limit lp iterlim (Allowed answer.pivots last) (Chosen answer.pivots last) (length answer.pivots) last answer.end))
+  -- may be chosen depends on the pivots so far and the dictionary they lead to.
+  pub data IsAnswerBy (Allowed : List Pivot → Dictionary → Pivot → ℕ → Type 0) (Chosen : List Pivot → Dictionary → ℕ → Type 0) (answer : Answer F) : Type 0 where
+    -- the bounds of a column cross
+    bounds_cross : answer.pivots ≡ [] → EndsCrossed value lp answer.end → IsAnswerBy Allowed Chosen answer
+    -- none cross, and a step of the standard form does not fit
+    form_stops : answer.pivots ≡ [] → EndsUnformed value limit lp answer.end → IsAnswerBy Allowed Chosen answer
+    -- none cross, the steps fit, at most `iterlim` allowed pivots lead from the first dictionary
+    -- to a final one with all their steps fitting, and the search ends there
+    search_ends : FirstCrossed value lp.columns None → AllFit (standard_steps value limit lp) → length answer.pivots ≤ iterlim →
+        (last : Dictionary) → LeadsWithin Allowed limit 1 [] (first_dictionary (standard_form value lp)) answer.pivots last →
+        EndsSoBy value limit lp iterlim (Allowed answer.pivots last) (Chosen answer.pivots last) (length answer.pivots) last answer.end →
+        IsAnswerBy Allowed Chosen answer
 
   -- an answer under a rule, which does not depend on the pivots so far
   abbrev pub IsAnswer : Rule → Answer F → Type 0

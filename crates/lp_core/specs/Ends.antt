@@ -75,10 +75,12 @@ module _ {F : Type 0} (value : F → Number) (limit : ℕ) (lp : Lp F) where
       ⊎ ((step : StepName) × (end ≡ Refused step) × FirstStop (steps_back value limit lp how last) step)
 
 module _ {F : Type 0} (value : F → Number) (limit : ℕ) (lp : Lp F) (iterlim : ℕ) (Allowed : Pivot → ℕ → Type 0) (Chosen : ℕ → Type 0) where
-  -- The end of a search at a dictionary after n pivots: it ends with a kind; or it meets the limit
-  -- of pivots in phase 1 and shows nothing; or it is refused with a step of a further pivot.
-  abbrev pub EndsSoBy : ℕ → Dictionary → End F → Type 0
-  EndsSoBy pivots d end =
-      ((how : EndKind) × (last : Last) × EndsAt Chosen ((pivots ≡ iterlim) × IsGoingOnBy Chosen d) d how last × EndsWith value limit lp how last end)
-      ⊎ ((pivots ≡ iterlim) × IsPhase d 1 × IsGoingOnBy Chosen d × (end ≡ Interrupted 1 [] []))
-      ⊎ ((pivots < iterlim) × ((step : StepName) × (end ≡ Refused step) × PivotStopsBy Allowed Chosen limit (pivots + 1) d step))
+  -- the end of a search at a dictionary after n pivots
+  pub data EndsSoBy (pivots : ℕ) (d : Dictionary) (end : End F) : Type 0 where
+    -- the search ends with a kind, and the end is one of that kind
+    ends_by_kind : (how : EndKind) (last : Last) →
+        EndsAt Chosen ((pivots ≡ iterlim) × IsGoingOnBy Chosen d) d how last → EndsWith value limit lp how last end → EndsSoBy pivots d end
+    -- the search meets the limit of pivots in phase 1, and the end shows nothing
+    limit_is_met : pivots ≡ iterlim → IsPhase d 1 → IsGoingOnBy Chosen d → end ≡ Interrupted 1 [] [] → EndsSoBy pivots d end
+    -- a step of a further pivot does not fit, and the end is refused with it
+    step_stops : pivots < iterlim → (step : StepName) → end ≡ Refused step → PivotStopsBy Allowed Chosen limit (pivots + 1) d step → EndsSoBy pivots d end

@@ -20,8 +20,8 @@ use Rattle.lp_core.specs.StandardForm.{standard_form, levels_back, duals_back, r
 use Rattle.lp_core.specs.Dictionary.{Dictionary, InPhaseOne, OpeningIsDue, Improves, Limits, first_dictionary, exchanged}
 use Rattle.lp_core.specs.Steps.{Due, AllFit, standard_steps, exchange_steps, levels_steps, row_levels_steps, duals_steps, reduced_costs_steps, ray_steps, optimal_steps, infeasible_steps, unbounded_steps, interrupted_steps}
 use Rattle.lp_core.specs.Pivots.{IsAllowedBy, NothingImproves, TestFits, ByRule, ByChoice, Leads, LeadsWithin, last_of, last_along}
-use Rattle.lp_core.specs.Ends.{IsUnlimitedBy, IsGoingOnBy, IsPhase, LeadsTo, EndsWith, EndsSoBy}
-use Rattle.lp_core.specs.Answers.{IsAnswerByChoice}
+use Rattle.lp_core.specs.Ends.{IsUnlimitedBy, IsGoingOnBy, IsPhase, LeadsTo, EndsWith, EndsSoBy, ends_by_kind, limit_is_met, step_stops}
+use Rattle.lp_core.specs.Answers.{bounds_cross, form_stops, search_ends, IsAnswerByChoice}
 use Rattle.lp_core.specs.declared.answer.EndKind.TheVariants as kind
 use Rattle.lp_std.specs.Pieces.{first_stop}
 use Rattle.lp_std.proofs.Ends.{proved_at}
@@ -142,27 +142,27 @@ module _ {F : Type 0} (value : F → Number) (limit : ℕ) (some : 1 ≤ limit) 
             | inl found ↦
                 let phase : InPhaseOne d = contains_get d.basic found.0 0 found.1 in
                 let made = infeasible_end phase none (first_stop (infeasible_steps value limit lp (last_of d))) refl in
-                (made.0, inl (kind.Infeasible, last_of d, (phase, none, refl), made.1))
+                (made.0, ends_by_kind kind.Infeasible (last_of d) (phase, none, refl) made.1)
             | inr away ↦
                 let made = optimal_end away none (first_stop (optimal_steps value limit lp (last_of d))) refl in
-                (made.0, inl (kind.Optimal, last_of d, (away, none, refl), made.1))
+                (made.0, ends_by_kind kind.Optimal (last_of d) (away, none, refl) made.1)
           ]
 
       ends_unlimited : (q : ℕ) → ¬ (OpeningIsDue d) → Chosen q → ((k : ℕ) → ¬ (Limits d q k)) → (end : End F) × So end
       ends_unlimited q none chosen free =
           let away = limits_in_one d q (improves q chosen) free in
           let made = unbounded_end q away (none, improves q chosen, free) (first_stop (unbounded_steps value limit lp (last_along d q))) refl in
-          (made.0, inl (kind.Unbounded, last_along d q, (away, (q, (none, chosen, free), refl)), made.1))
+          (made.0, ends_by_kind kind.Unbounded (last_along d q) (away, (q, (none, chosen, free), refl)) made.1)
 
       -- where the limit of pivots is met
       ends_broken : pivots ≡ iterlim → IsGoingOnBy Chosen d → (end : End F) × So end
       ends_broken most goes =
           elim (phase_at d) [
-            | inl one ↦ (Interrupted 1 [] [], inr (inl (most, one, goes, refl)))
+            | inl one ↦ (Interrupted 1 [] [], limit_is_met most one goes refl)
             | inr two ↦
                 let more : (q : ℕ) × Improves d q = elim goes [ inl due ↦ absurd (two.1 due) | inr on ↦ (on.1.0, improves on.1.0 on.1.2) ] in
                 let made = interrupted_end two.1 two.2 more (first_stop (interrupted_steps value limit lp (last_of d))) refl in
-                (made.0, inl (kind.Interrupted, last_of d, (two.2, two.1, (most, goes), refl), made.1))
+                (made.0, ends_by_kind kind.Interrupted (last_of d) (two.2, two.1, (most, goes), refl) made.1)
           ]
 
       -- where no further pivot may be taken
@@ -208,7 +208,7 @@ module _ {F : Type 0} (value : F → Number) (limit : ℕ) (some : 1 ≤ limit) 
         let fit : AllFit (exchange_steps limit (count + 1) d p.enter k) = all_fit (exchange_steps limit (count + 1) d p.enter k) fits in
         goes_more left count done d p k allowed tested fit (next fit)
     turns left count done d p k less allowed tested next (Some name) stops =
-        ends_now (suc left) count done d (Refused name, inr (inr (less, (name, refl, inr (p, k, allowed, tested, stops_first (exchange_steps limit (count + 1) d p.enter k) name stops)))))
+        ends_now (suc left) count done d (Refused name, step_stops less name refl (inr (p, k, allowed, tested, stops_first (exchange_steps limit (count + 1) d p.enter k) name stops)))
 
     abbrev Next : ℕ → ℕ → List Pivot → Dictionary → Type 0
     Next left count done d =
@@ -219,7 +219,7 @@ module _ {F : Type 0} (value : F → Number) (limit : ℕ) (some : 1 ≤ limit) 
     by_case left count done d less stands fitting next (none_limits q none chosen free) = ends_now (suc left) count done d (ends_unlimited d stands fitting (Chosen done d) (improves First done d) count q none chosen free)
     by_case left count done d less stands fitting next (test_stops q none chosen name stops) =
         let row = some_limits limit (count + 1) d q name stops in
-        ends_now (suc left) count done d (Refused name, inr (inr (less, (name, refl, inl (none, (q, row.0, chosen, row.1, stops))))))
+        ends_now (suc left) count done d (Refused name, step_stops less name refl (inl (none, (q, row.0, chosen, row.1, stops))))
     by_case left count done d less stands fitting next (pivot_is_due p k allowed tested) =
         turns left count done d p k less allowed tested (λ fit. next p k allowed fit) (first_stop (exchange_steps limit (count + 1) d p.enter k)) refl
 
@@ -241,7 +241,7 @@ module _ {F : Type 0} (value : F → Number) (limit : ℕ) (some : 1 ≤ limit) 
     made_answer : AllFit (standard_steps value limit lp) → Goes iterlim 0 [] First → (answer : Answer F) × IsAnswerByChoice value limit lp iterlim choice answer
     made_answer fit (pivots, few, (last, way, (end, ends))) =
         let same : 0 + length pivots ≡ length pivots = omega arith in
-        (record { pivots = pivots; end = end }, inr (inr (ordered, fit, few, (last, way, subst (λ n. Ended pivots n last end) same ends))))
+        (record { pivots = pivots; end = end }, search_ends ordered fit few last way (subst (λ n. Ended pivots n last end) same ends))
 
     -- the answer where the steps of the standard form fit
     pub walked : AllFit (standard_steps value limit lp) → (answer : Answer F) × IsAnswerByChoice value limit lp iterlim choice answer
@@ -282,12 +282,12 @@ module _ {F : Type 0} (value : F → Number) (limit : ℕ) (some : 1 ≤ limit) 
   crossed_answer : (j : ℕ) → FirstCrossed value lp.columns (Some j) → (answer : Answer F) × IsAnswerByChoice value limit lp iterlim choice answer
   crossed_answer j first =
       let zeros = all_meant value limit each (replicate (length lp.rows) (whole (pos 0))) (All-replicate (Fitting limit) (length lp.rows) (whole (pos 0)) (fits-zero limit some)) in
-      (record { pivots = []; end = Infeasible zeros.0 (Some j) }, inl (refl, (zeros.0, j, refl, record { first = first; duals_zero = zeros.1 })))
+      (record { pivots = []; end = Infeasible zeros.0 (Some j) }, bounds_cross refl (zeros.0, j, refl, record { first = first; duals_zero = zeros.1 }))
 
   formed_answer : FirstCrossed value lp.columns None → (o : Option StepName) → first_stop (standard_steps value limit lp) ≡ o → (answer : Answer F) × IsAnswerByChoice value limit lp iterlim choice answer
   formed_answer ordered None fits = walked value limit some small within each lp formed iterlim ordered choice improves always (all_fit (standard_steps value limit lp) fits)
   formed_answer ordered (Some step) stops =
-      (record { pivots = []; end = Refused step }, inr (inl (refl, (ordered, (step, refl, stops_first (standard_steps value limit lp) step stops)))))
+      (record { pivots = []; end = Refused step }, form_stops refl (ordered, (step, refl, stops_first (standard_steps value limit lp) step stops)))
 
   pub some_answer : (answer : Answer F) × IsAnswerByChoice value limit lp iterlim choice answer
   some_answer =

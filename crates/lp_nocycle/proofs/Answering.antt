@@ -15,8 +15,8 @@ use Rattle.lp_core.specs.declared.program.Lp.{Lp}
 use Rattle.lp_core.specs.StandardForm.{Last}
 use Rattle.lp_core.specs.Dictionary.{Dictionary}
 use Rattle.lp_core.specs.Pivots.{IsChosen, ByRule}
-use Rattle.lp_core.specs.Ends.{IsGoingOnBy, EndsAt, LeadsTo, EndsSoBy}
-use Rattle.lp_core.specs.Answers.{IsAnswer, EndsCrossed}
+use Rattle.lp_core.specs.Ends.{IsGoingOnBy, EndsAt, LeadsTo, EndsSoBy, ends_by_kind, limit_is_met, step_stops}
+use Rattle.lp_core.specs.Answers.{IsAnswer, bounds_cross, form_stops, search_ends, EndsCrossed}
 use Rattle.lp_core.specs.WellFormed.{IsWellFormed}
 use Rattle.lp_nocycle.specs.PivotCount.{variable_count, IsInterrupted, HasFewPivots, ComesToEnd}
 use Rattle.lp_nocycle.proofs.Following.{few_pivots}
@@ -50,26 +50,20 @@ module _ {F : Type 0} (value : F → Number) (limit : ℕ) (lp : Lp F) (iterlim 
   at_kind Chosen pivots d how last (Refused step) is at leads = absurd is
 
   pub at_the_limit : (Allowed : Pivot → ℕ → Type 0) (Chosen : ℕ → Type 0) (pivots : ℕ) (d : Dictionary) (end : End F) → IsInterrupted end → EndsSoBy value limit lp iterlim Allowed Chosen pivots d end → pivots ≡ iterlim
-  at_the_limit Allowed Chosen pivots d end is (inl (how, last, at, inl told)) = at_kind Chosen pivots d how last end is at told.0
-  at_the_limit Allowed Chosen pivots d end is (inl (how, last, at, inr refused)) = absurd (not_refused end refused.0 refused.1 is)
-  at_the_limit Allowed Chosen pivots d end is (inr (inl most)) = most.0
-  at_the_limit Allowed Chosen pivots d end is (inr (inr stops)) = absurd (not_refused end stops.1.0 stops.1.1 is)
+  at_the_limit Allowed Chosen pivots d end is (ends_by_kind how last at (inl told)) = at_kind Chosen pivots d how last end is at told.0
+  at_the_limit Allowed Chosen pivots d end is (ends_by_kind how last at (inr refused)) = absurd (not_refused end refused.0 refused.1 is)
+  at_the_limit Allowed Chosen pivots d end is (limit_is_met most one goes early) = most
+  at_the_limit Allowed Chosen pivots d end is (step_stops less step refused stops) = absurd (not_refused end step refused is)
 
   pub has_few : (answer : Answer F) → IsWellFormed value lp → IsAnswer value limit lp iterlim Bland answer → HasFewPivots value lp answer
-  has_few answer formed answers =
-      elim answers [
-        | inl crossed ↦ no_pivots answer.pivots (variable_count value lp) crossed.0
-        | inr (inl stopped) ↦ no_pivots answer.pivots (variable_count value lp) stopped.0
-        | inr (inr led) ↦ few_pivots value lp answer.pivots led.3.0 formed led.3.1.0
-      ]
+  has_few answer formed (bounds_cross none crossed) = no_pivots answer.pivots (variable_count value lp) none
+  has_few answer formed (form_stops none stopped) = no_pivots answer.pivots (variable_count value lp) none
+  has_few answer formed (search_ends ordered fit most last way ends) = few_pivots value lp answer.pivots last formed way.0
 
   pub comes_to_end : (answer : Answer F) → IsWellFormed value lp → IsAnswer value limit lp iterlim Bland answer → ComesToEnd value lp iterlim answer
-  comes_to_end answer formed answers enough is =
-      elim answers [
-        | inl crossed ↦ not_crossed answer.end is crossed.1
-        | inr (inl stopped) ↦ not_refused answer.end stopped.1.1.0 stopped.1.1.1 is
-        | inr (inr led) ↦
-            let few = few_pivots value lp answer.pivots led.3.0 formed led.3.1.0 in
-            let same = at_the_limit (ByRule Bland answer.pivots led.3.0) (IsChosen Bland led.3.0) (length answer.pivots) led.3.0 answer.end is led.3.2 in
-            absurd (omega arith)
-      ]
+  comes_to_end answer formed (bounds_cross none crossed) enough is = not_crossed answer.end is crossed
+  comes_to_end answer formed (form_stops none stopped) enough is = not_refused answer.end stopped.1.0 stopped.1.1 is
+  comes_to_end answer formed (search_ends ordered fit most last way ends) enough is =
+      let few = few_pivots value lp answer.pivots last formed way.0 in
+      let same = at_the_limit (ByRule Bland answer.pivots last) (IsChosen Bland last) (length answer.pivots) last answer.end is ends in
+      absurd (omega arith)

@@ -11,7 +11,7 @@ use Rattle.lp_core.specs.Dictionary.{Dictionary, IsLegal, first_dictionary}
 use Rattle.lp_core.specs.Pivots.{IsChosen, IsTaken, ByChoice, Leads}
 use Rattle.lp_core.specs.Choices.{reached}
 use Rattle.lp_core.specs.LargestCoefficient.{HasTurned, IsNext}
-use Rattle.lp_core.specs.Answers.{IsAnswerByChoice}
+use Rattle.lp_core.specs.Answers.{bounds_cross, form_stops, search_ends, IsAnswerByChoice}
 use Rattle.lp_core.specs.WellFormed.{IsWellFormed}
 use Rattle.lp_exact.specs.Pivots.{IsProper}
 use Rattle.lp_exact.proofs.Begins.{first_proper}
@@ -50,28 +50,22 @@ module _ {F : Type 0} (value : F → Number) (limit : ℕ) (lp : Lp F) (iterlim 
   some_pivots : (w : ℕ) → 0 < pivots_by_turn w
   some_pivots w = let h : 0 * twice_sets w + 0 < twice_sets w * (w + 1) = mul-add-lt 0 (twice_sets w) 0 (w + 1) (omega arith) (two_power_above w) in omega arith
 
+  none_below : (pivots : List Pivot) → pivots ≡ [] → length pivots < pivots_by_turn (variable_count value lp)
+  none_below pivots none = subst (λ (l : List Pivot). length l < pivots_by_turn (variable_count value lp)) (sym none) (some_pivots (variable_count value lp))
+
   pub has_few_by_turn : (answer : Answer F) → IsWellFormed value lp → IsAnswerByChoice value limit lp iterlim choice answer → HasFewPivotsByTurn value lp answer
-  has_few_by_turn answer formed answers =
-      elim answers [
-        | inl crossed ↦ none_below answer.pivots crossed.0
-        | inr (inl stopped) ↦ none_below answer.pivots stopped.0
-        | inr (inr led) ↦ few_of_program answer.pivots led.3.0 formed led.3.1.0
-      ]
-    where
-      none_below : (pivots : List Pivot) → pivots ≡ [] → length pivots < pivots_by_turn (variable_count value lp)
-      none_below pivots none = subst (λ (l : List Pivot). length l < pivots_by_turn (variable_count value lp)) (sym none) (some_pivots (variable_count value lp))
+  has_few_by_turn answer formed (bounds_cross none crossed) = none_below answer.pivots none
+  has_few_by_turn answer formed (form_stops none stopped) = none_below answer.pivots none
+  has_few_by_turn answer formed (search_ends ordered fit most last way ends) = few_of_program answer.pivots last formed way.0
 
   pub comes_to_end_by_turn : (answer : Answer F) → IsWellFormed value lp → IsAnswerByChoice value limit lp iterlim choice answer → ComesToEndByTurn value lp iterlim answer
-  comes_to_end_by_turn answer formed answers enough is =
-      elim answers [
-        | inl crossed ↦ not_crossed value limit lp iterlim answer.end is crossed.1
-        | inr (inl stopped) ↦ not_refused value limit lp iterlim answer.end stopped.1.1.0 stopped.1.1.1 is
-        | inr (inr led) ↦
-            let first = first_dictionary (standard_form value lp) in
-            let few = few_of_program answer.pivots led.3.0 formed led.3.1.0 in
-            let same = at_the_limit value limit lp iterlim (ByChoice choice first answer.pivots led.3.0) (choice first answer.pivots led.3.0) (length answer.pivots) led.3.0 answer.end is led.3.2 in
-            absurd (omega arith)
-      ]
+  comes_to_end_by_turn answer formed (bounds_cross none crossed) enough is = not_crossed value limit lp iterlim answer.end is crossed
+  comes_to_end_by_turn answer formed (form_stops none stopped) enough is = not_refused value limit lp iterlim answer.end stopped.1.0 stopped.1.1 is
+  comes_to_end_by_turn answer formed (search_ends ordered fit most last way ends) enough is =
+      let first = first_dictionary (standard_form value lp) in
+      let few = few_of_program answer.pivots last formed way.0 in
+      let same = at_the_limit value limit lp iterlim (ByChoice choice first answer.pivots last) (choice first answer.pivots last) (length answer.pivots) last answer.end is ends in
+      absurd (omega arith)
 
 -- the rule of the largest coefficient turns to Bland's
 pub largest_turns : TurnsToBland IsNext

@@ -4,7 +4,7 @@ use Rattle.std.specs.List.{All}
 use Rattle.gq_number.specs.Number.{Number}
 use Rattle.lp_core.specs.declared.answer.Pivot.{Pivot}
 use Rattle.lp_core.specs.Pivots.{last_of, NothingImproves, IsAllowed, IsChosen, ByRule, LeadsWithin}
-use Rattle.lp_core.specs.Ends.{IsGoingOnBy, EndsAt, LeadsTo, EndsSoBy}
+use Rattle.lp_core.specs.Ends.{IsGoingOnBy, EndsAt, LeadsTo, EndsSoBy, ends_by_kind, limit_is_met, step_stops}
 use Rattle.lp_core.specs.declared.answer.Rule.{Rule}
 use Rattle.lp_core.specs.declared.answer.Rule.TheVariants.{Bland, Legal}
 use Rattle.lp_core.specs.declared.answer.End.TheVariants.{Optimal}
@@ -17,7 +17,7 @@ use Rattle.lp_core.specs.Proofs.{Crosses, IsProved}
 use Rattle.lp_core.specs.StandardForm.{Last, standard_form, levels_back, duals_back}
 use Rattle.lp_core.specs.Dictionary.{Dictionary, InPhaseOne, IsLegal, first_dictionary, exchanged}
 use Rattle.lp_core.specs.Steps.{AllFit, standard_steps, steps_back}
-use Rattle.lp_core.specs.Answers.{EndsCrossed, EndsUnformed, IsAnswer}
+use Rattle.lp_core.specs.Answers.{EndsCrossed, EndsUnformed, IsAnswer, bounds_cross, form_stops, search_ends}
 use Rattle.lp_range.specs.Ranges.{IsOptimum, LeadTo}
 
 legal_of : (rule : Rule) (d : Dictionary) (p : Pivot) (k : ℕ) → IsAllowed rule d p k → IsLegal d p k
@@ -57,11 +57,11 @@ module _ {F : Type 0} (value : F → Number) (limit : ℕ) (lp : Lp F) where
   of_kind BrokenOff Chosen d kind.Interrupted last levels row_levels duals reduced at told fit proved = absurd told
 
   told_of : (Allowed : Pivot → ℕ → Type 0) (Chosen : ℕ → Type 0) (iterlim pivots : ℕ) (d : Dictionary) (levels row_levels duals reduced : List F) → EndsSoBy value limit lp iterlim Allowed Chosen pivots d (Optimal levels row_levels duals reduced) → IsTold d levels row_levels duals reduced
-  told_of Allowed Chosen iterlim pivots d levels row_levels duals reduced (inl (how, last, at, inl told)) =
+  told_of Allowed Chosen iterlim pivots d levels row_levels duals reduced (ends_by_kind how last at (inl told)) =
       of_kind ((pivots ≡ iterlim) × IsGoingOnBy Chosen d) Chosen d how last levels row_levels duals reduced at told.0 told.1 told.2
-  told_of Allowed Chosen iterlim pivots d levels row_levels duals reduced (inl (how, last, at, inr refused)) = absurd (let e = refused.1 in cc)
-  told_of Allowed Chosen iterlim pivots d levels row_levels duals reduced (inr (inl h)) = absurd (let e = h.3 in cc)
-  told_of Allowed Chosen iterlim pivots d levels row_levels duals reduced (inr (inr h)) = absurd (let e = h.1.1 in cc)
+  told_of Allowed Chosen iterlim pivots d levels row_levels duals reduced (ends_by_kind how last at (inr refused)) = absurd (let e = refused.1 in cc)
+  told_of Allowed Chosen iterlim pivots d levels row_levels duals reduced (limit_is_met most one goes is) = absurd (cc)
+  told_of Allowed Chosen iterlim pivots d levels row_levels duals reduced (step_stops less step is stops) = absurd (cc)
 
   module _ (answer : Answer F) (iterlim : ℕ) (rule : Rule) (h : IsAnswer value limit lp iterlim rule answer) (levels row_levels duals reduced : List F) (is : answer.end ≡ Optimal levels row_levels duals reduced) where
     not_crossed : EndsCrossed value lp answer.end → ⊥
@@ -78,46 +78,34 @@ module _ {F : Type 0} (value : F → Number) (limit : ℕ) (lp : Lp F) where
     pub solved : IsSolved answer.pivots (map value levels) (map value duals)
     solved =
         elim h [
-          | inl crossed ↦ absurd (not_crossed crossed.1)
-          | inr rest ↦ elim rest [
-            | inl stopped ↦ absurd (not_unformed stopped.1)
-            | inr walked ↦
-                let told = told_at walked.3.0 walked.3.2 in
-                record {
-                  none = walked.0;
-                  fit = walked.1;
-                  last = walked.3.0;
-                  leads = leads_legal rule limit 1 [] (first_dictionary (standard_form value lp)) answer.pivots walked.3.0 walked.3.1;
-                  second = told.0;
-                  nothing = told.1;
-                  levels_are = told.2.0;
-                  duals_are = told.2.2;
-                }
-          ]
+          | bounds_cross none crossed ↦ absurd (not_crossed crossed)
+          | form_stops none stopped ↦ absurd (not_unformed stopped)
+          | search_ends ordered fit few last way ends ↦
+              let told = told_at last ends in
+              record {
+                none = ordered;
+                fit = fit;
+                last = last;
+                leads = leads_legal rule limit 1 [] (first_dictionary (standard_form value lp)) answer.pivots last way;
+                second = told.0;
+                nothing = told.1;
+                levels_are = told.2.0;
+                duals_are = told.2.2;
+              }
         ]
 
     pub legal_answer : IsAnswer value limit lp (length answer.pivots) Legal answer
     legal_answer =
         elim h [
-          | inl crossed ↦ absurd (not_crossed crossed.1)
-          | inr rest ↦ elim rest [
-            | inl stopped ↦ absurd (not_unformed stopped.1)
-            | inr walked ↦
-                let last = walked.3.0 in
-                let told = told_at walked.3.0 walked.3.2 in
-                let ends : EndsSoBy value limit lp (length answer.pivots) (ByRule Legal answer.pivots last) (IsChosen Legal last) (length answer.pivots) last (Optimal levels row_levels duals reduced) =
-                inl (kind.Optimal, last_of last, (told.0, told.1, refl), inl (told.2, told.3, told.4)) in
-                inr (inr (
-                  walked.0,
-                  walked.1,
-                  omega arith,
-                  (
-                    walked.3.0,
-                    leads_legal rule limit 1 [] (first_dictionary (standard_form value lp)) answer.pivots walked.3.0 walked.3.1,
-                    subst (EndsSoBy value limit lp (length answer.pivots) (ByRule Legal answer.pivots last) (IsChosen Legal last) (length answer.pivots) last) (sym is) ends,
-                  ),
-                ))
-          ]
+          | bounds_cross none crossed ↦ absurd (not_crossed crossed)
+          | form_stops none stopped ↦ absurd (not_unformed stopped)
+          | search_ends ordered fit few last way ends ↦
+              let told = told_at last ends in
+              let legal : EndsSoBy value limit lp (length answer.pivots) (ByRule Legal answer.pivots last) (IsChosen Legal last) (length answer.pivots) last (Optimal levels row_levels duals reduced) =
+              ends_by_kind kind.Optimal (last_of last) (told.0, told.1, refl) (inl (told.2, told.3, told.4)) in
+              search_ends ordered fit (omega arith) last
+              (leads_legal rule limit 1 [] (first_dictionary (standard_form value lp)) answer.pivots last way)
+              (subst (EndsSoBy value limit lp (length answer.pivots) (ByRule Legal answer.pivots last) (IsChosen Legal last) (length answer.pivots) last) (sym is) legal)
         ]
 
   pub legal_by_optimum : (answer : Answer F) (iterlim : ℕ) (rule : Rule) → IsOptimum answer → IsAnswer value limit lp iterlim rule answer → IsAnswer value limit lp (length answer.pivots) Legal answer

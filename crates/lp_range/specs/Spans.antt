@@ -56,11 +56,11 @@ high_by Less high e = lesser high e
 high_by Equal high e = high
 high_by Greater high e = high
 
--- the lower end of the moves so far, updated by one more amount
+-- an end from below so far, with one amount more
 abbrev pub low_with : Option Number → Gain → Option Number
 low_with low g = low_by (number_cmp g.each (whole (pos 0))) low (end_of g)
 
--- the upper end of the moves so far, updated by one more amount
+-- and an end from above so far
 abbrev pub high_with : Option Number → Gain → Option Number
 high_with high g = high_by (number_cmp g.each (whole (pos 0))) high (end_of g)
 

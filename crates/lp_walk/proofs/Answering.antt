@@ -17,7 +17,7 @@ use Rattle.lp_core.specs.Dictionary.{Dictionary, Improves, first_dictionary}
 use Rattle.lp_core.specs.Steps.{AllFit, standard_steps, steps_back}
 use Rattle.lp_core.specs.WellFormed.{IsWellFormed}
 use Rattle.lp_core.specs.Proofs.{FirstCrossed, IsProved}
-use Rattle.lp_core.specs.Answers.{IsAnswer, IsAnswerByChoice}
+use Rattle.lp_core.specs.Answers.{search_ends, IsAnswer, IsAnswerByChoice}
 use Rattle.lp_core.specs.declared.answer.EndKind.{EndKind}
 use Rattle.lp_std.specs.declared.stop.Stop.{Stop}
 use Rattle.lp_std.specs.declared.stop.Stop.TheVariants as stops
@@ -62,23 +62,22 @@ broken_off_two value limit lp d two (Err e) h = tt
 
 -- ---- the whole
 
--- pivots by a choice from a dictionary, and an end there
-abbrev Walked : {F : Type 0} → (F → Number) → ℕ → Lp F → ℕ → (Dictionary → List Pivot → Dictionary → ℕ → Type 0) → Dictionary → List Pivot → End F → Type 0
-Walked value limit lp iterlim choice d p end =
-    (last : Dictionary) × LeadsWithin (ByChoice choice d) limit 1 [] d p last
-    × EndsSoBy value limit lp iterlim (ByChoice choice d p last) (choice d p last) (length p) last end
+-- pivots by a choice from a dictionary to a last one, and an end there
+abbrev Walked : {F : Type 0} → (F → Number) → ℕ → Lp F → ℕ → (Dictionary → List Pivot → Dictionary → ℕ → Type 0) → Dictionary → List Pivot → Dictionary → End F → Type 0
+Walked value limit lp iterlim choice d p last end =
+    LeadsWithin (ByChoice choice d) limit 1 [] d p last × EndsSoBy value limit lp iterlim (ByChoice choice d p last) (choice d p last) (length p) last end
 
 pub answers_so : {F : Type 0} (value : F → Number) (limit : ℕ) (lp : Lp F) (iterlim : ℕ) (choice : Dictionary → List Pivot → Dictionary → ℕ → Type 0) (s : Standard) (first : Dictionary) (walk : Walk F) (answer : Answer F) → ((start : Dictionary) (pivots : List Pivot) (d : Dictionary) (q : ℕ) → choice start pivots d q → Improves d q) → FirstCrossed value lp.columns None → AllFit (standard_steps value limit lp) → s ≡ standard_form value lp → first ≡ first_dictionary s → IsWalk limit value choice first iterlim walk → answer.pivots ≡ walk.pivots.items → EndsHalted value limit lp walk.halt answer.end → IsAnswerByChoice value limit lp iterlim choice answer
 answers_so value limit lp iterlim choice s first walk answer improves none fit form begins is pivots ends =
     let start : Dictionary = first_dictionary (standard_form value lp) in
     let from : first ≡ start = begins ∙ ap first_dictionary form in
     let ended = halted_so value limit lp iterlim (choice first walk.pivots.items is.last) (length walk.pivots.items) is.last walk.halt answer.end (improves first walk.pivots.items is.last) is.halts ends in
-    inr (inr (
-      none,
-      fit,
-      subst (λ (p : List Pivot). length p ≤ iterlim) (sym pivots) is.few,
-      subst (λ (p : List Pivot). Walked value limit lp iterlim choice start p answer.end) (sym pivots) (subst (λ d. Walked value limit lp iterlim choice d walk.pivots.items answer.end) from (is.last, is.leads, ended)),
-    ))
+    let few : length answer.pivots ≤ iterlim = subst (λ (p : List Pivot). length p ≤ iterlim) (sym pivots) is.few in
+    let begun : Walked value limit lp iterlim choice start walk.pivots.items is.last answer.end =
+    subst (λ d. Walked value limit lp iterlim choice d walk.pivots.items is.last answer.end) from (is.leads, ended) in
+    let walked : Walked value limit lp iterlim choice start answer.pivots is.last answer.end =
+    subst (λ (p : List Pivot). Walked value limit lp iterlim choice start p is.last answer.end) (sym pivots) begun in
+    search_ends none fit few is.last walked.0 walked.1
 
 pub first_is_proper : {F : Type 0} (value : F → Number) (lp : Lp F) (s : Standard) (first : Dictionary) → IsWellFormed value lp → s ≡ standard_form value lp → first ≡ first_dictionary s → IsProper first
 first_is_proper value lp s first formed form begins =

@@ -8,7 +8,7 @@ use Rattle.lp_core.specs.declared.program.Lp.{Lp}
 use Rattle.lp_core.specs.StandardForm.{Standard, Last}
 use Rattle.lp_core.specs.Dictionary.{Dictionary, Improves}
 use Rattle.lp_core.specs.Pivots.{row_of_basic, change_by_row, NothingImproves, last_of, last_along, IsAllowedBy}
-use Rattle.lp_core.specs.Ends.{IsUnlimited, IsUnlimitedBy, IsGoingOnBy, IsPhase, EndsSoBy, EndsWith}
+use Rattle.lp_core.specs.Ends.{IsUnlimited, IsUnlimitedBy, IsGoingOnBy, IsPhase, EndsSoBy, ends_by_kind, limit_is_met, step_stops, EndsWith}
 use Rattle.lp_core.specs.declared.answer.EndKind.{EndKind}
 use Rattle.lp_core.specs.declared.answer.EndKind.TheVariants as kind
 use Rattle.lp_std.specs.Last.{IsDictionaryOf, IsReadAt}
@@ -62,8 +62,8 @@ module _ {F : Type 0} (value : F → Number) (limit : ℕ) (lp : Lp F) (iterlim 
   ended_so None end none led = by_kind led.kind led.read led.gives
     where
       by_kind : (k : EndKind) → IsReadAt d k (last_of d) → EndsWith value limit lp k (last_of d) end → EndsSoBy value limit lp iterlim (IsAllowedBy Chosen d) Chosen pivots d end
-      by_kind kind.Optimal read gives = inl (kind.Optimal, last_of d, read, gives)
-      by_kind kind.Infeasible read gives = inl (kind.Infeasible, last_of d, read, gives)
+      by_kind kind.Optimal read gives = ends_by_kind kind.Optimal (last_of d) read gives
+      by_kind kind.Infeasible read gives = ends_by_kind kind.Infeasible (last_of d) read gives
       by_kind kind.Unbounded read gives = absurd (has_ray d read.1.0 read.1.2)
       by_kind kind.Interrupted read gives = absurd (none.1 read.2.0 read.2.1)
   ended_so (Some q) end due led = by_kind led.kind led.read led.gives
@@ -71,12 +71,12 @@ module _ {F : Type 0} (value : F → Number) (limit : ℕ) (lp : Lp F) (iterlim 
       by_kind : (k : EndKind) → IsReadAt d k (last_along d q) → EndsWith value limit lp k (last_along d q) end → EndsSoBy value limit lp iterlim (IsAllowedBy Chosen d) Chosen pivots d end
       by_kind kind.Optimal read gives = absurd (has_ray d q (sym read.2))
       by_kind kind.Infeasible read gives = absurd (has_ray d q (sym read.2))
-      by_kind kind.Unbounded read gives = inl (kind.Unbounded, last_along d q, (due.0, (q, due.1, refl)), gives)
+      by_kind kind.Unbounded read gives = ends_by_kind kind.Unbounded (last_along d q) (due.0, (q, due.1, refl)) gives
       by_kind kind.Interrupted read gives = absurd (has_ray d q (sym read.3))
 
   -- the end where the limit of pivots is met
   pub broken_off_so : (end : End F) → pivots ≡ iterlim → IsGoingOnBy Chosen d → IsBrokenOff value limit lp d end → EndsSoBy value limit lp iterlim (IsAllowedBy Chosen d) Chosen pivots d end
-  broken_off_so end most goes (inl one) = inr (inl (most, one.0, goes, one.1))
+  broken_off_so end most goes (inl one) = limit_is_met most one.0 goes one.1
   broken_off_so end most goes (inr two) = by_kind two.1.kind two.1.read two.1.gives
     where
       goes_or_not : NothingImproves d → ⊥
@@ -86,7 +86,7 @@ module _ {F : Type 0} (value : F → Number) (limit : ℕ) (lp : Lp F) (iterlim 
       by_kind kind.Optimal read gives = absurd (goes_or_not read.1)
       by_kind kind.Infeasible read gives = absurd (goes_or_not read.1)
       by_kind kind.Unbounded read gives = absurd (has_ray d read.1.0 read.1.2)
-      by_kind kind.Interrupted read gives = inl (kind.Interrupted, last_of d, (read.0, read.1, (most, goes), refl), gives)
+      by_kind kind.Interrupted read gives = ends_by_kind kind.Interrupted (last_of d) (read.0, read.1, (most, goes), refl) gives
 
 -- the end of a run that halts so
 pub halted_so : {F : Type 0} (value : F → Number) (limit : ℕ) (lp : Lp F) (iterlim : ℕ) (Chosen : ℕ → Type 0) (pivots : ℕ) (last : Dictionary) (h : Halt F) (end : End F) → ((q : ℕ) → Chosen q → Improves last q) → HaltsAt limit value Chosen iterlim pivots last h → EndsHalted value limit lp h end → EndsSoBy value limit lp iterlim (IsAllowedBy Chosen last) Chosen pivots last end
@@ -94,4 +94,4 @@ halted_so value limit lp iterlim Chosen pivots last (halt.Ended d enter) end imp
     ended_so value limit lp iterlim Chosen pivots last improves enter end halts.1 (subst (λ e. IsLedBack value limit lp e enter end) halts.0 ends)
 halted_so value limit lp iterlim Chosen pivots last (halt.Interrupted d) end improves halts ends =
     broken_off_so value limit lp iterlim Chosen pivots last improves end halts.1 halts.2 (subst (λ e. IsBrokenOff value limit lp e end) halts.0 ends)
-halted_so value limit lp iterlim Chosen pivots last (halt.Refused step) end improves halts ends = inr (inr (halts.0, (step, ends, halts.1)))
+halted_so value limit lp iterlim Chosen pivots last (halt.Refused step) end improves halts ends = step_stops halts.0 step ends halts.1

@@ -30,4 +30,4 @@ crossed_is_formless value limit lp (Err e) h = tt
 
 -- the answer has no pivots
 pub formless_answers : {F : Type 0} (value : F → Number) (limit : ℕ) (lp : Lp F) (iterlim : ℕ) (choice : Dictionary → List Pivot → Dictionary → ℕ → Type 0) (answer : Answer F) → answer.pivots ≡ [] → EndsFormless value limit lp answer.end → IsAnswerByChoice value limit lp iterlim choice answer
-formless_answers value limit lp iterlim choice answer none ends = elim ends [ inl crossed ↦ inl (none, crossed) | inr stopped ↦ inr (inl (none, stopped)) ]
+formless_answers value limit lp iterlim choice answer none ends = elim ends [ inl crossed ↦ bounds_cross none crossed | inr stopped ↦ form_stops none stopped ]

@@ -5,7 +5,7 @@ use Rattle.std.proofs.lemmas.List.{append_assoc, append-nil}
 use Rattle.std.proofs.lemmas.Option.{slice_get_within}
 use Rattle.gq_number.specs.Number.{Number}
 use Rattle.lp_core.specs.declared.answer.Pivot.{Pivot}
-use Rattle.lp_core.specs.Ends.{IsUnlimitedBy, IsGoingOnBy, IsPhase, EndsAt, LeadsTo, EndsWith, EndsSoBy}
+use Rattle.lp_core.specs.Ends.{IsUnlimitedBy, IsGoingOnBy, IsPhase, EndsAt, LeadsTo, EndsWith, EndsSoBy, ends_by_kind, limit_is_met, step_stops}
 use Rattle.lp_core.specs.Pivots.{NothingImproves, TestFits, last_of, last_along, IsAllowedBy, ByChoice, LeadsWithin}
 use Rattle.lp_core.specs.declared.answer.StepName.{StepName}
 use Rattle.lp_core.specs.declared.answer.End.{End}
@@ -20,7 +20,7 @@ use Rattle.lp_core.specs.Proofs.{Crosses, FirstCrossed, row_sums}
 use Rattle.lp_core.specs.StandardForm.{Last, standard_form, levels_back, duals_back, reduced_back, farkas_back, ray_back}
 use Rattle.lp_core.specs.Dictionary.{Dictionary, basic_at, OpeningIsDue, Improves, Limits, Ties, IsLegal, first_dictionary, exchanged}
 use Rattle.lp_core.specs.Steps.{AllFit, FirstStop, ratio_steps, exchange_steps, standard_steps, steps_back}
-use Rattle.lp_core.specs.Answers.{EndsCrossed, EndsUnformed, IsAnswerByChoice}
+use Rattle.lp_core.specs.Answers.{EndsCrossed, EndsUnformed, bounds_cross, form_stops, search_ends, IsAnswerByChoice}
 use Rattle.lp_exact.specs.Pivots.{IsProper}
 use Rattle.lp_exact.proofs.Kept.{get_index}
 use Rattle.lp_exact.proofs.Proper.{proper_after}
@@ -226,21 +226,21 @@ module _ {F : Type 0} (value : F → Number) (inj : (x y : F) → value x ≡ va
   stop_goes step stops = goes_on_by_stop Chosen limit (pivots + 1) d step stops
 
   pub one_end : (a b : End F) → EndsSoBy value limit lp iterlim (IsAllowedBy Chosen d) Chosen pivots d a → EndsSoBy value limit lp iterlim (IsAllowedBy Chosen d) Chosen pivots d b → a ≡ b
-  one_end a b (inl one) (inl two) = same_with one.0 two.0 one.1 two.1 a b one.2 two.2 one.3 two.3
-  one_end a b (inl one) (inr (inl two)) = absurd (at_or_one one.0 one.1 one.2 two.1 two.2)
-  one_end a b (inl one) (inr (inr two)) = absurd (at_or_more one.0 one.1 one.2 two.0 (stop_goes two.1.0 two.1.2))
-  one_end a b (inr (inl one)) (inl two) = absurd (at_or_one two.0 two.1 two.2 one.1 one.2)
-  one_end a b (inr (inl one)) (inr (inl two)) = one.3 ∙ sym two.3
-  one_end a b (inr (inl one)) (inr (inr two)) = absurd (less_or_same two.0 one.0)
-  one_end a b (inr (inr one)) (inl two) = absurd (at_or_more two.0 two.1 two.2 one.0 (stop_goes one.1.0 one.1.2))
-  one_end a b (inr (inr one)) (inr (inl two)) = absurd (less_or_same one.0 two.0)
-  one_end a b (inr (inr one)) (inr (inr two)) = one.1.1 ∙ ap Refused (one_stop d Chosen improves once limit (pivots + 1) one.1.0 two.1.0 proper one.1.2 two.1.2) ∙ sym two.1.1
+  one_end a b (ends_by_kind h l at one) (ends_by_kind k m also two) = same_with h k l m a b at also one two
+  one_end a b (ends_by_kind how last at told) (limit_is_met most one goes is) = absurd (at_or_one how last at one goes)
+  one_end a b (ends_by_kind how last at told) (step_stops less step is stops) = absurd (at_or_more how last at less (stop_goes step stops))
+  one_end a b (limit_is_met most one goes is) (ends_by_kind how last at told) = absurd (at_or_one how last at one goes)
+  one_end a b (limit_is_met most one goes is) (limit_is_met also two more same) = is ∙ sym same
+  one_end a b (limit_is_met most one goes is) (step_stops less step same stops) = absurd (less_or_same less most)
+  one_end a b (step_stops less step is stops) (ends_by_kind how last at told) = absurd (at_or_more how last at less (stop_goes step stops))
+  one_end a b (step_stops less step is stops) (limit_is_met most one goes same) = absurd (less_or_same less most)
+  one_end a b (step_stops less step is stops) (step_stops also other same halts) = is ∙ ap Refused (one_stop d Chosen improves once limit (pivots + 1) step other proper stops halts) ∙ sym same
 
   -- where an allowed pivot's steps fit and the limit is not met, the search does not end
   pub ends_or_pivots : (end : End F) (p : Pivot) (k : ℕ) → pivots < iterlim → IsAllowedBy Chosen d p k → TestFits limit (pivots + 1) d p → AllFit (exchange_steps limit (pivots + 1) d p.enter k) → EndsSoBy value limit lp iterlim (IsAllowedBy Chosen d) Chosen pivots d end → ⊥
-  ends_or_pivots end p k less allowed tested fit (inl h) = at_or_more h.0 h.1 h.2 less (goes_on_by_pivot Chosen d p k allowed)
-  ends_or_pivots end p k less allowed tested fit (inr (inl h)) = less_or_same less h.0
-  ends_or_pivots end p k less allowed tested fit (inr (inr h)) = stop_or_pivot d Chosen improves once limit (pivots + 1) p k h.1.0 proper allowed tested fit h.1.2
+  ends_or_pivots end p k less allowed tested fit (ends_by_kind how last at told) = at_or_more how last at less (goes_on_by_pivot Chosen d p k allowed)
+  ends_or_pivots end p k less allowed tested fit (limit_is_met most one goes is) = less_or_same less most
+  ends_or_pivots end p k less allowed tested fit (step_stops also step is stops) = stop_or_pivot d Chosen improves once limit (pivots + 1) p k step proper allowed tested fit stops
 
 -- ---- the run of pivots
 
@@ -311,16 +311,16 @@ module _ {F : Type 0} (value : F → Number) (inj : (x y : F) → value x ≡ va
   answer_with pivots end = record { pivots = pivots; end = end }
 
   pub one_answer_by : (a b : Answer F) → IsWellFormed value lp → IsAnswerByChoice value limit lp iterlim choice a → IsAnswerByChoice value limit lp iterlim choice b → a ≡ b
-  one_answer_by a b formed (inl one) (inl two) = ap₂ answer_with (one.0 ∙ sym two.0) (crossed_ends a.end b.end one.1 two.1)
-  one_answer_by a b formed (inl one) (inr (inl two)) = absurd (crosses_somewhere one.1.1 one.1.3.first two.1.0)
-  one_answer_by a b formed (inl one) (inr (inr two)) = absurd (crosses_somewhere one.1.1 one.1.3.first two.0)
-  one_answer_by a b formed (inr (inl one)) (inl two) = absurd (crosses_somewhere two.1.1 two.1.3.first one.1.0)
-  one_answer_by a b formed (inr (inr one)) (inl two) = absurd (crosses_somewhere two.1.1 two.1.3.first one.0)
-  one_answer_by a b formed (inr (inl one)) (inr (inl two)) = ap₂ answer_with (one.0 ∙ sym two.0) (unformed_ends a.end b.end one.1 two.1)
-  one_answer_by a b formed (inr (inl one)) (inr (inr two)) = absurd (fit_or_stop (standard_steps value limit lp) one.1.1.0 two.1 one.1.1.2)
-  one_answer_by a b formed (inr (inr one)) (inr (inl two)) = absurd (fit_or_stop (standard_steps value limit lp) two.1.1.0 one.1 two.1.1.2)
-  one_answer_by a b formed (inr (inr one)) (inr (inr two)) =
+  one_answer_by a b formed (bounds_cross none one) (bounds_cross nothing two) = ap₂ answer_with (none ∙ sym nothing) (crossed_ends a.end b.end one two)
+  one_answer_by a b formed (bounds_cross none one) (form_stops nothing two) = absurd (crosses_somewhere one.1 one.3.first two.0)
+  one_answer_by a b formed (bounds_cross none one) (search_ends ordered fit few last way ends) = absurd (crosses_somewhere one.1 one.3.first ordered)
+  one_answer_by a b formed (form_stops none one) (bounds_cross nothing two) = absurd (crosses_somewhere two.1 two.3.first one.0)
+  one_answer_by a b formed (search_ends ordered fit few last way ends) (bounds_cross nothing two) = absurd (crosses_somewhere two.1 two.3.first ordered)
+  one_answer_by a b formed (form_stops none one) (form_stops nothing two) = ap₂ answer_with (none ∙ sym nothing) (unformed_ends a.end b.end one two)
+  one_answer_by a b formed (form_stops none one) (search_ends ordered fit few last way ends) = absurd (fit_or_stop (standard_steps value limit lp) one.1.0 fit one.1.2)
+  one_answer_by a b formed (search_ends ordered fit few last way ends) (form_stops nothing two) = absurd (fit_or_stop (standard_steps value limit lp) two.1.0 fit two.1.2)
+  one_answer_by a b formed (search_ends ordered fit few last way ends) (search_ends also fits fewer there other finish) =
       let first = first_dictionary (standard_form value lp) in
       let proper = (first_stands value lp formed).proper in
-      let same = same_walk first [] 1 0 (length a.pivots) (length b.pivots) first a.pivots b.pivots one.3.0 two.3.0 a.end b.end proper (omega arith) (omega arith) (omega arith) one.2 two.2 one.3.1 two.3.1 one.3.2 two.3.2 in
+      let same = same_walk first [] 1 0 (length a.pivots) (length b.pivots) first a.pivots b.pivots last there a.end b.end proper (omega arith) (omega arith) (omega arith) few fewer way other ends finish in
       ap₂ answer_with same.0 same.1
