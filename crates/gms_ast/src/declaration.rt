@@ -1,5 +1,4 @@
-//! What declarations declare: names with their domains and their data, and models with their
-//! equations.
+//! What declarations say: names with their domains and their data, and models with their equations.
 use crate::sequence::Sequence;
 use crate::word::Named;
 use gms_labels::Place;
@@ -62,9 +61,9 @@ pub struct Item<F> {
     pub at: Place,
     /// For each position its labels, by their numbers.
     pub parts: Sequence<Sequence<u32>>,
-    /// The value, if the item has one: a number, an infinity or NA.
+    /// The value, where the item has one: a number, an infinity or NA.
     pub value: Option<Ext<F>>,
-    /// Whether the item has an invalid range, such as `/a3*a1/`.
+    /// Whether the item has a range that is none, as in `/a3*a1/`.
     pub bad_range: bool,
 }
 

@@ -74,7 +74,7 @@ pub enum Function {
     Trunc,
     /// `sign(x)`
     Sign,
-    /// One that this language leaves out, such as `exp(x)`.
+    /// One that this language leaves out, as `exp(x)`.
     NotInProfile,
 }
 
@@ -102,7 +102,7 @@ pub enum RelOp {
 /// included. The mark of a first part has no meaning: it is false, or `Eq`.
 #[cycle(expression)]
 pub enum Expr<F> {
-    /// A number, such as `2.5`.
+    /// A number, as `2.5`.
     Number(F),
     /// `inf`
     PlusInf,
@@ -112,7 +112,7 @@ pub enum Expr<F> {
     Yes,
     /// `no`
     No,
-    /// A reference to a symbol, such as `x.l(i,"a")`.
+    /// A reference to a symbol, as `x.l(i,"a")`.
     Ref {
         /// The place of its first character.
         at: Place,
@@ -123,21 +123,21 @@ pub enum Expr<F> {
         /// The indices, in order.
         indices: Vec<Index<F>>,
     },
-    /// The place of an element in its set, such as `ord(i)`.
+    /// The place of an element in its set, as `ord(i)`.
     Ord {
         /// The place of its first character.
         at: Place,
         /// The set, by the number of its name.
         set: u32,
     },
-    /// How many elements a set has, such as `card(i)`.
+    /// How many elements a set has, as `card(i)`.
     Card {
         /// The place of its first character.
         at: Place,
         /// The set, by the number of its name.
         set: u32,
     },
-    /// A call of a function, such as `max(x,y)`.
+    /// A call of a function, as `max(x,y)`.
     Call {
         /// The place of its first character.
         at: Place,
@@ -146,7 +146,7 @@ pub enum Expr<F> {
         /// The arguments, in order.
         args: Vec<Expr<F>>,
     },
-    /// A fold over sets, such as `sum((i,j)$c(i,j), x(i,j))`.
+    /// A fold over sets, as `sum((i,j)$c(i,j), x(i,j))`.
     Fold {
         /// The place of its first character.
         at: Place,
@@ -157,23 +157,23 @@ pub enum Expr<F> {
         /// The expression whose values are joined.
         body: Box<Expr<F>>,
     },
-    /// A negation, such as `-x`.
+    /// A negation, as `-x`.
     Neg(Box<Expr<F>>),
-    /// A sum, such as `a - b + c`. Each part has its place and whether it is subtracted.
+    /// A sum, as `a - b + c`. Each part has its place and whether it is subtracted.
     Plus(Vec<(Place, bool, Expr<F>)>),
-    /// A product, such as `a / b * c`. Each part has its place and whether it divides.
+    /// A product, as `a / b * c`. Each part has its place and whether it divides.
     Times(Vec<(Place, bool, Expr<F>)>),
-    /// A power, such as `a ** 2`. Each part has its place.
+    /// A power, as `a ** 2`. Each part has its place.
     Power(Vec<(Place, Expr<F>)>),
-    /// Relations, such as `a < b`. Each part has the relation before it.
+    /// Relations, as `a < b`. Each part has the relation before it.
     Relate(Vec<(RelOp, Expr<F>)>),
     /// `not a`
     Not(Box<Expr<F>>),
     /// `a and b`
     And(Vec<Expr<F>>),
-    /// A choice, such as `a or b xor c`. Each part has whether it is joined by `xor`.
+    /// A choice, as `a or b xor c`. Each part has whether it is joined by `xor`.
     Or(Vec<(bool, Expr<F>)>),
-    /// An operand under conditions, such as `a$b$c`.
+    /// An operand under conditions, as `a$b$c`.
     Guard {
         /// The operand.
         operand: Box<Expr<F>>,
@@ -230,9 +230,9 @@ impl<F: Drop> Drop for Expr<F> {
 /// An index of a reference.
 #[cycle(expression)]
 pub enum Index<F> {
-    /// A label in quotation marks, such as `"a"`, by its number.
+    /// A label in quotation marks, as `"a"`, by its number.
     Label(u32),
-    /// A controlled set, such as `i` or `i-1`.
+    /// A set that is controlled, as `i` or `i-1`.
     Set {
         /// The set, by the number of its name.
         name: u32,
@@ -252,7 +252,7 @@ impl<F: Drop> Drop for Index<F> {
     }
 }
 
-/// The sets over which a fold or a loop runs, and the condition on their elements.
+/// The sets over which a fold or a loop goes, and the condition on their elements.
 ///
 /// In `sum((i,j)$c(i,j), x(i,j))` the sets are `i` and `j`, and the condition is `c(i,j)`.
 #[cycle(expression)]

@@ -8,7 +8,7 @@ ghost use Rattle.gms_ast.specs.Trees.{no_index};
 use crate::expression::{Control, Expr, Index, RelOp};
 use gms_labels::Place;
 
-/// The nesting of an expression, or the greatest `u32` if the nesting exceeds it.
+/// The nesting of an expression, or the greatest number of a `u32` where the nesting passes it.
 ///
 /// It is 1 for an expression without expressions among its direct parts, else one more than the
 /// greatest nesting of these. The amounts of lags and the conditions of controls are direct parts,

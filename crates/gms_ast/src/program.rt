@@ -49,21 +49,21 @@ impl<F: Drop> Drop for Stmt<F> {
 /// What a statement does.
 #[cycle(statement)]
 pub enum Act<F> {
-    /// Declares names of one kind, such as `set i /a/, j /b/;`.
+    /// Declares names of one kind, as `set i /a/, j /b/;`.
     Declare {
-        /// The kind of the names.
+        /// What they are.
         kind: DeclKind,
         /// The names, in order.
         items: Sequence<Decl<F>>,
     },
-    /// Gives a set a second name, such as `alias (i,j);`.
+    /// Gives a set a second name, as `alias (i,j);`.
     Alias {
         /// The name that is written first.
         first: Named,
         /// The name that is written second.
         second: Named,
     },
-    /// Assigns, such as `p(i)$q(i) = 2 * q(i);`.
+    /// Assigns, as `p(i)$q(i) = 2 * q(i);`.
     Assign {
         /// What is assigned.
         target: Target<F>,
@@ -74,7 +74,7 @@ pub enum Act<F> {
         /// The right side.
         right: Right<F>,
     },
-    /// Defines an equation, such as `supply(i).. sum(j, x(i,j)) =l= a(i);`.
+    /// Defines an equation, as `supply(i).. sum(j, x(i,j)) =l= a(i);`.
     Define {
         /// The equation.
         equation: Named,
@@ -93,12 +93,12 @@ pub enum Act<F> {
         /// The right side.
         right: Expr<F>,
     },
-    /// Declares models, such as `model m /all/;`.
+    /// Declares models, as `model m /all/;`.
     Model {
         /// The models, in order.
         models: Sequence<ModelDecl>,
     },
-    /// Solves a model, such as `solve m using lp minimizing z;`.
+    /// Solves a model, as `solve m using lp minimizing z;`.
     Solve {
         /// The model.
         model: Named,
@@ -109,24 +109,24 @@ pub enum Act<F> {
         /// Whether the objective is maximized.
         maximize: bool,
     },
-    /// Shows values, such as `display "costs", c, x.l;`.
+    /// Shows values, as `display "costs", c, x.l;`.
     Display {
         /// What is shown, in order.
         items: Sequence<Show>,
     },
-    /// Runs statements once for each element, such as `loop(i, s = s + p(i); );`.
+    /// Runs statements once for each element, as `loop(i, s = s + p(i); );`.
     Loop {
         /// The sets and the condition.
         control: Control<F>,
         /// The statements.
         body: Vec<Stmt<F>>,
     },
-    /// Changes settings, such as `option limrow = 0, solprint = off;`.
+    /// Changes settings, as `option limrow = 0, solprint = off;`.
     Options {
         /// The words and their settings, in order.
         settings: Sequence<(Word, Setting<F>)>,
     },
-    /// Ends the run, such as `abort$(s > 3) "too many", s;`.
+    /// Ends the run, as `abort$(s > 3) "too many", s;`.
     Abort {
         /// The condition, if any.
         condition: Option<Expr<F>>,
@@ -221,7 +221,7 @@ pub enum Side {
     L,
     /// `=g=`: the left one is at least the right one.
     G,
-    /// `=n=`: they are not compared.
+    /// `=n=`: nothing is asked of them.
     N,
 }
 

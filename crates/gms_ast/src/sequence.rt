@@ -1,9 +1,9 @@
-//! A list of values that contracts view as the list itself.
+//! A list of values that contracts see as the list itself.
 ghost use Rattle.std.specs.Prelude.{◌≡◌, ◌↔◌, [], length, IsTrue};
 
 use std::marker::Model;
 
-/// A list of values. It is made from a `Vec` and gives it back; neither uses memory.
+/// A list of values. It is made from a `Vec` and gives it back, and neither takes memory.
 ///
 /// In a contract, two sequences are equal if they have the same values in the same order, wherever
 /// they are stored. The bytes of the word `lp` in `solve m using lp minimizing z;` are a sequence,

@@ -4,8 +4,8 @@ use Rattle.std.proofs.lemmas.List.{at_drop_more, at_drop_all}
 use Rattle.gq_number.specs.Number.{Number}
 use Rattle.gq_extended.specs.Extended.{Extended}
 use Rattle.gms_ast.specs.Trees.{Mark}
-use Rattle.gms_eval.specs.declared.stop.StopOrMemory.{StopOrMemory}
-use Rattle.gms_eval.specs.declared.stop.StopOrMemory.TheVariants.{Memory, Stop}
+use Rattle.gms_eval.specs.declared.stop.ExecStopOrMemory.{ExecStopOrMemory}
+use Rattle.gms_eval.specs.declared.stop.ExecStopOrMemory.TheVariants.{Memory, Fault as Stop}
 use Rattle.gms_eval.specs.Nodes.{Marked, Step, joined}
 use Rattle.gms_eval.specs.Faults.{Answer, Fault, ◌and_then◌}
 use Rattle.gms_eval.specs.Gives.{fault_of, Stops}
@@ -68,12 +68,12 @@ module _ (step : Step) (empty : Answer Extended) where
     -- the same of stops
 
     module _ {F : Type 0} (v : F → Number) where
-      pub chain-part-stops : (stop : StopOrMemory F) (whole : Answer Extended) (o : Option Extended) (xs : List X) (i : ℕ) (x : X) → whole ≡ from_here o (drop i xs) → i < length xs → x ≡ get_or xs i x → ((fault : Fault) (y : Extended) → o ≡ Some y → step (mark x) y (Err fault) ≡ Err fault) → Stops v stop (answer x) → Stops v stop whole
+      pub chain-part-stops : (stop : ExecStopOrMemory F) (whole : Answer Extended) (o : Option Extended) (xs : List X) (i : ℕ) (x : X) → whole ≡ from_here o (drop i xs) → i < length xs → x ≡ get_or xs i x → ((fault : Fault) (y : Extended) → o ≡ Some y → step (mark x) y (Err fault) ≡ Err fault) → Stops v stop (answer x) → Stops v stop whole
       chain-part-stops Memory whole o xs i x so l at takes s = tt
       chain-part-stops (Stop stop) whole o xs i x so l at takes s =
           so ∙ chain-part-fault o xs i x (fault_of v stop) l at s (takes (fault_of v stop))
 
-      pub chain-step-stops : (stop : StopOrMemory F) (whole : Answer Extended) (o : Option Extended) (xs : List X) (i : ℕ) (x : X) (y : Extended) → whole ≡ from_here o (drop i xs) → i < length xs → x ≡ get_or xs i x → answer x ≡ Ok y → Stops v stop (after step (mark x) o y) → Stops v stop whole
+      pub chain-step-stops : (stop : ExecStopOrMemory F) (whole : Answer Extended) (o : Option Extended) (xs : List X) (i : ℕ) (x : X) (y : Extended) → whole ≡ from_here o (drop i xs) → i < length xs → x ≡ get_or xs i x → answer x ≡ Ok y → Stops v stop (after step (mark x) o y) → Stops v stop whole
       chain-step-stops Memory whole o xs i x y so l at e s = tt
       chain-step-stops (Stop stop) whole o xs i x y so l at e s =
           so ∙ chain-step-fault o xs i x y (fault_of v stop) l at e s

@@ -16,11 +16,11 @@ use Rattle.gms_store.specs.State.{State}
 use Rattle.gms_tuple.specs.TupleOrder.{IsOrdered}
 use Rattle.gms_tuple.specs.TupleSet.{has}
 use Rattle.gms_eval.specs.Bindings.{Pairs, controlled}
-use Rattle.gms_eval.specs.Domain.{elements, those_where}
+use Rattle.gms_eval.specs.Domain.{elements, those_where, IsSimple}
 use Rattle.gms_eval.specs.Holds.{holds}
 use Rattle.gms_eval.specs.declared.walk.Walk.{Walk}
 use Rattle.gms_eval.specs.Faults.{Answer, ◌and_then◌}
-use Rattle.gms_eval.specs.InnerLeading.{IsSimple, walked, both, Leads, IsScan, plain_so, tuple_answer, entry_holds, expression_holds, all_hold_in_turn, guards_hold}
+use Rattle.gms_eval.specs.InnerLeading.{walked, both, Leads, IsScan, plain_so, tuple_answer, entry_holds, expression_holds, all_hold_in_turn, guards_hold}
 use Rattle.gms_eval.specs.References.{entry_of}
 use Rattle.gms_eval.specs.Value.{when_so}
 use Rattle.gms_eval.specs.declared.leading.Scan.{Scan}

@@ -10,8 +10,8 @@ use Rattle.gms_ast.specs.declared.expression.Expr.{Expr}
 use Rattle.gms_ast.specs.Trees as tree
 use Rattle.gms_store.specs.State.{State}
 use Rattle.gms_eval.specs.declared.stop.StopKind.{StopKind}
-use Rattle.gms_eval.specs.declared.stop.StopOrMemory.{StopOrMemory}
-use Rattle.gms_eval.specs.declared.stop.StopOrMemory.TheVariants.{Memory, Stop}
+use Rattle.gms_eval.specs.declared.stop.ExecStopOrMemory.{ExecStopOrMemory}
+use Rattle.gms_eval.specs.declared.stop.ExecStopOrMemory.TheVariants.{Memory, Fault as Stop}
 use Rattle.gms_eval.specs.Bindings.{Pairs}
 use Rattle.gms_eval.specs.Faults.{Answer, Fault, nothing}
 use Rattle.gms_eval.specs.Gives.{Stops, Shows}
@@ -52,11 +52,11 @@ value_or v None z e = e
 value_or v (Some x) z e = refl
 
 -- a stop that shows a fault stops an answer that is it
-pub stops-shown : {F A : Type 0} (v : F → Number) (stop : StopOrMemory F) (fault : Fault) (a : Answer A) → a ≡ Err fault → Shows v stop fault → Stops v stop a
+pub stops-shown : {F A : Type 0} (v : F → Number) (stop : ExecStopOrMemory F) (fault : Fault) (a : Answer A) → a ≡ Err fault → Shows v stop fault → Stops v stop a
 stops-shown v Memory fault a e s = tt
 stops-shown v (Stop stop) fault a e s = e ∙ ap Err s
 
 -- a stop whose operands are 0 shows a fault without operands
-pub shows-nothing : {F : Type 0} (v : F → Number) (stop : StopOrMemory F) (kind : StopKind) (at : Place) (binding : Pairs) (count : ℕ) (x y : Extended) → x ≡ nothing → y ≡ nothing → Shows v stop (record { kind = kind; at = at; binding = binding; left = x; right = y; count = count }) → Shows v stop (record { kind = kind; at = at; binding = binding; left = nothing; right = nothing; count = count })
+pub shows-nothing : {F : Type 0} (v : F → Number) (stop : ExecStopOrMemory F) (kind : StopKind) (at : Place) (binding : Pairs) (count : ℕ) (x y : Extended) → x ≡ nothing → y ≡ nothing → Shows v stop (record { kind = kind; at = at; binding = binding; left = x; right = y; count = count }) → Shows v stop (record { kind = kind; at = at; binding = binding; left = nothing; right = nothing; count = count })
 shows-nothing v stop kind at binding count x y e f s =
     subst (λ z. Shows v stop (record { kind = kind; at = at; binding = binding; left = nothing; right = z; count = count })) f (subst (λ z. Shows v stop (record { kind = kind; at = at; binding = binding; left = z; right = y; count = count })) e s)

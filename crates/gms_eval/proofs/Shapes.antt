@@ -17,7 +17,7 @@ use Rattle.gms_ast.specs.Trees as tree
 use Rattle.gms_ast.specs.TreeView.{control_of, tree_step, index_step, control_step, tree_of, index_tree, control_tree}
 use Rattle.gms_store.specs.State.{State, members_of}
 use Rattle.gms_eval.specs.declared.elements.Elements.{Elements}
-use Rattle.gms_eval.specs.declared.stop.StopOrMemory.{StopOrMemory}
+use Rattle.gms_eval.specs.declared.stop.ExecStopOrMemory.{ExecStopOrMemory}
 use Rattle.gms_eval.specs.Nodes.{counted, folded, truth}
 use Rattle.gms_eval.specs.Bindings.{Pairs, label_of, controlled}
 use Rattle.gms_eval.specs.Domain.{elements, sized, those_where}
@@ -99,14 +99,14 @@ module _ {F : Type 0} (v : F → Number) (limit : ℕ) (state : State) (b : Pair
 
   -- ---- domains
 
-  stops-control_of : (stop : StopOrMemory F) (at : Place) (sets : List ℕ) (condition : Option (Box (tree.Tree F) Global)) → Stops v stop (sized at b (elements state sets)) → Stops v stop (domain v limit state b at (control_of sets condition))
+  stops-control_of : (stop : ExecStopOrMemory F) (at : Place) (sets : List ℕ) (condition : Option (Box (tree.Tree F) Global)) → Stops v stop (sized at b (elements state sets)) → Stops v stop (domain v limit state b at (control_of sets condition))
   stops-control_of stop at sets None s = s
   stops-control_of stop at sets (Some condition) s =
       stops-then v stop (sized at b (elements state sets)) (λ all. those_where (λ element. holds v limit state (controlled b sets element) condition.value) all) s
 
   module _ (at : Place) (control : ControlNode F) (sets : List ℕ) (is : sets ≡ (out-Control F control).sets) where
     -- the product of the sets is too large
-    pub size-stops : (stop : StopOrMemory F) → Stops v stop (sized at b (elements state sets)) → Stops v stop (domain v limit state b at (control_tree control))
+    pub size-stops : (stop : ExecStopOrMemory F) → Stops v stop (sized at b (elements state sets)) → Stops v stop (domain v limit state b at (control_tree control))
     size-stops stop s =
         rw (fold_out-Control F (tree.Tree F) (tree.Indices F → tree.Indices F) (tree.Control F) tree_step index_step control_step control) (stops-control_of stop at (out-Control F control).sets _ (subst (λ sets. Stops v stop (sized at b (elements state sets))) is s))
 

@@ -8,9 +8,9 @@ use Rattle.gms_tuple.specs.TupleSet.{has}
 use Rattle.gms_tuple.specs.Products.{product}
 use Rattle.gms_tuple.proofs.Ordered.{same_tuple-Decides, same_tuple_refl, ordered-nil}
 use Rattle.gms_store.specs.State.{State, Content, undeclared, alias_of, set_of, parameter_of, variable_of, equation_of, model_with, members_in, members_of, given_in}
-use Rattle.gms_eval.specs.Domain.{elements, labels_of}
+use Rattle.gms_eval.specs.Domain.{elements, labels_of, IsSimple}
 use Rattle.gms_eval.specs.Lag.{label_in}
-use Rattle.gms_eval.specs.InnerLeading.{IsSimple, picked, spread_over}
+use Rattle.gms_eval.specs.InnerLeading.{picked, spread_over}
 use Rattle.gms_eval.proofs.Ascents.{all_in, has-product, all_in-length, AreAscending, ordered-product}
 use Rattle.gms_eval.proofs.Sizes.{elements-few}
 

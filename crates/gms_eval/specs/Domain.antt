@@ -2,8 +2,10 @@
 -- condition holds (GAMS User's Guide, "Data Manipulations with Parameters", indexed operations;
 -- "Conditional Expressions, Assignments and Equations", dollar control). How large a product may be
 -- is this project's own rule.
-use Rattle.std.specs.Prelude.{ℕ, nat_lt, nat_le, min, Bool, List, [], ◌∷◌, length, map, Ok, Err, if◌then◌else◌}
+use Rattle.std.specs.Prelude.{◌≡◌, ℕ, nat_lt, nat_le, min, Bool, true, List, [], ◌∷◌, length, map, Ok, Err, if◌then◌else◌}
 use Rattle.gms_labels.specs.declared.place.Place.{Place}
+use Rattle.gms_tuple.specs.TupleOrder.{IsOrdered}
+use Rattle.gms_tuple.specs.TupleSet.{has}
 use Rattle.gms_tuple.specs.Products.{product}
 use Rattle.gms_store.specs.State.{State, members_of}
 use Rattle.gms_eval.specs.Bindings.{Pairs}
@@ -14,6 +16,11 @@ use Rattle.gms_eval.specs.declared.stop.StopKind.TheVariants.{DomainSize}
 -- the labels of a set of one dimension
 abbrev pub labels_of : State → ℕ → List ℕ
 labels_of state set = map label_in (members_of state set)
+
+-- the members of a set have one label each, and are in order
+abbrev pub IsSimple : State → ℕ → Type 0
+IsSimple state set =
+    IsOrdered (members_of state set) × ((member : List ℕ) → has (members_of state set) member ≡ true → length member ≡ 1)
 
 -- the elements of the product of sets; an element has at most 10 labels, so the product of more
 -- sets is empty

@@ -4,8 +4,8 @@ use Rattle.std.specs.declared.alloc.Global.{Global}
 use Rattle.gq_number.specs.Number.{Number}
 use Rattle.gq_extended.specs.Meaning.{extended}
 use Rattle.gms_eval.specs.declared.stop.ExecStop.{ExecStop}
-use Rattle.gms_eval.specs.declared.stop.StopOrMemory.{StopOrMemory}
-use Rattle.gms_eval.specs.declared.stop.StopOrMemory.TheVariants.{Memory, Stop}
+use Rattle.gms_eval.specs.declared.stop.ExecStopOrMemory.{ExecStopOrMemory}
+use Rattle.gms_eval.specs.declared.stop.ExecStopOrMemory.TheVariants.{Memory, Fault as Stop}
 use Rattle.gms_eval.specs.Faults.{Fault, Answer}
 
 module _ {F : Type 0} (number_of : F → Number) where
@@ -19,16 +19,16 @@ module _ {F : Type 0} (number_of : F → Number) where
   fault_of stop = shown_by stop.value
 
   -- a stop shows this fault; out of memory makes no claim
-  abbrev pub Shows : StopOrMemory F → Fault → Type 0
+  abbrev pub Shows : ExecStopOrMemory F → Fault → Type 0
   Shows Memory fault = Unit {0}
   Shows (Stop stop) fault = fault ≡ fault_of stop
 
   -- the answer is exactly the fault of a stop; out of memory makes no claim
-  abbrev pub Stops : {A : Type 0} → StopOrMemory F → Answer A → Type 0
+  abbrev pub Stops : {A : Type 0} → ExecStopOrMemory F → Answer A → Type 0
   Stops Memory answer = Unit {0}
   Stops (Stop stop) answer = answer ≡ Err (fault_of stop)
 
   -- an answer agrees with a result: the same value, or exactly the same fault
-  abbrev pub Gives : {A R : Type 0} → (R → A) → Result R (StopOrMemory F) → Answer A → Type 0
+  abbrev pub Gives : {A R : Type 0} → (R → A) → Result R (ExecStopOrMemory F) → Answer A → Type 0
   Gives shown (Ok x) answer = answer ≡ Ok (shown x)
   Gives shown (Err stop) answer = Stops stop answer

@@ -7,9 +7,8 @@ use Rattle.gms_ast.specs.declared.expression.Expr.{Expr}
 use Rattle.gms_ast.specs.declared.expression.Index.{Index}
 use Rattle.gms_ast.specs.Trees as tree
 use Rattle.gms_ast.specs.TreeView.{parts_of, indices_of, tree_of, index_tree}
-use Rattle.gms_tuple.specs.TupleOrder.{IsOrdered}
 use Rattle.gms_tuple.specs.TupleSet.{has}
-use Rattle.gms_store.specs.State.{State, symbol_of, members_of, given_of}
+use Rattle.gms_store.specs.State.{State, symbol_of, given_of}
 use Rattle.gms_eval.specs.Nodes.{is_so, in_order, each_holds}
 use Rattle.gms_eval.specs.Bindings.{Pairs, controlled}
 use Rattle.gms_eval.specs.Domain.{elements}
@@ -20,13 +19,6 @@ use Rattle.gms_eval.specs.References.{tuple_of, plain_value}
 use Rattle.gms_eval.specs.Value.{value, label_answer}
 use Rattle.gms_eval.specs.declared.walk.Walk.{Walk}
 use Rattle.gms_eval.specs.declared.leading.Scan.{Scan}
-
--- ---- sets of one dimension
-
--- the members of a set have one label each, and are in order
-abbrev pub IsSimple : State → ℕ → Type 0
-IsSimple state set =
-    IsOrdered (members_of state set) × ((member : List ℕ) → has (members_of state set) member ≡ true → length member ≡ 1)
 
 -- ---- traversals
 

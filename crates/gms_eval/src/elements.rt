@@ -6,7 +6,7 @@ ghost use Rattle.gms_eval.specs.InnerWalks.{those_of, IsCounted, with_element};
 
 use crate::binding::Binding;
 use crate::indices::label_at;
-use crate::stop::StopOrMemory;
+use crate::stop::ExecStopOrMemory;
 use gms_labels::Place;
 use gms_store::Store;
 use gms_tuple::{MOST_LABELS, Tuple};
@@ -39,13 +39,13 @@ pub(crate) fn size<F: ExactField>(
     sets: &[u32],
     at: Place,
     b: &Binding,
-) -> Result<usize, StopOrMemory<F>>
+) -> Result<usize, ExecStopOrMemory<F>>
     ensures value { Gives F.value (λ size. elements store.now sets.now) result (sized at b.now (elements store.now sets.now)) }
     ensures count { IfOk result (λ size. size ≡ length (elements store.now sets.now)) }
 {
     let count = count(store, sets);
     if count > MOST_ELEMENTS {
-        return Err(StopOrMemory::too_large(alloc, at, count, b));
+        return Err(ExecStopOrMemory::too_large(alloc, at, count, b));
     }
     Ok(count as usize)
 }

@@ -24,7 +24,7 @@ use crate::steps::{
     Signed, all_part, counted, fold_part, is_left_by_and, is_left_by_or, is_so, one_part,
     power_part, related_part, signed_part, start, truth, zero,
 };
-use crate::stop::{StopKind, StopOrMemory};
+use crate::stop::{ExecStopOrMemory, StopKind};
 use gms_ast::{Control, Expr, FoldOp, Function, Index, RelOp, Suffix};
 use gms_labels::Place;
 use gms_store::Store;
@@ -52,7 +52,7 @@ pub fn value<F: ExactField>(
     store: &Store<F>,
     e: &Expr<F>,
     b: &Binding,
-) -> Result<Ext<F>, StopOrMemory<F>>
+) -> Result<Ext<F>, ExecStopOrMemory<F>>
     ensures { Gives F.value (extended F.value) result (value F.value F.limit store.now b.now (tree_of e.now)) }
 {
     match e {
@@ -117,7 +117,7 @@ fn referred<F: ExactField>(
     suffix: Suffix,
     indices: &[Index<F>],
     b: &Binding,
-) -> Result<Ext<F>, StopOrMemory<F>>
+) -> Result<Ext<F>, ExecStopOrMemory<F>>
     ensures { Gives F.value (extended F.value) result
         ((in_order (map (λ index. label_answer F.value F.limit store.now b.now index) indices.now) and_then λ those. Ok (tuple_of those)) and_then entry_of F.limit store.now b.now at name suffix) }
 {
@@ -135,7 +135,7 @@ fn call<F: ExactField>(
     function: Function,
     args: &[Expr<F>],
     b: &Binding,
-) -> Result<Ext<F>, StopOrMemory<F>>
+) -> Result<Ext<F>, ExecStopOrMemory<F>>
     ensures { Gives F.value (extended F.value) result
         (in_order (map (λ arg. value F.value F.limit store.now b.now (tree_of arg)) args.now) and_then λ xs. called F.limit b.now at function xs) }
 {
@@ -151,7 +151,7 @@ fn negative<F: ExactField>(
     store: &Store<F>,
     operand: &Expr<F>,
     b: &Binding,
-) -> Result<Ext<F>, StopOrMemory<F>>
+) -> Result<Ext<F>, ExecStopOrMemory<F>>
     ensures { Gives F.value (extended F.value) result
         (value F.value F.limit store.now b.now (tree_of operand.now) and_then λ x. Ok (negated x)) }
 {
@@ -167,7 +167,7 @@ fn denied<F: ExactField>(
     store: &Store<F>,
     operand: &Expr<F>,
     b: &Binding,
-) -> Result<Ext<F>, StopOrMemory<F>>
+) -> Result<Ext<F>, ExecStopOrMemory<F>>
     ensures { Gives F.value (extended F.value) result
         (value F.value F.limit store.now b.now (tree_of operand.now) and_then λ x. Ok (truth (not (is_so x)))) }
 {
@@ -188,7 +188,7 @@ pub fn signed_chain<F: ExactField>(
     kind: Signed,
     parts: &[(Place, bool, Expr<F>)],
     b: &Binding,
-) -> Result<Ext<F>, StopOrMemory<F>>
+) -> Result<Ext<F>, ExecStopOrMemory<F>>
     ensures { Gives F.value (extended F.value) result (chain (signed_step F.limit b.now kind)
         (map (λ part. (signed part.0 part.1, value F.value F.limit store.now b.now (tree_of part.2))) parts.now)) }
 {
@@ -208,7 +208,7 @@ fn powers<F: ExactField>(
     store: &Store<F>,
     parts: &[(Place, Expr<F>)],
     b: &Binding,
-) -> Result<Ext<F>, StopOrMemory<F>>
+) -> Result<Ext<F>, ExecStopOrMemory<F>>
     ensures { Gives F.value (extended F.value) result (chain (power_step F.limit b.now)
         (map (λ part. (placed part.0, value F.value F.limit store.now b.now (tree_of part.1))) parts.now)) }
 {
@@ -228,7 +228,7 @@ fn relations<F: ExactField>(
     store: &Store<F>,
     parts: &[(RelOp, Expr<F>)],
     b: &Binding,
-) -> Result<Ext<F>, StopOrMemory<F>>
+) -> Result<Ext<F>, ExecStopOrMemory<F>>
     ensures { Gives F.value (extended F.value) result (chain relation_step
         (map (λ part. (related part.0, value F.value F.limit store.now b.now (tree_of part.1))) parts.now)) }
 {
@@ -248,7 +248,7 @@ fn all_of<F: ExactField>(
     store: &Store<F>,
     parts: &[Expr<F>],
     b: &Binding,
-) -> Result<Ext<F>, StopOrMemory<F>>
+) -> Result<Ext<F>, ExecStopOrMemory<F>>
     ensures { Gives F.value (extended F.value) result (chain all_step
         (map (λ part. (plain, value F.value F.limit store.now b.now (tree_of part))) parts.now)) }
 {
@@ -273,7 +273,7 @@ fn one_of<F: ExactField>(
     store: &Store<F>,
     parts: &[(bool, Expr<F>)],
     b: &Binding,
-) -> Result<Ext<F>, StopOrMemory<F>>
+) -> Result<Ext<F>, ExecStopOrMemory<F>>
     ensures { Gives F.value (extended F.value) result (chain one_step
         (map (λ part. (chosen part.0, value F.value F.limit store.now b.now (tree_of part.1))) parts.now)) }
 {
@@ -298,7 +298,7 @@ pub fn all_hold<F: ExactField>(
     store: &Store<F>,
     guards: &[Expr<F>],
     b: &Binding,
-) -> Result<bool, StopOrMemory<F>>
+) -> Result<bool, ExecStopOrMemory<F>>
     ensures { Gives F.value (λ hold. hold) result
         (each_holds (map (λ guard. value F.value F.limit store.now b.now (tree_of guard)) guards.now)) }
 {
@@ -319,7 +319,7 @@ fn arguments<F: ExactField>(
     store: &Store<F>,
     args: &[Expr<F>],
     b: &Binding,
-) -> Result<Vec<Ext<F>>, StopOrMemory<F>>
+) -> Result<Vec<Ext<F>>, ExecStopOrMemory<F>>
     ensures { Gives F.value (λ values. map (extended F.value) values.items) result
         (in_order (map (λ arg. value F.value F.limit store.now b.now (tree_of arg)) args.now)) }
 {
@@ -338,7 +338,7 @@ pub fn tuple_of<F: ExactField>(
     store: &Store<F>,
     indices: &[Index<F>],
     b: &Binding,
-) -> Result<Option<Tuple>, StopOrMemory<F>>
+) -> Result<Option<Tuple>, ExecStopOrMemory<F>>
     ensures { Gives F.value (λ tuple. tuple) result (in_order
         (map (λ index. label_answer F.value F.limit store.now b.now index) indices.now) and_then λ those. Ok (tuple_of those)) }
 {
@@ -358,7 +358,7 @@ fn label_of<F: ExactField>(
     store: &Store<F>,
     index: &Index<F>,
     b: &Binding,
-) -> Result<Option<u32>, StopOrMemory<F>>
+) -> Result<Option<u32>, ExecStopOrMemory<F>>
     ensures { Gives F.value (λ label. label) result (label_answer F.value F.limit store.now b.now index.now) }
 {
     match index {
@@ -382,7 +382,7 @@ fn elements_of<F: ExactField>(
     control: &Control<F>,
     at: Place,
     b: &Binding,
-) -> Result<Elements, StopOrMemory<F>>
+) -> Result<Elements, ExecStopOrMemory<F>>
     ensures value { Gives F.value (those_of store.now control.now.sets) result
         (domain F.value F.limit store.now b.now at (control_tree control.now)) }
     ensures counted { IfOk result (IsCounted store.now control.now.sets) }
@@ -409,7 +409,7 @@ fn chosen<F: ExactField>(
     among: &Elements,
     condition: &Expr<F>,
     b: &Binding,
-) -> Result<Vec<Tuple>, StopOrMemory<F>>
+) -> Result<Vec<Tuple>, ExecStopOrMemory<F>>
     requires { IsCounted store.now sets.now among.now }
     ensures { Gives F.value (λ those. those.items) result
         (those_where (λ element. holds F.value F.limit store.now (controlled b.now sets.now element) (tree_of condition.now)) (those_of store.now sets.now among.now)) }
@@ -437,7 +437,7 @@ fn folded<F: ExactField>(
     those: &Elements,
     body: &Expr<F>,
     b: &Binding,
-) -> Result<Ext<F>, StopOrMemory<F>>
+) -> Result<Ext<F>, ExecStopOrMemory<F>>
     requires { IsCounted store.now sets.now those.now }
     ensures { Gives F.value (extended F.value) result (folded F.limit b.now op at
         (map (λ element. (plain, value F.value F.limit store.now (controlled b.now sets.now element) (tree_of body.now))) (those_of store.now sets.now those.now))) }
@@ -452,7 +452,14 @@ fn folded<F: ExactField>(
     }
     match so_far {
         Some(value) => Ok(value),
-        None => Err(StopOrMemory::at_step(alloc, StopKind::EmptyExtreme, at, zero(), zero(), b)),
+        None => Err(ExecStopOrMemory::at_step(
+            alloc,
+            StopKind::EmptyExtreme,
+            at,
+            zero(),
+            zero(),
+            b,
+        )),
     }
 }
 
@@ -465,7 +472,7 @@ pub fn holds<F: ExactField>(
     store: &Store<F>,
     e: &Expr<F>,
     b: &Binding,
-) -> Result<bool, StopOrMemory<F>>
+) -> Result<bool, ExecStopOrMemory<F>>
     ensures { Gives F.value (λ holds. holds) result (holds F.value F.limit store.now b.now (tree_of e.now)) }
 {
     Ok(is_so(value(alloc, store, e, b)?))
@@ -484,7 +491,7 @@ pub fn domain<F: ExactField>(
     c: &Control<F>,
     at: Place,
     b: &Binding,
-) -> Result<Vec<Tuple>, StopOrMemory<F>>
+) -> Result<Vec<Tuple>, ExecStopOrMemory<F>>
     ensures { Gives F.value (λ those. those.items) result
         (domain F.value F.limit store.now b.now at (control_tree c.now)) }
 {
@@ -506,7 +513,7 @@ pub fn domain_over<F: ExactField>(
     condition: Option<&Expr<F>>,
     at: Place,
     b: &Binding,
-) -> Result<Vec<Tuple>, StopOrMemory<F>>
+) -> Result<Vec<Tuple>, ExecStopOrMemory<F>>
     ensures { Gives F.value (λ those. those.items) result
         (domain F.value F.limit store.now b.now at (control_over sets.now (option_map tree_of (option_copied condition.entry)))) }
 {

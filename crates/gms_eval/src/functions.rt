@@ -7,7 +7,7 @@ ghost use Rattle.gms_eval.specs.Gives.{Gives};
 
 use crate::binding::Binding;
 use crate::steps::zero;
-use crate::stop::{StopOrMemory, taken};
+use crate::stop::{ExecStopOrMemory, taken};
 use gms_ast::Function;
 use gms_labels::Place;
 use gq_extended::Ext;
@@ -25,7 +25,7 @@ pub(crate) fn called<F: ExactField>(
     function: Function,
     args: &[Ext<F>],
     b: &Binding,
-) -> Result<Ext<F>, StopOrMemory<F>>
+) -> Result<Ext<F>, ExecStopOrMemory<F>>
     ensures { Gives F.value (extended F.value) result
         (called F.limit b.now at function (map (extended F.value) args.now)) }
 {
@@ -47,7 +47,7 @@ fn of_one<F: ExactField>(
     function: Function,
     x: Ext<F>,
     b: &Binding,
-) -> Result<Ext<F>, StopOrMemory<F>>
+) -> Result<Ext<F>, ExecStopOrMemory<F>>
     ensures { Gives F.value (extended F.value) result (of_one F.limit b.now at function (extended F.value x)) }
 {
     match function {
@@ -70,7 +70,7 @@ fn of_two<F: ExactField>(
     x: Ext<F>,
     y: Ext<F>,
     b: &Binding,
-) -> Result<Ext<F>, StopOrMemory<F>>
+) -> Result<Ext<F>, ExecStopOrMemory<F>>
     ensures { Gives F.value (extended F.value) result
         (of_two F.limit b.now at function (extended F.value x) (extended F.value y)) }
 {
@@ -88,7 +88,7 @@ fn remainder<F: ExactField>(
     x: Ext<F>,
     y: Ext<F>,
     b: &Binding,
-) -> Result<Ext<F>, StopOrMemory<F>>
+) -> Result<Ext<F>, ExecStopOrMemory<F>>
     ensures { Gives F.value (extended F.value) result
         (remainder_of F.limit b.now at (extended F.value x) (extended F.value y)) }
 {

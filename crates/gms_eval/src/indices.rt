@@ -10,7 +10,7 @@ ghost use Rattle.gms_eval.specs.InnerWalks.{within, moved_place, with_label};
 
 use crate::binding::Binding;
 use crate::steps::zero;
-use crate::stop::{StopKind, StopOrMemory};
+use crate::stop::{ExecStopOrMemory, StopKind};
 use gms_ast::LagOp;
 use gms_labels::Place;
 use gms_store::Store;
@@ -179,11 +179,11 @@ pub(crate) fn reached<F: ExactField>(
     at: Place,
     amount: Ext<F>,
     b: &Binding,
-) -> Result<Option<u32>, StopOrMemory<F>>
+) -> Result<Option<u32>, ExecStopOrMemory<F>>
     ensures { Gives F.value (λ label. label) result (reached store.now b.now set op at (extended F.value amount)) }
 {
     let Some(places) = whole_number(amount) else {
-        return Err(StopOrMemory::at_step(alloc, StopKind::LagNotWhole, at, amount, zero(), b));
+        return Err(ExecStopOrMemory::at_step(alloc, StopKind::LagNotWhole, at, amount, zero(), b));
     };
     match b.label(set) {
         Some(label) => Ok(lagged(alloc, store.members(set), op, places, label)?),

@@ -16,4 +16,4 @@ mod walk;
 pub use binding::Binding;
 pub use expressions::{all_hold, domain, domain_over, holds, signed_chain, tuple_of, value};
 pub use steps::Signed;
-pub use stop::{ExecStop, StopKind, StopOrMemory, taken};
+pub use stop::{ExecStop, ExecStopOrMemory, StopKind, taken};

@@ -7,7 +7,7 @@ ghost use Rattle.gms_eval.specs.References.{lower_value, upper_value, plain_valu
 
 use crate::binding::Binding;
 use crate::steps::{counted, truth, zero};
-use crate::stop::StopOrMemory;
+use crate::stop::ExecStopOrMemory;
 use gms_ast::Suffix;
 use gms_labels::Place;
 use gms_store::{Store, SymbolKind};
@@ -57,7 +57,7 @@ fn entry_at<F: ExactField>(
     suffix: Suffix,
     tuple: &Tuple,
     b: &Binding,
-) -> Result<Ext<F>, StopOrMemory<F>>
+) -> Result<Ext<F>, ExecStopOrMemory<F>>
     ensures { Gives F.value (extended F.value) result (entry_at F.limit store.now b.now at name suffix tuple.now) }
 {
     match suffix {
@@ -82,7 +82,7 @@ pub(crate) fn entry_of<F: ExactField>(
     suffix: Suffix,
     tuple: Option<Tuple>,
     b: &Binding,
-) -> Result<Ext<F>, StopOrMemory<F>>
+) -> Result<Ext<F>, ExecStopOrMemory<F>>
     ensures { Gives F.value (extended F.value) result (entry_of F.limit store.now b.now at name suffix tuple) }
 {
     match tuple {

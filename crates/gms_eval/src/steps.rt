@@ -8,7 +8,7 @@ ghost use Rattle.gms_eval.specs.Gives.{Gives};
 ghost use Rattle.gms_eval.specs.InnerSteps.{after, signed_outcome, is_left_by_and, is_left_by_or};
 
 use crate::binding::Binding;
-use crate::stop::{StopKind, StopOrMemory, taken};
+use crate::stop::{ExecStopOrMemory, StopKind, taken};
 use gms_ast::{FoldOp, RelOp};
 use gms_labels::Place;
 use gq_extended::{Ext, ExtendedFault};
@@ -97,7 +97,7 @@ pub(crate) fn signed_part<F: ExactField>(
     so_far: Option<Ext<F>>,
     y: Ext<F>,
     b: &Binding,
-) -> Result<Ext<F>, StopOrMemory<F>>
+) -> Result<Ext<F>, ExecStopOrMemory<F>>
     ensures { Gives F.value (extended F.value) result
         (after (signed_step F.limit b.now chain) (signed at inverse) (option_map (extended F.value) so_far) (extended F.value y)) }
 {
@@ -115,7 +115,7 @@ pub(crate) fn power_part<F: ExactField>(
     so_far: Option<Ext<F>>,
     y: Ext<F>,
     b: &Binding,
-) -> Result<Ext<F>, StopOrMemory<F>>
+) -> Result<Ext<F>, ExecStopOrMemory<F>>
     ensures { Gives F.value (extended F.value) result
         (after (power_step F.limit b.now) (placed at) (option_map (extended F.value) so_far) (extended F.value y)) }
 {
@@ -199,12 +199,12 @@ pub(crate) fn counted<F: ExactField>(
     at: Place,
     count: usize,
     b: &Binding,
-) -> Result<Ext<F>, StopOrMemory<F>>
+) -> Result<Ext<F>, ExecStopOrMemory<F>>
     ensures { Gives F.value (extended F.value) result (counted F.limit b.now at count) }
 {
     match F::from_parts(count as i128, 1) {
         Ok(number) => Ok(Ext::Number(number)),
-        Err(Limit) => Err(StopOrMemory::at_step(alloc, StopKind::Limit, at, zero(), zero(), b)),
+        Err(Limit) => Err(ExecStopOrMemory::at_step(alloc, StopKind::Limit, at, zero(), zero(), b)),
     }
 }
 
@@ -229,7 +229,7 @@ pub(crate) fn fold_part<F: ExactField>(
     so_far: Option<Ext<F>>,
     y: Ext<F>,
     b: &Binding,
-) -> Result<Ext<F>, StopOrMemory<F>>
+) -> Result<Ext<F>, ExecStopOrMemory<F>>
     ensures { Gives F.value (extended F.value) result
         (after (fold_step F.limit b.now op at) plain (option_map (extended F.value) so_far) (extended F.value y)) }
 {

@@ -4,7 +4,7 @@ ghost use Rattle.gq_extended.specs.Meaning.{extended, outcome};
 ghost use Rattle.gms_eval.specs.Faults.{stop_code, stop_name, kind_of_step, faulted, nothing, taken};
 ghost use Rattle.gms_eval.specs.Gives.{Gives, Shows};
 ghost use Rattle.gms_eval.specs.declared.stop.StopKind.TheVariants.{DomainSize};
-ghost use Rattle.gms_eval.specs.declared.stop.StopOrMemory.TheVariants.{Memory};
+ghost use Rattle.gms_eval.specs.declared.stop.ExecStopOrMemory.TheVariants.{Memory};
 
 use crate::binding::Binding;
 use crate::steps::zero;
@@ -140,33 +140,33 @@ impl<F: Drop> Drop for ExecStop<F> {
 
 /// A stop, or out of memory.
 #[derive(Debug, Drop, Error)]
-pub enum StopOrMemory<F> {
+pub enum ExecStopOrMemory<F> {
     /// Out of memory.
     #[error("out of memory")]
     Memory,
     /// The execution stops. The stop is stored on the heap, so that the result of a nested
     /// expression stays small.
     #[error(transparent)]
-    Stop(Box<ExecStop<F>>),
+    Fault(Box<ExecStop<F>>),
 }
 
-impl<F> From<AllocError> for StopOrMemory<F> {
+impl<F> From<AllocError> for ExecStopOrMemory<F> {
     ghost from_gives = { λ _ stop. stop ≡ Memory };
 
-    fn from(_error: AllocError) -> StopOrMemory<F> {
-        StopOrMemory::Memory
+    fn from(_error: AllocError) -> ExecStopOrMemory<F> {
+        ExecStopOrMemory::Memory
     }
 }
 
-impl<F, T: Drop> From<AllocFailed<T>> for StopOrMemory<F> {
+impl<F, T: Drop> From<AllocFailed<T>> for ExecStopOrMemory<F> {
     ghost from_gives = { λ _ stop. stop ≡ Memory };
 
-    fn from(_error: AllocFailed<T>) -> StopOrMemory<F> {
-        StopOrMemory::Memory
+    fn from(_error: AllocFailed<T>) -> ExecStopOrMemory<F> {
+        ExecStopOrMemory::Memory
     }
 }
 
-impl<F: ExactField> StopOrMemory<F> {
+impl<F: ExactField> ExecStopOrMemory<F> {
     /// The stop with these contents, on the heap.
     fn made(
         alloc: Global,
@@ -176,11 +176,11 @@ impl<F: ExactField> StopOrMemory<F> {
         right: Ext<F>,
         count: u64,
         b: &Binding,
-    ) -> StopOrMemory<F>
+    ) -> ExecStopOrMemory<F>
         ensures { Shows F.value result (record { kind = kind; at = at; binding = b.now; left = extended F.value left; right = extended F.value right; count = count }) }
     {
         let Ok(binding) = b.copy(alloc) else {
-            return StopOrMemory::Memory;
+            return ExecStopOrMemory::Memory;
         };
         let stop = ExecStop {
             kind,
@@ -191,8 +191,8 @@ impl<F: ExactField> StopOrMemory<F> {
             count,
         };
         match Box::new(alloc, stop) {
-            Ok(stop) => StopOrMemory::Stop(stop),
-            Err(_) => StopOrMemory::Memory,
+            Ok(stop) => ExecStopOrMemory::Fault(stop),
+            Err(_) => ExecStopOrMemory::Memory,
         }
     }
 
@@ -205,10 +205,10 @@ impl<F: ExactField> StopOrMemory<F> {
         left: Ext<F>,
         right: Ext<F>,
         b: &Binding,
-    ) -> StopOrMemory<F>
+    ) -> ExecStopOrMemory<F>
         ensures { Shows F.value result (faulted kind at b.now (extended F.value left) (extended F.value right)) }
     {
-        StopOrMemory::made(alloc, kind, at, left, right, 0, b)
+        ExecStopOrMemory::made(alloc, kind, at, left, right, 0, b)
     }
 
     /// The stop of a domain, or of a linear program, that has `count` elements, rows or columns.
@@ -219,17 +219,17 @@ impl<F: ExactField> StopOrMemory<F> {
         at: Place,
         count: u64,
         b: &Binding,
-    ) -> StopOrMemory<F>
+    ) -> ExecStopOrMemory<F>
         ensures { Shows F.value result (record { kind = kind; at = at; binding = b.now; left = nothing; right = nothing; count = count }) }
     {
-        StopOrMemory::made(alloc, kind, at, zero(), zero(), count, b)
+        ExecStopOrMemory::made(alloc, kind, at, zero(), zero(), count, b)
     }
 
     /// The stop of a domain whose product has `count` elements.
-    pub fn too_large(alloc: Global, at: Place, count: u64, b: &Binding) -> StopOrMemory<F>
+    pub fn too_large(alloc: Global, at: Place, count: u64, b: &Binding) -> ExecStopOrMemory<F>
         ensures { Shows F.value result (record { kind = DomainSize; at = at; binding = b.now; left = nothing; right = nothing; count = count }) }
     {
-        StopOrMemory::counted(alloc, StopKind::DomainSize, at, count, b)
+        ExecStopOrMemory::counted(alloc, StopKind::DomainSize, at, count, b)
     }
 }
 
@@ -241,13 +241,13 @@ pub fn taken<F: ExactField>(
     right: Ext<F>,
     answer: Result<Ext<F>, ExtendedFault>,
     b: &Binding,
-) -> Result<Ext<F>, StopOrMemory<F>>
+) -> Result<Ext<F>, ExecStopOrMemory<F>>
     ensures { Gives F.value (extended F.value) result
         (taken at b.now (extended F.value left) (extended F.value right) (outcome F.value answer)) }
 {
     match answer {
         Ok(value) => Ok(value),
-        Err(fault) => Err(StopOrMemory::at_step(
+        Err(fault) => Err(ExecStopOrMemory::at_step(
             alloc,
             StopKind::of_step(fault),
             at,

@@ -3,8 +3,8 @@ ghost use Rattle.std.specs.Prelude.{◌≡◌, ◌≤◌, ℕ, ◌∷◌, [], �
 ghost use Rattle.gms_tuple.specs.TupleOrder.{IsOrdered};
 ghost use Rattle.gms_tuple.specs.TupleSet.{has};
 ghost use Rattle.gms_store.specs.State.{given_of, symbol_of};
-ghost use Rattle.gms_eval.specs.Domain.{elements};
-ghost use Rattle.gms_eval.specs.InnerLeading.{IsSimple, picked, spread_over, walked};
+ghost use Rattle.gms_eval.specs.Domain.{elements, IsSimple};
+ghost use Rattle.gms_eval.specs.InnerLeading.{picked, spread_over, walked};
 
 use crate::elements::element;
 use gms_store::Store;

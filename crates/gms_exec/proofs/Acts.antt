@@ -18,7 +18,7 @@ use Rattle.gms_ast.specs.declared.word.Named.{Named}
 use Rattle.gms_ast.specs.TreeView.{tree_of}
 use Rattle.gms_store.specs.State.{State, with_settings}
 use Rattle.gms_eval.specs.Bindings.{Pairs}
-use Rattle.gms_eval.specs.declared.stop.StopOrMemory.{StopOrMemory}
+use Rattle.gms_eval.specs.declared.stop.ExecStopOrMemory.{ExecStopOrMemory}
 use Rattle.gms_event.specs.declared.event.Event.{Event}
 use Rattle.lp_core.specs.declared.answer.Answer.{Answer}
 use Rattle.gms_exec.specs.Assignment.{target_of, after_assignment}
@@ -39,7 +39,7 @@ module _ {F : Type 0} (value : F → Number) (limit : ℕ) (world : World F) (s 
 
   -- ---- by its act
 
-  pub ran-Assign : {A : Type 0} (result : Result A (StopOrMemory F)) (target : Target F) (condition own : Option (Expr F)) (right_at : Place) (right : Right F) (old new : State) (events : List (Event F)) (answers : List (Answer F)) → s.act ≡ Assign target condition right_at right → own ≡ condition → ((e : Expr F) → right ≡ Value e → Assigns value result old new (after_assignment value limit old s.at binding (target_of target) (option_map tree_of own) right_at (tree_of e))) → Runs value result does (record { state = old; events = events; answers = answers }) (record { state = new; events = events; answers = answers })
+  pub ran-Assign : {A : Type 0} (result : Result A (ExecStopOrMemory F)) (target : Target F) (condition own : Option (Expr F)) (right_at : Place) (right : Right F) (old new : State) (events : List (Event F)) (answers : List (Answer F)) → s.act ≡ Assign target condition right_at right → own ≡ condition → ((e : Expr F) → right ≡ Value e → Assigns value result old new (after_assignment value limit old s.at binding (target_of target) (option_map tree_of own) right_at (tree_of e))) → Runs value result does (record { state = old; events = events; answers = answers }) (record { state = new; events = events; answers = answers })
   ran-Assign result target condition own right_at (Value e) old new events answers is same assigns =
       runs-assigned value result does old new events answers (after_assignment value limit old s.at binding (target_of target) (option_map tree_of own) right_at (tree_of e))
       (λ left.
@@ -48,7 +48,7 @@ module _ {F : Type 0} (value : F → Number) (limit : ℕ) (world : World F) (s 
       ∙ ap (λ (c : Option (Expr F)). with_value (after_assignment value limit old s.at binding (target_of target) (option_map tree_of c) right_at (tree_of e)) (in_state course) course) (sym same))
       (assigns e refl)
 
-  pub ran-Display : {A : Type 0} (result : Result A (StopOrMemory F)) (items shown : List Show) (labels : ℕ) (old new : Seen F) → s.act ≡ Display items → shown ≡ items → labels ≡ labels_in world → Runs value result (display value limit labels shown s.at binding) old new → Runs value result does old new
+  pub ran-Display : {A : Type 0} (result : Result A (ExecStopOrMemory F)) (items shown : List Show) (labels : ℕ) (old new : Seen F) → s.act ≡ Display items → shown ≡ items → labels ≡ labels_in world → Runs value result (display value limit labels shown s.at binding) old new → Runs value result does old new
   ran-Display result items shown labels old new is same counted runs =
       runs-alike value result does (display value limit labels shown s.at binding) old new
       (λ left.
@@ -67,7 +67,7 @@ module _ {F : Type 0} (value : F → Number) (limit : ℕ) (world : World F) (s 
       ∙ ap (λ (xs : List (Word × Setting F)). in_state course (with_settings old (after_options value world.solvers old.settings xs))) (sym same)
       ∙ ap (in_state course) (sym put))
 
-  pub ran-Abort : {A : Type 0} (result : Result A (StopOrMemory F)) (condition own : Option (Expr F)) (items shown : List Show) (labels : ℕ) (old new : Seen F) → s.act ≡ Abort condition items → own ≡ condition → shown ≡ items → labels ≡ labels_in world → Runs value result (abort_where value limit labels (option_map tree_of own) shown s.at binding) old new → Runs value result does old new
+  pub ran-Abort : {A : Type 0} (result : Result A (ExecStopOrMemory F)) (condition own : Option (Expr F)) (items shown : List Show) (labels : ℕ) (old new : Seen F) → s.act ≡ Abort condition items → own ≡ condition → shown ≡ items → labels ≡ labels_in world → Runs value result (abort_where value limit labels (option_map tree_of own) shown s.at binding) old new → Runs value result does old new
   ran-Abort result condition own items shown labels old new is same_condition same counted runs =
       runs-alike value result does (abort_where value limit labels (option_map tree_of own) shown s.at binding) old new
       (λ left.
@@ -78,7 +78,7 @@ module _ {F : Type 0} (value : F → Number) (limit : ℕ) (world : World F) (s 
       ∙ ap (λ (xs : List Show). abort_where value limit labels (option_map tree_of own) xs s.at binding course) (sym same))
       runs
 
-  pub ran-Solve : {A : Type 0} (result : Result A (StopOrMemory F)) (model : Named) (method : Word) (objective : Named) (maximize : Bool) (old new : Seen F) → s.act ≡ Solve model method objective maximize → Runs value result (solve value limit world.solvers world.program.statements.items model.name objective.name maximize s.at binding) old new → Runs value result does old new
+  pub ran-Solve : {A : Type 0} (result : Result A (ExecStopOrMemory F)) (model : Named) (method : Word) (objective : Named) (maximize : Bool) (old new : Seen F) → s.act ≡ Solve model method objective maximize → Runs value result (solve value limit world.solvers world.program.statements.items model.name objective.name maximize s.at binding) old new → Runs value result does old new
   ran-Solve result model method objective maximize old new is runs =
       runs-alike value result does (solve value limit world.solvers world.program.statements.items model.name objective.name maximize s.at binding) old new (λ left. on-Solve value limit world s binding (come_to value old left) model method objective maximize is) runs
 
@@ -103,13 +103,13 @@ module _ {F : Type 0} (value : F → Number) (limit : ℕ) (world : World F) (s 
 
 -- ---- solvers that were lent
 
-pub lent-runs : {S F A : Type 0} (value : F → Number) (limit : ℕ) (name : S → List ℕ) (program : Program F) (lent solvers : List S) (result : Result A (StopOrMemory F)) (s : Stmt F) (binding : Pairs) (old new : Seen F) → lent ≡ solvers → Runs value result (of_statement value limit (record { program = program; solvers = map name lent }) s binding) old new → Runs value result (of_statement value limit (record { program = program; solvers = map name solvers }) s binding) old new
+pub lent-runs : {S F A : Type 0} (value : F → Number) (limit : ℕ) (name : S → List ℕ) (program : Program F) (lent solvers : List S) (result : Result A (ExecStopOrMemory F)) (s : Stmt F) (binding : Pairs) (old new : Seen F) → lent ≡ solvers → Runs value result (of_statement value limit (record { program = program; solvers = map name lent }) s binding) old new → Runs value result (of_statement value limit (record { program = program; solvers = map name solvers }) s binding) old new
 lent-runs value limit name program lent solvers result s binding old new e runs =
     subst (λ xs. Runs value result (of_statement value limit (record { program = program; solvers = map name xs }) s binding) old new) e runs
 
 -- ---- what it kept
 
-module _ {S F A : Type 0} (value : F → Number) (limit : ℕ) (name : S → List ℕ) (program : Program F) (solvers : List S) (result : Result A (StopOrMemory F)) (s : Stmt F) (binding : Pairs) (old new : Seen F) (once : IsOnce s.act) (runs : Runs value result (of_statement value limit (record { program = program; solvers = map name solvers }) s binding) old new) (few : old.state.settings.decimals ≤ 8) (chosen : 0 < length solvers → old.state.settings.solver < length solvers) (plain : AreOneDimensional old.state program.statements.items) where
+module _ {S F A : Type 0} (value : F → Number) (limit : ℕ) (name : S → List ℕ) (program : Program F) (solvers : List S) (result : Result A (ExecStopOrMemory F)) (s : Stmt F) (binding : Pairs) (old new : Seen F) (once : IsOnce s.act) (runs : Runs value result (of_statement value limit (record { program = program; solvers = map name solvers }) s binding) old new) (few : old.state.settings.decimals ≤ 8) (chosen : 0 < length solvers → old.state.settings.solver < length solvers) (plain : AreOneDimensional old.state program.statements.items) where
   kept : UnlessMemory result (Keeps (length solvers) program.statements.items new.state)
   kept =
       subst (λ (n : ℕ). UnlessMemory result (Keeps n program.statements.items new.state)) (as-long name solvers)

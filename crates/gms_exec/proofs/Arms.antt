@@ -6,8 +6,8 @@ use Rattle.gq_number.specs.Number.{Number}
 use Rattle.gms_store.specs.State.{State}
 use Rattle.gms_eval.specs.Faults.{Answer as Evaluated, Fault}
 use Rattle.gms_eval.specs.Gives.{fault_of, Shows, Stops}
-use Rattle.gms_eval.specs.declared.stop.StopOrMemory.{StopOrMemory}
-use Rattle.gms_eval.specs.declared.stop.StopOrMemory.TheVariants.{Memory, Stop}
+use Rattle.gms_eval.specs.declared.stop.ExecStopOrMemory.{ExecStopOrMemory}
+use Rattle.gms_eval.specs.declared.stop.ExecStopOrMemory.TheVariants.{Memory, Fault as Stop}
 use Rattle.gms_event.specs.EventView.{event_in, events_in}
 use Rattle.gms_event.specs.declared.event.Event.{Event}
 use Rattle.gms_event.specs.declared.event.Event.TheVariants as event
@@ -23,7 +23,7 @@ use Rattle.gms_exec.proofs.Joining.{grown-nothing}
 
 module _ {F : Type 0} (value : F → Number) where
   -- a call that does the same as another
-  pub runs-alike : {A : Type 0} (result : Result A (StopOrMemory F)) (does other : Course → Course) (old new : Seen F) → ((left : List (Answer Number)) → does (come_to value old left) ≡ other (come_to value old left)) → Runs value result other old new → Runs value result does old new
+  pub runs-alike : {A : Type 0} (result : Result A (ExecStopOrMemory F)) (does other : Course → Course) (old new : Seen F) → ((left : List (Answer Number)) → does (come_to value old left) ≡ other (come_to value old left)) → Runs value result other old new → Runs value result does old new
   runs-alike (Ok x) does other old new same runs =
       record { shown = runs.shown; events = runs.events; fresh = runs.fresh; answers = runs.answers; comes = λ more. same (map (answer_numbers value) runs.fresh ++ more) ∙ runs.comes more }
   runs-alike (Err Memory) does other old new same runs =
@@ -42,19 +42,19 @@ module _ {F : Type 0} (value : F → Number) where
       record { shown = []; events = sym (append-nil events); fresh = []; answers = sym (append-nil answers); comes = goes }
 
   -- out of memory makes no claim on the state: earlier events and answers remain as a prefix
-  pub runs-memory : {A : Type 0} (failed : StopOrMemory F) (does : Course → Course) (old new : Seen F) (fresh : List (Answer F)) → failed ≡ Memory → new.events ≡ old.events → new.answers ≡ old.answers ++ fresh → Runs value {A = A} (Err failed) does old new
+  pub runs-memory : {A : Type 0} (failed : ExecStopOrMemory F) (does : Course → Course) (old new : Seen F) (fresh : List (Answer F)) → failed ≡ Memory → new.events ≡ old.events → new.answers ≡ old.answers ++ fresh → Runs value {A = A} (Err failed) does old new
   runs-memory {A} failed does old new fresh memory events answers =
       subst (λ failed. Runs value {A = A} (Err failed) does old new) (sym memory) (record { shown = []; events = events ∙ sym (append-nil old.events); fresh = fresh; answers = answers; comes = λ more. tt })
 
   -- a call that failed and changed nothing
-  pub runs-stopped : {A : Type 0} (failed : StopOrMemory F) (does : Course → Course) (seen : Seen F) → ((stop : _) → failed ≡ Stop stop → (left : List (Answer Number)) → does (come_to value seen left) ≡ stopped_by (come_to value seen left) (fault_of value stop)) → Runs value {A = A} (Err failed) does seen seen
+  pub runs-stopped : {A : Type 0} (failed : ExecStopOrMemory F) (does : Course → Course) (seen : Seen F) → ((stop : _) → failed ≡ Stop stop → (left : List (Answer Number)) → does (come_to value seen left) ≡ stopped_by (come_to value seen left) (fault_of value stop)) → Runs value {A = A} (Err failed) does seen seen
   runs-stopped Memory does seen stops =
       record { shown = []; events = sym (append-nil seen.events); fresh = []; answers = sym (append-nil seen.answers); comes = λ more. tt }
   runs-stopped (Stop stop) does seen stops =
       record { shown = []; events = sym (append-nil seen.events); fresh = []; answers = sym (append-nil seen.answers); comes = λ more. stops stop refl more }
 
   -- where the first thing to do is a value that stops
-  pub runs-value_stops : {A B : Type 0} (failed : StopOrMemory F) (does : Course → Course) (seen : Seen F) (answer : Evaluated B) (next : Course → B → Course) → Stops value {A = B} failed answer → ((left : List (Answer Number)) → does (come_to value seen left) ≡ with_value answer (next (come_to value seen left)) (come_to value seen left)) → Runs value {A = A} (Err failed) does seen seen
+  pub runs-value_stops : {A B : Type 0} (failed : ExecStopOrMemory F) (does : Course → Course) (seen : Seen F) (answer : Evaluated B) (next : Course → B → Course) → Stops value {A = B} failed answer → ((left : List (Answer Number)) → does (come_to value seen left) ≡ with_value answer (next (come_to value seen left)) (come_to value seen left)) → Runs value {A = A} (Err failed) does seen seen
   runs-value_stops Memory does seen answer next stops does_so = runs-stopped Memory does seen (λ stop e. absurd cc)
   runs-value_stops (Stop stop) does seen answer next stops does_so =
       record {
@@ -66,7 +66,7 @@ module _ {F : Type 0} (value : F → Number) where
       }
 
   -- an assignment
-  pub runs-assigned : {A : Type 0} (result : Result A (StopOrMemory F)) (does : Course → Course) (old new : State) (events : List (Event F)) (answers : List (Answer F)) (answer : Evaluated State) → ((left : List (Answer Number)) → does (come_to value (record { state = old; events = events; answers = answers }) left) ≡ with_value answer (in_state (come_to value (record { state = old; events = events; answers = answers }) left)) (come_to value (record { state = old; events = events; answers = answers }) left)) → Assigns value result old new answer → Runs value result does (record { state = old; events = events; answers = answers }) (record { state = new; events = events; answers = answers })
+  pub runs-assigned : {A : Type 0} (result : Result A (ExecStopOrMemory F)) (does : Course → Course) (old new : State) (events : List (Event F)) (answers : List (Answer F)) (answer : Evaluated State) → ((left : List (Answer Number)) → does (come_to value (record { state = old; events = events; answers = answers }) left) ≡ with_value answer (in_state (come_to value (record { state = old; events = events; answers = answers }) left)) (come_to value (record { state = old; events = events; answers = answers }) left)) → Assigns value result old new answer → Runs value result does (record { state = old; events = events; answers = answers }) (record { state = new; events = events; answers = answers })
   runs-assigned (Ok x) does old new events answers answer does_so assigns =
       let seen : Seen F = record { state = old; events = events; answers = answers } in
       runs-state x does old new events answers (λ left. does_so left ∙ ap (λ answer. with_value answer (in_state (come_to value seen left)) (come_to value seen left)) assigns)
@@ -99,7 +99,7 @@ module _ {F : Type 0} (value : F → Number) where
       }
 
   -- a call that showed one event, and stopped there
-  pub runs-event_stopped : {A : Type 0} (failed : StopOrMemory F) (fault : Fault) (does : Course → Course) (state : State) (old new : List (Event F)) (e : Event F) (answers : List (Answer F)) → new ≡ old ++ e ∷ [] → Shows value failed fault → ((left : List (Answer Number)) → does (come_to value (record { state = state; events = old; answers = answers }) left) ≡ stopped_by (with_event (come_to value (record { state = state; events = old; answers = answers }) left) (event_in value e)) fault) → Runs value {A = A} (Err failed) does (record { state = state; events = old; answers = answers }) (record { state = state; events = new; answers = answers })
+  pub runs-event_stopped : {A : Type 0} (failed : ExecStopOrMemory F) (fault : Fault) (does : Course → Course) (state : State) (old new : List (Event F)) (e : Event F) (answers : List (Answer F)) → new ≡ old ++ e ∷ [] → Shows value failed fault → ((left : List (Answer Number)) → does (come_to value (record { state = state; events = old; answers = answers }) left) ≡ stopped_by (with_event (come_to value (record { state = state; events = old; answers = answers }) left) (event_in value e)) fault) → Runs value {A = A} (Err failed) does (record { state = state; events = old; answers = answers }) (record { state = state; events = new; answers = answers })
   runs-event_stopped Memory fault does state old new e answers is shows goes =
       record { shown = e ∷ []; events = is; fresh = []; answers = sym (append-nil answers); comes = λ more. tt }
   runs-event_stopped (Stop stop) fault does state old new e answers is shows goes =
@@ -145,12 +145,12 @@ module _ {S F : Type 0} (value : F → Number) (limit : ℕ) (name : S → List 
       }
 
 -- what holds in any case holds unless memory ran out
-pub unless-any : {F A : Type 0} (result : Result A (StopOrMemory F)) (P : Type 0) → P → UnlessMemory result P
+pub unless-any : {F A : Type 0} (result : Result A (ExecStopOrMemory F)) (P : Type 0) → P → UnlessMemory result P
 unless-any (Ok x) P p = p
 unless-any (Err Memory) P p = tt
 unless-any (Err (Stop stop)) P p = p
 
-pub unless-both : {F A : Type 0} (result : Result A (StopOrMemory F)) (P Q : Type 0) → (P → Q) → UnlessMemory result P → UnlessMemory result Q
+pub unless-both : {F A : Type 0} (result : Result A (ExecStopOrMemory F)) (P Q : Type 0) → (P → Q) → UnlessMemory result P → UnlessMemory result Q
 unless-both (Ok x) P Q f p = f p
 unless-both (Err Memory) P Q f p = tt
 unless-both (Err (Stop stop)) P Q f p = f p

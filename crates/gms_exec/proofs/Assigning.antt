@@ -15,8 +15,8 @@ use Rattle.gms_store.specs.declared.kind.SymbolKind.{SymbolKind}
 use Rattle.gms_store.specs.declared.kind.SymbolKind.TheVariants as kind
 use Rattle.gms_store.specs.Declarations.{kind_in}
 use Rattle.gms_store.specs.State.{State, Content, undeclared, alias_of, set_of, parameter_of, variable_of, equation_of, model_with, symbol_of}
-use Rattle.gms_eval.specs.declared.stop.StopOrMemory.{StopOrMemory}
-use Rattle.gms_eval.specs.declared.stop.StopOrMemory.TheVariants.{Memory, Stop}
+use Rattle.gms_eval.specs.declared.stop.ExecStopOrMemory.{ExecStopOrMemory}
+use Rattle.gms_eval.specs.declared.stop.ExecStopOrMemory.TheVariants.{Memory, Fault as Stop}
 use Rattle.gms_eval.specs.declared.stop.StopKind.TheVariants.{Undefined}
 use Rattle.gms_eval.specs.Nodes.{in_order}
 use Rattle.gms_eval.specs.Bindings.{Pairs, controlled}
@@ -115,9 +115,9 @@ module _ {F : Type 0} (v : F → Number) (limit : ℕ) (state : State) (target :
 -- ---- the state
 
 -- a stop that is returned as it is leaves the state unchanged
-pub assigns-handed : {F A : Type 0} (v : F → Number) (r : Result A (StopOrMemory F)) (stop : StopOrMemory F) (state : State) (a : Answer State) → IsErrAnd r (λ e. e ≡ stop) → Stops v stop a → Assigns v r state state a
+pub assigns-handed : {F A : Type 0} (v : F → Number) (r : Result A (ExecStopOrMemory F)) (stop : ExecStopOrMemory F) (state : State) (a : Answer State) → IsErrAnd r (λ e. e ≡ stop) → Stops v stop a → Assigns v r state state a
 assigns-handed {F = F} {A = A} v r stop state a h s = let p = err_from_is_err_and r h in rw (p.1, p.2) (by stop s)
   where
-    by : (stop : StopOrMemory F) → Stops v stop a → Assigns v {A = A} (Err stop) state state a
+    by : (stop : ExecStopOrMemory F) → Stops v stop a → Assigns v {A = A} (Err stop) state state a
     by Memory s = tt
     by (Stop one) s = (s, refl)

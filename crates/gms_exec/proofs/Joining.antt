@@ -4,8 +4,8 @@ use Rattle.std.proofs.lemmas.List.{map-append}
 use Rattle.std.proofs.lemmas.List.Elements.{All-head, All-tail, All-append, All-weaker}
 use Rattle.gq_number.specs.Number.{Number}
 use Rattle.gms_eval.specs.Gives.{fault_of}
-use Rattle.gms_eval.specs.declared.stop.StopOrMemory.{StopOrMemory}
-use Rattle.gms_eval.specs.declared.stop.StopOrMemory.TheVariants.{Memory, Stop}
+use Rattle.gms_eval.specs.declared.stop.ExecStopOrMemory.{ExecStopOrMemory}
+use Rattle.gms_eval.specs.declared.stop.ExecStopOrMemory.TheVariants.{Memory, Fault as Stop}
 use Rattle.gms_event.specs.Events as means
 use Rattle.gms_event.specs.EventView.{event_in, events_in}
 use Rattle.gms_event.specs.declared.event.Event.{Event}
@@ -81,7 +81,7 @@ module _ {F : Type 0} (value : F → Number) where
         }
 
     -- a call that failed ends the run there
-    pub reaches-stop : {A B : Type 0} (failed : StopOrMemory F) → LeavesHalted then → Runs value {A = A} (Err failed) first mid new → Runs value {A = B} (Err failed) does old new
+    pub reaches-stop : {A B : Type 0} (failed : ExecStopOrMemory F) → LeavesHalted then → Runs value {A = A} (Err failed) first mid new → Runs value {A = B} (Err failed) does old new
     reaches-stop Memory leaves runs =
         record {
           shown = reached.shown ++ runs.shown;
@@ -105,7 +105,7 @@ module _ {F : Type 0} (value : F → Number) where
       record { shown = reached.shown; events = reached.events; fresh = reached.fresh; answers = reached.answers; comes = λ more. reached.comes more ∙ done more }
 
   -- out of memory ends a run where it is
-  pub reaches-memory : {A : Type 0} (failed : StopOrMemory F) (does rest : Course → Course) (old new : Seen F) → failed ≡ Memory → Reaches does rest old new → Runs value {A = A} (Err failed) does old new
+  pub reaches-memory : {A : Type 0} (failed : ExecStopOrMemory F) (does rest : Course → Course) (old new : Seen F) → failed ≡ Memory → Reaches does rest old new → Runs value {A = A} (Err failed) does old new
   reaches-memory {A} failed does rest old new memory reached =
       subst (λ failed. Runs value {A = A} (Err failed) does old new) (sym memory) (record { shown = reached.shown; events = reached.events; fresh = reached.fresh; answers = reached.answers; comes = λ more. tt })
 

@@ -16,8 +16,8 @@ use Rattle.gms_store.specs.State.{State, with_settings}
 use Rattle.gms_eval.specs.Bindings.{Pairs}
 use Rattle.gms_eval.specs.Faults.{Answer as Evaluated, ◌and_then◌}
 use Rattle.gms_eval.specs.Holds.{holds}
-use Rattle.gms_eval.specs.declared.stop.StopOrMemory.{StopOrMemory}
-use Rattle.gms_eval.specs.declared.stop.StopOrMemory.TheVariants.{Memory, Stop}
+use Rattle.gms_eval.specs.declared.stop.ExecStopOrMemory.{ExecStopOrMemory}
+use Rattle.gms_eval.specs.declared.stop.ExecStopOrMemory.TheVariants.{Memory, Fault as Stop}
 use Rattle.gms_event.specs.Events.{Shown}
 use Rattle.gms_rows.specs.Rows.{definitions, equations_of}
 use Rattle.gms_rows.specs.Plain.{ArePlain}
@@ -132,7 +132,7 @@ module _ {F : Type 0} (value : F → Number) (limit : ℕ) (world : World F) whe
         moved _ (on-Abort value limit world s binding course condition items (e ∙ rolls-Abort condition items)) (keeps-abort_where course (labels_in world) (option_map tree_of condition) items s.at binding kept)
 
   -- what a call that did what a statement does has kept, unless memory ran out
-  pub run-keeps : {A : Type 0} (result : Result A (StopOrMemory F)) (s : Stmt F) (binding : Pairs) (old new : Seen F) → IsOnce s.act → Runs value result (of_statement value limit world s binding) old new → Kept old.state → UnlessMemory result (Kept new.state)
+  pub run-keeps : {A : Type 0} (result : Result A (ExecStopOrMemory F)) (s : Stmt F) (binding : Pairs) (old new : Seen F) → IsOnce s.act → Runs value result (of_statement value limit world s binding) old new → Kept old.state → UnlessMemory result (Kept new.state)
   run-keeps (Ok x) s binding old new once runs kept =
       subst (λ (c : Course). Kept c.state) (runs.comes []) (keeps-act s binding (come_to value old _) kept (out-Act F s.act) (sym (roll-out-Act F s.act)) once)
   run-keeps (Err Memory) s binding old new once runs kept = tt

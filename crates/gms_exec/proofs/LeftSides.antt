@@ -17,8 +17,8 @@ use Rattle.gms_ast.specs.declared.expression.Expr.TheFolds.{fold-roll-Index, fol
 use Rattle.gms_ast.specs.Trees as tree
 use Rattle.gms_ast.specs.TreeView.{indices_of, tree_step, index_step, control_step, index_tree}
 use Rattle.gms_store.specs.State.{State}
-use Rattle.gms_eval.specs.declared.stop.StopOrMemory.{StopOrMemory}
-use Rattle.gms_eval.specs.declared.stop.StopOrMemory.TheVariants.{Memory, Stop}
+use Rattle.gms_eval.specs.declared.stop.ExecStopOrMemory.{ExecStopOrMemory}
+use Rattle.gms_eval.specs.declared.stop.ExecStopOrMemory.TheVariants.{Memory, Fault as Stop}
 use Rattle.gms_eval.specs.Nodes.{in_order}
 use Rattle.gms_eval.specs.Bindings.{Pairs, label_of}
 use Rattle.gms_eval.specs.Faults.{Answer, Fault, ◌and_then◌}
@@ -220,6 +220,6 @@ module _ {F : Type 0} (v : F → Number) (limit : ℕ) (state : State) {X : Type
   pub finding-end : (whole : Answer AllGiven) (done : AllGiven) (xs : List X) (i : ℕ) → whole ≡ finding done (drop i xs) → length xs ≤ i → whole ≡ Ok done
   finding-end whole done xs i so all = so ∙ at_drop_all (finding done) xs i all ∙ ap Ok (append-nil done)
 
-  pub finding-stops : (stop : StopOrMemory F) (whole : Answer AllGiven) (done : AllGiven) (xs : List X) (i : ℕ) (x : X) → whole ≡ finding done (drop i xs) → i < length xs → x ≡ get_or xs i x → Stops v stop (answer x) → Stops v stop whole
+  pub finding-stops : (stop : ExecStopOrMemory F) (whole : Answer AllGiven) (done : AllGiven) (xs : List X) (i : ℕ) (x : X) → whole ≡ finding done (drop i xs) → i < length xs → x ≡ get_or xs i x → Stops v stop (answer x) → Stops v stop whole
   finding-stops Memory whole done xs i x so l at s = tt
   finding-stops (Stop stop) whole done xs i x so l at s = so ∙ finding-fault done xs i x (fault_of v stop) l at s

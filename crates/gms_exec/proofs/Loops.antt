@@ -7,8 +7,8 @@ use Rattle.gms_ast.specs.declared.program.Program.{Program}
 use Rattle.gms_ast.specs.declared.program.Stmt.{Stmt}
 use Rattle.gms_eval.proofs.Inner.{inner-start, inner-kept}
 use Rattle.gms_eval.specs.Bindings.{Pairs, controlled}
-use Rattle.gms_eval.specs.declared.stop.StopOrMemory.{StopOrMemory}
-use Rattle.gms_eval.specs.declared.stop.StopOrMemory.TheVariants.{Memory, Stop}
+use Rattle.gms_eval.specs.declared.stop.ExecStopOrMemory.{ExecStopOrMemory}
+use Rattle.gms_eval.specs.declared.stop.ExecStopOrMemory.TheVariants.{Memory, Fault as Stop}
 use Rattle.lp_core.specs.declared.answer.Answer.{Answer}
 use Rattle.lp_core.specs.declared.answer.Pivot.{Pivot}
 use Rattle.lp_slot.specs.declared.solver.SolverRule.{SolverRule}
@@ -39,24 +39,24 @@ module _ {S F : Type 0} (value : F → Number) (limit : ℕ) (name : S → List 
   left-many old_solvers new_solvers old new left = sym (length-map new_solvers name) ∙ ap length left.answered.names ∙ length-map old_solvers name
 
   -- the clauses of a call on what holds after it
-  pub record Leaves {A : Type 0} (result : Result A (StopOrMemory F)) (old_solvers new_solvers : List S) (old new : Seen F) : Type 0 where
+  pub record Leaves {A : Type 0} (result : Result A (ExecStopOrMemory F)) (old_solvers new_solvers : List S) (old new : Seen F) : Type 0 where
     pub solvers : UnlessMemory result (Answered value limit name rule paths old_solvers new_solvers old new)
     pub standing : UnlessMemory result (ShowsStanding value limit (map rule old_solvers) new.answers old.events new.events)
     pub settings : UnlessMemory result (AreKept (length old_solvers) new.state.settings)
     pub plain : UnlessMemory result (AreOneDimensional new.state program.statements.items)
 
-  pub leaves-of : {A : Type 0} (result : Result A (StopOrMemory F)) (old_solvers new_solvers : List S) (old new : Seen F) → UnlessMemory result (LeftBy old_solvers new_solvers old new) → Leaves result old_solvers new_solvers old new
+  pub leaves-of : {A : Type 0} (result : Result A (ExecStopOrMemory F)) (old_solvers new_solvers : List S) (old new : Seen F) → UnlessMemory result (LeftBy old_solvers new_solvers old new) → Leaves result old_solvers new_solvers old new
   leaves-of (Ok x) old_solvers new_solvers old new left = record { solvers = left.answered; standing = left.standing; settings = left.kept.settings; plain = left.kept.plain }
   leaves-of (Err Memory) old_solvers new_solvers old new left = record { solvers = tt; standing = tt; settings = tt; plain = tt }
   leaves-of (Err (Stop stop)) old_solvers new_solvers old new left = record { solvers = left.answered; standing = left.standing; settings = left.kept.settings; plain = left.kept.plain }
 
   -- after a call that changed nothing all is as before
-  pub leaves-nothing : {A : Type 0} (result : Result A (StopOrMemory F)) (solvers : List S) (seen : Seen F) → Keeps (length solvers) program.statements.items seen.state → Leaves result solvers solvers seen seen
+  pub leaves-nothing : {A : Type 0} (result : Result A (ExecStopOrMemory F)) (solvers : List S) (seen : Seen F) → Keeps (length solvers) program.statements.items seen.state → Leaves result solvers solvers seen seen
   leaves-nothing result solvers seen kept =
       leaves-of result solvers solvers seen seen (unless-any result (LeftBy solvers solvers seen seen) (left-start value limit name rule paths program.statements.items solvers seen kept))
 
   -- the clauses of a call, together
-  pub left-of : {A : Type 0} (result : Result A (StopOrMemory F)) (old_solvers new_solvers : List S) (old new : Seen F) → UnlessMemory result (Answered value limit name rule paths old_solvers new_solvers old new) → UnlessMemory result (ShowsStanding value limit (map rule old_solvers) new.answers old.events new.events) → UnlessMemory result (AreKept (length old_solvers) new.state.settings) → UnlessMemory result (AreOneDimensional new.state program.statements.items) → UnlessMemory result (LeftBy old_solvers new_solvers old new)
+  pub left-of : {A : Type 0} (result : Result A (ExecStopOrMemory F)) (old_solvers new_solvers : List S) (old new : Seen F) → UnlessMemory result (Answered value limit name rule paths old_solvers new_solvers old new) → UnlessMemory result (ShowsStanding value limit (map rule old_solvers) new.answers old.events new.events) → UnlessMemory result (AreKept (length old_solvers) new.state.settings) → UnlessMemory result (AreOneDimensional new.state program.statements.items) → UnlessMemory result (LeftBy old_solvers new_solvers old new)
   left-of (Ok x) old_solvers new_solvers old new answered standing settings plain = record { answered = answered; standing = standing; kept = record { settings = settings; plain = plain } }
   left-of (Err Memory) old_solvers new_solvers old new answered standing settings plain = tt
   left-of (Err (Stop stop)) old_solvers new_solvers old new answered standing settings plain = record { answered = answered; standing = standing; kept = record { settings = settings; plain = plain } }
@@ -106,7 +106,7 @@ module _ {S F : Type 0} (value : F → Number) (limit : ℕ) (name : S → List 
         subst (λ (left : List (Stmt F)). Reaches value does (from_statement i element left) old mid) (drop-at body k s in_it is) within.reached
 
     -- a call for it did what it does in this run
-    next-runs : {A : Type 0} (result : Result A (StopOrMemory F)) (i : ℕ) (element : List ℕ) (k : ℕ) (s : Stmt F) (inner own : Pairs) (mid_solvers : List S) (mid new : Seen F) → Within i element k inner mid_solvers mid → own ≡ inner → Runs value result (step_of value limit program (map name mid_solvers) s own) mid new → Runs value result (step_of value limit program (map name solvers) s (controlled b sets element)) mid new
+    next-runs : {A : Type 0} (result : Result A (ExecStopOrMemory F)) (i : ℕ) (element : List ℕ) (k : ℕ) (s : Stmt F) (inner own : Pairs) (mid_solvers : List S) (mid new : Seen F) → Within i element k inner mid_solvers mid → own ≡ inner → Runs value result (step_of value limit program (map name mid_solvers) s own) mid new → Runs value result (step_of value limit program (map name solvers) s (controlled b sets element)) mid new
     next-runs result i element k s inner own mid_solvers mid new within same runs =
         subst (λ binding. Runs value result (step_of value limit program (map name solvers) s binding) mid new) (same ∙ within.bound)
         (subst (λ names. Runs value result (step_of value limit program names s own) mid new) within.left.answered.names runs)
@@ -128,18 +128,18 @@ module _ {S F : Type 0} (value : F → Number) (limit : ℕ) (name : S → List 
         ∙ each-halted sets (map (step_of value limit program (map name solvers)) body) (drop (i + 1) elements) b course halt e
 
     -- a statement that failed ends the loop
-    pub within-failed : {A B : Type 0} (failed : StopOrMemory F) (i : ℕ) (element : List ℕ) (k : ℕ) (s : Stmt F) (inner own : Pairs) (mid_solvers : List S) (mid new : Seen F) → Within i element k inner mid_solvers mid → k < length body → s ≡ get_or body k s → own ≡ inner → Runs value {A = A} (Err failed) (step_of value limit program (map name mid_solvers) s own) mid new → Runs value {A = B} (Err failed) does old new
+    pub within-failed : {A B : Type 0} (failed : ExecStopOrMemory F) (i : ℕ) (element : List ℕ) (k : ℕ) (s : Stmt F) (inner own : Pairs) (mid_solvers : List S) (mid new : Seen F) → Within i element k inner mid_solvers mid → k < length body → s ≡ get_or body k s → own ≡ inner → Runs value {A = A} (Err failed) (step_of value limit program (map name mid_solvers) s own) mid new → Runs value {A = B} (Err failed) does old new
     within-failed {A} failed i element k s inner own mid_solvers mid new within in_it is same runs =
         reaches-stop value does (from_statement i element (s ∷ drop (k + 1) body)) (step_of value limit program (map name solvers) s (controlled b sets element)) (from_statement i element (drop (k + 1) body)) old mid new (next-reached i element k s inner mid_solvers mid within in_it is) (λ seen left. refl) failed (leaves i element (drop (k + 1) body))
         (next-runs {A = A} (Err failed) i element k s inner own mid_solvers mid new within same runs)
 
     -- and what the calls before it, and it, give holds
-    within-left : {A : Type 0} (B : Type 0) (failed : StopOrMemory F) (i : ℕ) (element : List ℕ) (k : ℕ) (inner : Pairs) (mid_solvers new_solvers : List S) (mid new : Seen F) (does_so : Course → Course) → Within i element k inner mid_solvers mid → Runs value {A = A} (Err failed) does_so mid new → UnlessMemory {A = A} (Err failed) (LeftBy mid_solvers new_solvers mid new) → UnlessMemory {A = B} (Err failed) (LeftBy solvers new_solvers old new)
+    within-left : {A : Type 0} (B : Type 0) (failed : ExecStopOrMemory F) (i : ℕ) (element : List ℕ) (k : ℕ) (inner : Pairs) (mid_solvers new_solvers : List S) (mid new : Seen F) (does_so : Course → Course) → Within i element k inner mid_solvers mid → Runs value {A = A} (Err failed) does_so mid new → UnlessMemory {A = A} (Err failed) (LeftBy mid_solvers new_solvers mid new) → UnlessMemory {A = B} (Err failed) (LeftBy solvers new_solvers old new)
     within-left B Memory i element k inner mid_solvers new_solvers mid new does_so within runs left = tt
     within-left B (Stop stop) i element k inner mid_solvers new_solvers mid new does_so within runs left =
         left-both value limit name rule paths program.statements.items solvers mid_solvers new_solvers old mid new runs.fresh runs.answers (left-many solvers mid_solvers old mid within.left) within.left left
 
-    pub within-leaves : {A : Type 0} (B : Type 0) (failed : StopOrMemory F) (i : ℕ) (element : List ℕ) (k : ℕ) (inner : Pairs) (mid_solvers new_solvers : List S) (mid new : Seen F) (does_so : Course → Course) → Within i element k inner mid_solvers mid → Runs value {A = A} (Err failed) does_so mid new →
+    pub within-leaves : {A : Type 0} (B : Type 0) (failed : ExecStopOrMemory F) (i : ℕ) (element : List ℕ) (k : ℕ) (inner : Pairs) (mid_solvers new_solvers : List S) (mid new : Seen F) (does_so : Course → Course) → Within i element k inner mid_solvers mid → Runs value {A = A} (Err failed) does_so mid new →
         UnlessMemory {A = A} (Err failed) (Answered value limit name rule paths mid_solvers new_solvers mid new) → UnlessMemory {A = A} (Err failed) (ShowsStanding value limit (map rule mid_solvers) new.answers mid.events new.events) →
         UnlessMemory {A = A} (Err failed) (AreKept (length mid_solvers) new.state.settings) → UnlessMemory {A = A} (Err failed) (AreOneDimensional new.state program.statements.items) → Leaves {A = B} (Err failed) solvers new_solvers old new
     within-leaves {A} B failed i element k inner mid_solvers new_solvers mid new does_so within runs answered standing settings plain =

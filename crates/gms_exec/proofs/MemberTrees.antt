@@ -12,8 +12,8 @@ use Rattle.gms_ast.specs.Trees as tree
 use Rattle.gms_ast.specs.TreeView.{parts_of, tree_step, index_step, control_step, tree_of}
 use Rattle.gms_ast.proofs.TreeEquations.{tree_of-Neg, tree_of-Plus, tree_of-Times, tree_of-Not, tree_of-Guard}
 use Rattle.gms_store.specs.State.{State}
-use Rattle.gms_eval.specs.declared.stop.StopOrMemory.{StopOrMemory}
-use Rattle.gms_eval.specs.declared.stop.StopOrMemory.TheVariants.{Memory, Stop}
+use Rattle.gms_eval.specs.declared.stop.ExecStopOrMemory.{ExecStopOrMemory}
+use Rattle.gms_eval.specs.declared.stop.ExecStopOrMemory.TheVariants.{Memory, Fault as Stop}
 use Rattle.gms_eval.specs.Nodes.{each_holds}
 use Rattle.gms_eval.specs.Bindings.{Pairs}
 use Rattle.gms_eval.specs.Faults.{Answer, Fault, ◌and_then◌}
@@ -103,6 +103,6 @@ module _ {X : Type 0} (join : Join) (mark : X → tree.Mark) (answer : X → Ans
   joined_on-end whole so_far xs i so all = so ∙ at_drop_all (joined_on so_far) xs i all
 
   -- the stop of a part
-  pub joined_on-stops : {F : Type 0} (v : F → Number) (stop : StopOrMemory F) (whole : Answer Bool) (so_far : Bool) (xs : List X) (i : ℕ) (x : X) → whole ≡ joined_on so_far (drop i xs) → i < length xs → x ≡ get_or xs i x → Stops v stop (answer x) → Stops v stop whole
+  pub joined_on-stops : {F : Type 0} (v : F → Number) (stop : ExecStopOrMemory F) (whole : Answer Bool) (so_far : Bool) (xs : List X) (i : ℕ) (x : X) → whole ≡ joined_on so_far (drop i xs) → i < length xs → x ≡ get_or xs i x → Stops v stop (answer x) → Stops v stop whole
   joined_on-stops v Memory whole so_far xs i x so l at s = tt
   joined_on-stops v (Stop stop) whole so_far xs i x so l at s = so ∙ joined_on-fault so_far xs i x (fault_of v stop) l at s

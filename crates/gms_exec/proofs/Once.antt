@@ -26,9 +26,8 @@ use Rattle.gms_tuple.proofs.Ordered.{first-before, rest-ordered, same_tuple-Deci
 use Rattle.gms_store.specs.State.{State, members_of}
 use Rattle.gms_eval.specs.Nodes.{in_order}
 use Rattle.gms_eval.specs.Bindings.{Pairs, label_of, paired, controlled}
-use Rattle.gms_eval.specs.Domain.{elements, sized, those_where, too_large}
+use Rattle.gms_eval.specs.Domain.{elements, sized, those_where, too_large, IsSimple}
 use Rattle.gms_eval.specs.Faults.{Answer, Fault, nothing, faulted, ◌and_then◌}
-use Rattle.gms_eval.specs.InnerLeading.{IsSimple}
 use Rattle.gms_eval.specs.Lag.{label_in, label_at, moved, lagged_label, whole_number}
 use Rattle.gms_eval.specs.References.{reached, tuple_of}
 use Rattle.gms_eval.specs.Value.{value, labels, domain, control_over, when_so}

@@ -14,8 +14,8 @@ use Rattle.gms_eval.specs.Bindings.{Pairs}
 use Rattle.gms_eval.specs.Faults.{Fault, faulted, nothing}
 use Rattle.gms_eval.specs.Gives.{Shows}
 use Rattle.gms_eval.specs.declared.stop.StopKind.TheVariants.{NoSolver}
-use Rattle.gms_eval.specs.declared.stop.StopOrMemory.{StopOrMemory}
-use Rattle.gms_eval.specs.declared.stop.StopOrMemory.TheVariants.{Memory, Stop}
+use Rattle.gms_eval.specs.declared.stop.ExecStopOrMemory.{ExecStopOrMemory}
+use Rattle.gms_eval.specs.declared.stop.ExecStopOrMemory.TheVariants.{Memory, Fault as Stop}
 use Rattle.gms_event.specs.Events as means
 use Rattle.gms_event.specs.EventView.{event_in, events_in}
 use Rattle.gms_event.specs.declared.event.Event.{Event}
@@ -162,7 +162,7 @@ module _ {F : Type 0} (value : F → Number) (limit : ℕ) where
 
 module _ {F : Type 0} (value : F → Number) where
   -- a call that failed with a fault, and changed nothing
-  pub runs-fault : {A : Type 0} (failed : StopOrMemory F) (fault : Fault) (does : Course → Course) (seen : Seen F) → Shows value failed fault → ((left : List (Answer Number)) → does (come_to value seen left) ≡ stopped_by (come_to value seen left) fault) → Runs value {A = A} (Err failed) does seen seen
+  pub runs-fault : {A : Type 0} (failed : ExecStopOrMemory F) (fault : Fault) (does : Course → Course) (seen : Seen F) → Shows value failed fault → ((left : List (Answer Number)) → does (come_to value seen left) ≡ stopped_by (come_to value seen left) fault) → Runs value {A = A} (Err failed) does seen seen
   runs-fault Memory fault does seen shows goes =
       record { shown = []; events = sym (append-nil seen.events); fresh = []; answers = sym (append-nil seen.answers); comes = λ more. tt }
   runs-fault (Stop stop) fault does seen shows goes =
@@ -175,7 +175,7 @@ module _ {F : Type 0} (value : F → Number) where
       }
 
   -- a call that ran out of memory, after it had shown events and taken answers
-  pub runs-grown : {A : Type 0} (failed : StopOrMemory F) (does : Course → Course) (old new : Seen F) → failed ≡ Memory → Grown old.events new.events → Grown old.answers new.answers → Runs value {A = A} (Err failed) does old new
+  pub runs-grown : {A : Type 0} (failed : ExecStopOrMemory F) (does : Course → Course) (old new : Seen F) → failed ≡ Memory → Grown old.events new.events → Grown old.answers new.answers → Runs value {A = A} (Err failed) does old new
   runs-grown {A} failed does old new memory events answers =
       subst (λ failed. Runs value {A = A} (Err failed) does old new) (sym memory) (record { shown = events.fresh; events = events.is; fresh = answers.fresh; answers = answers.is; comes = λ more. tt })
 

@@ -18,8 +18,8 @@ use Rattle.gms_ast.specs.declared.expression.Suffix.TheVariants as suffix
 use Rattle.gms_event.specs.Events.{Shown}
 use Rattle.gms_eval.specs.Nodes.{is_so}
 use Rattle.gms_exec.specs.Showing.{is_indexed}
-use Rattle.gms_eval.specs.declared.stop.StopOrMemory.{StopOrMemory}
-use Rattle.gms_eval.specs.declared.stop.StopOrMemory.TheVariants.{Memory, Stop}
+use Rattle.gms_eval.specs.declared.stop.ExecStopOrMemory.{ExecStopOrMemory}
+use Rattle.gms_eval.specs.declared.stop.ExecStopOrMemory.TheVariants.{Memory, Fault as Stop}
 use Rattle.gms_eval.specs.Faults.{Answer as Evaluated, ◌and_then◌}
 use Rattle.gms_eval.specs.Gives.{fault_of}
 use Rattle.gms_event.specs.declared.event.Event.{Event}
@@ -44,7 +44,7 @@ module _ {F : Type 0} (value : F → Number) where
 
   -- The state is the one that an assignment makes of the old one; or a stop has its fault, and the
   -- state is unchanged. Out of memory makes no claim.
-  abbrev pub Assigns : {A : Type 0} → Result A (StopOrMemory F) → State → State → Evaluated State → Type 0
+  abbrev pub Assigns : {A : Type 0} → Result A (ExecStopOrMemory F) → State → State → Evaluated State → Type 0
   Assigns (Ok x) old new answer = answer ≡ Ok new
   Assigns (Err Memory) old new answer = Unit {0}
   Assigns (Err (Stop stop)) old new answer = (answer ≡ Err (fault_of value stop)) × (new ≡ old)

@@ -7,7 +7,7 @@ use Rattle.gms_ast.specs.declared.expression.Suffix.TheVariants as suffix
 use Rattle.gms_ast.specs.Trees as tree
 use Rattle.gms_tuple.specs.TupleOrder.{same_tuple}
 use Rattle.gms_store.specs.State.{State}
-use Rattle.gms_eval.specs.InnerLeading.{IsSimple}
+use Rattle.gms_eval.specs.Domain.{IsSimple}
 use Rattle.gms_exec.specs.Given.{Given, AllGiven}
 
 -- whether an amount of a lag is a number or a scalar, which does not depend on what sets stand for

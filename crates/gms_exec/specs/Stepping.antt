@@ -5,8 +5,8 @@ use Rattle.std.specs.Prelude.{◌≡◌, ℕ, ◌<◌, ◌≤◌, ◌==◌, List
 use Rattle.gq_number.specs.Number.{Number}
 use Rattle.gms_store.specs.declared.settings.Settings.{Settings}
 use Rattle.gms_store.specs.State.{State}
-use Rattle.gms_eval.specs.declared.stop.StopOrMemory.{StopOrMemory}
-use Rattle.gms_eval.specs.declared.stop.StopOrMemory.TheVariants.{Memory, Stop}
+use Rattle.gms_eval.specs.declared.stop.ExecStopOrMemory.{ExecStopOrMemory}
+use Rattle.gms_eval.specs.declared.stop.ExecStopOrMemory.TheVariants.{Memory, Fault as Stop}
 use Rattle.gms_eval.specs.Gives.{fault_of}
 use Rattle.gms_event.specs.declared.event.Event.{Event}
 use Rattle.gms_event.specs.declared.event.Event.TheVariants as event
@@ -25,7 +25,7 @@ pub record Seen (F : Type 0) : Type 0 where
   pub answers : List (Answer F)
 
 -- what holds after a call, unless memory ran out
-abbrev pub UnlessMemory : {F A : Type 0} → Result A (StopOrMemory F) → Type 0 → Type 0
+abbrev pub UnlessMemory : {F A : Type 0} → Result A (ExecStopOrMemory F) → Type 0 → Type 0
 UnlessMemory (Ok x) P = P
 UnlessMemory (Err Memory) P = Unit {0}
 UnlessMemory (Err (Stop stop)) P = P
@@ -39,14 +39,14 @@ module _ {F : Type 0} (value : F → Number) where
       record { state = seen.state; events = events_in value seen.events; left = left; taken = length seen.answers; halted = None }
 
   -- A run has reached this point; or a stop has stopped it there. Out of memory makes no claim.
-  abbrev pub Comes : {A : Type 0} → Result A (StopOrMemory F) → Course → Course → Type 0
+  abbrev pub Comes : {A : Type 0} → Result A (ExecStopOrMemory F) → Course → Course → Type 0
   Comes (Ok x) course now = course ≡ now
   Comes (Err Memory) course now = Unit {0}
   Comes (Err (Stop stop)) course now = course ≡ stopped_by now (fault_of value stop)
 
   -- A call did to a run what statements do. It appended events and answers, and reached the state
   -- and the end that the statements lead to with these answers, whichever answers follow them.
-  pub record Runs {A : Type 0} (result : Result A (StopOrMemory F)) (does : Course → Course) (old new : Seen F) : Type 0 where
+  pub record Runs {A : Type 0} (result : Result A (ExecStopOrMemory F)) (does : Course → Course) (old new : Seen F) : Type 0 where
     pub shown : List (Event F)
     pub events : new.events ≡ old.events ++ shown
     pub fresh : List (Answer F)

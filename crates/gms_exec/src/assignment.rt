@@ -16,7 +16,7 @@ ghost use Rattle.gms_exec.specs.InnerWalks.{given_in, all_given_in, Assigns, fir
 use crate::given::{Given, put_all};
 use crate::membership::membership;
 use gms_ast::{Expr, Index, Suffix, Target};
-use gms_eval::{Binding, StopKind, StopOrMemory, domain_over, tuple_of, value};
+use gms_eval::{Binding, ExecStopOrMemory, StopKind, domain_over, tuple_of, value};
 use gms_labels::Place;
 use gms_store::{Store, SymbolKind};
 use gms_tuple::Tuple;
@@ -164,14 +164,14 @@ fn where_taken<F: ExactField>(
     at: Place,
     value: Ext<F>,
     b: &Binding,
-) -> Result<Given<F>, StopOrMemory<F>>
+) -> Result<Given<F>, ExecStopOrMemory<F>>
     ensures { Gives F.value (given_in F.value) result (where_taken suffix at b.now (extended F.value value)) }
 {
     if takes(suffix, value) {
         return Ok(Given::Value(value));
     }
     let right = zero();
-    Err(StopOrMemory::at_step(alloc, StopKind::Undefined, at, value, right, b))
+    Err(ExecStopOrMemory::at_step(alloc, StopKind::Undefined, at, value, right, b))
 }
 
 /// Whether a name stands for a set.
@@ -220,7 +220,7 @@ impl<'s, F: ExactField> Assignment<'s, F> {
         alloc: Global,
         store: &Store<F>,
         b: &Binding,
-    ) -> Result<Given<F>, StopOrMemory<F>>
+    ) -> Result<Given<F>, ExecStopOrMemory<F>>
         ensures { Gives F.value (given_in F.value) result
             (given_under F.value F.limit store.now (target_of self.now.target.now) self.now.right_at (tree_of self.now.right.now) b.now) }
     {
@@ -238,7 +238,7 @@ impl<'s, F: ExactField> Assignment<'s, F> {
         store: &Store<F>,
         t: Option<Tuple>,
         b: &Binding,
-    ) -> Result<Option<(Tuple, Given<F>)>, StopOrMemory<F>>
+    ) -> Result<Option<(Tuple, Given<F>)>, ExecStopOrMemory<F>>
         ensures { Gives F.value (found_in F.value) result
             (found_at (given_under F.value F.limit store.now (target_of self.now.target.now) self.now.right_at (tree_of self.now.right.now) b.now) t) }
     {
@@ -258,7 +258,7 @@ impl<'s, F: ExactField> Assignment<'s, F> {
         alloc: Global,
         store: &Store<F>,
         b: &Binding,
-    ) -> Result<Option<(Tuple, Given<F>)>, StopOrMemory<F>>
+    ) -> Result<Option<(Tuple, Given<F>)>, ExecStopOrMemory<F>>
         ensures { Gives F.value (found_in F.value) result
             (element_under F.value F.limit store.now (target_of self.now.target.now) self.now.right_at (tree_of self.now.right.now) b.now) }
     {
@@ -276,7 +276,7 @@ impl<'s, F: ExactField> Assignment<'s, F> {
         sets: &[u32],
         elements: &[Tuple],
         b: &Binding,
-    ) -> Result<Vec<(Tuple, Given<F>)>, StopOrMemory<F>>
+    ) -> Result<Vec<(Tuple, Given<F>)>, ExecStopOrMemory<F>>
         ensures { Gives F.value (λ all. all_given_in F.value all.items) result
             (in_order (map (λ element. element_under F.value F.limit store.now (target_of self.now.target.now) self.now.right_at (tree_of self.now.right.now) (controlled b.now sets.now element)) elements.now)
             and_then λ given. Ok (those_there F.value F.limit store.now given)) }
@@ -300,7 +300,7 @@ impl<'s, F: ExactField> Assignment<'s, F> {
         condition: Option<&Expr<F>>,
         at: Place,
         b: &Binding,
-    ) -> Result<Vec<(Tuple, Given<F>)>, StopOrMemory<F>>
+    ) -> Result<Vec<(Tuple, Given<F>)>, ExecStopOrMemory<F>>
         ensures { Gives F.value (λ all. all_given_in F.value all.items) result
             (given_by F.value F.limit store.now at b.now (target_of self.now.target.now) (option_map tree_of (option_copied condition.entry)) self.now.right_at (tree_of self.now.right.now)) }
     {
@@ -324,7 +324,7 @@ impl<'s, F: ExactField> Assignment<'s, F> {
         condition: Option<&Expr<F>>,
         at: Place,
         b: &Binding,
-    ) -> Result<(), StopOrMemory<F>>
+    ) -> Result<(), ExecStopOrMemory<F>>
         ensures { Assigns F.value result store.old store.new
             (after_assignment F.value F.limit store.old at b.now (target_of self.now.target.now) (option_map tree_of (option_copied condition.entry)) self.now.right_at (tree_of self.now.right.now)) }
     {

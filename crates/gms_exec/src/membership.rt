@@ -7,7 +7,7 @@ ghost use Rattle.gms_eval.specs.Gives.{Gives};
 ghost use Rattle.gms_exec.specs.Membership.{membership, joined, in_sum, in_product};
 
 use gms_ast::Expr;
-use gms_eval::{Binding, StopOrMemory, all_hold, holds};
+use gms_eval::{Binding, ExecStopOrMemory, all_hold, holds};
 use gms_labels::Place;
 use gms_store::Store;
 use gq_field::ExactField;
@@ -35,7 +35,7 @@ pub(crate) fn membership<F: ExactField>(
     store: &Store<F>,
     e: &Expr<F>,
     b: &Binding,
-) -> Result<bool, StopOrMemory<F>>
+) -> Result<bool, ExecStopOrMemory<F>>
     ensures { Gives F.value (λ holds. holds) result (membership F.value F.limit store.now b.now (tree_of e.now)) }
 {
     match e {
@@ -63,7 +63,7 @@ fn in_sum<F: ExactField>(
     store: &Store<F>,
     parts: &[(Place, bool, Expr<F>)],
     b: &Binding,
-) -> Result<bool, StopOrMemory<F>>
+) -> Result<bool, ExecStopOrMemory<F>>
     ensures { Gives F.value (λ holds. holds) result (joined in_sum false
         (map (λ part. (signed part.0 part.1, membership F.value F.limit store.now b.now (tree_of part.2))) parts.now)) }
 {
@@ -82,7 +82,7 @@ fn in_product<F: ExactField>(
     store: &Store<F>,
     parts: &[(Place, bool, Expr<F>)],
     b: &Binding,
-) -> Result<bool, StopOrMemory<F>>
+) -> Result<bool, ExecStopOrMemory<F>>
     ensures { Gives F.value (λ holds. holds) result (joined in_product true
         (map (λ part. (signed part.0 part.1, membership F.value F.limit store.now b.now (tree_of part.2))) parts.now)) }
 {

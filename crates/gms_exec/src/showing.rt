@@ -13,7 +13,7 @@ ghost use Rattle.gms_exec.specs.InnerWalks.{entries_in, is_kept, with_entries, t
 
 use crate::walk::Walk;
 use gms_ast::{Named, Sequence, Show, Suffix, Word};
-use gms_eval::{Binding, StopOrMemory};
+use gms_eval::{Binding, ExecStopOrMemory};
 use gms_event::Shown;
 use gms_store::{Store, SymbolKind};
 use gms_tuple::Tuple;
@@ -189,14 +189,14 @@ fn bounds<F: ExactField>(
     named: Named,
     suffix: Suffix,
     b: &Binding,
-) -> Result<Entries<F>, StopOrMemory<F>>
+) -> Result<Entries<F>, ExecStopOrMemory<F>>
     ensures { Gives F.value (λ entries. entries_in F.value entries.items) result
         (sized named.at b.now (elements_at labels store.now (symbol_of store.now named.name).domain) and_then λ tuples. Ok (entries_shown store.now named.name suffix tuples)) }
 {
     let walk = Walk::new(store, labels, named.name);
     let size = walk.count();
     if size > MOST_ELEMENTS {
-        return Err(StopOrMemory::too_large(alloc, named.at, size, b));
+        return Err(ExecStopOrMemory::too_large(alloc, named.at, size, b));
     }
     let entries = over_all(alloc, store, &walk, size as usize, named.name, suffix)?;
     Ok(entries)
@@ -259,7 +259,7 @@ fn entries<F: ExactField>(
     named: Named,
     suffix: Suffix,
     b: &Binding,
-) -> Result<Entries<F>, StopOrMemory<F>>
+) -> Result<Entries<F>, ExecStopOrMemory<F>>
     ensures { Gives F.value (λ entries. entries_in F.value entries.items) result
         (tuples_looked_at labels store.now b.now named suffix and_then λ tuples. Ok (entries_shown store.now named.name suffix tuples)) }
 {
@@ -322,7 +322,7 @@ fn shown<F: ExactField>(
     labels: u32,
     item: &Show,
     b: &Binding,
-) -> Result<Shown<F>, StopOrMemory<F>>
+) -> Result<Shown<F>, ExecStopOrMemory<F>>
     ensures { Gives F.value (shown_in F.value) result (shown_of labels store.now b.now item.now) }
 {
     match item {
@@ -348,7 +348,7 @@ pub(crate) fn all_shown<F: ExactField>(
     labels: u32,
     items: &[Show],
     b: &Binding,
-) -> Result<Sequence<Shown<F>>, StopOrMemory<F>>
+) -> Result<Sequence<Shown<F>>, ExecStopOrMemory<F>>
     ensures { Gives F.value (map (shown_in F.value)) result (all_shown labels store.now b.now items.now) }
 {
     let mut all = Vec::new(alloc);

@@ -17,7 +17,7 @@ ghost use Rattle.gms_exec.specs.Stepping.{Runs, Answered, UnlessMemory};
 
 use crate::statement::stopped;
 use gms_ast::{Program, Sequence};
-use gms_eval::{Binding, StopKind, StopOrMemory};
+use gms_eval::{Binding, ExecStopOrMemory, StopKind};
 use gms_event::{Event, solve_status};
 use gms_labels::Place;
 use gms_rows::{equations_of, generate};
@@ -282,7 +282,7 @@ pub(crate) fn solve_model(
     solvers: &mut Vec<Box<dyn LpSolver>>,
     answers: &mut Vec<Answer<Frac>>,
     events: &mut Vec<Event<Frac>>,
-) -> Result<(), StopOrMemory<Frac>>
+) -> Result<(), ExecStopOrMemory<Frac>>
     requires chosen { 0 < length solvers.old.items → store.old.settings.solver < length solvers.old.items }
     requires plain { HasPlainDefinitions store.old program.now.statements.items }
     ensures runs { Runs frac_value result (solve frac_value (2 ^ 127 - 1) (map name solvers.old.items) program.now.statements.items s.model s.objective s.maximize s.at b.now)

@@ -22,7 +22,7 @@ use crate::options::after_options;
 use crate::showing::all_shown;
 use crate::solving::{Solve, solve_model};
 use gms_ast::{Act, Expr, Program, Right, Setting, Show, Stmt, Target, Word};
-use gms_eval::{Binding, StopKind, StopOrMemory, domain, holds};
+use gms_eval::{Binding, ExecStopOrMemory, StopKind, domain, holds};
 use gms_event::Event;
 use gms_labels::Place;
 use gms_store::Store;
@@ -52,7 +52,7 @@ pub fn step(
     solvers: &mut Vec<Box<dyn LpSolver>>,
     answers: &mut Vec<Answer<Frac>>,
     events: &mut Vec<Event<Frac>>,
-) -> Result<(), StopOrMemory<Frac>>
+) -> Result<(), ExecStopOrMemory<Frac>>
     requires few { length solvers.old.items < 2 ^ 32 }
     requires decimals { store.old.settings.decimals ≤ 8 }
     requires chosen { 0 < length solvers.old.items → store.old.settings.solver < length solvers.old.items }
@@ -93,7 +93,7 @@ fn once(
     solvers: &mut Vec<Box<dyn LpSolver>>,
     answers: &mut Vec<Answer<Frac>>,
     events: &mut Vec<Event<Frac>>,
-) -> Result<(), StopOrMemory<Frac>>
+) -> Result<(), ExecStopOrMemory<Frac>>
     requires no_loop { IsOnce s.now.act }
     requires few { length solvers.old.items < 2 ^ 32 }
     requires decimals { store.old.settings.decimals ≤ 8 }
@@ -136,7 +136,7 @@ fn without_solving<F: ExactField>(
     b: &Binding,
     solvers: &[Box<dyn LpSolver>],
     events: &mut Vec<Event<F>>,
-) -> Result<(), StopOrMemory<F>>
+) -> Result<(), ExecStopOrMemory<F>>
     requires no_loop { IsOnce s.now.act }
     requires no_solve { AsksNoSolver s.now.act }
     requires few { length solvers.now < 2 ^ 32 }
@@ -182,7 +182,7 @@ fn assign<F: ExactField>(
     right: &Right<F>,
     at: Place,
     b: &Binding,
-) -> Result<(), StopOrMemory<F>>
+) -> Result<(), ExecStopOrMemory<F>>
     ensures { (e : Expr F) → right.now ≡ Value e → Assigns F.value result store.old store.new
         (after_assignment F.value F.limit store.old at b.now (target_of target.now) (option_map tree_of (option_copied condition.entry)) right_at (tree_of e)) }
 {
@@ -217,7 +217,7 @@ fn show<F: ExactField>(
     at: Place,
     b: &Binding,
     events: &mut Vec<Event<F>>,
-) -> Result<(), StopOrMemory<F>>
+) -> Result<(), ExecStopOrMemory<F>>
     requires decimals { store.now.settings.decimals ≤ 8 }
     ensures runs { (answers : List (Answer F)) → Runs F.value result (display F.value F.limit labels items.now at b.now)
         (record { state = store.now; events = events.old.items; answers = answers })
@@ -242,7 +242,7 @@ fn abort<F: ExactField>(
     at: Place,
     b: &Binding,
     events: &mut Vec<Event<F>>,
-) -> Result<(), StopOrMemory<F>>
+) -> Result<(), ExecStopOrMemory<F>>
     requires decimals { store.now.settings.decimals ≤ 8 }
     ensures runs { (answers : List (Answer F)) → Runs F.value result (abort F.value F.limit labels items.now at b.now)
         (record { state = store.now; events = events.old.items; answers = answers })
@@ -268,7 +268,7 @@ fn abort_where<F: ExactField>(
     at: Place,
     b: &Binding,
     events: &mut Vec<Event<F>>,
-) -> Result<(), StopOrMemory<F>>
+) -> Result<(), ExecStopOrMemory<F>>
     requires decimals { store.now.settings.decimals ≤ 8 }
     ensures runs { (answers : List (Answer F)) → Runs F.value result (abort_where F.value F.limit labels (option_map tree_of (option_copied condition.entry)) items.now at b.now)
         (record { state = store.now; events = events.old.items; answers = answers })
@@ -292,9 +292,9 @@ pub(crate) fn stopped<F: ExactField>(
     kind: StopKind,
     at: Place,
     b: &Binding,
-) -> StopOrMemory<F>
+) -> ExecStopOrMemory<F>
     ensures { Shows F.value result (faulted kind at b.now nothing nothing) }
 {
     let zero = Ext::Number(F::zero());
-    StopOrMemory::at_step(alloc, kind, at, zero, zero, b)
+    ExecStopOrMemory::at_step(alloc, kind, at, zero, zero, b)
 }

@@ -15,7 +15,7 @@ pub enum SyntaxError {
     /// An unexpected token: the tokens before it begin a part, and with it they begin none.
     #[error("unexpected token")]
     Expected,
-    /// A parenthesis that opens while 100 are open.
+    /// A parenthesis that opens where 100 are open.
     #[error("over 100 open parentheses")]
     Depth,
     /// A number out of range.
@@ -63,7 +63,7 @@ impl SyntaxError {
 pub struct SyntaxFault {
     /// The error.
     pub error: SyntaxError,
-    /// The place of the token.
+    /// Where the token is.
     pub at: Place,
 }
 

@@ -17,14 +17,14 @@ pub(crate) enum Inner {
     Condition,
 }
 
-/// The readers of the parts of expressions at one level of parentheses.
+/// What reads the parts of expressions at the same parentheses.
 #[derive(Clone, Copy)]
 pub(crate) struct Grammar<'s, F, N> {
     /// The tokens, and how many parentheses are open.
     pub(crate) reader: Reader<'s>,
-    /// The reader inside further parentheses.
+    /// What reads inside further parentheses.
     pub(crate) nested: N,
-    /// The numbers of the trees.
+    /// The numbers that the trees hold.
     pub(crate) field: PhantomData<F>,
 }
 

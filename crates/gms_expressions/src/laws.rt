@@ -1,7 +1,7 @@
-//! Laws of the definitions in the clauses of the calls.
+//! Laws of what the clauses of the calls speak of.
 ghost use Rattle.gms_expressions.specs.Valuations.{IsValuation, number_in};
 
-/// The number read from a text is the one that the text means, if it means one.
+/// The number that is read off a text is the one that the text means, where it means one.
 pub fn valuation_laws()
     ensures { IsValuation number_in }
 {}

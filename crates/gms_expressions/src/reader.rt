@@ -33,7 +33,7 @@ pub(crate) struct Tables {
     pub(crate) labels: Labels,
 }
 
-/// The tokens of a source, to be read at places.
+/// The tokens of a source, to be read at places in them.
 #[derive(Clone, Copy)]
 pub(crate) struct Reader<'s> {
     pub(crate) alloc: Global,
@@ -41,7 +41,7 @@ pub(crate) struct Reader<'s> {
     pub(crate) source: &'s [u8],
     /// The tokens.
     pub(crate) tokens: &'s [Token],
-    /// The end of the source.
+    /// Where the source ends.
     pub(crate) end: Place,
     /// How many parentheses are open.
     pub(crate) unclosed: u32,
@@ -64,7 +64,7 @@ impl<'s> Reader<'s> {
         self.tokens.get(at).copied()
     }
 
-    /// The kind of the next token, or the end.
+    /// What the next token is, or the end.
     pub(crate) fn next(&self, at: usize) -> Terminal
         requires { IsReady self.now }
         ensures { result ≡ kind_of (seen_from self.now at) }

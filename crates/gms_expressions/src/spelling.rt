@@ -32,7 +32,7 @@ pub fn suffix_of(word: &[u8]) -> Suffix
     }
 }
 
-/// The fold that a word names.
+/// The way of joining that a word is.
 #[tactic(auto, unfolding(crate::specs::ExpressionTrees::fold_op_of))]
 pub(crate) fn fold_op_of(word: &[u8]) -> FoldOp
     ensures { result ≡ fold_op_of word.now }
@@ -48,7 +48,7 @@ pub(crate) fn fold_op_of(word: &[u8]) -> FoldOp
     }
 }
 
-/// The function that a word names.
+/// The function that a word is.
 #[tactic(auto, unfolding(crate::specs::ExpressionTrees::function_of))]
 pub(crate) fn function_of(word: &[u8]) -> Function
     ensures { result ≡ function_of word.now }
@@ -80,7 +80,7 @@ pub(crate) fn function_of(word: &[u8]) -> Function
     }
 }
 
-/// The relation that a word names.
+/// The relation that a word is.
 #[tactic(auto, unfolding(crate::specs::ExpressionTrees::relation_of_word))]
 fn relation_of_word(word: &[u8]) -> RelOp
     ensures { result ≡ relation_of_word word.now }
@@ -100,7 +100,7 @@ fn relation_of_word(word: &[u8]) -> RelOp
     }
 }
 
-/// The relation that a token denotes.
+/// The relation that a token is.
 pub(crate) fn relation_of(kind: Kind, text: &[u8]) -> RelOp
     ensures { result ≡ relation_of kind text.now }
 {

@@ -1,4 +1,4 @@
-//! The kind of a token for the grammar.
+//! What a token is to the grammar.
 ghost use Rattle.std.specs.Prelude.{◌≡◌, ◌≤◌, length};
 ghost use Rattle.gms_grammar.specs.Keywords.{kind_among};
 ghost use Rattle.gms_expressions.specs.Words.{expression_words, other_words, terminal_of_word, terminal_of_symbol, terminal_of_text, terminal_of};
@@ -9,7 +9,7 @@ use gms_lex::Token;
 use gms_lexemes::{Kind, Sym};
 use gms_lines::is_among;
 
-/// The greatest number of bytes of a quoted label with its marks.
+/// How many bytes a quoted label has at most, with its marks.
 const MOST_QUOTED_BYTES: usize = 65;
 
 const SUFFIX_WORDS: [&str; 7] = ["lo", "up", "l", "m", "fx", "modelstat", "solvestat"];
@@ -35,7 +35,7 @@ const NOT_IN_PROFILE_WORDS: [&str; 8] = [
     "if", "while", "for", "put", "file", "acronym", "eps", "undf",
 ];
 
-/// The kind of a word among the words of expressions.
+/// What a word is among the words of expressions.
 fn expression_word(word: &[u8]) -> Option<Terminal>
     ensures { result ≡ kind_among word.now expression_words }
 {
@@ -66,7 +66,7 @@ fn expression_word(word: &[u8]) -> Option<Terminal>
     }
 }
 
-/// The kind of a word among the words of other parts, and those that the language leaves out.
+/// What a word is among the words of other parts, and those that the language leaves out.
 fn other_word(word: &[u8]) -> Option<Terminal>
     ensures { result ≡ kind_among word.now other_words }
 {
@@ -85,7 +85,7 @@ fn other_word(word: &[u8]) -> Option<Terminal>
     }
 }
 
-/// The kind of a word.
+/// What a word is.
 #[tactic(auto, unfolding(crate::specs::Words::terminal_of_word))]
 fn terminal_of_word(word: &[u8]) -> Terminal
     ensures { result ≡ terminal_of_word word.now }
@@ -99,7 +99,7 @@ fn terminal_of_word(word: &[u8]) -> Terminal
     other_word(word).unwrap_or(Terminal::Name)
 }
 
-/// The kind of a symbol.
+/// What a symbol is.
 fn terminal_of_symbol(symbol: Sym) -> Terminal
     ensures { result ≡ terminal_of_symbol symbol }
 {
@@ -131,7 +131,7 @@ pub fn bytes_of<'s>(source: &'s [u8], token: &Token) -> &'s [u8]
     &source[token.start as usize..token.end as usize]
 }
 
-/// The kind of a token with these bytes for the grammar.
+/// What a token with these bytes is to the grammar.
 pub fn terminal_of(kind: Kind, text: &[u8]) -> Terminal
     ensures { result ≡ terminal_of kind text.now }
 {

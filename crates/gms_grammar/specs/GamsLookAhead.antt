@@ -321,6 +321,6 @@ front_rank Domain = 0
 front_rank DomainList = 1
 front_rank DomainPosition = 0
 
--- the look-ahead of the grammar: first and follow sets, emptiness, depths and ranks
+-- what one token tells
 abbrev pub look_ahead : LookAhead Terminal Nonterminal
 look_ahead = record { first = λ n. is_among (firsts n); follow = λ n. is_among (follows n); empty = is_empty; depth = least_depth; rank = front_rank }

@@ -1,4 +1,4 @@
-//! Laws of the grammar. In each, `D` is the data of a token besides its kind, such as its place.
+//! Laws of the grammar. In each, `D` is what a token tells beside its kind, as its place.
 ghost use Rattle.std.specs.Prelude.{◌≡◌, ◌↔◌, List, [], ◌++◌};
 ghost use Rattle.gms_grammar.specs.declared.terminal.Terminal.{Terminal};
 ghost use Rattle.gms_grammar.specs.Grammar.{the, Tree, yield, IsTree, Derives, Begins, Stops};
@@ -20,7 +20,7 @@ pub fn derivation_laws<D>()
         Stops productions (the n) tokens front rest → Stops productions (the n) tokens other behind → front ≡ other }
 {}
 
-/// What a predictive reader finds, which decides by one token and never backtracks.
+/// What a reader by the table finds, which goes by one token and takes no step back.
 ///
 /// It finds something in each list of tokens. If that is a tree, it is one of the nonterminal, and
 /// its tokens are the longest prefix that begins something the nonterminal derives. If the reader

@@ -40,7 +40,7 @@ pub enum Terminal {
     /// `lo`, `up`, `l`, `m`, `fx`, `modelstat` or `solvestat`; without a dot before it, it is a
     /// name.
     Suffix,
-    /// A function, such as `abs`, also one that the language leaves out, such as `exp`.
+    /// A function, as `abs`, also one that the language leaves out, as `exp`.
     Function,
     /// `ord` or `card`.
     OrdCard,

@@ -6,8 +6,7 @@ use Rattle.std.proofs.lemmas.List.Elements.{All-head, All-tail}
 use Rattle.gms_tuple.specs.Products.{product}
 use Rattle.gms_tuple.specs.TupleSet.{has}
 use Rattle.gms_store.specs.State.{State}
-use Rattle.gms_eval.specs.Domain.{elements, labels_of}
-use Rattle.gms_eval.specs.InnerLeading.{IsSimple}
+use Rattle.gms_eval.specs.Domain.{elements, labels_of, IsSimple}
 use Rattle.gms_eval.proofs.Ascents.{all_in, has-product}
 use Rattle.gms_eval.proofs.Simple.{has-label}
 use Rattle.gms_joint.specs.Labels.{AreMembers}

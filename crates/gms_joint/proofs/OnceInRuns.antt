@@ -24,7 +24,7 @@ use Rattle.gms_check.specs.StatementUses.{index_list}
 use Rattle.gms_check.proofs.IndexSetsStay.{IsOverOne, index-set-loaded}
 use Rattle.gms_check.proofs.LeftAmounts.{program-left}
 use Rattle.gms_eval.specs.Bindings.{Pairs}
-use Rattle.gms_eval.specs.InnerLeading.{IsSimple}
+use Rattle.gms_eval.specs.Domain.{IsSimple}
 use Rattle.gms_exec.specs.Assignment.{given_by, target_of}
 use Rattle.gms_exec.specs.Given.{AllGiven}
 use Rattle.gms_exec.specs.Once.{is_fixed, AreLeft, IsOnce}

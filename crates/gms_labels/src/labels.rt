@@ -9,13 +9,13 @@ use indexmap::IndexMap;
 use std::alloc::Global;
 use std::marker::Model;
 
-/// The greatest number of labels of a table.
+/// How many labels a table has at most.
 pub const MOST_LABELS: usize = 65_536;
 
-/// The greatest number of bytes of a label.
+/// How many bytes a label has at most.
 pub const MOST_BYTES: usize = 63;
 
-/// A search among at most this many labels compares texts, which is faster than a hash.
+/// Up to how many labels a search compares texts, which takes less than a hash then.
 const FEW: u32 = 16;
 
 /// A table of labels: texts that differ when letter case is ignored, each named by its place, in
@@ -56,7 +56,7 @@ impl Labels {
         }
     }
 
-    /// An empty table with a seed: `source_seed` of a source, if others choose the labels.
+    /// An empty table with a seed: `source_seed` of a source, where others choose the labels.
     pub fn with_seed(alloc: Global, seed: u64) -> Labels
         ensures { result ≡ [] }
     {

@@ -12,10 +12,9 @@ use Rattle.gms_tuple.specs.TupleSet.{has}
 use Rattle.gms_tuple.proofs.Members.{has-filter, IsOrdered-filter}
 use Rattle.gms_store.specs.State.{State, members_of}
 use Rattle.gms_eval.specs.Bindings.{Pairs, controlled}
-use Rattle.gms_eval.specs.Domain.{elements, labels_of, most_elements, sized, those_where, too_large}
+use Rattle.gms_eval.specs.Domain.{elements, labels_of, most_elements, sized, those_where, too_large, IsSimple}
 use Rattle.gms_eval.specs.Faults.{Answer, ◌and_then◌}
 use Rattle.gms_eval.specs.Holds.{holds}
-use Rattle.gms_eval.specs.InnerLeading.{IsSimple}
 use Rattle.gms_eval.specs.Value.{domain, sets_of}
 use Rattle.gms_eval.proofs.Ascents.{all_in, has-product, all_in-length}
 use Rattle.gms_eval.proofs.Simple.{has-label, elements-ordered}

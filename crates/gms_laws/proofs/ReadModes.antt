@@ -1,7 +1,8 @@
 -- What the rules of modes say of tokens.
-use Rattle.std.proofs.Common.{◌≡◌, ℕ, true, List, take, drop, Option, Some, None, Ok, refl, ap}
+use Rattle.std.proofs.Common.{◌≡◌, ℕ, suc, ◌+◌, ◌-◌, ◌==◌, if◌then◌else◌, true, false, List, take, drop, length, Option, Some, None, Ok, refl, ap, subst, arith}
+use Rattle.std.proofs.Math.Dec.{eqb-suc-zero}
 use Rattle.gms_lexemes.specs.declared.kind.Sym.{Sym}
-use Rattle.gms_lexemes.specs.declared.kind.Sym.TheVariants.{Slash}
+use Rattle.gms_lexemes.specs.declared.kind.Sym.TheVariants.{EqE, EqL, EqG, EqN, Power, DotDot, LessEq, GreaterEq, NotEq, PlusPlus, MinusMinus, Plus, Minus, Star, Slash, Equals, Less, Greater, LeftParen, RightParen, Comma, Semicolon, Dot, Dollar}
 use Rattle.gms_lexemes.specs.declared.kind.Kind.TheVariants.{Word, Label, Number, Text, Symbol, Break, TableLine, End}
 use Rattle.gms_lexemes.specs.declared.lexeme.Lexeme.{Lexeme}
 use Rattle.gms_lexemes.specs.declared.lexeme.Piece.{Piece}
@@ -11,15 +12,16 @@ use Rattle.gms_lex.specs.declared.keyword.Shape.TheVariants.{Set, Parameter, Sca
 use Rattle.gms_lex.specs.declared.keyword.Keyword.{Keyword}
 use Rattle.gms_lex.specs.declared.keyword.Keyword.TheVariants.{Declarer, Table}
 use Rattle.gms_lex.specs.declared.mode.Stage.{Stage}
-use Rattle.gms_lex.specs.declared.mode.Stage.TheVariants.{Due, After, Spaced}
+use Rattle.gms_lex.specs.declared.mode.Stage.TheVariants.{Fresh, Due, After, Spaced}
 use Rattle.gms_lex.specs.declared.mode.Mode.{Mode}
-use Rattle.gms_lex.specs.declared.mode.Mode.TheVariants.{Code, Item, Named, Rest, Element, TableName}
-use Rattle.gms_lex.specs.Keywords.{keyword_of}
-use Rattle.gms_lex.specs.Longest.{IsCode, IsElement, IsListed, has_text}
-use Rattle.gms_lex.specs.Modes.{begun_by, list_start, mode_after}
-use Rattle.gms_lex.specs.Pieces.{piece_at}
+use Rattle.gms_lex.specs.declared.mode.Mode.TheVariants.{Code, Item, Named, Domain, Rest, Element, TableName, TableNamed, TableDomain, TableTexted, TableLines}
+use Rattle.gms_lex.specs.declared.mode.LineEnds.TheVariants.{Skipped, EndElement}
+use Rattle.gms_lex.specs.Keywords.{keyword_of, begins_statement}
+use Rattle.gms_lex.specs.Longest.{IsCode, IsElement, IsListed, IsOfTable, has_text}
+use Rattle.gms_lex.specs.Modes.{begun_by, list_start, after_comma, mode_after}
+use Rattle.gms_lex.specs.Pieces.{element_line_ends, line_ends, piece_at}
 use Rattle.gms_lex.proofs.LongestLemmas.{longest}
-use Rattle.gms_laws.specs.Modes.{IsInItem, after_name, after_domain, after_text, IsExpected, element_of_set, element_of_parameter, value_of_scalar, name_of_model, IsAfterElement, after_label, after_blank, in_tail, IsLabelExpected, at_element, after_mark, IsEnd, comma, line_end, Joins, dot, dots, star, stars, IsLabelOrSymbol, a_label, a_symbol}
+use Rattle.gms_laws.specs.Modes.{IsInItem, after_name, after_domain, after_text, IsExpected, element_of_set, element_of_parameter, value_of_scalar, name_of_model, IsAfterElement, after_label, after_blank, in_tail, IsLabelExpected, at_element, after_mark, IsEnd, comma, line_end, Joins, dot, dots, star, stars, IsLabelOrSymbol, a_label, a_symbol, HasDomain, of_item, of_table, IsInParentheses, in_item_domain, in_table_domain, in_list, EndsDomain, parenthesis, semicolon, IsBeforeText, table_named, table_bare, IsBeforeLines, without_text, with_text}
 
 pub declaration : (text : List ℕ) (shape : Shape) → keyword_of text ≡ Some (Declarer shape) → mode_after Code (Token Word) text ≡ Item shape
 declaration text shape is = ap (λ (k : Option Keyword). begun_by k Code) is
@@ -104,3 +106,162 @@ never_numbers shape depth stage text next expected is number =
 
 pub value : (text : List ℕ) (next : Lexeme) → piece_at (Element Parameter 0 Spaced) text ≡ Ok next → has_text next.piece ≡ true → IsCode Label next.piece (take next.length text) (drop next.length text)
 value text next is has = (longest (Element Parameter 0 Spaced) text next is has).allowed
+
+-- ---- domains, parentheses and tables
+
+pub domain : (named inside after : Mode) (text : List ℕ) → HasDomain named inside after → mode_after named (Token (Symbol LeftParen)) text ≡ inside
+domain named inside after text (of_item s) = refl
+domain named inside after text of_table = refl
+
+pub domain_end : (named inside after : Mode) (text : List ℕ) → HasDomain named inside after → mode_after inside (Token (Symbol RightParen)) text ≡ after
+domain_end named inside after text (of_item s) = refl
+domain_end named inside after text of_table = refl
+
+-- each symbol but `)` and `;` leaves a domain as it is
+item_symbol : (shape : Shape) (symbol : Sym) (text : List ℕ) → ¬ (EndsDomain (Token (Symbol symbol))) → mode_after (Domain shape) (Token (Symbol symbol)) text ≡ Domain shape
+item_symbol shape EqE text other = refl
+item_symbol shape EqL text other = refl
+item_symbol shape EqG text other = refl
+item_symbol shape EqN text other = refl
+item_symbol shape Power text other = refl
+item_symbol shape DotDot text other = refl
+item_symbol shape LessEq text other = refl
+item_symbol shape GreaterEq text other = refl
+item_symbol shape NotEq text other = refl
+item_symbol shape PlusPlus text other = refl
+item_symbol shape MinusMinus text other = refl
+item_symbol shape Plus text other = refl
+item_symbol shape Minus text other = refl
+item_symbol shape Star text other = refl
+item_symbol shape Slash text other = refl
+item_symbol shape Equals text other = refl
+item_symbol shape Less text other = refl
+item_symbol shape Greater text other = refl
+item_symbol shape LeftParen text other = refl
+item_symbol shape RightParen text other = absurd (other parenthesis)
+item_symbol shape Comma text other = refl
+item_symbol shape Semicolon text other = absurd (other semicolon)
+item_symbol shape Dot text other = refl
+item_symbol shape Dollar text other = refl
+
+table_symbol : (symbol : Sym) (text : List ℕ) → ¬ (EndsDomain (Token (Symbol symbol))) → mode_after TableDomain (Token (Symbol symbol)) text ≡ TableDomain
+table_symbol EqE text other = refl
+table_symbol EqL text other = refl
+table_symbol EqG text other = refl
+table_symbol EqN text other = refl
+table_symbol Power text other = refl
+table_symbol DotDot text other = refl
+table_symbol LessEq text other = refl
+table_symbol GreaterEq text other = refl
+table_symbol NotEq text other = refl
+table_symbol PlusPlus text other = refl
+table_symbol MinusMinus text other = refl
+table_symbol Plus text other = refl
+table_symbol Minus text other = refl
+table_symbol Star text other = refl
+table_symbol Slash text other = refl
+table_symbol Equals text other = refl
+table_symbol Less text other = refl
+table_symbol Greater text other = refl
+table_symbol LeftParen text other = refl
+table_symbol RightParen text other = absurd (other parenthesis)
+table_symbol Comma text other = refl
+table_symbol Semicolon text other = absurd (other semicolon)
+table_symbol Dot text other = refl
+table_symbol Dollar text other = refl
+
+pub in_domain : (named inside after : Mode) (piece : Piece) (text : List ℕ) → HasDomain named inside after → ¬ (EndsDomain piece) → mode_after inside piece text ≡ inside
+in_domain named inside after (Token (Symbol symbol)) text (of_item s) other = item_symbol s symbol text other
+in_domain named inside after (Token (Symbol symbol)) text of_table other = table_symbol symbol text other
+in_domain named inside after (Token Word) text (of_item s) other = refl
+in_domain named inside after (Token Word) text of_table other = refl
+in_domain named inside after (Token Label) text (of_item s) other = refl
+in_domain named inside after (Token Label) text of_table other = refl
+in_domain named inside after (Token Number) text (of_item s) other = refl
+in_domain named inside after (Token Number) text of_table other = refl
+in_domain named inside after (Token Text) text (of_item s) other = refl
+in_domain named inside after (Token Text) text of_table other = refl
+in_domain named inside after (Token Break) text (of_item s) other = refl
+in_domain named inside after (Token Break) text of_table other = refl
+in_domain named inside after (Token TableLine) text (of_item s) other = refl
+in_domain named inside after (Token TableLine) text of_table other = refl
+in_domain named inside after (Token End) text (of_item s) other = refl
+in_domain named inside after (Token End) text of_table other = refl
+in_domain named inside after Gap text (of_item s) other = refl
+in_domain named inside after Gap text of_table other = refl
+in_domain named inside after LineEnd text (of_item s) other = refl
+in_domain named inside after LineEnd text of_table other = refl
+in_domain named inside after Remark text (of_item s) other = refl
+in_domain named inside after Remark text of_table other = refl
+
+pub opened : (shape : Shape) (depth : ℕ) (stage : Stage) (text : List ℕ) → IsLabelExpected stage → mode_after (Element shape depth stage) (Token (Symbol LeftParen)) text ≡ Element shape (depth + 1) Due
+opened shape depth stage text at_element = refl
+opened shape depth stage text after_mark = refl
+
+one_less : (depth : ℕ) → suc depth - 1 ≡ depth
+one_less depth = omega arith
+
+one_out : (shape : Shape) (depth : ℕ) → Element shape (suc depth - 1) After ≡ Element shape depth After
+one_out shape depth = ap (λ n. Element shape n After) (one_less depth)
+
+pub closed : (shape : Shape) (depth : ℕ) (stage : Stage) (text : List ℕ) → mode_after (Element shape (suc depth) stage) (Token (Symbol RightParen)) text ≡ Element shape depth After
+closed shape depth Fresh text = one_out shape depth
+closed shape depth Due text = one_out shape depth
+closed shape depth After text = one_out shape depth
+closed shape depth Spaced text = one_out shape depth
+
+-- within parentheses there are some
+some_within : (depth : ℕ) → (suc depth == 0) ≡ false
+some_within depth = eqb-suc-zero depth
+
+still_within : (shape : Shape) (depth : ℕ) → after_comma shape (suc depth) ≡ Element shape (suc depth) Due
+still_within shape depth = ap (λ b. if b then list_start shape else Element shape (suc depth) Due) (some_within depth)
+
+line_within : (depth : ℕ) → element_line_ends (suc depth) ≡ Skipped
+line_within depth = ap (λ b. if b then EndElement else Skipped) (some_within depth)
+
+pub next_label : (shape : Shape) (depth : ℕ) (stage : Stage) (text : List ℕ) → mode_after (Element shape (suc depth) stage) (Token (Symbol Comma)) text ≡ Element shape (suc depth) Due
+next_label shape depth Fresh text = still_within shape depth
+next_label shape depth Due text = still_within shape depth
+next_label shape depth After text = still_within shape depth
+next_label shape depth Spaced text = still_within shape depth
+
+enclosed : (shape : Shape) (depth : ℕ) (stage : Stage) (piece : Piece) (text behind : List ℕ) → IsListed shape (suc depth) stage piece text behind → IsLabelOrSymbol piece
+enclosed shape depth Fresh piece text behind is = of_element piece text is
+enclosed shape depth Due piece text behind is = of_element piece text is
+enclosed shape depth After piece text behind is = of_element piece text is
+enclosed shape depth Spaced piece text behind is = of_element piece text is
+
+pub enclosed_labels : (shape : Shape) (depth : ℕ) (stage : Stage) (text : List ℕ) (next : Lexeme) → piece_at (Element shape (suc depth) stage) text ≡ Ok next → has_text next.piece ≡ true → IsLabelOrSymbol next.piece
+enclosed_labels shape depth stage text next is has =
+    enclosed shape depth stage next.piece (take next.length text) (drop next.length text) (longest (Element shape (suc depth) stage) text next is has).allowed
+
+pub lines : (mode : Mode) → IsInParentheses mode → line_ends mode ≡ Skipped
+lines current (in_item_domain shape) = refl
+lines current in_table_domain = refl
+lines current (in_list shape depth Fresh) = refl
+lines current (in_list shape depth Due) = line_within depth
+lines current (in_list shape depth After) = line_within depth
+lines current (in_list shape depth Spaced) = line_within depth
+
+pub table_name : (text : List ℕ) → keyword_of text ≡ None → mode_after TableName (Token Word) text ≡ TableNamed
+table_name text none = ap (λ (k : Option Keyword). begun_by k TableNamed) none
+
+pub table_text : (mode : Mode) (text : List ℕ) → IsBeforeText mode → mode_after mode Remark text ≡ TableTexted
+table_text current text table_named = refl
+table_text current text table_bare = refl
+
+pub table_lines : (mode : Mode) (text : List ℕ) → IsBeforeLines mode → mode_after mode LineEnd text ≡ TableLines
+table_lines current text (without_text m table_named) = refl
+table_lines current text (without_text m table_bare) = refl
+table_lines current text with_text = refl
+
+pub table_end : (text : List ℕ) (shape : Shape) → keyword_of text ≡ Some (Declarer shape) → mode_after TableLines (Token Word) text ≡ Item shape
+table_end text shape is = ap (λ (k : Option Keyword). begun_by k Code) is
+
+no_statement : (text : List ℕ) (piece : Piece) (n : ℕ) → piece ≡ Token TableLine → IsOfTable text piece n → begins_statement text ≡ false
+no_statement text piece n is of_table_line = (subst (λ p. IsOfTable text p n) is of_table_line).0
+
+pub never_statements : (text : List ℕ) (next : Lexeme) → piece_at TableLines text ≡ Ok next → next.piece ≡ Token TableLine → begins_statement text ≡ false
+never_statements text next found is =
+    no_statement text next.piece next.length is (longest TableLines text next found (ap has_text is)).allowed

@@ -1,7 +1,8 @@
 -- Where in a statement tokens are, and which tokens end an item or an element (GAMS User's Guide,
 -- "GAMS Programs", data declarations and lists).
+use Rattle.std.specs.Prelude.{ℕ, suc}
 use Rattle.gms_lexemes.specs.declared.kind.Sym.{Sym}
-use Rattle.gms_lexemes.specs.declared.kind.Sym.TheVariants.{Comma, Dot, DotDot, Star, Power}
+use Rattle.gms_lexemes.specs.declared.kind.Sym.TheVariants.{RightParen, Comma, Semicolon, Dot, DotDot, Star, Power}
 use Rattle.gms_lexemes.specs.declared.kind.Kind.TheVariants.{Label, Symbol, Break}
 use Rattle.gms_lexemes.specs.declared.lexeme.Piece.{Piece}
 use Rattle.gms_lexemes.specs.declared.lexeme.Piece.TheVariants.{Token}
@@ -10,7 +11,7 @@ use Rattle.gms_lex.specs.declared.keyword.Shape.TheVariants.{Set, Parameter, Sca
 use Rattle.gms_lex.specs.declared.mode.Stage.{Stage}
 use Rattle.gms_lex.specs.declared.mode.Stage.TheVariants.{Fresh, Due, After, Spaced}
 use Rattle.gms_lex.specs.declared.mode.Mode.{Mode}
-use Rattle.gms_lex.specs.declared.mode.Mode.TheVariants.{Named, Bare, Rest, Element, Value, Tail}
+use Rattle.gms_lex.specs.declared.mode.Mode.TheVariants.{Named, Domain, Bare, Rest, Element, Value, Tail, TableNamed, TableDomain, TableBare, TableTexted}
 
 -- in an item of a declaration: after its name, its domain, its text or its list
 pub data IsInItem : Shape → Mode → Type 0 where
@@ -52,3 +53,29 @@ pub data Joins : Sym → Type 0 where
 pub data IsLabelOrSymbol : Piece → Type 0 where
   a_label : IsLabelOrSymbol (Token Label)
   a_symbol : (symbol : Sym) → IsLabelOrSymbol (Token (Symbol symbol))
+
+-- after a name that may have a domain, within that domain, and after it
+pub data HasDomain : Mode → Mode → Mode → Type 0 where
+  of_item : (shape : Shape) → HasDomain (Named shape) (Domain shape) (Bare shape)
+  of_table : HasDomain TableNamed TableDomain TableBare
+
+-- within a domain, or within parentheses of a list
+pub data IsInParentheses : Mode → Type 0 where
+  in_item_domain : (shape : Shape) → IsInParentheses (Domain shape)
+  in_table_domain : IsInParentheses TableDomain
+  in_list : (shape : Shape) (depth : ℕ) (stage : Stage) → IsInParentheses (Element shape (suc depth) stage)
+
+-- a token that ends a domain: `)`, and `;`, which ends every statement
+pub data EndsDomain : Piece → Type 0 where
+  parenthesis : EndsDomain (Token (Symbol RightParen))
+  semicolon : EndsDomain (Token (Symbol Semicolon))
+
+-- after a table's name or its domain, where its text may be
+pub data IsBeforeText : Mode → Type 0 where
+  table_named : IsBeforeText TableNamed
+  table_bare : IsBeforeText TableBare
+
+-- after a table's name, its domain or its text, where its lines may begin
+pub data IsBeforeLines : Mode → Type 0 where
+  without_text : (mode : Mode) → IsBeforeText mode → IsBeforeLines mode
+  with_text : IsBeforeLines TableTexted

@@ -6,7 +6,7 @@ ghost use Rattle.gms_tuple.specs.TupleOrder.{IsOrdered};
 ghost use Rattle.gms_tuple.specs.TupleSet.{has};
 ghost use Rattle.gms_store.specs.State.{State};
 ghost use Rattle.gms_eval.specs.Bindings.{Pairs};
-ghost use Rattle.gms_eval.specs.InnerLeading.{IsSimple};
+ghost use Rattle.gms_eval.specs.Domain.{IsSimple};
 ghost use Rattle.gms_eval.specs.Value.{domain, sets_of};
 ghost use Rattle.gms_laws.specs.Domains.{HasItsMembers, IsWhereItHolds};
 

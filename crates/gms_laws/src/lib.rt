@@ -7,6 +7,6 @@ mod parts;
 mod tables;
 
 pub use domains::domain_laws;
-pub use modes::mode_laws;
+pub use modes::{mode_laws, place_laws};
 pub use parts::part_laws;
 pub use tables::table_laws;

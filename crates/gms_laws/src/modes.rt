@@ -1,23 +1,24 @@
 //! Laws of modes: which tokens are read where.
-ghost use Rattle.std.specs.Prelude.{◌≡◌, ℕ, true, List, Ok, Some, None, take, drop};
+ghost use Rattle.std.specs.Prelude.{◌≡◌, ℕ, suc, ◌+◌, true, false, List, Ok, Some, None, take, drop};
 ghost use Rattle.gms_lexemes.specs.declared.kind.Sym.{Sym};
-ghost use Rattle.gms_lexemes.specs.declared.kind.Sym.TheVariants.{Semicolon, Slash};
-ghost use Rattle.gms_lexemes.specs.declared.kind.Kind.TheVariants.{Word, Label, Number, Symbol};
+ghost use Rattle.gms_lexemes.specs.declared.kind.Sym.TheVariants.{LeftParen, RightParen, Comma, Semicolon, Slash};
+ghost use Rattle.gms_lexemes.specs.declared.kind.Kind.TheVariants.{Word, Label, Number, Symbol, TableLine};
 ghost use Rattle.gms_lexemes.specs.declared.lexeme.Lexeme.{Lexeme};
 ghost use Rattle.gms_lexemes.specs.declared.lexeme.Piece.{Piece};
-ghost use Rattle.gms_lexemes.specs.declared.lexeme.Piece.TheVariants.{Token};
+ghost use Rattle.gms_lexemes.specs.declared.lexeme.Piece.TheVariants.{LineEnd, Remark, Token};
 ghost use Rattle.gms_lex.specs.declared.keyword.Shape.{Shape};
 ghost use Rattle.gms_lex.specs.declared.keyword.Shape.TheVariants.{Parameter};
 ghost use Rattle.gms_lex.specs.declared.keyword.Keyword.TheVariants.{Declarer, Table};
 ghost use Rattle.gms_lex.specs.declared.mode.Stage.{Stage};
 ghost use Rattle.gms_lex.specs.declared.mode.Stage.TheVariants.{Due, After, Spaced};
 ghost use Rattle.gms_lex.specs.declared.mode.Mode.{Mode};
-ghost use Rattle.gms_lex.specs.declared.mode.Mode.TheVariants.{Code, Item, Named, Rest, Element, Tail, TableName};
-ghost use Rattle.gms_lex.specs.Keywords.{keyword_of};
+ghost use Rattle.gms_lex.specs.declared.mode.Mode.TheVariants.{Code, Item, Named, Rest, Element, Tail, TableName, TableNamed, TableTexted, TableLines};
+ghost use Rattle.gms_lex.specs.declared.mode.LineEnds.TheVariants.{Skipped};
+ghost use Rattle.gms_lex.specs.Keywords.{keyword_of, begins_statement};
 ghost use Rattle.gms_lex.specs.Longest.{IsCode, has_text};
 ghost use Rattle.gms_lex.specs.Modes.{mode_after};
-ghost use Rattle.gms_lex.specs.Pieces.{piece_at};
-ghost use Rattle.gms_laws.specs.Modes.{IsInItem, IsExpected, IsAfterElement, IsLabelExpected, IsEnd, Joins, IsLabelOrSymbol};
+ghost use Rattle.gms_lex.specs.Pieces.{line_ends, piece_at};
+ghost use Rattle.gms_laws.specs.Modes.{IsInItem, IsExpected, IsAfterElement, IsLabelExpected, IsEnd, Joins, IsLabelOrSymbol, HasDomain, IsInParentheses, EndsDomain, IsBeforeText, IsBeforeLines};
 
 /// Where in a statement the next token is, by the tokens before it (GAMS User's Guide, "GAMS
 /// Programs", data declarations and lists).
@@ -58,4 +59,43 @@ pub fn mode_laws()
         piece_at (Element Parameter 0 Spaced) text ≡ Ok next → has_text next.piece ≡ true →
         IsCode Label next.piece (take next.length text) (drop next.length text) }
     ensures number { (text : List ℕ) → mode_after (Element Parameter 0 Spaced) (Token Number) text ≡ Tail Parameter }
+{}
+
+/// Where the next token is in a domain, in parentheses of a list, and in a table (GAMS User's
+/// Guide, "GAMS Programs", data declarations, lists and tables).
+///
+/// A `(` after the name of an item or of a table begins its domain (`domain`), and each token but
+/// `)` and `;` leaves the mode as it is there (`in_domain`), a keyword too; a `)` ends the domain
+/// (`domain_end`). In a list a `(` where a label is expected opens parentheses (`opened`), and a `)`
+/// closes them (`closed`); within them each token is a label or a symbol (`labels`), and after a
+/// comma a label is expected (`comma`). A line end within parentheses ends nothing (`lines`).
+///
+/// A word after `table` is the table's name (`table_name`). A text may follow the name or the
+/// domain (`table_text`), and after a line end the lines of the table begin (`table_lines`). After
+/// a line the next one may follow (`table_line`); no line begins with the keyword of a statement
+/// (`never_statements`), which ends the table (`table_end`).
+pub fn place_laws()
+    ensures domain { (named inside after : Mode) (text : List ℕ) →
+        HasDomain named inside after → mode_after named (Token (Symbol LeftParen)) text ≡ inside }
+    ensures in_domain { (named inside after : Mode) (piece : Piece) (text : List ℕ) →
+        HasDomain named inside after → ¬ (EndsDomain piece) → mode_after inside piece text ≡ inside }
+    ensures domain_end { (named inside after : Mode) (text : List ℕ) →
+        HasDomain named inside after → mode_after inside (Token (Symbol RightParen)) text ≡ after }
+    ensures opened { (shape : Shape) (depth : ℕ) (stage : Stage) (text : List ℕ) →
+        IsLabelExpected stage → mode_after (Element shape depth stage) (Token (Symbol LeftParen)) text ≡ Element shape (depth + 1) Due }
+    ensures closed { (shape : Shape) (depth : ℕ) (stage : Stage) (text : List ℕ) →
+        mode_after (Element shape (suc depth) stage) (Token (Symbol RightParen)) text ≡ Element shape depth After }
+    ensures comma { (shape : Shape) (depth : ℕ) (stage : Stage) (text : List ℕ) →
+        mode_after (Element shape (suc depth) stage) (Token (Symbol Comma)) text ≡ Element shape (suc depth) Due }
+    ensures labels { (shape : Shape) (depth : ℕ) (stage : Stage) (text : List ℕ) (next : Lexeme) →
+        piece_at (Element shape (suc depth) stage) text ≡ Ok next → has_text next.piece ≡ true → IsLabelOrSymbol next.piece }
+    ensures lines { (mode : Mode) → IsInParentheses mode → line_ends mode ≡ Skipped }
+    ensures table_name { (text : List ℕ) → keyword_of text ≡ None → mode_after TableName (Token Word) text ≡ TableNamed }
+    ensures table_text { (mode : Mode) (text : List ℕ) → IsBeforeText mode → mode_after mode Remark text ≡ TableTexted }
+    ensures table_lines { (mode : Mode) (text : List ℕ) → IsBeforeLines mode → mode_after mode LineEnd text ≡ TableLines }
+    ensures table_line { (text : List ℕ) → mode_after TableLines (Token TableLine) text ≡ TableLines }
+    ensures never_statements { (text : List ℕ) (next : Lexeme) →
+        piece_at TableLines text ≡ Ok next → next.piece ≡ Token TableLine → begins_statement text ≡ false }
+    ensures table_end { (text : List ℕ) (shape : Shape) →
+        keyword_of text ≡ Some (Declarer shape) → mode_after TableLines (Token Word) text ≡ Item shape }
 {}

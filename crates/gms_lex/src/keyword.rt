@@ -43,7 +43,7 @@ fn keyword_as(word: Terminal) -> Keyword
     }
 }
 
-/// The statement keyword of a word, letter case ignored.
+/// The statement keyword that a word is, letter case ignored.
 #[tactic(auto, unfolding(crate::specs::Keywords::keyword_of))]
 pub(crate) fn keyword_of(word: &[u8]) -> Option<Keyword>
     ensures { result ≡ keyword_of word.now }

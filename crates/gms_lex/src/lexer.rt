@@ -17,10 +17,10 @@ use std::alloc::{AllocError, Global};
 /// How many bytes a source may have.
 pub const MOST_BYTES: usize = 1_048_576;
 
-/// The tokens that a source begins with, up to an error if there is one.
+/// The tokens that a source begins with, as far as they go.
 #[derive(Drop)]
 struct Reading {
-    /// The tokens, in order, with the end of the source if it was reached.
+    /// The tokens, in order; with the end of the source where it was reached.
     tokens: Vec<Token>,
     /// The error at which they stop.
     fault: Option<ByteFault>,
@@ -50,7 +50,7 @@ fn push_token(
     Ok(())
 }
 
-/// The tokens of a source, whose text without comments and control lines is `text`.
+/// The tokens of a source, of which this is the text without comments and control lines.
 fn read_tokens(alloc: Global, source: &[u8], code: &[u8]) -> Result<Reading, AllocError>
     requires small { length source.now ≤ most_bytes }
     requires as_long { length code.now ≡ length source.now }
@@ -88,7 +88,7 @@ fn read_tokens(alloc: Global, source: &[u8], code: &[u8]) -> Result<Reading, All
     })
 }
 
-/// Whether one fault comes before another, or equals it.
+/// Whether one fault comes before another, or is it.
 fn is_before(f: ByteFault, g: ByteFault) -> bool
     ensures { result ≡ is_before f g }
 {

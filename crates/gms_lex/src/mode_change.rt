@@ -29,7 +29,7 @@ fn begun_by(keyword: Option<Keyword>, mode: Mode) -> Mode
     }
 }
 
-/// The mode after an element, or something in its place.
+/// After an element, or something in its place.
 fn behind_element(shape: Shape, depth: u32) -> Mode
     ensures { result ≡ behind_element shape depth }
 {
@@ -40,7 +40,7 @@ fn behind_element(shape: Shape, depth: u32) -> Mode
     }
 }
 
-/// The mode after a token that is no symbol, no line end and no keyword.
+/// After a token that is no symbol, no line end and no keyword.
 fn after_plain(mode: Mode) -> Mode
     ensures { result ≡ after_plain mode }
 {
@@ -55,7 +55,7 @@ fn after_plain(mode: Mode) -> Mode
     }
 }
 
-/// The mode after a word: a keyword begins a statement, but not within a domain or a list.
+/// After a word: a keyword begins a statement, but not within a domain or a list.
 fn after_word(mode: Mode, word: &[u8]) -> Mode
     ensures { result ≡ after_word mode word.now }
 {
@@ -69,7 +69,7 @@ fn after_word(mode: Mode, word: &[u8]) -> Mode
     begun_by(keyword_of(word), other)
 }
 
-/// The mode after a symbol of an item of a declaration, outside its domain and its list.
+/// After a symbol of an item of a declaration, outside its domain and its list.
 fn after_item_symbol(shape: Shape, symbol: Sym, mode: Mode) -> Mode
     ensures { result ≡ after_item_symbol shape symbol mode }
 {
@@ -80,7 +80,7 @@ fn after_item_symbol(shape: Shape, symbol: Sym, mode: Mode) -> Mode
     }
 }
 
-/// The mode after a comma of a list.
+/// After a comma of a list.
 fn after_comma(shape: Shape, depth: u32) -> Mode
     ensures { result ≡ after_comma shape depth }
 {
@@ -91,7 +91,7 @@ fn after_comma(shape: Shape, depth: u32) -> Mode
     }
 }
 
-/// The mode after a symbol where an element is expected.
+/// After a symbol where an element is expected.
 fn after_due_symbol(shape: Shape, depth: u32, symbol: Sym) -> Mode
     requires { depth + 1 < 2 ^ 32 }
     ensures { result ≡ after_due_symbol shape depth symbol }
@@ -105,7 +105,7 @@ fn after_due_symbol(shape: Shape, depth: u32, symbol: Sym) -> Mode
     }
 }
 
-/// The mode after a symbol that follows an element.
+/// After a symbol that follows an element.
 fn after_element_symbol(shape: Shape, depth: u32, symbol: Sym) -> Mode
     ensures { result ≡ after_element_symbol shape depth symbol }
 {
@@ -118,7 +118,7 @@ fn after_element_symbol(shape: Shape, depth: u32, symbol: Sym) -> Mode
     }
 }
 
-/// The mode after a closing parenthesis where a text or value has begun.
+/// After a closing parenthesis where a text or value has begun.
 fn after_stray_paren(shape: Shape) -> Mode
     ensures { result ≡ after_stray_paren shape }
 {
@@ -128,7 +128,7 @@ fn after_stray_paren(shape: Shape) -> Mode
     }
 }
 
-/// The mode after a symbol where a text or value is expected or has begun.
+/// After a symbol where a text or value is expected or has begun.
 fn after_tail_symbol(shape: Shape, symbol: Sym) -> Mode
     ensures { result ≡ after_tail_symbol shape symbol }
 {
@@ -140,7 +140,7 @@ fn after_tail_symbol(shape: Shape, symbol: Sym) -> Mode
     }
 }
 
-/// The mode after a symbol of an item's name: its domain begins.
+/// After a symbol of an item's name: its domain begins.
 fn after_name_symbol(shape: Shape, symbol: Sym) -> Mode
     ensures { result ≡ after_name_symbol shape symbol }
 {
@@ -150,7 +150,7 @@ fn after_name_symbol(shape: Shape, symbol: Sym) -> Mode
     }
 }
 
-/// The mode after a symbol of a domain: it may end.
+/// After a symbol of a domain: it may end.
 fn after_domain_symbol(symbol: Sym, inside: Mode, behind: Mode) -> Mode
     ensures { result ≡ after_domain_symbol symbol inside behind }
 {
@@ -160,7 +160,7 @@ fn after_domain_symbol(symbol: Sym, inside: Mode, behind: Mode) -> Mode
     }
 }
 
-/// The mode after a symbol of a table's name: its domain begins.
+/// After a symbol of a table's name: its domain begins.
 fn after_table_symbol(symbol: Sym) -> Mode
     ensures { result ≡ after_table_symbol symbol }
 {
@@ -170,7 +170,7 @@ fn after_table_symbol(symbol: Sym) -> Mode
     }
 }
 
-/// The mode after a symbol in a list where an element is expected or has begun.
+/// After a symbol in a list where an element is expected or has begun.
 fn after_list_symbol(shape: Shape, depth: u32, stage: Stage, symbol: Sym) -> Mode
     requires { depth + 1 < 2 ^ 32 }
     ensures { result ≡ after_list_symbol shape depth stage symbol }
@@ -181,7 +181,7 @@ fn after_list_symbol(shape: Shape, depth: u32, stage: Stage, symbol: Sym) -> Mod
     }
 }
 
-/// The mode after any symbol but `;`.
+/// After any symbol but `;`.
 fn after_symbol(mode: Mode, symbol: Sym) -> Mode
     requires { depth_of mode + 1 < 2 ^ 32 }
     ensures { result ≡ after_symbol mode symbol }
@@ -201,7 +201,7 @@ fn after_symbol(mode: Mode, symbol: Sym) -> Mode
     }
 }
 
-/// The mode after a line end that is a token: the next item, or the next element of a list.
+/// After a line end that is a token: the next item, or the next element of a list.
 fn after_break(mode: Mode) -> Mode
     ensures { result ≡ after_break mode }
 {
@@ -212,7 +212,7 @@ fn after_break(mode: Mode) -> Mode
     }
 }
 
-/// The mode after a token; a `;` ends every statement.
+/// After a token; a `;` ends every statement.
 fn after_token(mode: Mode, kind: Kind, text: &[u8]) -> Mode
     requires { depth_of mode + 1 < 2 ^ 32 }
     ensures { result ≡ after_token mode kind text.now }
@@ -227,7 +227,7 @@ fn after_token(mode: Mode, kind: Kind, text: &[u8]) -> Mode
     }
 }
 
-/// The mode after blanks.
+/// After blanks.
 fn after_gap(mode: Mode) -> Mode
     ensures { result ≡ after_gap mode }
 {
@@ -237,7 +237,7 @@ fn after_gap(mode: Mode) -> Mode
     }
 }
 
-/// The mode after line ends that are no token.
+/// After line ends that are no token.
 fn after_line(mode: Mode) -> Mode
     ensures { result ≡ after_line mode }
 {
@@ -247,7 +247,7 @@ fn after_line(mode: Mode) -> Mode
     }
 }
 
-/// The mode after a descriptive text.
+/// After a descriptive text.
 fn after_remark(mode: Mode) -> Mode
     ensures { result ≡ after_remark mode }
 {

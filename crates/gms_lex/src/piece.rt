@@ -71,7 +71,7 @@ fn goes_on(ends: LineEnds, text: &[u8]) -> bool
     }
 }
 
-/// A line end with which a text begins: a token if it ends an item or an element.
+/// A line end with which a text begins: a token where it ends an item or an element.
 fn line_end(ends: LineEnds, text: &[u8]) -> Result<Lexeme, Misread>
     ensures { result ≡ line_end ends text.now }
 {

@@ -6,7 +6,7 @@ ghost use Rattle.gms_lex.specs.Tokens.{most_bytes};
 use gms_labels::Place;
 use gms_lexemes::column_after;
 
-/// The place where a source begins.
+/// Where a source begins.
 pub(crate) const SOURCE_START: Place = Place { line: 1, column: 1 };
 
 /// The place after a byte; a tab goes to the next column that is one more than a multiple of 8.

@@ -5,10 +5,10 @@ ghost use Rattle.gms_lex.specs.TokenTexts.{unquoted};
 use gms_labels::Place;
 use gms_lexemes::Kind;
 
-/// A token: its kind, the bytes of the source that it takes, and its place.
+/// A token: what it is, which bytes of the source it takes, and its place.
 #[derive(Clone, Copy)]
 pub struct Token {
-    /// Its kind.
+    /// What it is.
     pub kind: Kind,
     /// How many bytes of the source precede it.
     pub start: u32,

@@ -1,4 +1,4 @@
-//! The kinds of tokens.
+//! What tokens are.
 ghost use Rattle.std.specs.Prelude.{◌≡◌};
 ghost use Rattle.gms_lexemes.specs.Symbols.{written};
 
@@ -89,7 +89,7 @@ impl Sym {
     }
 }
 
-/// The kind of a token.
+/// What a token is.
 #[derive(Clone, Copy)]
 pub enum Kind {
     /// A name or a keyword: a letter, then letters, digits and `_`.

@@ -18,7 +18,7 @@ pub enum Piece {
 /// The piece at the start of a text, and how many bytes it takes.
 #[derive(Clone, Copy)]
 pub struct Lexeme {
-    /// Its kind.
+    /// What it is.
     pub piece: Piece,
     /// How many bytes it takes.
     pub length: usize,

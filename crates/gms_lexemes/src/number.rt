@@ -76,7 +76,7 @@ fn decimal_length(text: &[u8]) -> usize
     whole + point_length(&text[whole..])
 }
 
-/// How many bytes the number at the start of a text takes.
+/// How many bytes the number takes with which a text begins.
 pub(crate) fn number_length(text: &[u8]) -> usize
     ensures value { result ≡ number_length text.now }
     ensures within { result ≤ length text.now }

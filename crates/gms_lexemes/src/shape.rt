@@ -1,4 +1,4 @@
-//! The tokens and texts with which a text can begin, each the longest.
+//! What tokens and texts a text can begin with, each the longest.
 ghost use Rattle.std.specs.Prelude.{◌≡◌, ◌≤◌, ◌<◌, ◌+◌, ◌^◌, length};
 ghost use Rattle.std.specs.List.{prefix_len};
 ghost use Rattle.std.specs.Char.{is_ascii_alphabetic, is_ascii_alphanumeric};
@@ -22,7 +22,7 @@ fn is_name_byte(byte: u8) -> bool
     byte.is_ascii_alphanumeric() || byte == b'_'
 }
 
-/// How many bytes the name at the start of a text takes.
+/// How many bytes the name takes with which a text begins.
 fn name_length(text: &[u8]) -> usize
     ensures { result ≡ prefix_len is_name_byte text.now }
 {
@@ -102,7 +102,7 @@ fn bounded(kind: Kind, length: usize) -> Result<Lexeme, Misread>
     })
 }
 
-/// The longest symbol with which a text begins. `BadByte` if it begins with none.
+/// The longest symbol with which a text begins. `BadByte` comes where it begins with none.
 pub fn read_symbol(text: &[u8]) -> Result<Lexeme, Misread>
     ensures { result ≡ symbol text.now }
 {
@@ -128,7 +128,7 @@ fn quoted_length(mark: u8, text: &[u8]) -> usize
         .count()
 }
 
-/// Whether the mark occurs again on its line.
+/// Whether the mark comes again on its line.
 fn is_closed(mark: u8, text: &[u8]) -> bool
     ensures { result ≡ is_closed mark text.now }
 {

@@ -7,7 +7,7 @@ ghost use Rattle.gms_lexemes.specs.Stretches.{is_separator, behind, parts, stret
 
 use gms_lines::is_blank;
 
-/// What splits a text.
+/// What parts a text.
 #[derive(Clone, Copy)]
 pub enum Separator {
     /// A semicolon, after a table.
@@ -18,14 +18,14 @@ pub enum Separator {
     Dot,
 }
 
-/// The state before a byte of a text: what the byte may be.
+/// What a byte of a text may be.
 #[derive(Clone, Copy)]
 enum Stand {
-    /// The first byte of a label.
+    /// The first of a label.
     First,
-    /// A byte of a label in quotation marks, which the next of these marks ends.
+    /// One of a label in quotation marks, which the next of these marks ends.
     Marked(u8),
-    /// Any other byte.
+    /// Any other.
     Inner,
 }
 
@@ -52,7 +52,7 @@ impl Separator {
     }
 }
 
-/// Whether a byte is a quotation mark that occurs again in the rest of its text.
+/// Whether a byte is a quotation mark that comes again in the rest of its text.
 fn opens(byte: u8, rest: &[u8]) -> bool
     ensures { result ≡ (is_quote byte && list_any (λ c. c == byte) rest.now) }
 {

@@ -1,4 +1,4 @@
-//! The text of a source from which tokens are read.
+//! The text of a source as tokens are read off it.
 ghost use Rattle.std.specs.Prelude.{◌≡◌, ◌++◌, length, map, IfOk, OnOk};
 ghost use Rattle.gms_lines.specs.Errors.{IsFirstFault};
 ghost use Rattle.gms_lines.specs.Lines.{blanked, read_as, code_text};
@@ -21,7 +21,7 @@ pub struct CodeText {
     pub fault: Option<ByteFault>,
 }
 
-/// A byte of a line without tokens, replaced by a blank.
+/// A byte of a line without tokens as blank.
 fn blanked(byte: u8) -> u8
     ensures { result ≡ blanked byte }
 {
@@ -41,7 +41,7 @@ fn append_blanked(code: &mut Vec<u8>, line: &[u8]) -> Result<(), AllocError>
     Ok(())
 }
 
-/// Appends a line as tokens are read from it.
+/// Appends a line as tokens are read off it.
 fn append_line(code: &mut Vec<u8>, class: Class, line: &[u8]) -> Result<(), AllocError>
     ensures { OnOk result (code.new.items ≡ code.old.items ++ read_as class line.now) }
 {

@@ -1,4 +1,4 @@
-//! Lines: where each ends, its class, and the blocks of comment that it begins and ends.
+//! What a line is: where it ends, its class, and the blocks of comment that it begins and ends.
 ghost use Rattle.std.specs.Prelude.{◌≡◌, ◌<◌, ◌≤◌, ◌+◌, not, length, [], ◌∷◌, IfSome, IfNone};
 ghost use Rattle.gms_lines.specs.Lines.{before, is_line_end, content, class_by_column, class_of, first_word, closes, opens, inside_after, is_blank, before_feed, line_length, lines};
 ghost use Rattle.std.specs.Str.{str_eq_ignore_ascii_case};
@@ -52,7 +52,7 @@ pub(crate) fn line_length(text: &[u8]) -> usize
     }
 }
 
-/// The first line of a text with its end, and what follows it; nothing for an empty text.
+/// The first line of a text with its end, and what follows it; nothing where the text is empty.
 pub(crate) fn split_line(text: &[u8]) -> Option<(&[u8], &[u8])>
     ensures none { IfNone result (text.now ≡ []) }
     ensures first { IfSome result (λ p. lines text.now ≡ p.0.now ∷ lines p.1.now) }
@@ -66,7 +66,7 @@ pub(crate) fn split_line(text: &[u8]) -> Option<(&[u8], &[u8])>
     Some(text.split_at(length))
 }
 
-/// Whether a text begins with a line end: a line feed, or a carriage return directly before one.
+/// Whether a text begins with a line end: a line feed, or a carriage return right before one.
 pub fn is_line_end(text: &[u8]) -> bool
     ensures { result ≡ is_line_end text.now }
 {

@@ -152,69 +152,68 @@ IsAnswer limit Means Leaves part reader at new walk result =
     MatchResult result (λ r. IsGot limit Means Leaves part reader at new walk r.0 r.1)
     (λ e. Refuses limit reader.source.now part walk (seen_from reader at) e)
 
--- the answer of the reader of a part that begins with a name
+-- of a part that begins with a name
 abbrev pub AnswersName : {T : Type 0} → ℕ → (Sense → Derivation → T → Type 0) → GamsPart → Reader → ℕ → Tables → Tables → Result (T × ℕ) SourceFaultOrMemory → Type 0
 AnswersName limit Means part reader at old new result =
     (walk : Walk) → Starts reader old walk → IsAnswer limit Means (Stays reader new walk) part reader at new walk result
 
--- the answer of the reader of a part that may have parentheses, in a statement that is no table
+-- of a part that may have parentheses, in a statement that is no table
 abbrev pub AnswersPart : {T : Type 0} → ℕ → (Sense → Derivation → T → Type 0) → GamsPart → Reader → ℕ → Tables → Tables → Result (T × ℕ) SourceFaultOrMemory → Type 0
 AnswersPart limit Means part reader at old new result =
     (walk : Walk) → Starts reader old walk → Tableless walk → IsAnswer limit Means (Stays reader new walk) part reader at new walk result
 
--- the answer of the reader of an expression or a part of one
+-- of an expression or a part of one
 abbrev pub AnswersFormula : {T : Type 0} → ℕ → (Sense → Derivation → T → Type 0) → GamsPart → Reader → ℕ → Tables → Tables → Result (T × ℕ) SourceFaultOrMemory → Type 0
 AnswersFormula limit Means part reader at old new result =
     (walk : Walk) → Starts reader old walk → Tableless walk → IsAnswer limit Means (StaysOpen reader new walk) part reader at new walk result
 
--- the answer of the reader of a part of a list of data
+-- of a part of a list of data
 abbrev pub AnswersData : {T : Type 0} → ℕ → (Sense → Derivation → T → Type 0) → GamsPart → Reader → ℕ → Tables → Tables → Result (T × ℕ) SourceFaultOrMemory → Type 0
 AnswersData limit Means part reader at old new result =
     (walk : Walk) → Has reader old walk → Starless walk → Tableless walk → IsAnswer limit Means (Stays reader new walk) part reader at new walk result
 
--- the answer of the reader of a part without names, labels and parentheses
+-- of a part without names, labels and parentheses
 abbrev pub AnswersPlain : {T : Type 0} → ℕ → (Sense → Derivation → T → Type 0) → GamsPart → Reader → ℕ → Result (T × ℕ) SourceFaultOrMemory → Type 0
 AnswersPlain limit Means part reader at result =
     (tables : Tables) (walk : Walk) → Has reader tables walk → IsAnswer limit Means (Stays reader tables walk) part reader at tables walk result
 
--- the answer of the reader of a word, or what an option is set to, which is no name
+-- of a word, or what an option is set to, which is no name
 abbrev pub AnswersWord : {T : Type 0} → ℕ → (Sense → Derivation → T → Type 0) → GamsPart → Reader → ℕ → Result (T × ℕ) SourceFaultOrMemory → Type 0
 AnswersWord limit Means part reader at result =
     (tables : Tables) (walk : Walk) → Has reader tables walk → Nameless walk → IsAnswer limit Means (Stays reader tables walk) part reader at tables walk result
 
--- the answer of the reader of a text or symbol that is shown
+-- of a text or symbol that is shown
 abbrev pub AnswersShown : {T : Type 0} → ℕ → (Sense → Derivation → T → Type 0) → GamsPart → Reader → ℕ → Tables → Tables → Result (T × ℕ) SourceFaultOrMemory → Type 0
 AnswersShown limit Means part reader at old new result =
     (walk : Walk) → Starts reader old walk → is_among (terminal.Display ∷ terminal.Abort ∷ []) walk.keyword ≡ true → walk.level ≡ walk.open_count →
     IsAnswer limit Means (Stays reader new walk) part reader at new walk result
 
--- the answer of the reader of a statement that a loop may have, which begins with a keyword
+-- of a statement that a loop may have, which begins with a keyword
 abbrev pub AnswersAct : {T : Type 0} → ℕ → (Sense → Derivation → T → Type 0) → GamsPart → Reader → ℕ → Tables → Tables → Result (T × ℕ) SourceFaultOrMemory → Type 0
 AnswersAct limit Means part reader at old new result =
     (walk : Walk) → Holds reader old walk → IsAnswer limit Means (Ends reader new) part reader at new walk result
 
--- the answer of the reader of the statements of a loop
+-- of the statements of a loop
 abbrev pub AnswersInner : {T : Type 0} → ℕ → (Sense → Derivation → T → Type 0) → GamsPart → Reader → ℕ → Tables → Tables → Result (T × ℕ) SourceFaultOrMemory → Type 0
 AnswersInner limit Means part reader at old new result =
     (walk : Walk) → Starts reader old walk → Tableless walk → IsAnswer limit Means (Ends reader new) part reader at new walk result
 
--- the answer of the reader of a statement that begins with a keyword
+-- of a statement that begins with a keyword
 abbrev pub AnswersStatement : {T : Type 0} → ℕ → (Sense → Derivation → T → Type 0) → GamsPart → Reader → ℕ → Tables → Tables → Result (T × ℕ) SourceFaultOrMemory → Type 0
 AnswersStatement limit Means part reader at old new result =
     (walk : Walk) → Holds reader old walk → IsAnswer limit Means (Holds reader new) part reader at new walk result
 
--- the answer of the reader of a part that has names after its first token
+-- of a part that has names after its first token
 abbrev pub AnswersNamed : {T : Type 0} → ℕ → (Sense → Derivation → T → Type 0) → GamsPart → Reader → ℕ → Tables → Tables → Result (T × ℕ) SourceFaultOrMemory → Type 0
 AnswersNamed limit Means part reader at old new result =
     (walk : Walk) → Has reader old walk → Optionless walk → IsAnswer limit Means (Stays reader new walk) part reader at new walk result
 
--- the answer of the reader of a part that may have parentheses and follows a name, in a statement
--- that is no table
+-- of a part that may have parentheses and follows a name, in a statement that is no table
 abbrev pub AnswersBehind : {T : Type 0} → ℕ → (Sense → Derivation → T → Type 0) → GamsPart → Reader → ℕ → Tables → Tables → Result (T × ℕ) SourceFaultOrMemory → Type 0
 AnswersBehind limit Means part reader at old new result =
     (walk : Walk) → Has reader old walk → Optionless walk → Tableless walk → IsAnswer limit Means (Stays reader new walk) part reader at new walk result
 
--- the answer of the reader of a list of data, if any
+-- of a list of data, if any
 abbrev pub AnswersList : {T : Type 0} → ℕ → (Sense → Derivation → T → Type 0) → GamsPart → Reader → ℕ → Tables → Tables → Result (T × ℕ) SourceFaultOrMemory → Type 0
 AnswersList limit Means part reader at old new result =
     (walk : Walk) → Has reader old walk → Tableless walk → IsAnswer limit Means (Stays reader new walk) part reader at new walk result
@@ -223,7 +222,7 @@ AnswersList limit Means part reader at old new result =
 abbrev pub ends_head : Walk → List Seen → Bool
 ends_head walk rest = is terminal.Table walk.keyword && ends_statement (kind_of rest)
 
--- the answer of the reader of a domain: it has a fault if it ends the head of a table without lines
+-- of a domain: it has a fault if it ends the head of a table without lines
 abbrev pub AnswersDomain : {T : Type 0} → ℕ → (Sense → Derivation → T → Type 0) → GamsPart → Reader → ℕ → Tables → Tables → Result (T × ℕ) SourceFaultOrMemory → Type 0
 AnswersDomain limit Means part reader at old new result =
     (walk : Walk) → Has reader old walk → Optionless walk →
@@ -232,7 +231,7 @@ AnswersDomain limit Means part reader at old new result =
     × (ends_head walk (seen_from reader r.1) ≡ true → is terminal.Table (last_kind walk.before) ≡ false → Refuses limit reader.source.now part walk (seen_from reader at) (Fault (record { error = Table NoHeading; at = table_name walk.before }))))
     (λ e. Refuses limit reader.source.now part walk (seen_from reader at) e)
 
--- the answer of the reader of a declaration that begins with this keyword
+-- of a declaration that begins with this keyword
 abbrev pub AnswersDeclaration : {T : Type 0} → Terminal → ℕ → (Sense → Derivation → T → Type 0) → GamsPart → Reader → ℕ → Tables → Tables → Result (T × ℕ) SourceFaultOrMemory → Type 0
 AnswersDeclaration keyword limit Means part reader at old new result =
     is_among (terminal.Set ∷ terminal.Parameter ∷ terminal.Scalar ∷ terminal.Variable ∷ terminal.Equation ∷ []) keyword ≡ true → AnswersAct limit Means part reader at old new result

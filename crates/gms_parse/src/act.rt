@@ -232,7 +232,7 @@ impl<'s> Reader<'s> {
     }
 }
 
-/// The act of a solve.
+/// A solve.
 fn solved<F: ExactField>(model: Named, method: Word, objective: Named, maximize: bool) -> Act<F>
     ensures { act_view F.value result ≡ solves model method objective maximize }
 {

@@ -36,7 +36,7 @@ pub(crate) enum ListOf {
 #[derive(Drop)]
 struct Part {
     labels: Vec<u32>,
-    /// Whether a range among them is invalid. Such a range gives no label.
+    /// Whether a range among them is none. It gives no label.
     bad_range: bool,
 }
 
@@ -47,11 +47,11 @@ struct Element {
     at: Place,
     /// For each position its labels.
     parts: Vec<Sequence<u32>>,
-    /// Whether a range in it is invalid.
+    /// Whether a range in it is none.
     bad_range: bool,
 }
 
-/// A value, negated if `minus`.
+/// A value, or the one of the other sign.
 fn signed<F: ExactField>(minus: bool, value: Ext<F>) -> Ext<F>
     ensures { extended_in F.value result ≡ (if minus then opposed (extended_in F.value value) else extended_in F.value value) }
 {
@@ -66,7 +66,7 @@ fn signed<F: ExactField>(minus: bool, value: Ext<F>) -> Ext<F>
     }
 }
 
-/// The item of data of an element, with a value or without.
+/// The item of data that an element is, with a value or without.
 fn item_of<F: ExactField>(element: Element, value: Option<Ext<F>>) -> Item<F>
     ensures { item_in F.value result ≡ record { at = element.at; parts = element.parts.items; value = option_map (extended_in F.value) value; bad_range = element.bad_range } }
 {

@@ -1,5 +1,4 @@
-//! The parts of statements that consist of expressions; the crate that reads expressions reads
-//! them.
+//! The parts of statements that expressions are made of: read by the crate that reads expressions.
 ghost use Rattle.std.specs.Prelude.{◌≡◌, ◌<◌, ℕ, length, if◌then◌else◌, MatchResult};
 ghost use Rattle.gms_grammar.specs.Grammar.{the, opt, ◌·◌};
 ghost use Rattle.gms_grammar.specs.GamsGrammar.{Expression, Primary, Control as ControlPart, Target as TargetPart, Condition, token};

@@ -28,14 +28,14 @@ use std::alloc::Global;
 /// A part, and the place of the token after it.
 pub(crate) type Read<T> = Result<(T, usize), SourceFaultOrMemory>;
 
-/// The names and the labels of a program read so far.
+/// The names and the labels of a program, as far as it was read.
 #[derive(Drop)]
 pub(crate) struct Tables {
     pub(crate) names: Labels,
     pub(crate) labels: Labels,
 }
 
-/// The tokens of a source, to be read at places.
+/// The tokens of a source, to be read at places in them.
 #[derive(Clone, Copy)]
 pub(crate) struct Reader<'s> {
     pub(crate) alloc: Global,
@@ -43,7 +43,7 @@ pub(crate) struct Reader<'s> {
     pub(crate) source: &'s [u8],
     /// Its tokens.
     pub(crate) tokens: &'s [Token],
-    /// The end of the source.
+    /// Where the source ends.
     pub(crate) end: Place,
     /// How many parentheses are open.
     pub(crate) unclosed: u32,
@@ -69,7 +69,7 @@ impl<'s> Reader<'s> {
         self.tokens.get(at).copied()
     }
 
-    /// The kind of the next token, or the end.
+    /// What the next token is, or the end.
     pub(crate) fn next(&self, at: usize) -> Terminal
         requires { IsReady self.now }
         ensures { result ≡ kind_of (seen_from self.now at) }
@@ -215,7 +215,7 @@ impl<'s> Reader<'s> {
         Ok((Named { at: token.at, name }, behind))
     }
 
-    /// These bytes of a token, which are all ASCII.
+    /// These bytes of a token, which are all of ASCII.
     pub(crate) fn ascii(
         &self,
         token: Token,

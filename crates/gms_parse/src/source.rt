@@ -10,7 +10,7 @@ use gms_lex::{MOST_BYTES, lex};
 use gq_field::ExactField;
 use std::alloc::Global;
 
-/// The place where a source begins.
+/// Where a source begins.
 const START: Place = Place { line: 1, column: 1 };
 
 /// The program of a source, with its names and labels numbered in the order of the source, or its

@@ -212,7 +212,7 @@ impl<'s> Reader<'s> {
         Ok(next)
     }
 
-    /// The statements of the program of the tokens.
+    /// The statements of the program that the tokens are.
     pub(crate) fn program<F: ExactField>(
         &self,
         tables: &mut Tables,

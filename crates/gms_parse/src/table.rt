@@ -58,7 +58,7 @@ fn table_fault(fault: TableFaultOrMemory, name: Place) -> SourceFaultOrMemory
     }
 }
 
-/// Appends positions to others, with one of these labels at each.
+/// Adds positions to others, with one of these labels at each.
 fn add_positions(
     alloc: Global,
     parts: &mut Vec<Sequence<u32>>,
@@ -86,7 +86,7 @@ fn positions(
     Ok(Sequence::new(parts))
 }
 
-/// The item of data of an entry of a table.
+/// The item of data that an entry of a table is.
 fn item_of<F: ExactField>(alloc: Global, entry: &Entry<F>) -> Result<Item<F>, AllocError>
     ensures { IfOk result (λ item. item ≡ item_of_entry entry.now) }
 {
@@ -98,7 +98,7 @@ fn item_of<F: ExactField>(alloc: Global, entry: &Entry<F>) -> Result<Item<F>, Al
     })
 }
 
-/// The items of data of the entries of a table.
+/// The items of data that the entries of a table are.
 fn items_of<F: ExactField>(
     alloc: Global,
     entries: &[Entry<F>],

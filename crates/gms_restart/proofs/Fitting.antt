@@ -23,9 +23,8 @@ use Rattle.gms_check.specs.IndexList.{have_unfit_set, have_unfit_label}
 use Rattle.gms_check.specs.Uses.{index_sets}
 use Rattle.gms_check.proofs.Growing.{IsAfter}
 use Rattle.gms_eval.specs.Bindings.{Pairs, label_of, paired, controlled}
-use Rattle.gms_eval.specs.Domain.{elements, most_elements, too_large, sized, those_where}
+use Rattle.gms_eval.specs.Domain.{elements, most_elements, too_large, sized, those_where, IsSimple}
 use Rattle.gms_eval.specs.Faults.{Answer, nothing, faulted, ◌and_then◌}
-use Rattle.gms_eval.specs.InnerLeading.{IsSimple}
 use Rattle.gms_eval.specs.Lag.{around, label_in, label_at, moved, lagged_label, whole_number}
 use Rattle.gms_eval.specs.Nodes.{in_order}
 use Rattle.gms_eval.specs.References.{reached, all_there, tuple_of}

@@ -25,7 +25,7 @@ use Rattle.gms_check.specs.Loaded.{IsAccepted, loaded, sound}
 use Rattle.gms_check.specs.Past.{after_statement, is_among, state_after}
 use Rattle.gms_check.proofs.Growing.{IsAfter, Grows, grows-past}
 use Rattle.gms_check.proofs.IndexSetsStay.{blank-fits, index-set-loaded}
-use Rattle.gms_eval.specs.InnerLeading.{IsSimple}
+use Rattle.gms_eval.specs.Domain.{IsSimple}
 use Rattle.gms_exec.proofs.Staying.{Stays, follows-of}
 use Rattle.gms_frames.specs.Names.{Each}
 use Rattle.gms_frames.proofs.Changing.{within}

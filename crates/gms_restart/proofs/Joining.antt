@@ -1,6 +1,6 @@
 -- The run of a program whose first statements stand for those of a saved one: their run, followed
 -- by that of the others from the saved state.
-use Rattle.std.proofs.Common.{◌≡◌, ℕ, ◌+◌, ◌≤◌, Bool, List, [], ◌++◌, length, None, refl, sym, ap, ap₂, ◌∙◌, arith}
+use Rattle.std.proofs.Common.{◌≡◌, ℕ, ◌+◌, ◌≤◌, List, [], ◌++◌, length, None, sym, ap, ap₂, ◌∙◌, arith}
 use Rattle.gq_number.specs.Number.{Number}
 use Rattle.gms_ast.specs.declared.program.Stmt.{Stmt}
 use Rattle.gms_store.specs.Overlays.{overlaid}

@@ -21,9 +21,8 @@ use Rattle.gms_check.specs.Uses as checking
 use Rattle.gms_check.proofs.NoErrors.{AreClean, clean-left, clean-right}
 use Rattle.gms_check.proofs.Soundness.{sound-use}
 use Rattle.gms_eval.specs.Bindings.{Pairs, label_of, controlled}
-use Rattle.gms_eval.specs.Domain.{elements}
+use Rattle.gms_eval.specs.Domain.{elements, IsSimple}
 use Rattle.gms_eval.specs.Faults.{Answer, ◌and_then◌}
-use Rattle.gms_eval.specs.InnerLeading.{IsSimple}
 use Rattle.gms_eval.specs.Nodes.{in_order}
 use Rattle.gms_eval.specs.References.{tuple_of}
 use Rattle.gms_eval.specs.Value.{labels, domain, sets_of, control_over}

@@ -26,7 +26,7 @@ use Rattle.lp_core.specs.declared.program.Lp.{Lp}
 use Rattle.lp_slot.specs.SolverNames.{IsSolverName}
 use Rattle.gms_exec.specs.Given.{AllGiven, after_given}
 use Rattle.gms_exec.specs.Options.{is_word, solver_set, after_option, after_options}
-use Rattle.gms_exec.specs.Run.{OfStatement, World, of_statement, run_from}
+use Rattle.gms_exec.specs.Run.{World, of_statement, run_from}
 use Rattle.gms_exec.specs.Solved.{Point, after_end, points_of, statuses_of, with_point}
 use Rattle.gms_store.specs.State.{after_statuses, with_settings}
 use Rattle.gms_joint.proofs.Persisting.{AreAllowed, EachKeeps, all-keep, keeps-statement}

@@ -16,7 +16,7 @@ use Rattle.gms_expressions.specs.ExpressionTrees.{name_in, or_0, token_of}
 use Rattle.gms_parse.specs.Outcomes.{ProgramView, HasProgram}
 use Rattle.gms_parse.specs.Programs.{statements_of}
 use Rattle.gms_parse.specs.Readings.{Derivation}
-use Rattle.gms_parse.specs.Walks.{Seen, start}
+use Rattle.gms_parse.specs.Walks.{Seen}
 use Rattle.gms_front.proofs.FrontWalks.{AreAlike}
 use Rattle.gms_front.proofs.Kinships.{program_kin}
 use Rattle.gms_front.proofs.KinPrograms.{statements_same}

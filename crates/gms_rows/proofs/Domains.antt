@@ -11,10 +11,9 @@ use Rattle.gms_tuple.proofs.Ordered.{first-before, rest-ordered, ordered-cons}
 use Rattle.std.specs.declared.cmp.Ordering.TheVariants.{Less}
 use Rattle.gms_store.specs.State.{State, members_of}
 use Rattle.gms_eval.specs.Bindings.{controlled}
-use Rattle.gms_eval.specs.Domain.{elements, most_elements, too_large, sized, those_where}
+use Rattle.gms_eval.specs.Domain.{elements, most_elements, too_large, sized, those_where, IsSimple}
 use Rattle.gms_eval.specs.Faults.{Answer, ◌and_then◌}
 use Rattle.gms_eval.specs.Holds.{holds}
-use Rattle.gms_eval.specs.InnerLeading.{IsSimple}
 use Rattle.gms_eval.specs.Value.{domain, control_over}
 use Rattle.gms_eval.proofs.Simple.{elements-ordered, element-length}
 use Rattle.gms_rows.specs.Plain.{ArePlain}

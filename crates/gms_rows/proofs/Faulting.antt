@@ -4,7 +4,7 @@ use Rattle.gms_labels.specs.declared.place.Place.{Place}
 use Rattle.gq_number.specs.Number.{Number, whole}
 use Rattle.gq_extended.specs.Extended.{Extended, number}
 use Rattle.gms_eval.specs.declared.stop.StopKind.TheVariants.{Limit, Divide}
-use Rattle.gms_eval.specs.declared.stop.StopOrMemory.{StopOrMemory}
+use Rattle.gms_eval.specs.declared.stop.ExecStopOrMemory.{ExecStopOrMemory}
 use Rattle.gms_eval.specs.Bindings.{Pairs}
 use Rattle.gms_eval.specs.Faults.{faulted}
 use Rattle.gms_eval.specs.Gives.{Stops}
@@ -21,7 +21,7 @@ use Rattle.gms_rows.proofs.Entries.{not_zero-true, not_zero-zero}
 
 module _ {F : Type 0} (v : F → Number) (at : Place) (b : Pairs) (left right : Option Key → Extended) where
   -- a fault of the steps is the stop that shows it
-  pub stops-told : (fault : FormFault) (stop : StopOrMemory F) (steps : Result Form (Option Key)) → Told v (Err fault) steps → ShowsFault v at b left right fault stop → Stops v stop (where_fits at b left right steps)
+  pub stops-told : (fault : FormFault) (stop : ExecStopOrMemory F) (steps : Result Form (Option Key)) → Told v (Err fault) steps → ShowsFault v at b left right fault stop → Stops v stop (where_fits at b left right steps)
   stops-told (fault.Limit key) stop steps told shows =
       stops-shown v stop (faulted Limit at b (left key) (right key)) (where_fits at b left right steps) (ap (where_fits at b left right) told) shows
   stops-told fault.Memory stop steps told shows =
@@ -55,7 +55,7 @@ module _ {F : Type 0} (v : F → Number) (limit : ℕ) (at : Place) (b : Pairs) 
 
 module _ {F : Type 0} (v : F → Number) (at : Place) (b : Pairs) (right : Option Key → Extended) where
   -- a sum that is kept after a fault of a step shows the same fault
-  pub shows-kept : (before now : Affine F) (fault : FormFault) (stop : StopOrMemory F) → IsKept before now fault → ShowsFault v at b (entry_of (form_in v now)) right fault stop → ShowsFault v at b (entry_of (form_in v before)) right fault stop
+  pub shows-kept : (before now : Affine F) (fault : FormFault) (stop : ExecStopOrMemory F) → IsKept before now fault → ShowsFault v at b (entry_of (form_in v now)) right fault stop → ShowsFault v at b (entry_of (form_in v before)) right fault stop
   shows-kept before now (fault.Limit key) stop kept shows =
       subst (λ a. ShowsFault v at b (entry_of (form_in v a)) right (fault.Limit key) stop) kept shows
   shows-kept before now fault.Memory stop kept shows = shows

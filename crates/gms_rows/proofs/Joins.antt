@@ -3,7 +3,7 @@ use Rattle.std.proofs.Common.{◌≡◌, ℕ, ◌+◌, ◌<◌, ◌≤◌, List,
 use Rattle.std.proofs.lemmas.List.{at_drop_more, at_drop_all}
 use Rattle.gq_number.specs.Number.{Number}
 use Rattle.gms_ast.specs.Trees.{Mark}
-use Rattle.gms_eval.specs.declared.stop.StopOrMemory.{StopOrMemory}
+use Rattle.gms_eval.specs.declared.stop.ExecStopOrMemory.{ExecStopOrMemory}
 use Rattle.gms_eval.specs.Faults.{Answer, ◌and_then◌}
 use Rattle.gms_eval.specs.Gives.{Stops}
 use Rattle.gms_eval.proofs.Answering.{stops-same, stops-then}
@@ -34,7 +34,7 @@ module _ {X : Type 0} (join : Join) (mark : X → Mark) (answer : X → Answer F
   pub join-end : (so_far : Option Form) (xs : List X) (i : ℕ) → length xs ≤ i → from_here so_far (drop i xs) ≡ Ok (unwrap_or so_far zero_form)
   join-end so_far xs i all = at_drop_all (from_here so_far) xs i all
 
-  module _ {F : Type 0} (v : F → Number) (stop : StopOrMemory F) (whole : Answer Form) (so_far : Option Form) (xs : List X) (i : ℕ) (x : X) (is : whole ≡ from_here so_far (drop i xs)) (l : i < length xs) (at : x ≡ get_or xs i x) where
+  module _ {F : Type 0} (v : F → Number) (stop : ExecStopOrMemory F) (whole : Answer Form) (so_far : Option Form) (xs : List X) (i : ℕ) (x : X) (is : whole ≡ from_here so_far (drop i xs)) (l : i < length xs) (at : x ≡ get_or xs i x) where
     -- the form of the next stops
     pub part-stops : Stops v stop (answer x) → Stops v stop whole
     part-stops s =

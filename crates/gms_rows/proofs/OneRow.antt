@@ -4,7 +4,7 @@ use Rattle.gq_number.specs.Number.{Number}
 use Rattle.gms_ast.specs.declared.expression.Index.{Index}
 use Rattle.gms_ast.specs.TreeView.{index_tree, indices_of}
 use Rattle.gms_store.specs.State.{State}
-use Rattle.gms_eval.specs.declared.stop.StopOrMemory.{StopOrMemory}
+use Rattle.gms_eval.specs.declared.stop.ExecStopOrMemory.{ExecStopOrMemory}
 use Rattle.gms_eval.specs.Nodes.{in_order}
 use Rattle.gms_eval.specs.Bindings.{Pairs}
 use Rattle.gms_eval.specs.Faults.{Answer, ◌and_then◌}
@@ -54,7 +54,7 @@ module _ {F : Type 0} (v : F → Number) (limit : ℕ) (state : State) (d : Defi
         ∙ goes_on (affine v limit state d.left_at b d.left) (λ l. (affine v limit state d.right_at b d.right and_then λ r. sum_of limit d.right_at b true l r) and_then λ form. Ok (Some (row_with t (sense_of d.side) form))) (λ l. affine v limit state d.right_at b d.right and_then λ r. last l r) (λ l. and_then_assoc (affine v limit state d.right_at b d.right) (λ r. sum_of limit d.right_at b true l r) (λ form. Ok (Some (row_with t (sense_of d.side) form))))
 
     -- a side or the step that stops
-    pub row-left_stops : (stop : StopOrMemory F) → Stops v stop (affine v limit state d.left_at b d.left) → Stops v stop (row_under v limit state d b)
+    pub row-left_stops : (stop : ExecStopOrMemory F) → Stops v stop (affine v limit state d.left_at b d.left) → Stops v stop (row_under v limit state d b)
     row-left_stops stop s =
         stops-same v stop (row_under v limit state d b) _ row-some (stops-then v stop (affine v limit state d.left_at b d.left) (λ l. affine v limit state d.right_at b d.right and_then λ r. last l r) s)
 
@@ -62,7 +62,7 @@ module _ {F : Type 0} (v : F → Number) (limit : ℕ) (state : State) (d : Defi
       after-left : row_under v limit state d b ≡ (affine v limit state d.right_at b d.right and_then λ r. last l r)
       after-left = row-some ∙ ap (λ a. a and_then λ l. affine v limit state d.right_at b d.right and_then λ r. last l r) left-is
 
-      pub row-right_stops : (stop : StopOrMemory F) → Stops v stop (affine v limit state d.right_at b d.right) → Stops v stop (row_under v limit state d b)
+      pub row-right_stops : (stop : ExecStopOrMemory F) → Stops v stop (affine v limit state d.right_at b d.right) → Stops v stop (row_under v limit state d b)
       row-right_stops stop s =
           stops-same v stop (row_under v limit state d b) _ after-left (stops-then v stop (affine v limit state d.right_at b d.right) (λ r. last l r) s)
 
@@ -70,7 +70,7 @@ module _ {F : Type 0} (v : F → Number) (limit : ℕ) (state : State) (d : Defi
         after-right : row_under v limit state d b ≡ last l r
         after-right = after-left ∙ ap (λ a. a and_then λ r. last l r) right-is
 
-        pub row-step_stops : (stop : StopOrMemory F) → Stops v stop (sum_of limit d.right_at b true l r) → Stops v stop (row_under v limit state d b)
+        pub row-step_stops : (stop : ExecStopOrMemory F) → Stops v stop (sum_of limit d.right_at b true l r) → Stops v stop (row_under v limit state d b)
         row-step_stops stop s =
             stops-same v stop (row_under v limit state d b) _ after-right (stops-then v stop (sum_of limit d.right_at b true l r) (λ form. Ok (Some (row_with t (sense_of d.side) form))) s)
 

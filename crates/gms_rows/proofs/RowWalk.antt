@@ -10,7 +10,7 @@ use Rattle.gms_ast.specs.declared.expression.Expr.{Expr}
 use Rattle.gms_ast.specs.TreeView.{tree_of}
 use Rattle.gms_ast.specs.Trees.{Tree}
 use Rattle.gms_store.specs.State.{State}
-use Rattle.gms_eval.specs.declared.stop.StopOrMemory.{StopOrMemory}
+use Rattle.gms_eval.specs.declared.stop.ExecStopOrMemory.{ExecStopOrMemory}
 use Rattle.gms_eval.specs.Nodes.{in_order}
 use Rattle.gms_eval.specs.Bindings.{Pairs, controlled}
 use Rattle.gms_eval.specs.Faults.{Answer, ◌and_then◌}
@@ -54,7 +54,7 @@ module _ {X : Type 0} (answer : X → Answer (Option FormRow)) where
       ∙ ap (λ those. rows_from those (drop (i + 1) xs)) (sym made)
 
   -- one more element stops
-  pub rows_from-stops : {F : Type 0} (v : F → Number) (stop : StopOrMemory F) (whole : Answer (List FormRow)) (done : List FormRow) (xs : List X) (i : ℕ) (x : X) → whole ≡ rows_from done (drop i xs) → i < length xs → x ≡ get_or xs i x → Stops v stop (answer x) → Stops v stop whole
+  pub rows_from-stops : {F : Type 0} (v : F → Number) (stop : ExecStopOrMemory F) (whole : Answer (List FormRow)) (done : List FormRow) (xs : List X) (i : ℕ) (x : X) → whole ≡ rows_from done (drop i xs) → i < length xs → x ≡ get_or xs i x → Stops v stop (answer x) → Stops v stop whole
   rows_from-stops v stop whole done xs i x is-whole here is stops =
       stops-along v stop (answer x) whole (λ fault e. is-whole ∙ at_element done xs i x here is ∙ ap (λ a. (a and_then λ z. in_order (map answer (drop (i + 1) xs)) and_then λ zs. Ok (z ∷ zs)) and_then λ rest. Ok (done ++ those_there rest)) e) stops
 
@@ -88,7 +88,7 @@ module _ {F : Type 0} (v : F → Number) (limit : ℕ) (state : State) (d : Defi
     pub rows_of-given : (done : List FormRow) (elements : List (List ℕ)) → domain v limit state b d.at (control_over sets condition) ≡ Ok elements → (rows_of v limit state d and_then λ those. Ok (done ++ those)) ≡ rows_from row_of done elements
     rows_of-given done elements e = rows_of-start done elements (sym domain_of-same ∙ e)
 
-    pub rows_of-stops : (done : List FormRow) (stop : StopOrMemory F) → Stops v stop (domain v limit state b d.at (control_over sets condition)) → Stops v stop (rows_of v limit state d and_then λ those. Ok (done ++ those))
+    pub rows_of-stops : (done : List FormRow) (stop : ExecStopOrMemory F) → Stops v stop (domain v limit state b d.at (control_over sets condition)) → Stops v stop (rows_of v limit state d and_then λ those. Ok (done ++ those))
     rows_of-stops done stop s =
         stops-then v stop (rows_of v limit state d) (λ those. Ok (done ++ those)) (stops-then v stop domain_of (λ elements. in_order (map row_of elements) and_then λ rows. Ok (those_there rows)) (stops-same v stop domain_of (domain v limit state b d.at (control_over sets condition)) (sym domain_of-same) s))
 
@@ -148,7 +148,7 @@ module _ {F : Type 0} (v : F → Number) (limit : ℕ) (state : State) (ds : Lis
       at_equation done names i z here ∙ ap (λ a. a and_then λ after. model_from after (drop (i + 1) names)) e
 
   -- one more equation stops
-  pub model-stops : (stop : StopOrMemory F) (whole : Answer (List FormRow)) (done : List FormRow) (names : List ℕ) (i z : ℕ) → whole ≡ model_from done (drop i names) → i < length names → Stops v stop (equation_rows done (get_or names i z)) → Stops v stop whole
+  pub model-stops : (stop : ExecStopOrMemory F) (whole : Answer (List FormRow)) (done : List FormRow) (names : List ℕ) (i z : ℕ) → whole ≡ model_from done (drop i names) → i < length names → Stops v stop (equation_rows done (get_or names i z)) → Stops v stop whole
   model-stops stop whole done names i z is-whole here stops =
       stops-same v stop whole _ (is-whole ∙ at_equation done names i z here) (stops-then v stop (equation_rows done (get_or names i z)) (λ after. model_from after (drop (i + 1) names)) stops)
 

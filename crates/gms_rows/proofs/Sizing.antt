@@ -9,8 +9,8 @@ use Rattle.gms_eval.specs.Faults.{Answer, Fault, nothing}
 use Rattle.gms_eval.specs.Gives.{Shows, Stops}
 use Rattle.gms_eval.specs.declared.stop.StopKind.{StopKind}
 use Rattle.gms_eval.specs.declared.stop.StopKind.TheVariants.{TooManyRows, TooManyColumns}
-use Rattle.gms_eval.specs.declared.stop.StopOrMemory.{StopOrMemory}
-use Rattle.gms_eval.specs.declared.stop.StopOrMemory.TheVariants.{Memory, Stop}
+use Rattle.gms_eval.specs.declared.stop.ExecStopOrMemory.{ExecStopOrMemory}
+use Rattle.gms_eval.specs.declared.stop.ExecStopOrMemory.TheVariants.{Memory, Fault as Stop}
 use Rattle.lp_form.specs.declared.key.Key.{Key}
 use Rattle.lp_core.specs.Feasible.{bound_value}
 use Rattle.lp_core.specs.Numbers.{column_numbers, row_numbers}
@@ -85,7 +85,7 @@ module _ {F : Type 0} (v : F → Number) where
 -- ---- programs that are too large
 
 -- a stop that shows a fault stops an answer that is this fault
-shows-stops : {F A : Type 0} (v : F → Number) (stop : StopOrMemory F) (answer : Answer A) (fault : Fault) → answer ≡ Err fault → Shows v stop fault → Stops v stop answer
+shows-stops : {F A : Type 0} (v : F → Number) (stop : ExecStopOrMemory F) (answer : Answer A) (fault : Fault) → answer ≡ Err fault → Shows v stop fault → Stops v stop answer
 shows-stops v Memory answer fault e s = tt
 shows-stops v (Stop stop) answer fault e s = e ∙ ap Err s
 
@@ -104,13 +104,13 @@ module _ {F : Type 0} (v : F → Number) (at : Place) (lp : Lp Number) (rows col
   few-rows few = ap by_rows (le-ltb 1500 (standard_rows lp) (omega (arith, few, rows-are)))
 
   -- too many rows
-  pub sized-rows : (count : ℕ) (stop : StopOrMemory F) → count ≡ min rows most_counted → 1500 < count → Shows v stop (record { kind = TooManyRows; at = at; binding = []; left = nothing; right = nothing; count = count }) → Stops v stop (sized at lp)
+  pub sized-rows : (count : ℕ) (stop : ExecStopOrMemory F) → count ≡ min rows most_counted → 1500 < count → Shows v stop (record { kind = TooManyRows; at = at; binding = []; left = nothing; right = nothing; count = count }) → Stops v stop (sized at lp)
   sized-rows count stop is more s =
       let counted : min (standard_rows lp) most_counted ≡ count = omega (arith, is, rows-are) in
       shows-stops v stop (sized at lp) (counted_fault TooManyRows at count) (ap by_rows (lt-ltb 1500 (standard_rows lp) (omega (arith, is, more, rows-are))) ∙ ap (λ n. Err (counted_fault TooManyRows at n)) counted) s
 
   -- too many columns
-  pub sized-columns : rows ≤ 1500 → (count : ℕ) (stop : StopOrMemory F) → count ≡ min columns most_counted → 3000 < count → Shows v stop (record { kind = TooManyColumns; at = at; binding = []; left = nothing; right = nothing; count = count }) → Stops v stop (sized at lp)
+  pub sized-columns : rows ≤ 1500 → (count : ℕ) (stop : ExecStopOrMemory F) → count ≡ min columns most_counted → 3000 < count → Shows v stop (record { kind = TooManyColumns; at = at; binding = []; left = nothing; right = nothing; count = count }) → Stops v stop (sized at lp)
   sized-columns few count stop is more s =
       let counted : min (standard_columns lp) most_counted ≡ count = omega (arith, is, columns-are) in
       shows-stops v stop (sized at lp) (counted_fault TooManyColumns at count) (few-rows few ∙ ap by_columns (lt-ltb 3000 (standard_columns lp) (omega (arith, is, more, columns-are))) ∙ ap (λ n. Err (counted_fault TooManyColumns at n)) counted) s

@@ -9,8 +9,8 @@ use Rattle.gms_eval.specs.Value.{values, domain, sets_of}
 use Rattle.gms_eval.specs.declared.steps.Signed.{Signed}
 use Rattle.gms_eval.specs.declared.steps.Signed.TheVariants as signs
 use Rattle.gms_eval.specs.declared.stop.StopKind.TheVariants.{Limit}
-use Rattle.gms_eval.specs.declared.stop.StopOrMemory.{StopOrMemory}
-use Rattle.gms_eval.specs.declared.stop.StopOrMemory.TheVariants.{Memory}
+use Rattle.gms_eval.specs.declared.stop.ExecStopOrMemory.{ExecStopOrMemory}
+use Rattle.gms_eval.specs.declared.stop.ExecStopOrMemory.TheVariants.{Memory}
 use Rattle.gq_extended.specs.Extended.{Extended}
 use Rattle.gms_ast.specs.TreeView.{tree_of, parts_of, index_tree, indices_of}
 use Rattle.gms_ast.specs.Trees.{signed, Tree, Parts, Control}
@@ -73,7 +73,7 @@ Told v (Err fault.Memory) steps = Unit {0}
 
 -- the stop for a fault of a step on forms: Limit, with the operands of the step; out of memory
 -- remains
-abbrev pub ShowsFault : {F : Type 0} → (F → Number) → Place → Pairs → (Option Key → Extended) → (Option Key → Extended) → FormFault → StopOrMemory F → Type 0
+abbrev pub ShowsFault : {F : Type 0} → (F → Number) → Place → Pairs → (Option Key → Extended) → (Option Key → Extended) → FormFault → ExecStopOrMemory F → Type 0
 ShowsFault v at binding left right (fault.Limit key) stop = Shows v stop (faulted Limit at binding (left key) (right key))
 ShowsFault v at binding left right fault.Memory stop = stop ≡ Memory
 

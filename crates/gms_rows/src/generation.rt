@@ -17,7 +17,7 @@ use crate::form_row::FormRow;
 use crate::rows::push_rows;
 use crate::size::check_size;
 use gms_ast::{Program, Stmt};
-use gms_eval::StopOrMemory;
+use gms_eval::ExecStopOrMemory;
 use gms_labels::Place;
 use gms_store::Store;
 use gms_tuple::Tuple;
@@ -33,7 +33,7 @@ fn push_equation<'s, F: ExactField>(
     noted: &[Option<&'s Stmt<F>>],
     equation: u32,
     rows: &mut Vec<FormRow<F>>,
-) -> Result<(), StopOrMemory<F>>
+) -> Result<(), ExecStopOrMemory<F>>
     ensures rows { (ds : List (Definition F)) → AreNoted noted.now ds → Gives F.value (λ _. map (form_row_in F.value) rows.new.items) result
         (in_order (map (rows_of F.value F.limit store.now) (definition_of ds equation)) and_then λ those. Ok (map (form_row_in F.value) rows.old.items ++ flat_map (λ some. some) those)) }
     ensures ordered { (ds : List (Definition F)) → AreNoted noted.now ds → OnOk result (HaveOrder store.now (definition_of ds equation)) }
@@ -50,7 +50,7 @@ fn rows_of_model<F: ExactField>(
     store: &Store<F>,
     program: &Program<F>,
     model: u32,
-) -> Result<Vec<FormRow<F>>, StopOrMemory<F>>
+) -> Result<Vec<FormRow<F>>, ExecStopOrMemory<F>>
     ensures rows { Gives F.value (λ rows. map (form_row_in F.value) rows.items) result
         (rows_of_model F.value F.limit store.now program.now.statements.items model) }
     ensures ordered { OnOk result (All (λ equation. HaveOrder store.now (definition_of (definitions program.now.statements.items) equation))
@@ -73,7 +73,7 @@ fn program_of<F: ExactField>(
     objective: u32,
     maximize: bool,
     at: Place,
-) -> Result<Lp<F>, StopOrMemory<F>>
+) -> Result<Lp<F>, ExecStopOrMemory<F>>
     ensures program { Gives F.value (lp_numbers F.value) result
         (sized at (program_of store.now (map (form_row_in F.value) rows.now) (record { symbol = objective; tuple = [] }) maximize)) }
     ensures formed { AllPairs (λ a b. a.key ≢ b.key) rows.now → IfOk result (IsWellFormed F.value) }
@@ -110,7 +110,7 @@ pub fn generate<F: ExactField>(
     objective: u32,
     maximize: bool,
     at: Place,
-) -> Result<Lp<F>, StopOrMemory<F>>
+) -> Result<Lp<F>, ExecStopOrMemory<F>>
     requires { HasPlainDefinitions store.now program.now.statements.items }
     ensures program { Gives F.value (lp_numbers F.value) result
         (program_lp F.value F.limit store.now program.now.statements.items model objective maximize at) }

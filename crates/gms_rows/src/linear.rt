@@ -16,7 +16,7 @@ use crate::steps::{add, add_to, divide, finished, multiply, scale};
 use crate::variables::{count_in_front, has_variables};
 use gms_ast::{Control, Expr, Index};
 use gms_eval::{
-    Binding, Signed, StopKind, StopOrMemory, all_hold, domain, signed_chain, tuple_of, value,
+    Binding, ExecStopOrMemory, Signed, StopKind, all_hold, domain, signed_chain, tuple_of, value,
 };
 use gms_labels::Place;
 use gms_store::Store;
@@ -42,7 +42,7 @@ pub fn affine<F: ExactField>(
     e: &Expr<F>,
     at: Place,
     b: &Binding,
-) -> Result<Form<F>, StopOrMemory<F>>
+) -> Result<Form<F>, ExecStopOrMemory<F>>
     ensures { Gives F.value (form_in F.value) result (affine F.value F.limit store.now at b.now (tree_of e.now)) }
 {
     if !has_variables(store, e) {
@@ -80,14 +80,14 @@ fn number<F: ExactField>(
     value: Ext<F>,
     at: Place,
     b: &Binding,
-) -> Result<Form<F>, StopOrMemory<F>>
+) -> Result<Form<F>, ExecStopOrMemory<F>>
     ensures { Gives F.value (form_in F.value) result (form_of at b.now (extended F.value value)) }
 {
     match value {
         Ext::Number(x) => Ok(Form::constant(alloc, x)),
         _ => {
             let zero = Ext::Number(F::zero());
-            Err(StopOrMemory::at_step(alloc, StopKind::Undefined, at, value, zero, b))
+            Err(ExecStopOrMemory::at_step(alloc, StopKind::Undefined, at, value, zero, b))
         }
     }
 }
@@ -100,7 +100,7 @@ fn constant<F: ExactField>(
     e: &Expr<F>,
     at: Place,
     b: &Binding,
-) -> Result<Form<F>, StopOrMemory<F>>
+) -> Result<Form<F>, ExecStopOrMemory<F>>
     ensures { Gives F.value (form_in F.value) result (constant_at F.value F.limit store.now at b.now (tree_of e.now)) }
 {
     let value = value(alloc, store, e, b)?;
@@ -115,7 +115,7 @@ fn variable<F: ExactField>(
     name: u32,
     indices: &[Index<F>],
     b: &Binding,
-) -> Result<Form<F>, StopOrMemory<F>>
+) -> Result<Form<F>, ExecStopOrMemory<F>>
     ensures { Gives F.value (form_in F.value) result
         (in_order (labels F.value F.limit store.now b.now (indices_of (map index_tree indices.now))) and_then λ those. Ok (element_form name (tuple_of those))) }
 {
@@ -141,7 +141,7 @@ fn total<F: ExactField>(
     control: &Control<F>,
     at: Place,
     b: &Binding,
-) -> Result<Form<F>, StopOrMemory<F>>
+) -> Result<Form<F>, ExecStopOrMemory<F>>
     ensures { Gives F.value (form_in F.value) result (total_form F.value F.limit store.now at b.now (control_tree control.now) (tree_of body.now)) }
 {
     let mut inner = b.copy(alloc)?;
@@ -176,7 +176,7 @@ fn add_elements<F: ExactField>(
     elements: &[Tuple],
     inner: &mut Binding,
     so_far: &mut FormSum<F>,
-) -> Result<(), StopOrMemory<F>>
+) -> Result<(), ExecStopOrMemory<F>>
     requires { inner.old ≡ b.now }
     ensures { Gives F.value (λ _. form_in F.value so_far.new) result
         (added_at F.value F.limit store.now at b.now sets.now (tree_of body.now) (form_in F.value so_far.old) elements.now) }
@@ -199,7 +199,7 @@ fn chain<F: ExactField>(
     kind: Signed,
     parts: &[(Place, bool, Expr<F>)],
     b: &Binding,
-) -> Result<Form<F>, StopOrMemory<F>>
+) -> Result<Form<F>, ExecStopOrMemory<F>>
     ensures { Gives F.value (form_in F.value) result (chain_form F.value F.limit store.now b.now kind (parts_in parts.now)) }
 {
     let count = count_in_front(store, parts);
@@ -225,7 +225,7 @@ fn front<F: ExactField>(
     kind: Signed,
     parts: &[(Place, bool, Expr<F>)],
     b: &Binding,
-) -> Result<Option<Form<F>>, StopOrMemory<F>>
+) -> Result<Option<Form<F>>, ExecStopOrMemory<F>>
     ensures { Gives F.value (option_map (form_in F.value)) result (front b.now (signed_step F.limit b.now kind)
         (map (λ part. (signed part.0 part.1, value F.value F.limit store.now b.now (tree_of part.2))) parts.now)) }
 {
@@ -248,7 +248,7 @@ fn join<F: ExactField>(
     at: Place,
     inverse: bool,
     b: &Binding,
-) -> Result<Form<F>, StopOrMemory<F>>
+) -> Result<Form<F>, ExecStopOrMemory<F>>
     ensures { Gives F.value (form_in F.value) result
         (with_next (signed_join F.limit b.now kind) (signed at inverse) (option_map (form_in F.value) so_far) (form_in F.value form)) }
 {

@@ -12,7 +12,7 @@ use crate::form_row::FormRow;
 use crate::linear::affine;
 use crate::steps::add;
 use gms_ast::{Index, Side};
-use gms_eval::{Binding, StopOrMemory, domain_over, tuple_of};
+use gms_eval::{Binding, ExecStopOrMemory, domain_over, tuple_of};
 use gms_store::Store;
 use gq_field::ExactField;
 use lp_core::Sense;
@@ -65,7 +65,7 @@ fn row<F: ExactField>(
     store: &Store<F>,
     definition: &Definition<'_, F>,
     b: &Binding,
-) -> Result<Option<FormRow<F>>, StopOrMemory<F>>
+) -> Result<Option<FormRow<F>>, ExecStopOrMemory<F>>
     ensures { Gives F.value (option_map (form_row_in F.value)) result (row_under F.value F.limit store.now (definition_in definition.now) b.now) }
 {
     let Some(tuple) = tuple_of(alloc, store, definition.indices, b)? else {
@@ -113,7 +113,7 @@ pub(crate) fn push_rows<F: ExactField>(
     store: &Store<F>,
     definition: &Definition<'_, F>,
     rows: &mut Vec<FormRow<F>>,
-) -> Result<(), StopOrMemory<F>>
+) -> Result<(), ExecStopOrMemory<F>>
     ensures rows { Gives F.value (λ _. map (form_row_in F.value) rows.new.items) result
         (rows_of F.value F.limit store.now (definition_in definition.now) and_then λ those. Ok (map (form_row_in F.value) rows.old.items ++ those)) }
     ensures ordered { OnOk result (HaveOrder store.now (definition_in definition.now ∷ [])) }

@@ -10,7 +10,7 @@ ghost use Rattle.gms_eval.specs.Gives.{Gives, Shows};
 ghost use Rattle.gms_rows.specs.ProgramLp.{sized};
 
 use crate::form_row::FormRow;
-use gms_eval::{Binding, StopKind, StopOrMemory};
+use gms_eval::{Binding, ExecStopOrMemory, StopKind};
 use gms_labels::Place;
 use gq_field::ExactField;
 use lp_core::{Column, MOST_COLUMNS, MOST_ROWS, count_bounds, count_variables, rows_by_sense};
@@ -34,11 +34,11 @@ fn too_many<F: ExactField>(
     kind: StopKind,
     at: Place,
     count: usize,
-) -> StopOrMemory<F>
+) -> ExecStopOrMemory<F>
     ensures { Shows F.value result (record { kind = kind; at = at; binding = []; left = nothing; right = nothing; count = count }) }
 {
     let none = Binding::new(alloc);
-    StopOrMemory::counted(alloc, kind, at, count as u64, &none)
+    ExecStopOrMemory::counted(alloc, kind, at, count as u64, &none)
 }
 
 /// Whether rows and columns are few enough for a linear program. `TooManyRows` at the place of the
@@ -49,7 +49,7 @@ pub(crate) fn check_size<F: ExactField>(
     rows: &[FormRow<F>],
     columns: &[Column<F>],
     at: Place,
-) -> Result<(), StopOrMemory<F>>
+) -> Result<(), ExecStopOrMemory<F>>
     ensures stop { (lp : Lp Number) →
         standard_rows lp ≡ sum_by (λ row. rows_of_sense row.sense) rows.now + sum_by (λ column. rows_of_bounds column.lower column.upper) columns.now →
         standard_columns lp ≡ sum_by (λ column. variables_of_bounds column.lower column.upper) columns.now →

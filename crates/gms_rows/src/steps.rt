@@ -8,7 +8,7 @@ ghost use Rattle.gms_eval.specs.Gives.{Gives};
 ghost use Rattle.gms_rows.specs.Forms.{form_in, entry_of, entries_of_two, sum_of, scaled, multiple, product_of, quotient_of};
 ghost use Rattle.gms_rows.specs.InnerWalks.{Told, ShowsFault};
 
-use gms_eval::{Binding, StopKind, StopOrMemory};
+use gms_eval::{Binding, ExecStopOrMemory, StopKind};
 use gms_labels::Place;
 use gq_extended::Ext;
 use gq_field::ExactField;
@@ -36,15 +36,15 @@ fn of_two<F: ExactField>(
     right: &Form<F>,
     at: Place,
     b: &Binding,
-) -> StopOrMemory<F>
+) -> ExecStopOrMemory<F>
     ensures { ShowsFault F.value at b.now (entry_of (form_in F.value left.now)) (entry_of (form_in F.value right.now)) fault result }
 {
     match fault {
-        FormFault::Memory => StopOrMemory::Memory,
+        FormFault::Memory => ExecStopOrMemory::Memory,
         FormFault::Limit(key) => {
             let left = entry(left, &key);
             let right = entry(right, &key);
-            StopOrMemory::at_step(alloc, StopKind::Limit, at, left, right, b)
+            ExecStopOrMemory::at_step(alloc, StopKind::Limit, at, left, right, b)
         }
     }
 }
@@ -79,7 +79,7 @@ pub(crate) fn add<F: ExactField>(
     subtracts: bool,
     at: Place,
     b: &Binding,
-) -> Result<Form<F>, StopOrMemory<F>>
+) -> Result<Form<F>, ExecStopOrMemory<F>>
     ensures { Gives F.value (form_in F.value) result (sum_of F.limit at b.now subtracts (form_in F.value left) (form_in F.value right.now)) }
 {
     let mut sum = left;
@@ -109,15 +109,15 @@ fn of_sum<F: ExactField>(
     form: &Form<F>,
     at: Place,
     b: &Binding,
-) -> StopOrMemory<F>
+) -> ExecStopOrMemory<F>
     ensures { ShowsFault F.value at b.now (entry_of (form_in F.value sum.now)) (entry_of (form_in F.value form.now)) fault result }
 {
     match fault {
-        FormFault::Memory => StopOrMemory::Memory,
+        FormFault::Memory => ExecStopOrMemory::Memory,
         FormFault::Limit(key) => {
             let left = entry_of_sum(sum, &key);
             let right = entry(form, &key);
-            StopOrMemory::at_step(alloc, StopKind::Limit, at, left, right, b)
+            ExecStopOrMemory::at_step(alloc, StopKind::Limit, at, left, right, b)
         }
     }
 }
@@ -131,7 +131,7 @@ pub(crate) fn add_to<F: ExactField>(
     form: &Form<F>,
     at: Place,
     b: &Binding,
-) -> Result<(), StopOrMemory<F>>
+) -> Result<(), ExecStopOrMemory<F>>
     ensures { Gives F.value (form_in F.value) (result_map_both (λ _. sum.new) (λ stop. stop) result) (sum_of F.limit at b.now false (form_in F.value sum.old) (form_in F.value form.now)) }
 {
     let _ = sum.offset();
@@ -161,7 +161,7 @@ pub(crate) fn scale<F: ExactField>(
     x: F,
     at: Place,
     b: &Binding,
-) -> Result<Form<F>, StopOrMemory<F>>
+) -> Result<Form<F>, ExecStopOrMemory<F>>
     ensures { Gives F.value (form_in F.value) result (scaled F.limit at b.now false (form_in F.value form.now) (F.value x)) }
 {
     let _ = form.keys();
@@ -178,7 +178,7 @@ fn multiple<F: ExactField>(
     form: &Form<F>,
     at: Place,
     b: &Binding,
-) -> Result<Form<F>, StopOrMemory<F>>
+) -> Result<Form<F>, ExecStopOrMemory<F>>
     ensures { Gives F.value (form_in F.value) result (multiple F.limit at b.now (F.value x) (form_in F.value form.now)) }
 {
     let _ = form.keys();
@@ -197,7 +197,7 @@ pub(crate) fn multiply<F: ExactField>(
     right: &Form<F>,
     at: Place,
     b: &Binding,
-) -> Result<Form<F>, StopOrMemory<F>>
+) -> Result<Form<F>, ExecStopOrMemory<F>>
     ensures { Gives F.value (form_in F.value) result (product_of F.limit at b.now (form_in F.value left.now) (form_in F.value right.now)) }
 {
     if right.keys().is_empty() {
@@ -216,12 +216,12 @@ pub(crate) fn divide<F: ExactField>(
     x: F,
     at: Place,
     b: &Binding,
-) -> Result<Form<F>, StopOrMemory<F>>
+) -> Result<Form<F>, ExecStopOrMemory<F>>
     ensures { Gives F.value (form_in F.value) result (quotient_of F.limit at b.now (form_in F.value form.now) (F.value x)) }
 {
     if x.is_zero() {
         let left = Ext::Number(form.offset());
-        return Err(StopOrMemory::at_step(alloc, StopKind::Divide, at, left, Ext::Number(x), b));
+        return Err(ExecStopOrMemory::at_step(alloc, StopKind::Divide, at, left, Ext::Number(x), b));
     }
     let _ = form.keys();
     match form.divide(alloc, x) {
@@ -239,14 +239,14 @@ fn with_number<F: ExactField>(
     x: F,
     at: Place,
     b: &Binding,
-) -> StopOrMemory<F>
+) -> ExecStopOrMemory<F>
     ensures { ShowsFault F.value at b.now (entry_of (form_in F.value form.now)) (λ _. number (F.value x)) fault result }
 {
     match fault {
-        FormFault::Memory => StopOrMemory::Memory,
+        FormFault::Memory => ExecStopOrMemory::Memory,
         FormFault::Limit(key) => {
             let left = entry(form, &key);
-            StopOrMemory::at_step(alloc, StopKind::Limit, at, left, Ext::Number(x), b)
+            ExecStopOrMemory::at_step(alloc, StopKind::Limit, at, left, Ext::Number(x), b)
         }
     }
 }
@@ -260,14 +260,14 @@ fn behind_number<F: ExactField>(
     form: &Form<F>,
     at: Place,
     b: &Binding,
-) -> StopOrMemory<F>
+) -> ExecStopOrMemory<F>
     ensures { ShowsFault F.value at b.now (λ _. number (F.value x)) (entry_of (form_in F.value form.now)) fault result }
 {
     match fault {
-        FormFault::Memory => StopOrMemory::Memory,
+        FormFault::Memory => ExecStopOrMemory::Memory,
         FormFault::Limit(key) => {
             let right = entry(form, &key);
-            StopOrMemory::at_step(alloc, StopKind::Limit, at, Ext::Number(x), right, b)
+            ExecStopOrMemory::at_step(alloc, StopKind::Limit, at, Ext::Number(x), right, b)
         }
     }
 }

@@ -8,8 +8,8 @@ use Rattle.gq_number.specs.Number.{Number}
 use Rattle.gq_frac.specs.declared.frac.Frac.{Frac}
 use Rattle.gq_frac.specs.Frac.{frac_value}
 use Rattle.gms_ast.specs.declared.program.Program.{Program}
-use Rattle.gms_eval.specs.declared.stop.StopOrMemory.{StopOrMemory}
-use Rattle.gms_eval.specs.declared.stop.StopOrMemory.TheVariants.{Stop}
+use Rattle.gms_eval.specs.declared.stop.ExecStopOrMemory.{ExecStopOrMemory}
+use Rattle.gms_eval.specs.declared.stop.ExecStopOrMemory.TheVariants.{Fault as Stop}
 use Rattle.gms_eval.specs.declared.stop.ExecStop.{ExecStop}
 use Rattle.gms_eval.specs.Gives.{fault_of}
 use Rattle.gms_event.specs.declared.event.Event.{Event as OwnEvent}
@@ -56,10 +56,10 @@ module _ (program : Program Frac) (rules : List SolverRule) (does : Course → C
   behind_front front left = ap (λ es. does (course_at old es left None)) (sym (append-nil front)) ∙ is_behind front (come_to frac_value seen_old left)
 
   -- After a statement without a fault the run continues.
-  pub listed_on : {A : Type 0} (x : A) (none : List (OwnEvent Frac)) (before after : List ℕ) → none ≡ [] → Runs frac_value (let r : Result A (StopOrMemory Frac) = Ok x in r) does (seen_before none) seen_new → All (IsStanding frac_value number_limit rules new.answers) events → HaveGrown old.solvers new.solvers new.answers (events_in frac_value events) → new.programs ≡ old.programs ++ programs_in events →
+  pub listed_on : {A : Type 0} (x : A) (none : List (OwnEvent Frac)) (before after : List ℕ) → none ≡ [] → Runs frac_value (let r : Result A (ExecStopOrMemory Frac) = Ok x in r) does (seen_before none) seen_new → All (IsStanding frac_value number_limit rules new.answers) events → HaveGrown old.solvers new.solvers new.answers (events_in frac_value events) → new.programs ≡ old.programs ++ programs_in events →
       after ≡ before ++ events_text program.names program.labels number_limit numbers (events_in frac_value events) → IsListed true does program rules old new before after
   listed_on {A} x none before after e given standing grown programs text =
-      let runs : Runs frac_value (let r : Result A (StopOrMemory Frac) = Ok x in r) does seen_old seen_new = subst (λ es. Runs frac_value (let r : Result A (StopOrMemory Frac) = Ok x in r) does (seen_before es) seen_new) e given in
+      let runs : Runs frac_value (let r : Result A (ExecStopOrMemory Frac) = Ok x in r) does seen_old seen_new = subst (λ es. Runs frac_value (let r : Result A (ExecStopOrMemory Frac) = Ok x in r) does (seen_before es) seen_new) e given in
       record {
         shown = events;
         fault = None;
@@ -74,11 +74,11 @@ module _ (program : Program Frac) (rules : List SolverRule) (does : Course → C
       }
 
   -- A statement that a stop ended is listed with its fault.
-  pub listed_stop : {A : Type 0} (stop : Box (ExecStop Frac) Global) (none : List (OwnEvent Frac)) (before middle after : List ℕ) → none ≡ [] → Runs frac_value (let r : Result A (StopOrMemory Frac) = Err (Stop stop) in r) does (seen_before none) seen_new → All (IsStanding frac_value number_limit rules new.answers) events → HaveGrown old.solvers new.solvers new.answers (events_in frac_value events) → new.programs ≡ old.programs ++ programs_in events →
+  pub listed_stop : {A : Type 0} (stop : Box (ExecStop Frac) Global) (none : List (OwnEvent Frac)) (before middle after : List ℕ) → none ≡ [] → Runs frac_value (let r : Result A (ExecStopOrMemory Frac) = Err (Stop stop) in r) does (seen_before none) seen_new → All (IsStanding frac_value number_limit rules new.answers) events → HaveGrown old.solvers new.solvers new.answers (events_in frac_value events) → new.programs ≡ old.programs ++ programs_in events →
       middle ≡ before ++ events_text program.names program.labels number_limit numbers (events_in frac_value events) →
       after ≡ middle ++ event_text program.names program.labels number_limit numbers (stops (fault_of frac_value stop)) → IsListed false does program rules old new before after
   listed_stop {A} stop none before middle after e given standing grown programs text more =
-      let runs : Runs frac_value (let r : Result A (StopOrMemory Frac) = Err (Stop stop) in r) does seen_old seen_new = subst (λ es. Runs frac_value (let r : Result A (StopOrMemory Frac) = Err (Stop stop) in r) does (seen_before es) seen_new) e given in
+      let runs : Runs frac_value (let r : Result A (ExecStopOrMemory Frac) = Err (Stop stop) in r) does seen_old seen_new = subst (λ es. Runs frac_value (let r : Result A (ExecStopOrMemory Frac) = Err (Stop stop) in r) does (seen_before es) seen_new) e given in
       let fault = fault_of frac_value stop in
       let one : List Event → List ℕ = events_text program.names program.labels number_limit numbers in
       let last : List ℕ = event_text program.names program.labels number_limit numbers (stops fault) in

@@ -19,8 +19,8 @@ use Rattle.lp_core.specs.Feasible.{Feasible}
 use Rattle.lp_core.specs.Proofs as core_proofs
 use Rattle.lp_core.specs.StandardForm.{Last}
 use Rattle.lp_core.specs.Pivots.{IsAllowed, IsChosen}
-use Rattle.lp_core.specs.Ends.{LeadsTo, EndsSoBy}
-use Rattle.lp_core.specs.Answers.{EndsCrossed, IsAnswer}
+use Rattle.lp_core.specs.Ends.{LeadsTo, EndsSoBy, ends_by_kind, limit_is_met, step_stops}
+use Rattle.lp_core.specs.Answers.{EndsCrossed, IsAnswer, bounds_cross, form_stops, search_ends}
 use Rattle.lp_slot.specs.declared.solver.SolverRule.{SolverRule}
 use Rattle.lp_slot.proofs.Under.{legal_under}
 use Rattle.gms_exec.specs.Standing.{IsStanding}
@@ -53,16 +53,16 @@ module _ {F : Type 0} (value : F → Number) (limit : ℕ) (lp : Lp F) (iterlim 
   not_second e = omega (arith, e)
 
   of_end : (pivots : ℕ) (d : Dictionary) (end : End F) → EndsSoBy value limit lp iterlim (IsAllowed rule d) (IsChosen rule d) pivots d end → IsProved value lp end
-  of_end pivots d end (inl (how, last, at, inl told)) = of_told how last end told.0 told.2
-  of_end pivots d end (inl (how, last, at, inr refused)) = of_refused end refused.0 refused.1
-  of_end pivots d end (inr (inl h)) = subst (IsProved value lp) (sym h.3) (λ second. absurd (not_second second))
-  of_end pivots d end (inr (inr h)) = of_refused end h.1.0 h.1.1
+  of_end pivots d end (ends_by_kind how last at (inl told)) = of_told how last end told.0 told.2
+  of_end pivots d end (ends_by_kind how last at (inr refused)) = of_refused end refused.0 refused.1
+  of_end pivots d end (limit_is_met most one goes is) = subst (IsProved value lp) (sym is) (λ second. absurd (not_second second))
+  of_end pivots d end (step_stops less step is stops) = of_refused end step is
 
   -- what proves the end of an answer
   pub proved : (answer : Answer F) → IsAnswer value limit lp iterlim rule answer → IsProved value lp answer.end
-  proved answer (inl crossed) = of_crossed answer.end crossed.1
-  proved answer (inr (inl stopped)) = of_refused answer.end stopped.1.1.0 stopped.1.1.1
-  proved answer (inr (inr walked)) = of_end (length answer.pivots) walked.3.0 answer.end walked.3.2
+  proved answer (bounds_cross none crossed) = of_crossed answer.end crossed
+  proved answer (form_stops none stopped) = of_refused answer.end stopped.1.0 stopped.1.1
+  proved answer (search_ends ordered fit few last way ends) = of_end (length answer.pivots) last answer.end ends
 
 -- a valid event can be listed
 pub listable : {F : Type 0} (value : F → Number) (limit : ℕ) (rules : List SolverRule) (answers : List (Answer F)) (e : Event F) → IsStanding value limit rules answers e → IsListable value answers e

@@ -26,7 +26,7 @@ use crate::restart::statements_of;
 use crate::script::Script;
 use crate::status::Status;
 use gms_ast::{Program, Stmt};
-use gms_eval::{Binding, ExecStop, StopOrMemory};
+use gms_eval::{Binding, ExecStop, ExecStopOrMemory};
 use gms_event::Event;
 use gms_exec::step;
 use gms_host::{Failed, Host};
@@ -127,7 +127,7 @@ fn step_alone(
     solvers: &mut Vec<Box<dyn LpSolver>>,
     answers: &mut Vec<Answer<Frac>>,
     events: &mut Vec<Event<Frac>>,
-) -> Result<(), StopOrMemory<Frac>>
+) -> Result<(), ExecStopOrMemory<Frac>>
     requires few { length solvers.old.items < 2 ^ 32 }
     requires settings { AreKept (length solvers.old.items) store.old.settings }
     requires plain { AreOneDimensional store.old program.now.statements.items }
@@ -185,8 +185,8 @@ fn statement(
             show(alloc, program, events, answers, solved, listing)?;
             Ok(true)
         }
-        Err(StopOrMemory::Memory) => Err(AllocError),
-        Err(StopOrMemory::Stop(stop)) => {
+        Err(ExecStopOrMemory::Memory) => Err(AllocError),
+        Err(ExecStopOrMemory::Fault(stop)) => {
             show(alloc, program, events, answers, solved, listing)?;
             list_fault(alloc, program, stop, answers, listing)?;
             Ok(false)

@@ -1,4 +1,4 @@
-//! The attributes of an element of a variable or an equation.
+//! What an element of a variable or an equation has.
 ghost use Rattle.std.specs.Prelude.{◌≡◌, option_map};
 ghost use Rattle.gms_store.specs.Shown.{attributes_shown};
 ghost use Rattle.gms_store.specs.State.{unbounded, absent_variable, same_attributes, same_number, same_bound};
@@ -11,9 +11,9 @@ use std::cmp::Ordering;
 /// User's Guide, "Variables", "Equations").
 #[derive(Clone, Copy)]
 pub struct Attributes<F> {
-    /// The lower bound, `None` if it is infinite.
+    /// The lower bound, `None` where there is no finite one.
     pub lower: Option<F>,
-    /// The upper bound, `None` if it is infinite.
+    /// The upper bound, `None` where there is no finite one.
     pub upper: Option<F>,
     /// The level.
     pub level: F,
@@ -35,7 +35,7 @@ impl<F: ExactField> Attributes<F> {
         }
     }
 
-    /// The attributes of an element of a variable with nothing given.
+    /// What an element of a variable has where nothing is given.
     pub(crate) fn of_type(kind: VariableType) -> Attributes<F>
         ensures { attributes_shown F.value result ≡ absent_variable kind }
     {
@@ -55,7 +55,7 @@ impl<F: ExactField> Attributes<F> {
         }
     }
 
-    /// Whether both elements have the same attributes.
+    /// Whether both elements have the same.
     pub(crate) fn is_same(self, other: Attributes<F>) -> bool
         ensures { result ≡ same_attributes (attributes_shown F.value self) (attributes_shown F.value other) }
     {

@@ -1,4 +1,4 @@
-//! What a name denotes.
+//! What a name stands for.
 use crate::attributes::Attributes;
 use crate::entries::Entries;
 use crate::kind::VariableType;

@@ -17,7 +17,7 @@ pub enum SymbolKind {
     Undeclared,
 }
 
-/// The type of a variable.
+/// Of which type a variable is.
 #[derive(Clone, Copy, Debug, PartialEq, Eq)]
 pub enum VariableType {
     /// `variable x;`: no bounds.

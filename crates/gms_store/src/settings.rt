@@ -10,7 +10,7 @@ pub struct Settings {
     pub limrow: u32,
     /// How many columns of each variable a solve lists.
     pub limcol: u32,
-    /// The greatest number of pivots of a solver.
+    /// How many pivots a solver may take.
     pub iterlim: u32,
     /// How many decimals a display shows.
     pub decimals: u8,
@@ -21,7 +21,7 @@ pub struct Settings {
 }
 
 impl Settings {
-    /// The settings with which a run begins.
+    /// The settings that a run begins with.
     pub const FIRST: Settings = Settings {
         limrow: 3,
         limcol: 3,

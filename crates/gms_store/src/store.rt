@@ -98,7 +98,7 @@ impl<F: ExactField> Store<F> {
         }
     }
 
-    /// Whether a name is that of a variable of free type.
+    /// Whether a name is that of a variable whose type is free.
     pub fn is_free(&self, name: u32) -> bool
         ensures { result ≡ is_free (symbol_at self.now name).content }
     {
@@ -130,7 +130,7 @@ impl<F: ExactField> Store<F> {
     /// variable or an equation whose bounds, level or marginal differ from those of an absent one.
     pub fn given(&self, name: u32) -> &TupleSet
         ensures value { result.now ≡ given_of self.now name }
-        // A tuple is given exactly if its entry differs from an absent one.
+        // A tuple is there exactly where its entry differs from an absent one.
         ensures differs { (t : List ℕ) → has result.now t ≡ differs_in (symbol_of self.now name).content t }
         ensures arity { (t : List ℕ) → has result.now t ≡ true → length t ≡ length (symbol_of self.now name).domain }
         ensures ordered { IsOrdered result.now }
@@ -156,7 +156,7 @@ impl<F: ExactField> Store<F> {
         }
     }
 
-    /// What a name denotes: an alias its set.
+    /// What a name stands for: an alias for its set.
     fn symbol(&self, name: u32) -> &Symbol<F>
         ensures { result.now ≡ symbol_of self.now name }
     {
@@ -187,7 +187,7 @@ impl<F: ExactField> Store<F> {
         self.members(set).contains(t)
     }
 
-    /// Puts a tuple into a set, or removes it.
+    /// Puts a tuple into a set, or takes it out.
     pub fn set_member(
         &mut self,
         alloc: Global,
@@ -206,7 +206,7 @@ impl<F: ExactField> Store<F> {
         Ok(())
     }
 
-    /// The value of a parameter at a tuple: 0 if none is given.
+    /// The value of a parameter at a tuple: 0 where none is given.
     pub fn value(&self, name: u32, t: &Tuple) -> Ext<F>
         ensures { extended F.value result ≡ value_of self.now name t.now }
     {
@@ -249,14 +249,14 @@ impl<F: ExactField> Store<F> {
         self.symbol(name).attributes_near(t, place)
     }
 
-    /// The lower bound of an element, `None` if it is infinite.
+    /// The lower bound of an element, `None` where there is no finite one.
     pub fn lower(&self, name: u32, t: &Tuple) -> Option<F>
         ensures { option_map F.value result ≡ (attributes_of self.now name t.now).lower }
     {
         self.attributes(name, t).lower
     }
 
-    /// The upper bound of an element, `None` if it is infinite.
+    /// The upper bound of an element, `None` where there is no finite one.
     pub fn upper(&self, name: u32, t: &Tuple) -> Option<F>
         ensures { option_map F.value result ≡ (attributes_of self.now name t.now).upper }
     {
@@ -277,7 +277,7 @@ impl<F: ExactField> Store<F> {
         self.attributes(name, t).marginal
     }
 
-    /// Puts the lower bound of an element, `None` for an infinite one.
+    /// Puts the lower bound of an element, `None` for no finite one.
     pub fn put_lower(
         &mut self,
         alloc: Global,
@@ -294,7 +294,7 @@ impl<F: ExactField> Store<F> {
         self.put_attributes(alloc, name, t, new)
     }
 
-    /// Puts the upper bound of an element, `None` for an infinite one.
+    /// Puts the upper bound of an element, `None` for no finite one.
     pub fn put_upper(
         &mut self,
         alloc: Global,
@@ -403,7 +403,7 @@ impl<F: ExactField> Store<F> {
     }
 }
 
-/// Moves declared symbols to the places of others.
+/// Moves symbols to the places of others, where they are declared.
 fn overlay_symbols<F: ExactField>(symbols: &mut [Symbol<F>], others: &mut [Symbol<F>])
     ensures { symbols.new ≡ overlaid_symbols symbols.old others.old }
 {

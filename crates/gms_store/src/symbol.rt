@@ -1,4 +1,4 @@
-//! A name of the program: the sets of its positions, and what it denotes.
+//! A name of the program: the sets of its positions, and what it stands for.
 ghost use Rattle.std.specs.Prelude.{◌≡◌, ◌==◌, ℕ, List, [], true, length, option_map, OnOk, OnErr, IfOk, IfSome, IfNone};
 ghost use Rattle.gq_extended.specs.Meaning.{extended};
 ghost use Rattle.gms_tuple.specs.TupleOrder.{IsOrdered};
@@ -109,7 +109,7 @@ impl<F: ExactField> Symbol<F> {
         }
     }
 
-    /// Whether the name is that of a variable of free type.
+    /// Whether the name is that of a variable whose type is free.
     pub fn is_free(&self) -> bool
         ensures { result ≡ is_free self.now.content }
     {
@@ -174,7 +174,7 @@ impl<F: ExactField> Symbol<F> {
         }
     }
 
-    /// Exchanges this symbol for another, if that is declared.
+    /// Becomes another symbol, where that is declared, and that one becomes this.
     pub fn overlay(&mut self, other: &mut Symbol<F>)
         ensures { self.new ≡ chosen self.old other.old }
     {
@@ -208,14 +208,14 @@ impl<F: ExactField> Symbol<F> {
         }
     }
 
-    /// The set of each position, `None` for any label.
+    /// The set of each position, `None` where there is none.
     pub fn domain(&self) -> &[Option<u32>]
         ensures { result.now ≡ self.now.domain }
     {
         self.domain.as_slice()
     }
 
-    /// The tuples at which something is given, if the name has any.
+    /// The tuples at which something is given, where the name has any.
     pub fn given(&self) -> Option<&TupleSet>
         ensures some { IfSome result (λ set. set.now ≡ given_in self.now.content) }
         ensures none { IfNone result (given_in self.now.content ≡ []) }
@@ -235,7 +235,7 @@ impl<F: ExactField> Symbol<F> {
         }
     }
 
-    /// The members of a set. `None` if the name is no set.
+    /// The members of a set. `None` where the name is none.
     pub fn members(&self) -> Option<&TupleSet>
         ensures some { IfSome result (λ set. set.now ≡ members_in self.now.content) }
         ensures none { IfNone result (members_in self.now.content ≡ []) }
@@ -250,7 +250,7 @@ impl<F: ExactField> Symbol<F> {
         }
     }
 
-    /// The value of a parameter at a tuple: 0 if none is given.
+    /// The value of a parameter at a tuple: 0 where none is given.
     pub fn value(&self, t: &Tuple) -> Ext<F>
         ensures { extended F.value result ≡ value_in self.now.content t.now }
     {
@@ -261,8 +261,7 @@ impl<F: ExactField> Symbol<F> {
         }
     }
 
-    /// The value of a parameter at a tuple, found sooner if the tuple has this place among the
-    /// given ones.
+    /// The same, found sooner where the tuple has this place among those that are given.
     pub fn value_near(&self, t: &Tuple, place: usize) -> Ext<F>
         ensures { extended F.value result ≡ value_in self.now.content t.now }
     {
@@ -286,8 +285,7 @@ impl<F: ExactField> Symbol<F> {
         }
     }
 
-    /// The attributes of an element at a tuple, found sooner if the tuple has this place among the
-    /// given ones.
+    /// The same, found sooner where the tuple has this place among those that are given.
     pub fn attributes_near(&self, t: &Tuple, place: usize) -> Attributes<F>
         ensures { attributes_shown F.value result ≡ attributes_in self.now.content t.now }
     {

@@ -1,4 +1,4 @@
-//! The lines of a table, and its entries.
+//! What a table is made of, and what it gives.
 use gms_ast::Sequence;
 use gms_labels::Place;
 
@@ -6,7 +6,7 @@ use gms_labels::Place;
 /// ends the table.
 #[derive(Drop)]
 pub struct TableLine {
-    /// Its text. Blanks separate words, and labels in quotation marks may contain blanks.
+    /// Its text. Words are parted by blanks, and labels in quotation marks may hold blanks.
     pub text: String,
     /// The number of the line, from 1.
     pub line: u32,

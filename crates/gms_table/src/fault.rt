@@ -67,7 +67,7 @@ impl TableError {
 pub struct TableFault {
     /// The error.
     pub error: TableError,
-    /// The place of the word; line 0 and column 0 for a table without headings.
+    /// Where the word is; line 0 and column 0 for a table without headings.
     pub at: Place,
 }
 

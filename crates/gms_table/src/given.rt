@@ -1,4 +1,4 @@
-//! The entries of a table found so far, with their rows and headings.
+//! The entries of a table as they are found, and the rows and headings that they have.
 ghost use Rattle.std.specs.Prelude.{◌≡◌, ◌++◌, ◌∷◌, [], IfOk, OnOk};
 ghost use Rattle.gms_table.specs.Given.{is_given};
 
@@ -65,7 +65,7 @@ impl<F: Drop> Entries<F> {
         Ok(self.cells.contains(&cell))
     }
 
-    /// Appends an entry.
+    /// Adds an entry at the end.
     pub(crate) fn push(&mut self, alloc: Global, entry: Entry<F>) -> Result<(), AllocError>
         ensures { OnOk result (self.new ≡ self.old ++ entry ∷ []) }
     {

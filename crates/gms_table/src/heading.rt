@@ -23,7 +23,7 @@ pub(crate) struct Heading {
     pub(crate) labels: Vec<u32>,
 }
 
-/// The headings of these words, whose labels are entered in a table of labels.
+/// The headings that these words are, whose labels are entered in a table of labels.
 pub(crate) fn read_headings(
     alloc: Global,
     table: &mut Labels,

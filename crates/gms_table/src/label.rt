@@ -15,14 +15,14 @@ use gms_labels::{LabelFault, Labels, MOST_BYTES};
 use gms_lexemes::{Separator, label_length, stretch_length};
 use std::alloc::{AllocError, Global};
 
-/// Whether all bytes are ASCII.
+/// Whether all bytes are of ASCII.
 fn are_plain(bytes: &[u8]) -> bool
     ensures { result ≡ list_all is_plain bytes.now }
 {
     bytes.iter().all(|byte| *byte <= 127)
 }
 
-/// The text of bytes that are all ASCII.
+/// The text of bytes that are all of ASCII.
 fn plain_text(bytes: &[u8]) -> Option<&str>
     requires { list_all is_plain bytes.now ≡ true }
     ensures { option_copied result ≡ Some bytes.now }

@@ -7,7 +7,7 @@ ghost use Rattle.gms_table.specs.ReadNumbers.{ReadsCell};
 use gq_field::{ExactField, Limit};
 use gq_text::{NumberFault, read_decimal};
 
-/// A text without its sign, if it begins with one.
+/// A text without the sign that it begins with, if it does.
 fn unsigned(text: &[u8]) -> &[u8]
     ensures { result.now ≡ unsigned text.now }
 {

@@ -22,7 +22,7 @@ pub(crate) struct Word<'a> {
 }
 
 impl Word<'_> {
-    /// A fault with this error, at the place of the word.
+    /// This error, at the place of the word.
     pub(crate) fn fault(self, error: TableError) -> TableFaultOrMemory
         ensures { result ≡ TableFaultOrMemory.Fault (record { error = error; at = self.entry.at }) }
     {
@@ -43,7 +43,7 @@ fn column_behind(mut column: u32, text: &[u8]) -> u32
     column
 }
 
-/// Appends the word of these bytes, if there are any.
+/// Adds the word of these bytes, if there are any.
 fn push_word<'a>(
     words: &mut Vec<Word<'a>>,
     at: Place,
@@ -58,7 +58,7 @@ fn push_word<'a>(
     Ok(())
 }
 
-/// The words of a line, in order, each with its columns; no two of them share a column.
+/// The words of a line, in order, each with its columns; no two of them meet.
 pub(crate) fn words_of(alloc: Global, number: u32, line: &[u8]) -> Result<Vec<Word<'_>>, AllocError>
     requires { length line.now ≤ longest_line }
     ensures words { IfOk result (λ words. seen_all words.items ≡ words_of number line.now) }

@@ -1,6 +1,6 @@
 //! The message of each error, once.
 use gms_check::{CompileError, ErrorKind};
-use gms_eval::{Binding, ExecStop, StopKind, StopOrMemory};
+use gms_eval::{Binding, ExecStop, ExecStopOrMemory, StopKind};
 use gms_expressions::{SyntaxError, SyntaxFault, SyntaxFaultOrMemory};
 use gms_host::Failed;
 use gms_labels::{LabelFault, Place};
@@ -397,10 +397,10 @@ fn messages_of_runs(rt: HostRuntime) {
     let stop = Box::new(alloc, stop).expect(&rt, "memory");
     let stops = [
         (
-            StopOrMemory::Stop(stop),
+            ExecStopOrMemory::Fault(stop),
             "31:14: 2 Divide: division by zero",
         ),
-        (StopOrMemory::Memory, MEMORY),
+        (ExecStopOrMemory::Memory, MEMORY),
     ];
     check(&rt, alloc, &stops);
 }

@@ -5,10 +5,10 @@ ghost use Rattle.gq_text.specs.Appends.{AppendsDigits, AppendsNumeral, AppendsDe
 use std::marker::Model;
 use std::str::from_utf8;
 
-/// The greatest number of bytes of a text.
+/// How many bytes a text has at most.
 const MOST_BYTES: usize = 96;
 
-/// The text of a number, of at most 96 bytes; contracts view it as the list of its bytes.
+/// The text of a number, of at most 96 bytes; contracts see it as the list of its bytes.
 #[derive(Drop)]
 pub struct Digits {
     bytes: [u8; MOST_BYTES],
@@ -51,7 +51,7 @@ impl Digits {
         &self.bytes[..self.len]
     }
 
-    /// Removes all bytes.
+    /// Takes all bytes away.
     pub(crate) fn clear(&mut self)
         ensures { self.new ≡ [] }
     {
@@ -109,7 +109,7 @@ impl Digits {
         self.push_digits(n, 1 + n.checked_ilog10().unwrap_or(0));
     }
 
-    /// Appends `-` if `negative`.
+    /// Appends `-`, if asked.
     pub(crate) fn push_sign(&mut self, negative: bool)
         requires { length self.old < 96 }
         ensures { self.new ≡ self.old ++ sign_text negative }
@@ -132,7 +132,7 @@ impl Digits {
         }
     }
 
-    /// Appends `/` and the numeral of a denominator, or nothing if it is 1.
+    /// Appends `/` and the numeral of a denominator, or nothing where it is 1.
     pub(crate) fn push_denominator(&mut self, denominator: u128)
         requires { length self.old + 40 ≤ 96 }
         ensures { AppendsDenominator self.old self.new denominator }

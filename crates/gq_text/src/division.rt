@@ -1,4 +1,4 @@
-//! Division into decimals, digit by digit, since a product with a power of ten may exceed 128 bits.
+//! Division into decimals, digit by digit, since a product with a power of ten may pass 128 bits.
 ghost use Rattle.std.specs.Prelude.{◌≡◌, ◌+◌, ◌*◌, ◌/◌, ◌^◌, ◌<◌, ◌≤◌};
 
 /// Ten times a rest below the divisor, divided, if the product exceeds 128 bits: the digit and the

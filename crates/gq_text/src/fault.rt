@@ -11,7 +11,7 @@ pub enum NumberFault {
     /// The text is not a number.
     #[error("not a number")]
     Shape,
-    /// The numerator or denominator exceeds the field's limit.
+    /// The number's parts exceed the field's limit.
     #[error("beyond the field's limit")]
     Limit,
 }

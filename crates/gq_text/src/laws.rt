@@ -1,4 +1,4 @@
-//! What the texts of numbers mean: laws.
+//! What the texts of numbers say, as laws.
 ghost use Rattle.std.specs.Prelude.{◌≡◌, ◌≢◌, ℕ, ◌*◌, ◌%◌, ◌^◌, List, ℤ, pos};
 ghost use Rattle.gq_number.specs.Number.{Number, whole, ratio, ◌-ℚ◌};
 ghost use Rattle.gq_number.specs.Order.{◌≤ℚ◌, ◌<ℚ◌, abs_ℚ};

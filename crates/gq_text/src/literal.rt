@@ -62,7 +62,7 @@ fn shortest<'a>(before: &'a [u8], behind: &'a [u8]) -> (&'a [u8], &'a [u8])
     }
 }
 
-/// Ten to a power, if it is below 2^128.
+/// Ten to a power, where it is below 2^128.
 fn power_of_ten(power: u128) -> Option<u128>
     ensures { SomeIff result (10 ^ power < 2 ^ 128) (10 ^ power) }
 {
@@ -98,7 +98,7 @@ fn parts_of(digits: u128, up: u128, down: u128) -> Option<(u128, u128)>
     }
 }
 
-/// The numerator and denominator, if both are within the limit.
+/// The same parts, where both are within the limit.
 fn parts_within(limit: u128, digits: u128, up: u128, down: u128) -> Option<(u128, u128)>
     requires limit { 0 < limit }
     requires some { 0 < digits }

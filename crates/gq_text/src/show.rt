@@ -7,7 +7,7 @@ use crate::digits::Digits;
 use crate::division::rounded;
 use gq_field::ExactField;
 
-/// The greatest number of decimals that a number is rounded to.
+/// How many decimals a number is rounded to at most.
 pub const MOST_DECIMALS: u8 = 8;
 
 /// Replaces the text of `into` by the value rounded to `decimals` decimals, at most 8, half away
@@ -41,7 +41,7 @@ pub fn put_exact<F: ExactField>(v: F, into: &mut Digits)
     into.push_denominator(denominator);
 }
 
-/// Replaces the text of `into` by the decimal digits of a whole number.
+/// Puts the decimal digits of a whole number, in place of what `into` has.
 pub fn put_whole(n: u128, into: &mut Digits)
     ensures { into.new ≡ decimal n }
 {

@@ -2,7 +2,7 @@ use Rattle.std.proofs.Common.{subst}
 use Rattle.std.specs.List.{All}
 use Rattle.std.proofs.lemmas.List.{take_all}
 use Rattle.std.proofs.lemmas.List.Elements.{All-more}
-use Rattle.gms_eval.specs.InnerLeading.{IsSimple}
+use Rattle.gms_eval.specs.Domain.{IsSimple}
 use Rattle.gms_eval.proofs.walk.are_simple.Goals as goal
 
 pub loop-set-preserved : goal.loop-set-preserved

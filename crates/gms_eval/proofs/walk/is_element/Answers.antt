@@ -2,7 +2,7 @@ use Rattle.std.proofs.Common.{◌∙◌, ap, sym, ℕ, ◌+◌, ◌&&◌, [], �
 use Rattle.std.proofs.lemmas.List.Elements.{All-get_or}
 use Rattle.gms_tuple.specs.TupleSet.{has}
 use Rattle.gms_store.specs.State.{members_of}
-use Rattle.gms_eval.specs.InnerLeading.{IsSimple}
+use Rattle.gms_eval.specs.Domain.{IsSimple}
 use Rattle.gms_eval.proofs.Simple.{no-element, rest_in, rest-start, rest-more}
 use Rattle.gms_eval.proofs.walk.is_element.Goals as goal
 
