@@ -9,7 +9,7 @@ use Rattle.std.specs.declared.vec.IntoIter.{IntoIter}
 use Rattle.std.specs.declared.io.Error.{Error}
 use Rattle.std.specs.declared.io.ErrorKind.TheVariants.{InvalidData}
 use Rattle.gms_host.specs.Meaning.{Meaning}
-use Rattle.gms_words.specs.CommandLine.{texts, request_of}
+use Rattle.gms_command.specs.CommandLine.{texts, request_of}
 use Rattle.lp_slot.specs.declared.solver.SolverRule.TheVariants.{Bland, LargestCoefficient, Turning, Legal}
 use Rattle.gms_run.specs.Solving.{Solvers, Solving}
 use Rattle.gms_run.specs.Jobs.{status_code}

@@ -4,7 +4,7 @@
 
 ghost use Rattle.std.specs.Prelude.{◌≡◌, ◌↔◌, ◌⊎◌, IfOk};
 ghost use Rattle.std.specs.Process.{exit_status};
-ghost use Rattle.gms_words.specs.CommandLine.{texts, request_of};
+ghost use Rattle.gms_command.specs.CommandLine.{texts, request_of};
 ghost use Rattle.gms_run.specs.Statuses.{CountsSo, EndsByNoFault, IsReadyFor, MeetsNoFault, NamesProgram};
 ghost use Rattle.gms25.specs.Program.{EndsGiven, ExitsSo, HasWords, RunsWith, lent, exit_of, given_words};
 

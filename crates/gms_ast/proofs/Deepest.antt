@@ -4,7 +4,7 @@ use Rattle.std.proofs.lemmas.List.{map_more}
 use Rattle.gms_ast.specs.declared.expression.Index.{Index}
 use Rattle.gms_ast.specs.declared.expression.Expr.TheOpen.{Index-F}
 use Rattle.gms_ast.specs.declared.expression.Expr.TheFolds.{fold_out-Index}
-use Rattle.gms_ast.specs.Greatest.{greatest}
+use Rattle.gms_ast.specs.InnerGreatest.{greatest}
 use Rattle.gms_ast.specs.Nesting.{capped, nesting, deepest, deepest_amount}
 use Rattle.gms_ast.specs.Trees.{Mark, Tree, Indices, no_index, Control}
 use Rattle.gms_ast.specs.TreeView.{parts_of, indices_of, tree_step, index_step, control_step, index_tree}

@@ -1,4 +1,4 @@
-pub mod Greatest
+pub mod InnerGreatest
 pub mod Nesting
 pub mod TreeView
 pub mod Trees

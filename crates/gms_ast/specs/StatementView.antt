@@ -58,33 +58,33 @@ module _ {F N : Type 0} (value : F → N) where
   shown_right (right.Value e) = shown_tree e
 
   -- statements in order, of which each is given as what it puts before the others
-  abbrev pub in_order : List (Statements N → Statements N) → Statements N
-  in_order [] = no_statement
-  in_order (put ∷ puts) = put (in_order puts)
+  abbrev pub statements_in_order : List (Statements N → Statements N) → Statements N
+  statements_in_order [] = no_statement
+  statements_in_order (put ∷ puts) = put (statements_in_order puts)
 
   -- the view of an act, given for each statement in it what it puts before others
-  abbrev pub act_step : Act-F F (Act N) (Statements N → Statements N) → Act N
-  act_step (Act-F.Declare kind items) = declares kind (map declared_in items)
-  act_step (Act-F.Alias first second) = aliases first second
-  act_step (Act-F.Assign target condition right_at right_side) =
+  abbrev pub act_view_step : Act-F F (Act N) (Statements N → Statements N) → Act N
+  act_view_step (Act-F.Declare kind items) = declares kind (map declared_in items)
+  act_view_step (Act-F.Alias first second) = aliases first second
+  act_view_step (Act-F.Assign target condition right_at right_side) =
       assigns (shown_target target) (option_map shown_tree condition) right_at (shown_right right_side)
-  act_step (Act-F.Define equation indices condition left_at left_side side right_at right_side) =
+  act_view_step (Act-F.Define equation indices condition left_at left_side side right_at right_side) =
       defines equation (shown_indices indices) (option_map shown_tree condition) (record { left_at = left_at; left = shown_tree left_side; side = side; right_at = right_at; right = shown_tree right_side })
-  act_step (Act-F.Model models) = declares_models models
-  act_step (Act-F.Solve model method objective maximize) = solves model method objective maximize
-  act_step (Act-F.Display items) = displays items
-  act_step (Act-F.Loop control body) = loops (control_in_numbers value (control_tree control)) (in_order body.items)
-  act_step (Act-F.Options settings) = sets_options (map (λ pair. (pair.0, setting_in pair.1)) settings)
-  act_step (Act-F.Abort condition items) = aborts (option_map shown_tree condition) items
+  act_view_step (Act-F.Model models) = declares_models models
+  act_view_step (Act-F.Solve model method objective maximize) = solves model method objective maximize
+  act_view_step (Act-F.Display items) = displays items
+  act_view_step (Act-F.Loop control body) = loops (control_in_numbers value (control_tree control)) (statements_in_order body.items)
+  act_view_step (Act-F.Options settings) = sets_options (map (λ pair. (pair.0, setting_in pair.1)) settings)
+  act_view_step (Act-F.Abort condition items) = aborts (option_map shown_tree condition) items
 
   -- a statement, before others
-  abbrev pub statement_step : Stmt-F F (Act N) (Statements N → Statements N) → Statements N → Statements N
-  statement_step node others = statement node.at node.act others
+  abbrev pub statement_view_step : Stmt-F F (Act N) (Statements N → Statements N) → Statements N → Statements N
+  statement_view_step node others = statement node.at node.act others
 
   -- the statement that one of a program puts before others
   abbrev pub statement_view : Stmt F → Statements N → Statements N
-  statement_view = fold-Stmt F (Act N) (Statements N → Statements N) act_step statement_step
+  statement_view = fold-Stmt F (Act N) (Statements N → Statements N) act_view_step statement_view_step
 
   -- the view of a program's statements
   abbrev pub statements_view : List (Stmt F) → Statements N
-  statements_view statements = in_order (map statement_view statements)
+  statements_view statements = statements_in_order (map statement_view statements)

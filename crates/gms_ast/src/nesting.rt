@@ -1,6 +1,6 @@
 //! The nesting of an expression.
 ghost use Rattle.std.specs.Prelude.{◌≡◌, map};
-ghost use Rattle.gms_ast.specs.Greatest.{greatest};
+ghost use Rattle.gms_ast.specs.InnerGreatest.{greatest};
 ghost use Rattle.gms_ast.specs.Nesting.{capped, nesting, deepest_amount, condition_nesting};
 ghost use Rattle.gms_ast.specs.TreeView.{tree_of, index_tree, control_tree};
 ghost use Rattle.gms_ast.specs.Trees.{no_index};

@@ -6,15 +6,15 @@ use Rattle.gms_ast.specs.declared.expression.Expr.TheFolds.{fold_out-Control}
 use Rattle.gms_ast.specs.declared.expression.Control.{Control as ControlNode, out-Control}
 use Rattle.gms_ast.specs.Trees.{Tree, Indices, Control, over, over_where}
 use Rattle.gms_ast.specs.TreeView.{control_of, tree_step, index_step, control_step, tree_of, control_tree}
-use Rattle.gms_check.specs.Uses.{sets_of}
+use Rattle.gms_check.specs.Uses.{sets_of_control}
 
-sets-control_of : {F : Type 0} (sets : List ℕ) (condition : Option (Box (Tree F) Global)) → sets_of (control_of sets condition) ≡ sets
+sets-control_of : {F : Type 0} (sets : List ℕ) (condition : Option (Box (Tree F) Global)) → sets_of_control (control_of sets condition) ≡ sets
 sets-control_of sets None = refl
 sets-control_of sets (Some condition) = refl
 
 module _ {F : Type 0} (control : ControlNode F) where
   -- its sets
-  pub tree-sets : sets_of (control_tree control) ≡ (out-Control F control).sets
+  pub tree-sets : sets_of_control (control_tree control) ≡ (out-Control F control).sets
   tree-sets =
       rw (fold_out-Control F (Tree F) (Indices F → Indices F) (Control F) tree_step index_step control_step control) (sets-control_of _ _)
 

@@ -5,8 +5,8 @@ use Rattle.std.proofs.Math.ListN.{set}
 use Rattle.std.proofs.lemmas.Bool.{eqb-true, eqb-false, eq-eqb}
 use Rattle.std.proofs.lemmas.List.{get_or-set_same, get_or-set_other}
 use Rattle.std.proofs.lemmas.Bool.Decides.{nat_tests}
-use Rattle.gms_known.specs.Order.{later, new_order, order_of}
-use Rattle.gms_known.proofs.Orders.{order-more, order-most}
+use Rattle.gms_scope.specs.Order.{later, new_order, order_of}
+use Rattle.gms_scope.proofs.Orders.{order-more, order-most}
 use Rattle.gms_check.specs.Past.{is_among}
 
 -- a name is among names where its order is not 0

@@ -11,12 +11,12 @@ use Rattle.gms_ast.specs.declared.declaration.DeclKind.TheVariants as declaring
 use Rattle.gms_ast.specs.declared.declaration.Decl.{Decl}
 use Rattle.gms_store.specs.declared.kind.VariableType.{VariableType}
 use Rattle.gms_store.specs.declared.kind.VariableType.TheVariants as type
-use Rattle.gms_store.specs.State.{Entries, Attributes, Content, undeclared, alias_of, set_of, parameter_of, variable_of, equation_of, model_with, Symbol, State, symbol_at, behind, base_of, if_fits, with_content, with_membership, with_value}
+use Rattle.gms_store.specs.State.{Entries, Attributes, Content, undeclared, alias_of, set_of, parameter_of, variable_of, equation_of, model_with, Symbol, State, symbol_at, alias_target, base_of, if_fits, with_content, with_membership, with_value}
 use Rattle.gms_store.specs.Declarations.{alias_symbol, can_join, content_of, declare, declare_alias, declare_model, declared_again, is_free, is_set, is_undeclared, join_name, model_symbol, names_of, put_at, retyped, symbol_of_kind}
 use Rattle.gms_set.specs.declared.fault.SetFault.{SetFault}
-use Rattle.gms_set.specs.Expansion.{Given}
-use Rattle.gms_known.specs.Data.{given_to, with_datum}
-use Rattle.gms_known.specs.Names.{is_unknown, positions}
+use Rattle.gms_set.specs.Expansion.{ExpandedData}
+use Rattle.gms_scope.specs.Data.{given_to, with_datum}
+use Rattle.gms_scope.specs.Names.{has_no_declaration, positions}
 use Rattle.gms_check.specs.declared.error.ErrorKind.TheVariants.{Redeclared}
 use Rattle.gms_check.specs.DeclarationUses.{item_uses}
 use Rattle.gms_check.specs.DeclaredData.{type_of}
@@ -34,7 +34,7 @@ use Rattle.gms_check.proofs.Outlines.{base-drawn, drawn-given, outline}
 abbrev pub IsBare : Content → Type 0
 IsBare c = (is_undeclared c || is_free c) ≡ true
 
-behind-kind : (name : ℕ) (kind : DeclKind) → behind name (content_of kind) ≡ name
+behind-kind : (name : ℕ) (kind : DeclKind) → alias_target name (content_of kind) ≡ name
 behind-kind name declaring.Set = refl
 behind-kind name declaring.Parameter = refl
 behind-kind name declaring.Scalar = refl
@@ -45,7 +45,7 @@ behind-kind name declaring.Negative = refl
 behind-kind name declaring.Discrete = refl
 behind-kind name declaring.Equation = refl
 
-behind-retyped : (name : ℕ) (entries : Entries Attributes) (kind : DeclKind) → behind name (retyped (variable_of type.Free entries) (content_of kind)) ≡ name
+behind-retyped : (name : ℕ) (entries : Entries Attributes) (kind : DeclKind) → alias_target name (retyped (variable_of type.Free entries) (content_of kind)) ≡ name
 behind-retyped name entries declaring.Set = refl
 behind-retyped name entries declaring.Parameter = refl
 behind-retyped name entries declaring.Scalar = refl
@@ -67,7 +67,7 @@ content-declared kind domain s = by (is_undeclared s.content)
     by true = refl
     by false = refl
 
-behind-again : (name : ℕ) (kind : DeclKind) (c : Content) → IsBare c → behind name (content_again kind c) ≡ name
+behind-again : (name : ℕ) (kind : DeclKind) (c : Content) → IsBare c → alias_target name (content_again kind c) ≡ name
 behind-again name kind undeclared bare = behind-kind name kind
 behind-again name kind (alias_of base) bare = absurd cc
 behind-again name kind (set_of members) bare = absurd cc
@@ -79,7 +79,7 @@ behind-again name kind (variable_of type.Discrete entries) bare = absurd cc
 behind-again name kind (equation_of entries) bare = absurd cc
 behind-again name kind (model_with model solver) bare = absurd cc
 
-behind-bare : (name : ℕ) (c : Content) → IsBare c → behind name c ≡ name
+behind-bare : (name : ℕ) (c : Content) → IsBare c → alias_target name c ≡ name
 behind-bare name undeclared bare = refl
 behind-bare name (alias_of base) bare = absurd cc
 behind-bare name (set_of members) bare = refl
@@ -94,8 +94,8 @@ own-declared kind domain state name bare = by (nat_lt name (length state.symbols
   where
     by : (b : Bool) → nat_lt name (length state.symbols) ≡ b → base_of (declare kind domain state name) name ≡ name
     by true within =
-        ap (λ (s : Symbol). behind name s.content) (put-same state name (declared_again kind domain (symbol_at state name)) within)
-        ∙ ap (behind name) (content-declared kind domain (symbol_at state name))
+        ap (λ (s : Symbol). alias_target name s.content) (put-same state name (declared_again kind domain (symbol_at state name)) within)
+        ∙ ap (alias_target name) (content-declared kind domain (symbol_at state name))
         ∙ behind-again name kind (symbol_at state name).content bare
     by false past =
         ap (λ (s : State). base_of s name) (put-past state name (declared_again kind domain (symbol_at state name)) past)
@@ -110,16 +110,16 @@ module _ {F : Type 0} (value : F → Number) where
   datum-put name state (t, Some x) own =
       ap (λ (b : ℕ). put_at state b (if_fits (symbol_at state b) t (with_value (symbol_at state b).content t (meaning value x)))) own
 
-  base-given : (name : ℕ) (ds : Given F) (state : State) (n : ℕ) → base_of (given_to value name state ds) n ≡ base_of state n
+  base-given : (name : ℕ) (ds : ExpandedData F) (state : State) (n : ℕ) → base_of (given_to value name state ds) n ≡ base_of state n
   base-given name ds state n =
       sym (base-drawn (given_to value name state ds) n) ∙ ap (λ (s : State). base_of s n) (drawn-given value name ds state) ∙ base-drawn state n
 
-  size-given : (name : ℕ) (ds : Given F) (state : State) → length (given_to value name state ds).symbols ≡ length state.symbols
+  size-given : (name : ℕ) (ds : ExpandedData F) (state : State) → length (given_to value name state ds).symbols ≡ length state.symbols
   size-given name ds state =
       sym (length-map (given_to value name state ds).symbols outline) ∙ ap (λ (s : State). length s.symbols) (drawn-given value name ds state) ∙ length-map state.symbols outline
 
   -- they leave every other name
-  other-given : (name n : ℕ) (ds : Given F) (state : State) → n ≢ name → base_of state name ≡ name → symbol_at (given_to value name state ds) n ≡ symbol_at state n
+  other-given : (name n : ℕ) (ds : ExpandedData F) (state : State) → n ≢ name → base_of state name ≡ name → symbol_at (given_to value name state ds) n ≡ symbol_at state n
   other-given name n [] state ne own = refl
   other-given name n (d ∷ ds) state ne own =
       other-given name n ds (with_datum value name state d) ne (base-given name (d ∷ []) state name ∙ own)
@@ -127,7 +127,7 @@ module _ {F : Type 0} (value : F → Number) where
       ∙ put-other state name n (with_datum_in value (symbol_at state name) d) ne
 
   -- the data of a name change its own symbol so
-  own-given : (name : ℕ) (ds : Given F) (state : State) → base_of state name ≡ name → nat_lt name (length state.symbols) ≡ true → symbol_at (given_to value name state ds) name ≡ data_in value (symbol_at state name) ds
+  own-given : (name : ℕ) (ds : ExpandedData F) (state : State) → base_of state name ≡ name → nat_lt name (length state.symbols) ≡ true → symbol_at (given_to value name state ds) name ≡ data_in value (symbol_at state name) ds
   own-given name [] state own within = refl
   own-given name (d ∷ ds) state own within =
       own-given name ds (with_datum value name state d) (base-given name (d ∷ []) state name ∙ own) (ap (nat_lt name) (size-given name (d ∷ []) state) ∙ within)
@@ -139,7 +139,7 @@ module _ {F : Type 0} where
   -- what a name without an error is before its declaration
   pub clean-bare : (known : Known F) (kind : DeclKind) (item : Decl F) → AreClean known (item_uses known kind item) → IsBare (symbol_at known.state item.named.name).content
   clean-bare known kind item clean =
-      by (is_unknown known.state item.named.name) (is_free (symbol_at known.state item.named.name).content) (is_variable (content_of kind)) (repeats_domain known.state (names_of item.domain) (positions known.state item.named.name)) (clean.0 Redeclared)
+      by (has_no_declaration known.state item.named.name) (is_free (symbol_at known.state item.named.name).content) (is_variable (content_of kind)) (repeats_domain known.state (names_of item.domain) (positions known.state item.named.name)) (clean.0 Redeclared)
     where
       by : (u f v r : Bool) → (not u && not (f && (v && r))) ≡ false → (u || f) ≡ true
       by true f v r e = refl
@@ -147,9 +147,9 @@ module _ {F : Type 0} where
       by false false v r e = absurd cc
 
   -- and where it is no variable, it is of nothing
-  pub clean-new : (known : Known F) (kind : DeclKind) (item : Decl F) → AreClean known (item_uses known kind item) → is_variable (content_of kind) ≡ false → is_unknown known.state item.named.name ≡ true
+  pub clean-new : (known : Known F) (kind : DeclKind) (item : Decl F) → AreClean known (item_uses known kind item) → is_variable (content_of kind) ≡ false → has_no_declaration known.state item.named.name ≡ true
   clean-new known kind item clean none =
-      by (is_unknown known.state item.named.name) (is_free (symbol_at known.state item.named.name).content) (is_variable (content_of kind)) (repeats_domain known.state (names_of item.domain) (positions known.state item.named.name)) (clean.0 Redeclared) none
+      by (has_no_declaration known.state item.named.name) (is_free (symbol_at known.state item.named.name).content) (is_variable (content_of kind)) (repeats_domain known.state (names_of item.domain) (positions known.state item.named.name)) (clean.0 Redeclared) none
     where
       by : (u f v r : Bool) → (not u && not (f && (v && r))) ≡ false → v ≡ false → u ≡ true
       by true f v r e none = refl
@@ -158,7 +158,7 @@ module _ {F : Type 0} where
       by false false v r e none = absurd cc
 
   module _ (known : Known F) (kind : DeclKind) (item : Decl F) (clean : AreClean known (item_uses known kind item)) where
-    abbrev pub given : Given F
+    abbrev pub given : ExpandedData F
     given = (item-loadable known kind item clean).given.0
 
     -- the state after it
@@ -167,7 +167,7 @@ module _ {F : Type 0} where
 
     item-state : with_item known.value kind known.state item ≡ given_to known.value item.named.name named given
     item-state =
-        ap (λ (r : Result (Given F) SetFault). with_data known.value named item.named.name r) (item-loadable known kind item clean).given.1
+        ap (λ (r : Result (ExpandedData F) SetFault). with_data known.value named item.named.name r) (item-loadable known kind item clean).given.1
 
     own-name : base_of named item.named.name ≡ item.named.name
     own-name = own-declared kind (names_of item.domain) known.state item.named.name (clean-bare known kind item clean)
@@ -243,7 +243,7 @@ typed-content kind domain s t is bare =
     by (model_with model solver) bare = absurd cc
 
 -- data leave a variable
-pub variable-quiet : {F : Type 0} (value : F → Number) (ds : Given F) (s : Symbol) (t : VariableType) → s.content ≡ variable_of t finite.empty → data_in value s ds ≡ s
+pub variable-quiet : {F : Type 0} (value : F → Number) (ds : ExpandedData F) (s : Symbol) (t : VariableType) → s.content ≡ variable_of t finite.empty → data_in value s ds ≡ s
 variable-quiet value ds s t is =
     data-quiet value ds s (λ u on. ap (λ c. with_membership c u on) is ∙ sym is) (λ u y. ap (λ c. with_value c u y) is ∙ sym is)
 
@@ -272,25 +272,25 @@ both-second false b e = absurd cc
 
 -- a name is another than each that may become declared
 abbrev pub IsApart : State → ℕ → ℕ → Type 0
-IsApart state n m = is_unknown state m ≡ true → n ≢ m
+IsApart state n m = has_no_declaration state m ≡ true → n ≢ m
 
 module _ (state : State) (n : ℕ) where
   pub set-other : (m : ℕ) → IsApart state n m → symbol_at (declare declaring.Set [] state m) n ≡ symbol_at state n
-  set-other m apart = by (is_unknown state m) refl
+  set-other m apart = by (has_no_declaration state m) refl
     where
-      by : (b : Bool) → is_unknown state m ≡ b → symbol_at (declare declaring.Set [] state m) n ≡ symbol_at state n
+      by : (b : Bool) → has_no_declaration state m ≡ b → symbol_at (declare declaring.Set [] state m) n ≡ symbol_at state n
       by true new = put-other state m n (declared_again declaring.Set [] (symbol_at state m)) (apart new)
       by false old =
           read-kept (λ (s : Symbol). s) state m (declared_again declaring.Set [] (symbol_at state m)) (set-again (symbol_at state m) old) n
 
   join-other : (old new : ℕ) → can_join state old new ≡ true → IsApart state n new → symbol_at (join_name state old new) n ≡ symbol_at state n
   join-other old new can apart =
-      put-other state new n (alias_symbol (base_of state old)) (apart (both-second (is_set (symbol_at state old).content) (is_unknown state new) can))
+      put-other state new n (alias_symbol (base_of state old)) (apart (both-second (is_set (symbol_at state old).content) (has_no_declaration state new) can))
 
   pub model-other : (m : ℕ) → IsApart state n m → symbol_at (declare_model state m) n ≡ symbol_at state n
-  model-other m apart = by (is_unknown state m) refl
+  model-other m apart = by (has_no_declaration state m) refl
     where
-      by : (b : Bool) → is_unknown state m ≡ b → symbol_at (if b then put_at state m model_symbol else state) n ≡ symbol_at state n
+      by : (b : Bool) → has_no_declaration state m ≡ b → symbol_at (if b then put_at state m model_symbol else state) n ≡ symbol_at state n
       by true new = put-other state m n model_symbol (apart new)
       by false old = refl
 

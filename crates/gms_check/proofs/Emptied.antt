@@ -14,13 +14,13 @@ use Rattle.gms_ast.specs.declared.declaration.DeclKind.{DeclKind}
 use Rattle.gms_ast.specs.declared.declaration.DeclKind.TheVariants as declaring
 use Rattle.gms_store.specs.declared.kind.VariableType.{VariableType}
 use Rattle.gms_store.specs.declared.kind.VariableType.TheVariants as type
-use Rattle.gms_store.specs.State.{State, Entries, Attributes, Content, undeclared, alias_of, set_of, parameter_of, variable_of, equation_of, model_with, Symbol, no_symbol, base_of, behind, if_fits, symbol_at, with_content, with_membership, with_value}
+use Rattle.gms_store.specs.State.{State, Entries, Attributes, Content, undeclared, alias_of, set_of, parameter_of, variable_of, equation_of, model_with, Symbol, no_symbol, base_of, alias_target, if_fits, symbol_at, with_content, with_membership, with_value}
 use Rattle.gms_store.specs.Declarations.{content_of, declare, declared_again, is_free, is_set, is_undeclared, kind_in, put_at, retyped, symbol_of_kind}
-use Rattle.gms_known.specs.Below.{base_above, first_base}
-use Rattle.gms_known.specs.Data.{empty_content, emptied, given_to, with_datum}
-use Rattle.gms_known.specs.Facts.{Facts, above_new, equation_in, with_declared, without_data}
-use Rattle.gms_known.specs.Names.{is_equation, is_index_set, is_unknown, kind_of, positions}
-use Rattle.gms_known.specs.Entries.{entry}
+use Rattle.gms_scope.specs.Below.{base_above, first_base}
+use Rattle.gms_scope.specs.Data.{empty_content, with_no_data, given_to, with_datum}
+use Rattle.gms_scope.specs.Facts.{Facts, above_new, equation_in, with_declared, without_data}
+use Rattle.gms_scope.specs.Names.{is_equation, is_index_set, has_no_declaration, declared_kind, positions}
+use Rattle.gms_scope.specs.Entries.{entry}
 
 -- ---- one name of a state that is changed
 
@@ -106,7 +106,7 @@ changed-still f state i still =
 abbrev empty_symbol : Symbol → Symbol
 empty_symbol x = with_content x (empty_content x.content)
 
-behind-empty : (n : ℕ) (content : Content) → behind n (empty_content content) ≡ behind n content
+behind-empty : (n : ℕ) (content : Content) → alias_target n (empty_content content) ≡ alias_target n content
 behind-empty n undeclared = refl
 behind-empty n (alias_of base) = refl
 behind-empty n (set_of members) = refl
@@ -143,52 +143,52 @@ new-empty (equation_of entries) = refl
 new-empty (model_with model solver) = refl
 
 module _ (state : State) (name : ℕ) where
-  base-emptied : (n : ℕ) → base_of (emptied state name) n ≡ base_of state n
+  base-emptied : (n : ℕ) → base_of (with_no_data state name) n ≡ base_of state n
   base-emptied n =
-      read-kept (λ (x : Symbol). behind n x.content) state (base_of state name) (empty_symbol (symbol_at state (base_of state name))) (behind-empty n (symbol_at state (base_of state name)).content) n
+      read-kept (λ (x : Symbol). alias_target n x.content) state (base_of state name) (empty_symbol (symbol_at state (base_of state name))) (behind-empty n (symbol_at state (base_of state name)).content) n
 
-  kind-emptied : (n : ℕ) → kind_of (emptied state name) n ≡ kind_of state n
+  kind-emptied : (n : ℕ) → declared_kind (with_no_data state name) n ≡ declared_kind state n
   kind-emptied n =
       read-kept (λ (x : Symbol). kind_in x.content) state (base_of state name) (empty_symbol (symbol_at state (base_of state name))) (kind-empty (symbol_at state (base_of state name)).content) n
 
-  set-emptied : (n : ℕ) → is_set (symbol_at (emptied state name) n).content ≡ is_set (symbol_at state n).content
+  set-emptied : (n : ℕ) → is_set (symbol_at (with_no_data state name) n).content ≡ is_set (symbol_at state n).content
   set-emptied n =
       read-kept (λ (x : Symbol). is_set x.content) state (base_of state name) (empty_symbol (symbol_at state (base_of state name))) (set-empty (symbol_at state (base_of state name)).content) n
 
-  pub unknown-emptied : (n : ℕ) → is_unknown (emptied state name) n ≡ is_unknown state n
+  pub unknown-emptied : (n : ℕ) → has_no_declaration (with_no_data state name) n ≡ has_no_declaration state n
   unknown-emptied n =
       read-kept (λ (x : Symbol). is_undeclared x.content) state (base_of state name) (empty_symbol (symbol_at state (base_of state name))) (new-empty (symbol_at state (base_of state name)).content) n
 
-  domain-emptied : (n : ℕ) → (symbol_at (emptied state name) n).domain ≡ (symbol_at state n).domain
+  domain-emptied : (n : ℕ) → (symbol_at (with_no_data state name) n).domain ≡ (symbol_at state n).domain
   domain-emptied n =
       read-kept (λ (x : Symbol). x.domain) state (base_of state name) (empty_symbol (symbol_at state (base_of state name))) refl n
 
-  positions-emptied : (n : ℕ) → positions (emptied state name) n ≡ positions state n
+  positions-emptied : (n : ℕ) → positions (with_no_data state name) n ≡ positions state n
   positions-emptied n =
-      ap (λ (b : ℕ). (symbol_at (emptied state name) b).domain) (base-emptied n) ∙ domain-emptied (base_of state n)
+      ap (λ (b : ℕ). (symbol_at (with_no_data state name) b).domain) (base-emptied n) ∙ domain-emptied (base_of state n)
 
-  index-emptied : (n : ℕ) → is_index_set (emptied state name) n ≡ is_index_set state n
+  index-emptied : (n : ℕ) → is_index_set (with_no_data state name) n ≡ is_index_set state n
   index-emptied n =
-      ap (λ (b : Bool). b && length (positions (emptied state name) n) == 1) (set-emptied n) ∙ ap (λ (domain : List (Option ℕ)). is_set (symbol_at state n).content && length domain == 1) (positions-emptied n)
+      ap (λ (b : Bool). b && length (positions (with_no_data state name) n) == 1) (set-emptied n) ∙ ap (λ (domain : List (Option ℕ)). is_set (symbol_at state n).content && length domain == 1) (positions-emptied n)
 
-  first-emptied : (domain : List (Option ℕ)) → first_base (emptied state name) domain ≡ first_base state domain
+  first-emptied : (domain : List (Option ℕ)) → first_base (with_no_data state name) domain ≡ first_base state domain
   first-emptied [] = refl
   first-emptied (None ∷ domain) = refl
   first-emptied (Some set ∷ domain) =
-      ap (λ (b : Bool). cond b (Some (base_of (emptied state name) set)) None) (index-emptied set) ∙ ap (λ (n : ℕ). cond (is_index_set state set) (Some n) None) (base-emptied set)
+      ap (λ (b : Bool). cond b (Some (base_of (with_no_data state name) set)) None) (index-emptied set) ∙ ap (λ (n : ℕ). cond (is_index_set state set) (Some n) None) (base-emptied set)
 
-  above-emptied : (n : ℕ) → base_above (emptied state name) n ≡ base_above state n
+  above-emptied : (n : ℕ) → base_above (with_no_data state name) n ≡ base_above state n
   above-emptied n =
-      ap (λ (b : Bool). cond b (first_base (emptied state name) (positions (emptied state name) n)) None) (index-emptied n)
-      ∙ ap (λ (domain : List (Option ℕ)). cond (is_index_set state n) (first_base (emptied state name) domain) None) (positions-emptied n)
+      ap (λ (b : Bool). cond b (first_base (with_no_data state name) (positions (with_no_data state name) n)) None) (index-emptied n)
+      ∙ ap (λ (domain : List (Option ℕ)). cond (is_index_set state n) (first_base (with_no_data state name) domain) None) (positions-emptied n)
       ∙ ap (λ (above : Option ℕ). cond (is_index_set state n) above None) (first-emptied (positions state n))
 
 -- the data of names may be removed in any order
-emptied-comm : (state : State) (n m : ℕ) → emptied (emptied state n) m ≡ emptied (emptied state m) n
+emptied-comm : (state : State) (n m : ℕ) → with_no_data (with_no_data state n) m ≡ with_no_data (with_no_data state m) n
 emptied-comm state n m =
-    ap (changed empty_symbol (emptied state n)) (base-emptied state n m)
+    ap (changed empty_symbol (with_no_data state n)) (base-emptied state n m)
     ∙ changed-comm empty_symbol empty_symbol (λ x. refl) state (base_of state n) (base_of state m)
-    ∙ sym (ap (changed empty_symbol (emptied state m)) (base-emptied state m n))
+    ∙ sym (ap (changed empty_symbol (with_no_data state m)) (base-emptied state m n))
 
 -- ---- declarations
 
@@ -203,7 +203,7 @@ empty-new declaring.Negative = refl
 empty-new declaring.Discrete = refl
 empty-new declaring.Equation = refl
 
-behind-new : (n : ℕ) (kind : DeclKind) → behind n (content_of kind) ≡ n
+behind-new : (n : ℕ) (kind : DeclKind) → alias_target n (content_of kind) ≡ n
 behind-new n declaring.Set = refl
 behind-new n declaring.Parameter = refl
 behind-new n declaring.Scalar = refl
@@ -225,7 +225,7 @@ empty-retyped entries declaring.Negative = refl
 empty-retyped entries declaring.Discrete = refl
 empty-retyped entries declaring.Equation = refl
 
-behind-retyped : (n : ℕ) (entries : Entries Attributes) (kind : DeclKind) → behind n (retyped (variable_of type.Free entries) (content_of kind)) ≡ n
+behind-retyped : (n : ℕ) (entries : Entries Attributes) (kind : DeclKind) → alias_target n (retyped (variable_of type.Free entries) (content_of kind)) ≡ n
 behind-retyped n entries declaring.Set = refl
 behind-retyped n entries declaring.Parameter = refl
 behind-retyped n entries declaring.Scalar = refl
@@ -258,16 +258,16 @@ module _ (kind : DeclKind) (domain : List (Option ℕ)) where
       by (equation_of entries) = refl
       by (model_with model solver) = refl
 
-  behind-again : (n : ℕ) (x : Symbol) → behind n (again x).content ≡ behind n x.content
+  behind-again : (n : ℕ) (x : Symbol) → alias_target n (again x).content ≡ alias_target n x.content
   behind-again n x = by x.content
     where
-      typed : (t : VariableType) (entries : Entries Attributes) → behind n (again (with_content x (variable_of t entries))).content ≡ n
+      typed : (t : VariableType) (entries : Entries Attributes) → alias_target n (again (with_content x (variable_of t entries))).content ≡ n
       typed type.Free entries = behind-retyped n entries kind
       typed type.Positive entries = refl
       typed type.Negative entries = refl
       typed type.Discrete entries = refl
 
-      by : (content : Content) → behind n (again (with_content x content)).content ≡ behind n content
+      by : (content : Content) → alias_target n (again (with_content x content)).content ≡ alias_target n content
       by undeclared = behind-new n kind
       by (alias_of base) = refl
       by (set_of members) = refl
@@ -278,15 +278,15 @@ module _ (kind : DeclKind) (domain : List (Option ℕ)) where
 
   base-declared : (state : State) (name n : ℕ) → base_of (declare kind domain state name) n ≡ base_of state n
   base-declared state name n =
-      read-kept (λ (x : Symbol). behind n x.content) state name (again (symbol_at state name)) (behind-again n (symbol_at state name)) n
+      read-kept (λ (x : Symbol). alias_target n x.content) state name (again (symbol_at state name)) (behind-again n (symbol_at state name)) n
 
   -- a name may be declared before or after the data of others are removed
-  declared-emptied : (state : State) (m n : ℕ) → emptied (declare kind domain state m) n ≡ declare kind domain (emptied state n) m
+  declared-emptied : (state : State) (m n : ℕ) → with_no_data (declare kind domain state m) n ≡ declare kind domain (with_no_data state n) m
   declared-emptied state m n =
       ap (changed empty_symbol (declare kind domain state m)) (base-declared state m n)
       ∙ changed-comm empty_symbol again again-empty state m (base_of state n)
 
-equation-same : (kind : DeclKind) (a b : State) (name : ℕ) → kind_of a name ≡ kind_of b name → equation_in kind a name ≡ equation_in kind b name
+equation-same : (kind : DeclKind) (a b : State) (name : ℕ) → declared_kind a name ≡ declared_kind b name → equation_in kind a name ≡ equation_in kind b name
 equation-same declaring.Set a b name e = refl
 equation-same declaring.Parameter a b name e = refl
 equation-same declaring.Scalar a b name e = refl
@@ -309,13 +309,13 @@ pub declared-without : (kind : DeclKind) (domain : List (Option ℕ)) (facts : F
 declared-without kind domain facts m n =
     let s = facts.state in
     let new = declare kind domain s m in
-    let late = declare kind domain (emptied s n) m in
-    let same : emptied new n ≡ late = declared-emptied kind domain s m n in
-    let above : above_new (is_unknown s m) new m ≡ above_new (is_unknown (emptied s n) m) late m = above-same (is_unknown s m) (is_unknown (emptied s n) m) new late m (sym (unknown-emptied s n m)) (sym (above-emptied new n m) ∙ ap (λ (t : State). base_above t m) same) in
-    let equation : equation_in kind new m ≡ equation_in kind late m = equation-same kind new late m (sym (kind-emptied new n m) ∙ ap (λ (t : State). kind_of t m) same) in
-    ap (λ (t : State). record facts { state = t; declared = facts.declared ++ entry (length facts.defined) facts.declared m (above_new (is_unknown s m) new m); equations = facts.equations ++ equation_in kind new m }) same
+    let late = declare kind domain (with_no_data s n) m in
+    let same : with_no_data new n ≡ late = declared-emptied kind domain s m n in
+    let above : above_new (has_no_declaration s m) new m ≡ above_new (has_no_declaration (with_no_data s n) m) late m = above-same (has_no_declaration s m) (has_no_declaration (with_no_data s n) m) new late m (sym (unknown-emptied s n m)) (sym (above-emptied new n m) ∙ ap (λ (t : State). base_above t m) same) in
+    let equation : equation_in kind new m ≡ equation_in kind late m = equation-same kind new late m (sym (kind-emptied new n m) ∙ ap (λ (t : State). declared_kind t m) same) in
+    ap (λ (t : State). record facts { state = t; declared = facts.declared ++ entry (length facts.defined) facts.declared m (above_new (has_no_declaration s m) new m); equations = facts.equations ++ equation_in kind new m }) same
     ∙ ap (λ (over : Option ℕ). record facts { state = late; declared = facts.declared ++ entry (length facts.defined) facts.declared m over; equations = facts.equations ++ equation_in kind new m }) above
-    ∙ ap (λ (names : List ℕ). record facts { state = late; declared = facts.declared ++ entry (length facts.defined) facts.declared m (above_new (is_unknown (emptied s n) m) late m); equations = facts.equations ++ names }) equation
+    ∙ ap (λ (names : List ℕ). record facts { state = late; declared = facts.declared ++ entry (length facts.defined) facts.declared m (above_new (has_no_declaration (with_no_data s n) m) late m); equations = facts.equations ++ names }) equation
 
 pub without-comm : (facts : Facts) (n m : ℕ) → without_data (without_data facts n) m ≡ without_data (without_data facts m) n
 without-comm facts n m = ap (λ (t : State). record facts { state = t }) (emptied-comm facts.state n m)
@@ -332,7 +332,7 @@ module _ (t : List ℕ) where
   empty-membership (equation_of entries) on = refl
   empty-membership (model_with model solver) on = refl
 
-  behind-membership : (n : ℕ) (content : Content) (on : Bool) → behind n (with_membership content t on) ≡ behind n content
+  behind-membership : (n : ℕ) (content : Content) (on : Bool) → alias_target n (with_membership content t on) ≡ alias_target n content
   behind-membership n undeclared on = refl
   behind-membership n (alias_of base) on = refl
   behind-membership n (set_of members) on = refl
@@ -350,7 +350,7 @@ module _ (t : List ℕ) where
   empty-value (equation_of entries) x = refl
   empty-value (model_with model solver) x = refl
 
-  behind-value : (n : ℕ) (content : Content) (x : Extended) → behind n (with_value content t x) ≡ behind n content
+  behind-value : (n : ℕ) (content : Content) (x : Extended) → alias_target n (with_value content t x) ≡ alias_target n content
   behind-value n undeclared x = refl
   behind-value n (alias_of base) x = refl
   behind-value n (set_of members) x = refl
@@ -371,34 +371,34 @@ module _ (t : List ℕ) where
       by false = refl
 
   -- a name that is changed in this way and then taken out
-  emptied-fitting : (g : Content → Content) → ((c : Content) → empty_content (g c) ≡ empty_content c) → ((n : ℕ) (c : Content) → behind n (g c) ≡ behind n c) → (state : State) (name : ℕ) → emptied (changed (fitting g) state (base_of state name)) name ≡ emptied state name
+  emptied-fitting : (g : Content → Content) → ((c : Content) → empty_content (g c) ≡ empty_content c) → ((n : ℕ) (c : Content) → alias_target n (g c) ≡ alias_target n c) → (state : State) (name : ℕ) → with_no_data (changed (fitting g) state (base_of state name)) name ≡ with_no_data state name
   emptied-fitting g empty alike state name =
-      ap (changed empty_symbol (changed (fitting g) state (base_of state name))) (read-kept (λ (x : Symbol). behind name x.content) state (base_of state name) (fitting g (symbol_at state (base_of state name))) (fitting-read (λ (x : Symbol). behind name x.content) g (symbol_at state (base_of state name)) (alike name (symbol_at state (base_of state name)).content)) name)
+      ap (changed empty_symbol (changed (fitting g) state (base_of state name))) (read-kept (λ (x : Symbol). alias_target name x.content) state (base_of state name) (fitting g (symbol_at state (base_of state name))) (fitting-read (λ (x : Symbol). alias_target name x.content) g (symbol_at state (base_of state name)) (alike name (symbol_at state (base_of state name)).content)) name)
       ∙ changed-over empty_symbol (fitting g) (λ (x : Symbol). fitting-read empty_symbol g x (ap (with_content x) (empty x.content))) state (base_of state name)
 
 module _ {F : Type 0} (value : F → Number) where
-  emptied-datum : (name : ℕ) (state : State) (datum : List ℕ × Option (Ext F)) → emptied (with_datum value name state datum) name ≡ emptied state name
+  emptied-datum : (name : ℕ) (state : State) (datum : List ℕ × Option (Ext F)) → with_no_data (with_datum value name state datum) name ≡ with_no_data state name
   emptied-datum name state (t, None) =
       emptied-fitting t (λ c. with_membership c t true) (λ c. empty-membership t c true) (λ n c. behind-membership t n c true) state name
   emptied-datum name state (t, Some x) =
       emptied-fitting t (λ c. with_value c t (extended value x)) (λ c. empty-value t c (extended value x)) (λ n c. behind-value t n c (extended value x)) state name
 
   -- data that are given and taken out
-  pub emptied-given : (name : ℕ) (state : State) (given : List (List ℕ × Option (Ext F))) → emptied (given_to value name state given) name ≡ emptied state name
+  pub emptied-given : (name : ℕ) (state : State) (given : List (List ℕ × Option (Ext F))) → with_no_data (given_to value name state given) name ≡ with_no_data state name
   emptied-given name state [] = refl
   emptied-given name state (datum ∷ given) =
       emptied-given name (with_datum value name state datum) given ∙ emptied-datum name state datum
 
 -- a name that nothing declares, or a free variable, has no data that can be taken out
-still-emptied : (state : State) (name : ℕ) → (is_unknown state name || is_free (symbol_at state name).content) ≡ true → emptied state name ≡ state
+still-emptied : (state : State) (name : ℕ) → (has_no_declaration state name || is_free (symbol_at state name).content) ≡ true → with_no_data state name ≡ state
 still-emptied state name bare = by (symbol_at state name).content refl bare
   where
-    plain : (content : Content) → (symbol_at state name).content ≡ content → behind name content ≡ name → empty_content content ≡ content → emptied state name ≡ state
+    plain : (content : Content) → (symbol_at state name).content ≡ content → alias_target name content ≡ name → empty_content content ≡ content → with_no_data state name ≡ state
     plain content is here none =
-        ap (changed empty_symbol state) (ap (behind name) is ∙ here)
+        ap (changed empty_symbol state) (ap (alias_target name) is ∙ here)
         ∙ changed-still empty_symbol state name (ap (with_content (symbol_at state name)) (ap empty_content is ∙ none ∙ sym is))
 
-    by : (content : Content) → (symbol_at state name).content ≡ content → (is_undeclared content || is_free content) ≡ true → emptied state name ≡ state
+    by : (content : Content) → (symbol_at state name).content ≡ content → (is_undeclared content || is_free content) ≡ true → with_no_data state name ≡ state
     by undeclared is b = plain undeclared is refl refl
     by (alias_of base) is b = absurd cc
     by (set_of members) is b = absurd cc
@@ -408,6 +408,6 @@ still-emptied state name bare = by (symbol_at state name).content refl bare
     by (model_with model solver) is b = absurd cc
 
 -- a new name is as its declaration makes it, once its data are removed
-pub emptied-declared : (kind : DeclKind) (domain : List (Option ℕ)) (state : State) (name : ℕ) → (is_unknown state name || is_free (symbol_at state name).content) ≡ true → emptied (declare kind domain state name) name ≡ declare kind domain state name
+pub emptied-declared : (kind : DeclKind) (domain : List (Option ℕ)) (state : State) (name : ℕ) → (has_no_declaration state name || is_free (symbol_at state name).content) ≡ true → with_no_data (declare kind domain state name) name ≡ declare kind domain state name
 emptied-declared kind domain state name bare =
     declared-emptied kind domain state name name ∙ ap (λ (t : State). declare kind domain t name) (still-emptied state name bare)

@@ -16,14 +16,14 @@ use Rattle.gms_store.specs.Declarations.{is_free, names_of, positions_of}
 use Rattle.gms_set.specs.declared.fault.SetError.{SetError}
 use Rattle.gms_set.specs.declared.fault.SetError.TheVariants.{BadRange, Repeated, Outside, Full}
 use Rattle.gms_set.specs.declared.fault.SetFault.{SetFault}
-use Rattle.gms_set.specs.Expansion.{Given, expanded}
-use Rattle.gms_known.specs.Names.{is_index_set, is_unknown}
+use Rattle.gms_set.specs.Expansion.{ExpandedData, expanded}
+use Rattle.gms_scope.specs.Names.{is_index_set, has_no_declaration}
 use Rattle.gms_check.specs.declared.error.ErrorKind.{ErrorKind}
 use Rattle.gms_check.specs.declared.error.CompileError.{CompileError}
 use Rattle.gms_check.specs.CompileErrors.{checked_kinds, errors_at, errors_of, has_error, is_faultless}
 use Rattle.gms_check.specs.DeclarationUses.{are_usable, domain_use, expansion_uses, failure, has_all_parts, is_usable_in, item_uses}
 use Rattle.gms_check.specs.Domains.{is_wrong_count}
-use Rattle.gms_check.specs.Errors.{first_of}
+use Rattle.gms_check.specs.Errors.{first_error}
 use Rattle.gms_check.specs.Names.{may_be_typed}
 use Rattle.gms_check.specs.Past.{Known}
 use Rattle.gms_check.specs.Uses.{Use, bounding, failing, naming, placing}
@@ -32,7 +32,7 @@ use Rattle.gms_check.proofs.Noting.{errors-append, not-within}
 -- ---- errors that are none
 
 -- without a first error there is none
-pub none-first : (errors : List CompileError) → first_of errors ≡ None → errors ≡ []
+pub none-first : (errors : List CompileError) → first_error errors ≡ None → errors ≡ []
 none-first [] e = refl
 none-first (error ∷ errors) e = absurd cc
 
@@ -103,7 +103,7 @@ module _ {F : Type 0} where
   no-failing known at Full e = cc
 
   -- a list of data that has no error gives elements
-  pub none-failure : (known : Known F) (result : Result (Given F) SetFault) → errors_of known (failure result) ≡ [] → failure result ≡ []
+  pub none-failure : (known : Known F) (result : Result (ExpandedData F) SetFault) → errors_of known (failure result) ≡ [] → failure result ≡ []
   none-failure known (Ok given) e = refl
   none-failure known (Err fault) e = absurd (no-failing known fault.at fault.error e)
 
@@ -133,7 +133,7 @@ module _ {F : Type 0} where
 
   -- What holds of a name that is declared without an error.
   pub record IsFaultless (known : Known F) (kind : DeclKind) (item : Decl F) : Type 0 where
-    pub new : (is_unknown known.state item.named.name || is_free (symbol_at known.state item.named.name).content) ≡ true
+    pub new : (has_no_declaration known.state item.named.name || is_free (symbol_at known.state item.named.name).content) ≡ true
     pub usable : are_usable known (positions_of kind (names_of item.domain)) ≡ true
     pub whole : list_all (has_all_parts (positions_of kind (names_of item.domain))) item.items ≡ true
     pub given : expansion_uses known (positions_of kind (names_of item.domain)) item.items ≡ []
@@ -154,7 +154,7 @@ module _ {F : Type 0} where
       let here = faultless-part known named.at used first in
       let few : nat_le (length positions) 10 ≡ true = not-false (nat_le (length positions) 10) (not-within (length positions) 10 ∙ here.1.1.1.0) in
       record {
-        new = or-weaker (is_unknown known.state named.name) (is_free (symbol_at known.state named.name).content) _ (not-false-2 (is_unknown known.state named.name) (may_be_typed known kind named.name domain) here.1.0);
+        new = or-weaker (has_no_declaration known.state named.name) (is_free (symbol_at known.state named.name).content) _ (not-false-2 (has_no_declaration known.state named.name) (may_be_typed known kind named.name domain) here.1.0);
         usable = and-left (nat_le (length positions) 10) (list_all (is_usable_in known.state) positions) few (usable-positions known.state kind domain (none-domain known item.domain (none-left (errors_of known sets) (errors_of known (places ++ elements)) both)));
         whole = none-items known positions item.items (none-left (errors_of known places) (errors_of known elements) last);
         given = none-expansion known positions item.items (none-right (errors_of known places) (errors_of known elements) last);

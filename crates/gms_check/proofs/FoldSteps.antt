@@ -6,9 +6,9 @@ use Rattle.gq_number.specs.Number.{Number}
 use Rattle.gms_labels.specs.declared.place.Place.{Place}
 use Rattle.gms_check.specs.declared.error.ErrorKind.{ErrorKind}
 use Rattle.gms_check.specs.declared.error.CompileError.{CompileError}
-use Rattle.gms_check.specs.Checking.{Checking, faulted, first_fault, known_of, noted, with_controlled, with_sets}
+use Rattle.gms_check.specs.InnerChecking.{Checking, faulted, first_fault, known_of, noted, with_controlled, with_sets}
 use Rattle.gms_check.specs.CompileErrors.{checked_kinds, errors_at, errors_of, has_error}
-use Rattle.gms_check.specs.Errors.{first_of, sooner}
+use Rattle.gms_check.specs.Errors.{first_error, sooner}
 use Rattle.gms_check.specs.Uses.{Use, Uses}
 use Rattle.gms_check.proofs.Noting.{errors-append, noted-around, noted-then, with_first}
 use Rattle.gms_check.proofs.Sooner.{first_of-append, sooner-left}
@@ -18,8 +18,8 @@ module _ {F : Type 0} (value : F → Number) where
   noted-before : (c : Checking) (x : Place × Use F) (xs ys : Uses F) → noted value c (xs ++ x ∷ ys) ≡ noted value c (x ∷ (xs ++ ys))
   noted-before c x xs ys =
       let known = known_of value c in
-      let own = first_of (errors_at known x) in
-      ap (λ (first : Option CompileError). with_first c (sooner c.first first)) (ap first_of (errors-append known xs (x ∷ ys)) ∙ first_of-append (errors_of known xs) (errors_of known (x ∷ ys)) ∙ ap (sooner (first_of (errors_of known xs))) (first_of-append (errors_at known x) (errors_of known ys)) ∙ sooner-left (first_of (errors_of known xs)) own (first_of (errors_of known ys)) ∙ ap (sooner own) (sym (first_of-append (errors_of known xs) (errors_of known ys)) ∙ ap first_of (sym (errors-append known xs ys))) ∙ sym (first_of-append (errors_at known x) (errors_of known (xs ++ ys))))
+      let own = first_error (errors_at known x) in
+      ap (λ (first : Option CompileError). with_first c (sooner c.first first)) (ap first_error (errors-append known xs (x ∷ ys)) ∙ first_of-append (errors_of known xs) (errors_of known (x ∷ ys)) ∙ ap (sooner (first_error (errors_of known xs))) (first_of-append (errors_at known x) (errors_of known ys)) ∙ sooner-left (first_error (errors_of known xs)) own (first_error (errors_of known ys)) ∙ ap (sooner own) (sym (first_of-append (errors_of known xs) (errors_of known ys)) ∙ ap first_error (sym (errors-append known xs ys))) ∙ sym (first_of-append (errors_at known x) (errors_of known (xs ++ ys))))
 
   -- a fold except for its control: its own errors, its body, and fewer controlled sets after it
   pub noted-body : (c r t u v : Checking) (at : Place) (used : Use F) (faults late : List (Bool × ErrorKind)) (ys : Uses F) (outer : ℕ) → first_fault at (faults ++ late) ≡ first_fault at (map (λ kind. (has_error (known_of value c) used kind, kind)) checked_kinds) → r ≡ faulted c at faults → t ≡ noted value r ys → u ≡ with_sets t (take outer t.controlled) → v ≡ faulted u at late → v ≡ with_sets (noted value c ((at, used) ∷ ys)) (take outer c.controlled)

@@ -22,11 +22,11 @@ use Rattle.gms_tuple.proofs.Members.{IsOrdered-inserted}
 use Rattle.gms_tuple.proofs.Ordered.{ordered-nil}
 use Rattle.gms_store.specs.declared.kind.VariableType.{VariableType}
 use Rattle.gms_store.specs.declared.kind.VariableType.TheVariants as type
-use Rattle.gms_store.specs.State.{State, Attributes, Entries, Content, undeclared, alias_of, set_of, parameter_of, variable_of, equation_of, model_with, Symbol, no_symbol, symbol_at, behind, base_of, symbol_of, members_in, with_content, if_fits, with_membership, with_value, after_membership, after_value}
+use Rattle.gms_store.specs.State.{State, Attributes, Entries, Content, undeclared, alias_of, set_of, parameter_of, variable_of, equation_of, model_with, Symbol, no_symbol, symbol_at, alias_target, base_of, symbol_of, members_in, with_content, if_fits, with_membership, with_value, after_membership, after_value}
 use Rattle.gms_store.specs.Declarations.{names_of, positions_of, content_of, symbol_of_kind, retyped, is_set, is_undeclared, declared_again, put_at, declare, alias_symbol, model_symbol, join_name, can_join, declare_alias, declare_model, declare_models, declare_each, declared_by, kind_in}
 use Rattle.gms_set.specs.declared.fault.SetFault.{SetFault}
-use Rattle.gms_set.specs.Expansion.{Given, expanded}
-use Rattle.gms_known.specs.Data.{with_datum}
+use Rattle.gms_set.specs.Expansion.{ExpandedData, expanded}
+use Rattle.gms_scope.specs.Data.{with_datum}
 use Rattle.gms_check.specs.Past.{Past, with_data, with_name, with_item, after_act, after_statement}
 
 -- what is read of a list after a write: what was there, or at that place the new element
@@ -62,7 +62,7 @@ pub record IsFitting (symbol : Symbol) : Type 0 where
 -- the same set.
 pub record IsAfter (old new : Symbol) : Type 0 where
   pub domain : new.domain ≡ old.domain
-  pub alike : (n : ℕ) → behind n new.content ≡ behind n old.content
+  pub alike : (n : ℕ) → alias_target n new.content ≡ alias_target n old.content
   pub declared : is_undeclared new.content ≡ false
   pub same_kind : kind_in new.content ≡ kind_in old.content
 
@@ -118,7 +118,7 @@ grows-fold f each (x ∷ xs) s = grows-both s (f s x) (fold f (f s x) xs) (each 
 
 -- A content after another: it stands for the same, with the same members.
 record IsAlike (old new : Content) : Type 0 where
-  behind_same : (n : ℕ) → behind n new ≡ behind n old
+  behind_same : (n : ℕ) → alias_target n new ≡ alias_target n old
   members : members_in new ≡ members_in old
   declared : is_undeclared new ≡ is_undeclared old
   same_kind : kind_in new ≡ kind_in old
@@ -322,14 +322,14 @@ module _ {F : Type 0} (value : F → Number) where
   grows-datum name state (t, None) = grows-membership state name t
   grows-datum name state (t, Some x) = grows-value state name t (value_shown value x)
 
-  grows-data : (state : State) (name : ℕ) (given : Result (Given F) SetFault) → Grows state (with_data value state name given)
+  grows-data : (state : State) (name : ℕ) (given : Result (ExpandedData F) SetFault) → Grows state (with_data value state name given)
   grows-data state name (Ok given) = grows-fold (with_datum value name) (grows-datum name) given state
   grows-data state name (Err fault) = grows-itself state
 
   grows-item : (k : DeclKind) (state : State) (item : Decl F) → Grows state (with_item value k state item)
   grows-item k state item =
       let named : State = with_name value k state item in
-      let given : Result (Given F) SetFault = expanded state (positions_of k (names_of item.domain)) item.items in
+      let given : Result (ExpandedData F) SetFault = expanded state (positions_of k (names_of item.domain)) item.items in
       grows-both state named (with_data value named item.named.name given) (grows-declare k (names_of item.domain) state item.named.name) (grows-data named item.named.name given)
 
   grows-act : (state : State) (act : Act F) → Grows state (after_act value state act)

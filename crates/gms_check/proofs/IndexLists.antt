@@ -17,10 +17,10 @@ use Rattle.gms_ast.specs.declared.expression.LagOp.{LagOp}
 use Rattle.gms_ast.specs.Trees.{Tree, Control, Indices, no_index, label, set, lagged}
 use Rattle.gms_ast.specs.TreeView.{tree_step, index_step, control_step, tree_of, index_tree}
 use Rattle.gms_store.specs.State.{State}
-use Rattle.gms_known.specs.Below.{fits, holds}
+use Rattle.gms_scope.specs.Below.{set_fits_position, label_fits_position}
 use Rattle.gms_check.specs.Controls.{lagged_sets}
 use Rattle.gms_check.specs.Domains.{index_count}
-use Rattle.gms_check.specs.Kinds.{is_bare}
+use Rattle.gms_check.specs.Kinds.{has_no_indices}
 use Rattle.gms_check.specs.IndexList.{have_unfit_label, have_unfit_set}
 use Rattle.gms_check.specs.StatementUses.{index_list}
 use Rattle.gms_check.specs.Uses.{index_sets}
@@ -118,17 +118,17 @@ module _ {F : Type 0} where
       let same = count-indices xs in
       more ∙ ap (λ n. n + 1) same ∙ omega arith
 
-  step-bare : (index : Index-F F (Tree F) (Indices F → Indices F) (Control F)) (rest : Indices F) → is_bare (index_step index rest) ≡ false
+  step-bare : (index : Index-F F (Tree F) (Indices F → Indices F) (Control F)) (rest : Indices F) → has_no_indices (index_step index rest) ≡ false
   step-bare (Index-F.Label n) rest = refl
   step-bare (Index-F.Set name None) rest = refl
   step-bare (Index-F.Set name (Some lag)) rest = refl
 
   -- whether there are no indices
-  pub bare-indices : (xs : List (Index F)) → (length xs == 0) ≡ is_bare (index_list xs)
+  pub bare-indices : (xs : List (Index F)) → (length xs == 0) ≡ has_no_indices (index_list xs)
   bare-indices [] = refl
   bare-indices (x ∷ xs) =
       let some : (length (x ∷ xs) == 0) ≡ false = grind (arith, nat_tests) in
-      let tree : is_bare (index_tree x (index_list xs)) ≡ false = rw (fold_out-Index F (Tree F) (Indices F → Indices F) (Control F) tree_step index_step control_step x) (step-bare _ (index_list xs)) in
+      let tree : has_no_indices (index_tree x (index_list xs)) ≡ false = rw (fold_out-Index F (Tree F) (Indices F → Indices F) (Control F) tree_step index_step control_step x) (step-bare _ (index_list xs)) in
       some ∙ sym tree
 
 -- ---- indices against positions
@@ -164,7 +164,7 @@ module _ {F : Type 0} (state : State) (declared : List ℕ) (above : ℕ → Opt
   abbrev unfit : List (Option ℕ) → Indices F → Bool
   unfit = have_unfit_set state declared above name
 
-  unfit-Set : (position : Option ℕ) (domain : List (Option ℕ)) (n : ℕ) (lag : Option (LagOp × Place × Box (Expr F) Global)) (rest : Indices F) → have_unfit_set state declared above name (position ∷ domain) (index_tree (Set n lag) rest) ≡ (not (fits state declared above name position n) || have_unfit_set state declared above name domain rest)
+  unfit-Set : (position : Option ℕ) (domain : List (Option ℕ)) (n : ℕ) (lag : Option (LagOp × Place × Box (Expr F) Global)) (rest : Indices F) → have_unfit_set state declared above name (position ∷ domain) (index_tree (Set n lag) rest) ≡ (not (set_fits_position state declared above name position n) || have_unfit_set state declared above name domain rest)
   unfit-Set position domain n None rest = ap (unfit (position ∷ domain)) (index_tree-alone n rest)
   unfit-Set position domain n (Some lag) rest = ap (unfit (position ∷ domain)) (index_tree-lagged n lag rest)
 
@@ -183,7 +183,7 @@ module _ {F : Type 0} (state : State) (declared : List ℕ) (above : ℕ → Opt
         ap (λ ps. unfit ps (index_list (drop i xs))) (at-position domain i position e) ∙ ap (unfit (position ∷ drop (i + 1) domain)) (here xs i x l is)
 
     -- a set at a position, which fits or does not
-    pub unfit-at : (position : Option ℕ) (n : ℕ) (lag : Option (LagOp × Place × Box (Expr F) Global)) → slice_get domain i ≡ Some position → x ≡ Set n lag → have_unfit_set state declared above name (drop i domain) (index_list (drop i xs)) ≡ (not (fits state declared above name position n) || have_unfit_set state declared above name (drop (i + 1) domain) (index_list (drop (i + 1) xs)))
+    pub unfit-at : (position : Option ℕ) (n : ℕ) (lag : Option (LagOp × Place × Box (Expr F) Global)) → slice_get domain i ≡ Some position → x ≡ Set n lag → have_unfit_set state declared above name (drop i domain) (index_list (drop i xs)) ≡ (not (set_fits_position state declared above name position n) || have_unfit_set state declared above name (drop (i + 1) domain) (index_list (drop (i + 1) xs)))
     unfit-at position n lag e s =
         at position e ∙ ap (λ y. unfit (position ∷ drop (i + 1) domain) (index_tree y (index_list (drop (i + 1) xs)))) s ∙ unfit-Set position (drop (i + 1) domain) n lag (index_list (drop (i + 1) xs))
 
@@ -204,7 +204,7 @@ module _ {F : Type 0} (state : State) (declared : List ℕ) (name : ℕ) where
   outside-Set position domain n None rest = ap (outside (position ∷ domain)) (index_tree-alone n rest)
   outside-Set position domain n (Some lag) rest = ap (outside (position ∷ domain)) (index_tree-lagged n lag rest)
 
-  outside-Label : (position : Option ℕ) (domain : List (Option ℕ)) (n : ℕ) (rest : Indices F) → have_unfit_label state declared name (position ∷ domain) (index_tree (Label n) rest) ≡ (not (holds state declared name position n) || have_unfit_label state declared name domain rest)
+  outside-Label : (position : Option ℕ) (domain : List (Option ℕ)) (n : ℕ) (rest : Indices F) → have_unfit_label state declared name (position ∷ domain) (index_tree (Label n) rest) ≡ (not (label_fits_position state declared name position n) || have_unfit_label state declared name domain rest)
   outside-Label position domain n rest = ap (outside (position ∷ domain)) (index_tree-Label n rest)
 
   module _ (domain : List (Option ℕ)) (xs : List (Index F)) (i : ℕ) (x : Index F) (l : i < length xs) (is : x ≡ get_or xs i x) where
@@ -219,7 +219,7 @@ module _ {F : Type 0} (state : State) (declared : List ℕ) (name : ℕ) where
         ap (λ ps. outside ps (index_list (drop i xs))) (at-position domain i position e) ∙ ap (outside (position ∷ drop (i + 1) domain)) (here xs i x l is)
 
     -- a label at a position, whose set has it or does not
-    pub outside-at : (position : Option ℕ) (n : ℕ) → slice_get domain i ≡ Some position → x ≡ Label n → have_unfit_label state declared name (drop i domain) (index_list (drop i xs)) ≡ (not (holds state declared name position n) || have_unfit_label state declared name (drop (i + 1) domain) (index_list (drop (i + 1) xs)))
+    pub outside-at : (position : Option ℕ) (n : ℕ) → slice_get domain i ≡ Some position → x ≡ Label n → have_unfit_label state declared name (drop i domain) (index_list (drop i xs)) ≡ (not (label_fits_position state declared name position n) || have_unfit_label state declared name (drop (i + 1) domain) (index_list (drop (i + 1) xs)))
     outside-at position n e s =
         label-at position e ∙ ap (λ y. outside (position ∷ drop (i + 1) domain) (index_tree y (index_list (drop (i + 1) xs)))) s ∙ outside-Label position (drop (i + 1) domain) n (index_list (drop (i + 1) xs))
 

@@ -14,7 +14,7 @@ use Rattle.gms_tuple.specs.TupleOrder.{IsOrdered}
 use Rattle.gms_tuple.proofs.Ordered.{ordered-nil}
 use Rattle.gms_store.specs.State.{State, Content, undeclared, alias_of, set_of, parameter_of, variable_of, equation_of, model_with, Symbol, no_symbol, symbol_at, base_of, symbol_of, members_in, members_of}
 use Rattle.gms_store.specs.Declarations.{is_set, is_undeclared, blank_state, kind_in}
-use Rattle.gms_known.specs.Names.{is_set_name, has_one_position, is_index_set, kind_of}
+use Rattle.gms_scope.specs.Names.{is_set_name, has_one_position, is_index_set, declared_kind}
 use Rattle.gms_check.specs.Checked.{StandsAfter}
 use Rattle.gms_check.specs.Kinds.{is_variable_kind}
 use Rattle.gms_check.specs.Loaded.{sound, loaded}
@@ -132,7 +132,7 @@ module _ {F : Type 0} (value : F → Number) (program : Program F) where
       by (inr after) = after
 
   -- so it is of the same kind then, over the same domain
-  pub kind-loaded : (before : List (Stmt F)) (statement : Stmt F) → StandsAfter program before statement → (name : ℕ) → is_undeclared (symbol_at (before_state before) name).content ≡ false → kind_of (loaded value program) name ≡ kind_of (before_state before) name
+  pub kind-loaded : (before : List (Stmt F)) (statement : Stmt F) → StandsAfter program before statement → (name : ℕ) → is_undeclared (symbol_at (before_state before) name).content ≡ false → declared_kind (loaded value program) name ≡ declared_kind (before_state before) name
   kind-loaded before statement stands name declared = (after-itself before statement stands name declared).same_kind
 
   pub domain-loaded : (before : List (Stmt F)) (statement : Stmt F) → StandsAfter program before statement → (name : ℕ) → is_undeclared (symbol_at (before_state before) name).content ≡ false → (symbol_at (loaded value program) name).domain ≡ (symbol_at (before_state before) name).domain

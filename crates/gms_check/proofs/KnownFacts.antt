@@ -11,16 +11,16 @@ use Rattle.gms_ast.specs.declared.declaration.DeclKind.{DeclKind}
 use Rattle.gms_ast.specs.declared.declaration.DeclKind.TheVariants as declaring
 use Rattle.gms_ast.specs.declared.declaration.Decl.{Decl}
 use Rattle.gms_ast.specs.declared.declaration.ModelDecl.{ModelDecl}
-use Rattle.gms_store.specs.State.{Content, undeclared, alias_of, set_of, parameter_of, variable_of, equation_of, model_with, Symbol, State, no_symbol, symbol_at, behind, base_of}
+use Rattle.gms_store.specs.State.{Content, undeclared, alias_of, set_of, parameter_of, variable_of, equation_of, model_with, Symbol, State, no_symbol, symbol_at, alias_target, base_of}
 use Rattle.gms_store.specs.Declarations.{alias_symbol, can_join, content_of, declare, declare_alias, declare_model, is_set, is_undeclared, join_name, kind_in, model_symbol, names_of, positions_of, put_at, symbol_of_kind}
 use Rattle.gms_set.specs.declared.fault.SetFault.{SetFault}
-use Rattle.gms_set.specs.Expansion.{Given, expanded}
-use Rattle.gms_known.specs.Below.{base_above, superset, superset_in}
-use Rattle.gms_known.specs.Entries.{Entries, among, entry, names_of_entries}
-use Rattle.gms_known.specs.Facts.{Facts, above_new, equation_in, with_alias, with_declared, with_model_name}
-use Rattle.gms_known.specs.Names.{has_one_position, is_equation, is_index_set, is_set_name, is_unknown, kind_of, positions}
+use Rattle.gms_set.specs.Expansion.{ExpandedData, expanded}
+use Rattle.gms_scope.specs.Below.{base_above, superset, superset_in}
+use Rattle.gms_scope.specs.Entries.{DeclarationList, among, entry, names_of_entries}
+use Rattle.gms_scope.specs.Facts.{Facts, above_new, equation_in, with_alias, with_declared, with_model_name}
+use Rattle.gms_scope.specs.Names.{has_one_position, is_equation, is_index_set, is_set_name, has_no_declaration, declared_kind, positions}
 use Rattle.gms_check.specs.Above.{directly_above}
-use Rattle.gms_check.specs.Changes.{after_item, after_items, with_given, with_model_names}
+use Rattle.gms_check.specs.InnerChanges.{after_item, after_items, with_given, with_model_names}
 use Rattle.gms_check.proofs.Outlines.{base-drawn, base_above-drawn, drawn, drawn-declare_again, drawn-declare_new, drawn-given, drawn-put, drawn-same, kind-drawn, outline, read-at, set-drawn, shape, unknown-drawn}
 use Rattle.gms_check.proofs.KnownNames.{IsKnown, is_in, is_plain, known-again, known-new, new-above}
 
@@ -30,15 +30,15 @@ in_table count name = nat_lt name count && true
 
 -- whether a name is an equation in a state
 abbrev pub is_equation_in : State → ℕ → Bool
-is_equation_in state name = is_equation (kind_of state name)
+is_equation_in state name = is_equation (declared_kind state name)
 
 -- what is declared stays
 abbrev pub Grows : State → State → Type 0
-Grows a b = (n : ℕ) → is_unknown a n ≡ false → symbol_at b n ≡ symbol_at a n
+Grows a b = (n : ℕ) → has_no_declaration a n ≡ false → symbol_at b n ≡ symbol_at a n
 
 -- a name that is declared, or that the table does not have
 abbrev pub IsSettled : ℕ → State → ℕ → Type 0
-IsSettled count state n = (is_unknown state n ≡ false) ⊎ (count ≤ n)
+IsSettled count state n = (has_no_declaration state n ≡ false) ⊎ (count ≤ n)
 
 -- the same of names
 abbrev pub AreSettled : ℕ → State → List ℕ → Type 0
@@ -46,7 +46,7 @@ AreSettled count state [] = Unit {0}
 AreSettled count state (n ∷ ns) = IsSettled count state n × AreSettled count state ns
 
 -- What is known before and after the declaration of some names, with these equations among them.
-pub record Goes (count : ℕ) (before after : State) (ds es : Entries) (had has : List ℕ) (names equations : List ℕ) : Type 0 where
+pub record Goes (count : ℕ) (before after : State) (ds es : DeclarationList) (had has : List ℕ) (names equations : List ℕ) : Type 0 where
   pub known : IsKnown count after es
   pub grows : Grows before after
   pub named : names_of_entries es ≡ names_of_entries ds ++ filter (in_table count) names
@@ -79,12 +79,12 @@ abbrev pub equation_symbol : Symbol → Bool
 equation_symbol symbol = is_equation (kind_in symbol.content)
 
 -- a name that the table does not have is not declared
-pub past-table : (count : ℕ) (state : State) (es : Entries) → IsKnown count state es → (n : ℕ) → count ≤ n → symbol_at state n ≡ no_symbol
+pub past-table : (count : ℕ) (state : State) (es : DeclarationList) → IsKnown count state es → (n : ℕ) → count ≤ n → symbol_at state n ≡ no_symbol
 past-table count state es known n past =
     let size = known.size in
     read-at state.symbols n ∙ get_or_past state.symbols n no_symbol (omega arith)
 
-module _ (count : ℕ) (a b : State) (ds es : Entries) (first : IsKnown count a ds) (second : IsKnown count b es) (f : Grows a b) where
+module _ (count : ℕ) (a b : State) (ds es : DeclarationList) (first : IsKnown count a ds) (second : IsKnown count b es) (f : Grows a b) where
   kept-one : (n : ℕ) → IsSettled count a n → is_equation_in b n ≡ is_equation_in a n
   kept-one n (inl old) = ap equation_symbol (f n old)
   kept-one n (inr past) =
@@ -97,7 +97,7 @@ module _ (count : ℕ) (a b : State) (ds es : Entries) (first : IsKnown count a 
       ap (λ (t : Bool). if t then n ∷ filter (is_equation_in b) ns else filter (is_equation_in b) ns) (kept-one n s.0) ∙ ap (λ (ms : List ℕ). if is_equation_in a n then n ∷ ms else ms) (kept-equations ns s.1)
 
 -- names, and then others
-pub goes-then : (count : ℕ) (a b c : State) (ds es fs : Entries) (p q r ns ms qs rs : List ℕ) → Goes count a b ds es p q ns qs → Goes count b c es fs q r ms rs → Goes count a c ds fs p r (ns ++ ms) (qs ++ rs)
+pub goes-then : (count : ℕ) (a b c : State) (ds es fs : DeclarationList) (p q r ns ms qs rs : List ℕ) → Goes count a b ds es p q ns qs → Goes count b c es fs q r ms rs → Goes count a c ds fs p r (ns ++ ms) (qs ++ rs)
 goes-then count a b c ds es fs p q r ns ms qs rs g h = record {
   known = h.known;
   grows = grows-then a b c g.grows h.grows;
@@ -107,7 +107,7 @@ goes-then count a b c ds es fs p q r ns ms qs rs g h = record {
 }
 
 -- nothing
-pub goes-none : (count : ℕ) (a : State) (ds : Entries) (p : List ℕ) → IsKnown count a ds → Goes count a a ds ds p p [] []
+pub goes-none : (count : ℕ) (a : State) (ds : DeclarationList) (p : List ℕ) → IsKnown count a ds → Goes count a a ds ds p p [] []
 goes-none count a ds p known = record {
   known = known;
   grows = λ n old. refl;
@@ -118,7 +118,7 @@ goes-none count a ds p known = record {
 
 -- ---- one name
 
-entry-names : (count : ℕ) (ds : Entries) (name : ℕ) (above : Option ℕ) → names_of_entries (ds ++ entry count ds name above) ≡ names_of_entries ds ++ filter (in_table count) (name ∷ [])
+entry-names : (count : ℕ) (ds : DeclarationList) (name : ℕ) (above : Option ℕ) → names_of_entries (ds ++ entry count ds name above) ≡ names_of_entries ds ++ filter (in_table count) (name ∷ [])
 entry-names count ds name above =
     map-append (λ (e : ℕ × Option ℕ). e.0) ds (entry count ds name above) ∙ ap (λ ns. names_of_entries ds ++ ns) (by (nat_lt name count))
   where
@@ -127,7 +127,7 @@ entry-names count ds name above =
     by false = refl
 
 -- a name that is declared already
-pub name-again : (count : ℕ) (a : State) (ds : Entries) (p : List ℕ) (name : ℕ) (above : Option ℕ) → IsKnown count a ds → is_unknown a name ≡ false → Goes count a a ds (ds ++ entry count ds name above) p p (name ∷ []) []
+pub name-again : (count : ℕ) (a : State) (ds : DeclarationList) (p : List ℕ) (name : ℕ) (above : Option ℕ) → IsKnown count a ds → has_no_declaration a name ≡ false → Goes count a a ds (ds ++ entry count ds name above) p p (name ∷ []) []
 name-again count a ds p name above known old = record {
   known = by (nat_lt name count);
   grows = λ n old. refl;
@@ -141,10 +141,10 @@ name-again count a ds p name above known old = record {
     by false = subst (IsKnown count a) (sym (append-nil ds)) known
 
 -- a new name, which stands for a symbol then
-pub name-new : (count : ℕ) (a : State) (ds : Entries) (p : List ℕ) (name : ℕ) (above : Option ℕ) (symbol : Symbol) → IsKnown count a ds → is_unknown a name ≡ true → is_undeclared symbol.content ≡ false → ((b : ℕ) → symbol.content ≡ alias_of b → is_plain (symbol_at a b).content ≡ true) → (name < count → among ds above ≡ directly_above (put_at a name symbol) (names_of_entries ds ++ name ∷ []) name) → Goes count a (put_at a name symbol) ds (ds ++ entry count ds name above) p p (name ∷ []) []
+pub name-new : (count : ℕ) (a : State) (ds : DeclarationList) (p : List ℕ) (name : ℕ) (above : Option ℕ) (symbol : Symbol) → IsKnown count a ds → has_no_declaration a name ≡ true → is_undeclared symbol.content ≡ false → ((b : ℕ) → symbol.content ≡ alias_of b → is_plain (symbol_at a b).content ≡ true) → (name < count → among ds above ≡ directly_above (put_at a name symbol) (names_of_entries ds ++ name ∷ []) name) → Goes count a (put_at a name symbol) ds (ds ++ entry count ds name above) p p (name ∷ []) []
 name-new count a ds p name above symbol known new declared alias right = record {
   known = by (nat_lt name count) refl;
-  grows = λ n old. read-at (set a.symbols name symbol) n ∙ get_or-set_other a.symbols name n symbol no_symbol (λ e. absurd (let f = sym old ∙ ap (is_unknown a) e ∙ new in cc)) ∙ sym (read-at a.symbols n);
+  grows = λ n old. read-at (set a.symbols name symbol) n ∙ get_or-set_other a.symbols name n symbol no_symbol (λ e. absurd (let f = sym old ∙ ap (has_no_declaration a) e ∙ new in cc)) ∙ sym (read-at a.symbols n);
   named = entry-names count ds name above;
   equated = sym (append-nil p);
   settled = tt;
@@ -170,7 +170,7 @@ kind-declared declaring.Negative = refl
 kind-declared declaring.Discrete = refl
 kind-declared declaring.Equation = refl
 
-kind-itself : (name : ℕ) (kind : DeclKind) → behind name (shape (content_of kind)) ≡ name
+kind-itself : (name : ℕ) (kind : DeclKind) → alias_target name (shape (content_of kind)) ≡ name
 kind-itself name declaring.Set = refl
 kind-itself name declaring.Parameter = refl
 kind-itself name declaring.Scalar = refl
@@ -182,9 +182,9 @@ kind-itself name declaring.Discrete = refl
 kind-itself name declaring.Equation = refl
 
 -- a content for which each name stands for itself is no alias
-no-alias : (c : Content) → ((n : ℕ) → behind n c ≡ n) → (b : ℕ) → c ≡ alias_of b → ⊥
+no-alias : (c : Content) → ((n : ℕ) → alias_target n c ≡ n) → (b : ℕ) → c ≡ alias_of b → ⊥
 no-alias c itself b is =
-    let e : b ≡ suc b = sym (ap (behind (suc b)) is) ∙ itself (suc b) in
+    let e : b ≡ suc b = sym (ap (alias_target (suc b)) is) ∙ itself (suc b) in
     omega arith
 
 -- the equation that a name of a kind is
@@ -215,13 +215,13 @@ equation_names-cons declaring.Discrete n ns = refl
 equation_names-cons declaring.Equation n ns = refl
 
 -- the equations of a name that is declared
-with-equation : (count : ℕ) (a b : State) (ds es : Entries) (p : List ℕ) (kind : DeclKind) (state : State) (name : ℕ) → drawn state ≡ b → IsSettled count b name → Goes count a b ds es p p (name ∷ []) [] → Goes count a b ds es p (p ++ equation_in kind state name) (name ∷ []) (equation_names kind (name ∷ []))
+with-equation : (count : ℕ) (a b : State) (ds es : DeclarationList) (p : List ℕ) (kind : DeclKind) (state : State) (name : ℕ) → drawn state ≡ b → IsSettled count b name → Goes count a b ds es p p (name ∷ []) [] → Goes count a b ds es p (p ++ equation_in kind state name) (name ∷ []) (equation_names kind (name ∷ []))
 with-equation count a b ds es p kind state name is settled g = by kind
   where
     none : Goes count a b ds es p (p ++ []) (name ∷ []) []
     none = record { known = g.known; grows = g.grows; named = g.named; equated = refl; settled = tt }
 
-    one : Goes count a b ds es p (p ++ (if is_equation (kind_of state name) then name ∷ [] else [])) (name ∷ []) (name ∷ [])
+    one : Goes count a b ds es p (p ++ (if is_equation (declared_kind state name) then name ∷ [] else [])) (name ∷ []) (name ∷ [])
     one = record {
       known = g.known;
       grows = g.grows;
@@ -242,7 +242,7 @@ with-equation count a b ds es p kind state name is settled g = by kind
     by declaring.Equation = one
 
 -- whether a name is declared after a symbol was put at it
-put-settled : (count : ℕ) (a : State) (ds : Entries) → IsKnown count a ds → (name : ℕ) (symbol : Symbol) → is_undeclared symbol.content ≡ false → IsSettled count (put_at a name symbol) name
+put-settled : (count : ℕ) (a : State) (ds : DeclarationList) → IsKnown count a ds → (name : ℕ) (symbol : Symbol) → is_undeclared symbol.content ≡ false → IsSettled count (put_at a name symbol) name
 put-settled count a ds known name symbol declared = by (nat_lt name count) refl
   where
     by : (b : Bool) → nat_lt name count ≡ b → IsSettled count (put_at a name symbol) name
@@ -254,29 +254,29 @@ put-settled count a ds known name symbol declared = by (nat_lt name count) refl
     by false q = inr (grind (arith, nat_tests))
 
 -- the state after a declaration, where a name may be directly below this
-module _ (count : ℕ) (kind : DeclKind) (domain : List (Option ℕ)) (state : State) (ds : Entries) (p : List ℕ) (name : ℕ) (above : Option ℕ) (known : IsKnown count (drawn state) ds) where
-  pub declare-goes : (is_unknown state name ≡ true → name < count → among ds above ≡ directly_above (put_at (drawn state) name (outline (symbol_of_kind kind domain))) (names_of_entries ds ++ name ∷ []) name) → Goes count (drawn state) (drawn (declare kind domain state name)) ds (ds ++ entry count ds name above) p p (name ∷ []) [] × IsSettled count (drawn (declare kind domain state name)) name
-  declare-goes right = by (is_unknown state name) refl
+module _ (count : ℕ) (kind : DeclKind) (domain : List (Option ℕ)) (state : State) (ds : DeclarationList) (p : List ℕ) (name : ℕ) (above : Option ℕ) (known : IsKnown count (drawn state) ds) where
+  pub declare-goes : (has_no_declaration state name ≡ true → name < count → among ds above ≡ directly_above (put_at (drawn state) name (outline (symbol_of_kind kind domain))) (names_of_entries ds ++ name ∷ []) name) → Goes count (drawn state) (drawn (declare kind domain state name)) ds (ds ++ entry count ds name above) p p (name ∷ []) [] × IsSettled count (drawn (declare kind domain state name)) name
+  declare-goes right = by (has_no_declaration state name) refl
     where
-      by : (b : Bool) → is_unknown state name ≡ b → Goes count (drawn state) (drawn (declare kind domain state name)) ds (ds ++ entry count ds name above) p p (name ∷ []) [] × IsSettled count (drawn (declare kind domain state name)) name
+      by : (b : Bool) → has_no_declaration state name ≡ b → Goes count (drawn state) (drawn (declare kind domain state name)) ds (ds ++ entry count ds name above) p p (name ∷ []) [] × IsSettled count (drawn (declare kind domain state name)) name
       by true q =
           let e = sym (drawn-declare_new kind domain state name q) in
           let symbol = outline (symbol_of_kind kind domain) in
           (subst (λ (t : State). Goes count (drawn state) t ds (ds ++ entry count ds name above) p p (name ∷ []) []) e (name-new count (drawn state) ds p name above symbol known (unknown-drawn state name ∙ q) (kind-declared kind) (λ b is. absurd (no-alias (shape (content_of kind)) (λ n. kind-itself n kind) b is)) (right q)), subst (λ (t : State). IsSettled count t name) e (put-settled count (drawn state) ds known name symbol (kind-declared kind)))
       by false q =
           let e = sym (drawn-declare_again kind domain state name q) in
-          let old : is_unknown (drawn state) name ≡ false = unknown-drawn state name ∙ q in
+          let old : has_no_declaration (drawn state) name ≡ false = unknown-drawn state name ∙ q in
           (subst (λ (t : State). Goes count (drawn state) t ds (ds ++ entry count ds name above) p p (name ∷ []) []) e (name-again count (drawn state) ds p name above known old), subst (λ (t : State). IsSettled count t name) e (inl old))
 
 -- a name that is declared by its kind
 pub declared-goes : (count : ℕ) (kind : DeclKind) (domain : List (Option ℕ)) (facts : Facts) (name : ℕ) → IsKnown count (drawn facts.state) facts.declared → length facts.defined ≡ count → FactsGo count facts (with_declared kind domain facts name) (name ∷ []) (equation_names kind (name ∷ []))
 declared-goes count kind domain facts name known size =
     let new = declare kind domain facts.state name in
-    let above = above_new (is_unknown facts.state name) new name in
+    let above = above_new (has_no_declaration facts.state name) new name in
     let step = declare-goes count kind domain facts.state facts.declared facts.equations name above known right in
     subst (λ (k : ℕ). Goes count (drawn facts.state) (drawn new) facts.declared (facts.declared ++ entry k facts.declared name above) facts.equations (facts.equations ++ equation_in kind new name) (name ∷ []) (equation_names kind (name ∷ []))) (sym size) (with-equation count (drawn facts.state) (drawn new) facts.declared (facts.declared ++ entry count facts.declared name above) facts.equations kind new name refl step.1 step.0)
   where
-    right : is_unknown facts.state name ≡ true → name < count → among facts.declared (above_new (is_unknown facts.state name) (declare kind domain facts.state name) name) ≡ directly_above (put_at (drawn facts.state) name (outline (symbol_of_kind kind domain))) (names_of_entries facts.declared ++ name ∷ []) name
+    right : has_no_declaration facts.state name ≡ true → name < count → among facts.declared (above_new (has_no_declaration facts.state name) (declare kind domain facts.state name) name) ≡ directly_above (put_at (drawn facts.state) name (outline (symbol_of_kind kind domain))) (names_of_entries facts.declared ++ name ∷ []) name
     right q there =
         ap (λ (b : Bool). among facts.declared (above_new b (declare kind domain facts.state name) name)) q
         ∙ ap (among facts.declared) (sym (base_above-drawn (declare kind domain facts.state name) name) ∙ ap (λ (t : State). base_above t name) (drawn-declare_new kind domain facts.state name q))
@@ -301,12 +301,12 @@ keeps-then a b c f g = record {
 }
 
 module _ {F : Type 0} (value : F → Number) where
-  given-goes : (count : ℕ) (facts : Facts) (g : Facts) (name : ℕ) (r : Result (Given F) SetFault) (ns es : List ℕ) → FactsGo count facts g ns es → FactsGo count facts (with_given value g name r) ns es
+  given-goes : (count : ℕ) (facts : Facts) (g : Facts) (name : ℕ) (r : Result (ExpandedData F) SetFault) (ns es : List ℕ) → FactsGo count facts g ns es → FactsGo count facts (with_given value g name r) ns es
   given-goes count facts g name (Ok given) ns es go =
       subst (λ (t : State). Goes count (drawn facts.state) t facts.declared g.declared facts.equations g.equations ns es) (sym (drawn-given value name given g.state)) go
   given-goes count facts g name (Err fault) ns es go = go
 
-  given-keeps : (facts : Facts) (name : ℕ) (r : Result (Given F) SetFault) → Keeps facts (with_given value facts name r)
+  given-keeps : (facts : Facts) (name : ℕ) (r : Result (ExpandedData F) SetFault) → Keeps facts (with_given value facts name r)
   given-keeps facts name (Ok given) = record { dynamic = refl; unordered = refl; defined = refl; models = refl }
   given-keeps facts name (Err fault) = record { dynamic = refl; unordered = refl; defined = refl; models = refl }
 
@@ -345,9 +345,9 @@ module _ {F : Type 0} (value : F → Number) where
 
 model-goes : (count : ℕ) (facts : Facts) (name : ℕ) → IsKnown count (drawn facts.state) facts.declared → length facts.defined ≡ count → FactsGo count facts (with_model_name facts name) (name ∷ []) []
 model-goes count facts name known size =
-    subst (λ (k : ℕ). Goes count (drawn facts.state) (drawn (declare_model facts.state name)) facts.declared (facts.declared ++ entry k facts.declared name None) facts.equations facts.equations (name ∷ []) []) (sym size) (by (is_unknown facts.state name) refl)
+    subst (λ (k : ℕ). Goes count (drawn facts.state) (drawn (declare_model facts.state name)) facts.declared (facts.declared ++ entry k facts.declared name None) facts.equations facts.equations (name ∷ []) []) (sym size) (by (has_no_declaration facts.state name) refl)
   where
-    right : is_unknown facts.state name ≡ true → name < count → None ≡ directly_above (put_at (drawn facts.state) name model_symbol) (names_of_entries facts.declared ++ name ∷ []) name
+    right : has_no_declaration facts.state name ≡ true → name < count → None ≡ directly_above (put_at (drawn facts.state) name model_symbol) (names_of_entries facts.declared ++ name ∷ []) name
     right q there =
         let size = known.size in
         let within : name < length (drawn facts.state).symbols = omega arith in
@@ -358,7 +358,7 @@ model-goes count facts name known size =
         nothing true = refl
         nothing false = refl
 
-    by : (b : Bool) → is_unknown facts.state name ≡ b → Goes count (drawn facts.state) (drawn (if b then put_at facts.state name model_symbol else facts.state)) facts.declared (facts.declared ++ entry count facts.declared name None) facts.equations facts.equations (name ∷ []) []
+    by : (b : Bool) → has_no_declaration facts.state name ≡ b → Goes count (drawn facts.state) (drawn (if b then put_at facts.state name model_symbol else facts.state)) facts.declared (facts.declared ++ entry count facts.declared name None) facts.equations facts.equations (name ∷ []) []
     by true q =
         subst (λ (t : State). Goes count (drawn facts.state) t facts.declared (facts.declared ++ entry count facts.declared name None) facts.equations facts.equations (name ∷ []) []) (sym (drawn-put facts.state name model_symbol)) (name-new count (drawn facts.state) facts.declared facts.equations name None model_symbol known (unknown-drawn facts.state name ∙ q) refl (λ b is. absurd cc) (right q))
     by false q =
@@ -380,13 +380,13 @@ models-go count (model ∷ models) facts known size =
 
 -- ---- aliases
 
-set-plain : (count : ℕ) (t : State) (ds : Entries) → IsKnown count t ds → (n : ℕ) → is_set_name t n ≡ true → is_plain (symbol_at t (base_of t n)).content ≡ true
+set-plain : (count : ℕ) (t : State) (ds : DeclarationList) → IsKnown count t ds → (n : ℕ) → is_set_name t n ≡ true → is_plain (symbol_at t (base_of t n)).content ≡ true
 set-plain count t ds known n q = by (symbol_at t n).content refl q
   where
     by : (c : Content) → (symbol_at t n).content ≡ c → is_set c ≡ true → is_plain (symbol_at t (base_of t n)).content ≡ true
     by undeclared is r = absurd cc
-    by (alias_of b) is r = ap (λ (c : Content). is_plain (symbol_at t (behind n c)).content) is ∙ known.aliases n b is
-    by (set_of members) is r = ap (λ (c : Content). is_plain (symbol_at t (behind n c)).content) is ∙ ap is_plain is
+    by (alias_of b) is r = ap (λ (c : Content). is_plain (symbol_at t (alias_target n c)).content) is ∙ known.aliases n b is
+    by (set_of members) is r = ap (λ (c : Content). is_plain (symbol_at t (alias_target n c)).content) is ∙ ap is_plain is
     by (parameter_of entries) is r = absurd cc
     by (variable_of type entries) is r = absurd cc
     by (equation_of entries) is r = absurd cc
@@ -423,9 +423,9 @@ no_set true = refl
 no_set false = refl
 
 -- a new name of a set
-join-goes : (count : ℕ) (t : State) (ds : Entries) (p : List ℕ) (old new : ℕ) → IsKnown count t ds → is_set_name t old ≡ true → is_unknown t new ≡ true → Goes count t (put_at t new (alias_symbol (base_of t old))) ds (ds ++ entry count ds new None) p p (new ∷ []) []
+join-goes : (count : ℕ) (t : State) (ds : DeclarationList) (p : List ℕ) (old new : ℕ) → IsKnown count t ds → is_set_name t old ≡ true → has_no_declaration t new ≡ true → Goes count t (put_at t new (alias_symbol (base_of t old))) ds (ds ++ entry count ds new None) p p (new ∷ []) []
 join-goes count t ds p old new known is_old is_new =
-    name-new count t ds p new None (alias_symbol (base_of t old)) known is_new refl (λ b is. ap (λ (k : ℕ). is_plain (symbol_at t k).content) (sym (ap (behind 0) is)) ∙ plain) right
+    name-new count t ds p new None (alias_symbol (base_of t old)) known is_new refl (λ b is. ap (λ (k : ℕ). is_plain (symbol_at t k).content) (sym (ap (alias_target 0) is)) ∙ plain) right
   where
     plain : is_plain (symbol_at t (base_of t old)).content ≡ true
     plain = set-plain count t ds known old is_old
@@ -442,10 +442,10 @@ join-goes count t ds p old new known is_old is_new =
         let size = known.size in
         let within : new < length t.symbols = omega arith in
         let here : symbol_at (put_at t new (alias_symbol (base_of t old))) new ≡ alias_symbol (base_of t old) = read-at (set t.symbols new (alias_symbol (base_of t old))) new ∙ get_or-set_same t.symbols new (alias_symbol (base_of t old)) no_symbol within in
-        sym (ap (λ (b : Bool). if b then superset (put_at t new (alias_symbol (base_of t old))) (names_of_entries ds ++ new ∷ []) new else None) (ap (λ (s : Symbol). behind new s.content == new) here ∙ apart))
+        sym (ap (λ (b : Bool). if b then superset (put_at t new (alias_symbol (base_of t old))) (names_of_entries ds ++ new ∷ []) new else None) (ap (λ (s : Symbol). alias_target new s.content == new) here ∙ apart))
 
 -- a new set of any labels is below nothing
-free-above : (count : ℕ) (t : State) (ds : Entries) → IsKnown count t ds → (name : ℕ) (names : List ℕ) → name < count → None ≡ directly_above (put_at t name (outline (symbol_of_kind declaring.Set []))) names name
+free-above : (count : ℕ) (t : State) (ds : DeclarationList) → IsKnown count t ds → (name : ℕ) (names : List ℕ) → name < count → None ≡ directly_above (put_at t name (outline (symbol_of_kind declaring.Set []))) names name
 free-above count t ds known name names there =
     let after = put_at t name (outline (symbol_of_kind declaring.Set [])) in
     sym (ap (λ (o : Option ℕ). if base_of after name == name then o else None) (ap (λ (ps : List (Option ℕ)). if is_index_set after name then superset_in after names name ps else None) free ∙ no_set (is_index_set after name)) ∙ no_set (base_of after name == name))
@@ -457,7 +457,7 @@ free-above count t ds known name names there =
         read-at (set t.symbols name (outline (symbol_of_kind declaring.Set []))) name ∙ get_or-set_same t.symbols name (outline (symbol_of_kind declaring.Set [])) no_symbol within
 
     free : positions (put_at t name (outline (symbol_of_kind declaring.Set []))) name ≡ None ∷ []
-    free = ap (λ (s : Symbol). (symbol_at (put_at t name (outline (symbol_of_kind declaring.Set []))) (behind name s.content)).domain) here ∙ ap (λ (s : Symbol). s.domain) here
+    free = ap (λ (s : Symbol). (symbol_at (put_at t name (outline (symbol_of_kind declaring.Set []))) (alias_target name s.content)).domain) here ∙ ap (λ (s : Symbol). s.domain) here
 
 pub alias-keeps : (facts : Facts) (first second : ℕ) → Keeps facts (with_alias facts first second)
 alias-keeps facts first second = record { dynamic = refl; unordered = refl; defined = refl; models = refl }
@@ -472,19 +472,19 @@ alias-goes count facts first second known size =
 
     forward : can_join facts.state first second ≡ true → Goes count (drawn facts.state) (drawn (join_name facts.state first second)) facts.declared ((facts.declared ++ entry count facts.declared first None) ++ entry count facts.declared second None) facts.equations facts.equations (first ∷ second ∷ []) []
     forward q =
-        let old : is_set_name (drawn facts.state) first ≡ true = set-drawn facts.state first ∙ first-true (is_set_name facts.state first) (is_unknown facts.state second) q in
-        let new : is_unknown (drawn facts.state) second ≡ true = unknown-drawn facts.state second ∙ second-true (is_set_name facts.state first) (is_unknown facts.state second) q in
+        let old : is_set_name (drawn facts.state) first ≡ true = set-drawn facts.state first ∙ first-true (is_set_name facts.state first) (has_no_declaration facts.state second) q in
+        let new : has_no_declaration (drawn facts.state) second ≡ true = unknown-drawn facts.state second ∙ second-true (is_set_name facts.state first) (has_no_declaration facts.state second) q in
         let one = name-again count (drawn facts.state) facts.declared facts.equations first None known (set-not (symbol_at (drawn facts.state) first).content old) in
         subst (λ (after : State). Goes count (drawn facts.state) after facts.declared ((facts.declared ++ entry count facts.declared first None) ++ entry count facts.declared second None) facts.equations facts.equations (first ∷ second ∷ []) []) (joined first second)
         (goes-then count (drawn facts.state) (drawn facts.state) (put_at (drawn facts.state) second (alias_symbol (base_of (drawn facts.state) first))) facts.declared (facts.declared ++ entry count facts.declared first None) ((facts.declared ++ entry count facts.declared first None) ++ entry count facts.declared second None) facts.equations facts.equations facts.equations (first ∷ []) (second ∷ []) [] [] one (join-goes count (drawn facts.state) (facts.declared ++ entry count facts.declared first None) facts.equations first second one.known old new))
 
     backward : can_join facts.state second first ≡ true → Goes count (drawn facts.state) (drawn (join_name facts.state second first)) facts.declared ((facts.declared ++ entry count facts.declared first None) ++ entry count facts.declared second None) facts.equations facts.equations (first ∷ second ∷ []) []
     backward q =
-        let old : is_set_name (drawn facts.state) second ≡ true = set-drawn facts.state second ∙ first-true (is_set_name facts.state second) (is_unknown facts.state first) q in
-        let new : is_unknown (drawn facts.state) first ≡ true = unknown-drawn facts.state first ∙ second-true (is_set_name facts.state second) (is_unknown facts.state first) q in
+        let old : is_set_name (drawn facts.state) second ≡ true = set-drawn facts.state second ∙ first-true (is_set_name facts.state second) (has_no_declaration facts.state first) q in
+        let new : has_no_declaration (drawn facts.state) first ≡ true = unknown-drawn facts.state first ∙ second-true (is_set_name facts.state second) (has_no_declaration facts.state first) q in
         let after = put_at (drawn facts.state) first (alias_symbol (base_of (drawn facts.state) second)) in
         let one = join-goes count (drawn facts.state) facts.declared facts.equations second first known old new in
-        let there : is_unknown (drawn facts.state) second ≡ false = set-not (symbol_at (drawn facts.state) second).content old in
+        let there : has_no_declaration (drawn facts.state) second ≡ false = set-not (symbol_at (drawn facts.state) second).content old in
         subst (λ (after : State). Goes count (drawn facts.state) after facts.declared ((facts.declared ++ entry count facts.declared first None) ++ entry count facts.declared second None) facts.equations facts.equations (first ∷ second ∷ []) []) (joined second first)
         (goes-then count (drawn facts.state) after after facts.declared (facts.declared ++ entry count facts.declared first None) ((facts.declared ++ entry count facts.declared first None) ++ entry count facts.declared second None) facts.equations facts.equations facts.equations (first ∷ []) (second ∷ []) [] [] one (name-again count after (facts.declared ++ entry count facts.declared first None) facts.equations second None one.known (ap (λ (s : Symbol). is_undeclared s.content) (one.grows second there) ∙ there)))
 

@@ -6,11 +6,11 @@ use Rattle.std.proofs.lemmas.Bool.{ltb-true, eqb-true}
 use Rattle.std.proofs.lemmas.Bool.Decides.{nat_tests}
 use Rattle.std.proofs.lemmas.List.{append-nil, map-append, length-set, set_past, get_or_past, get_or-set_same, get_or-set_other}
 use Rattle.std.proofs.lemmas.List.Folds.{list_any-append}
-use Rattle.gms_store.specs.State.{Content, undeclared, alias_of, set_of, parameter_of, variable_of, equation_of, model_with, Symbol, State, no_symbol, symbol_at, behind, base_of, symbol_of}
+use Rattle.gms_store.specs.State.{Content, undeclared, alias_of, set_of, parameter_of, variable_of, equation_of, model_with, Symbol, State, no_symbol, symbol_at, alias_target, base_of, symbol_of}
 use Rattle.gms_store.specs.Declarations.{is_set, is_undeclared, put_at}
-use Rattle.gms_known.specs.Below.{base_above, bounds, first_base, is_met_before, superset, superset_in}
-use Rattle.gms_known.specs.Entries.{Entries, above_of, among, entry, is_entered, names_of_entries}
-use Rattle.gms_known.specs.Names.{has_one_position, is_index_set, is_set_name, is_unknown, positions}
+use Rattle.gms_scope.specs.Below.{base_above, bounds, first_base, is_met_before, superset, superset_in}
+use Rattle.gms_scope.specs.Entries.{DeclarationList, above_of, among, entry, is_entered, names_of_entries}
+use Rattle.gms_scope.specs.Names.{has_one_position, is_index_set, is_set_name, has_no_declaration, positions}
 use Rattle.gms_check.specs.Above.{directly_above}
 use Rattle.gms_check.proofs.Outlines.{read-at}
 
@@ -51,11 +51,11 @@ apart a b e f = let t = eq-eqb a b f in cc
 abbrev pub is_in : List ℕ → ℕ → Bool
 is_in names name = list_any (λ (other : ℕ). other == name) names
 
-pub entered-in : (es : Entries) (name : ℕ) → is_in (names_of_entries es) name ≡ is_entered es name
+pub entered-in : (es : DeclarationList) (name : ℕ) → is_in (names_of_entries es) name ≡ is_entered es name
 entered-in [] name = refl
 entered-in (e ∷ es) name = ap (λ b. (e.0 == name) || b) (entered-in es name)
 
-pub names-push : (es : Entries) (name : ℕ) (above : Option ℕ) → names_of_entries (es ++ (name, above) ∷ []) ≡ names_of_entries es ++ name ∷ []
+pub names-push : (es : DeclarationList) (name : ℕ) (above : Option ℕ) → names_of_entries (es ++ (name, above) ∷ []) ≡ names_of_entries es ++ name ∷ []
 names-push es name above = map-append (λ (e : ℕ × Option ℕ). e.0) es ((name, above) ∷ [])
 
 -- one name more, which is met before: nothing else is met before another
@@ -105,11 +105,11 @@ met-new (first ∷ names) name a e = by (first == name) refl (first == a) (met-n
     by false q true rest = refl
     by false q false rest = rest (sym (ap (λ s. s || is_in names name) q) ∙ e)
 
-above-again : (es : Entries) (name : ℕ) (above : Option ℕ) (n : ℕ) → is_entered es name ≡ true → above_of (es ++ (name, above) ∷ []) n ≡ above_of es n
+above-again : (es : DeclarationList) (name : ℕ) (above : Option ℕ) (n : ℕ) → is_entered es name ≡ true → above_of (es ++ (name, above) ∷ []) n ≡ above_of es n
 above-again [] name above n e = absurd cc
 above-again (first ∷ es) name above n e = by (first.0 == n) refl (first.0 == name) refl (above-again es name above n)
   where
-    end : (es : Entries) → (name == n) ≡ false → above_of (es ++ (name, above) ∷ []) n ≡ above_of es n
+    end : (es : DeclarationList) → (name == n) ≡ false → above_of (es ++ (name, above) ∷ []) n ≡ above_of es n
     end [] q = ap (λ (s : Bool). if s then above else None) q
     end (f ∷ es) q = ap (λ (o : Option ℕ). if f.0 == n then f.1 else o) (end es q)
 
@@ -120,11 +120,11 @@ above-again (first ∷ es) name above n e = by (first.0 == n) refl (first.0 == n
         end es (ap (λ (k : ℕ). k == n) (sym same) ∙ q)
     by false q false r rest = rest (sym (ap (λ s. s || is_entered es name) r) ∙ e)
 
-above-other : (es : Entries) (name : ℕ) (above : Option ℕ) (n : ℕ) → (name == n) ≡ false → above_of (es ++ (name, above) ∷ []) n ≡ above_of es n
+above-other : (es : DeclarationList) (name : ℕ) (above : Option ℕ) (n : ℕ) → (name == n) ≡ false → above_of (es ++ (name, above) ∷ []) n ≡ above_of es n
 above-other [] name above n q = ap (λ (s : Bool). if s then above else None) q
 above-other (f ∷ es) name above n q = ap (λ (o : Option ℕ). if f.0 == n then f.1 else o) (above-other es name above n q)
 
-above-new : (es : Entries) (name : ℕ) (above : Option ℕ) → is_entered es name ≡ false → above_of (es ++ (name, above) ∷ []) name ≡ above
+above-new : (es : DeclarationList) (name : ℕ) (above : Option ℕ) → is_entered es name ≡ false → above_of (es ++ (name, above) ∷ []) name ≡ above
 above-new [] name above e = ap (λ (s : Bool). if s then above else None) (eq-eqb name name refl)
 above-new (first ∷ es) name above e = by (first.0 == name) refl (above-new es name above)
   where
@@ -140,9 +140,9 @@ is_plain (set_of members) = true
 is_plain content = false
 
 -- What holds of a state with `count` names, and of the names that are declared in it.
-pub record IsKnown (count : ℕ) (state : State) (es : Entries) : Type 0 where
+pub record IsKnown (count : ℕ) (state : State) (es : DeclarationList) : Type 0 where
   pub size : length state.symbols ≡ count
-  pub entered : (n : ℕ) → is_entered es n ≡ not (is_unknown state n)
+  pub entered : (n : ℕ) → is_entered es n ≡ not (has_no_declaration state n)
   pub aliases : (n b : ℕ) → (symbol_at state n).content ≡ alias_of b → is_plain (symbol_at state b).content ≡ true
   pub above : (n : ℕ) → above_of es n ≡ directly_above state (names_of_entries es) n
 
@@ -174,7 +174,7 @@ unknown-unset (equation_of entries) p = refl
 unknown-unset (model_with model solver) p = refl
 
 -- a content is an alias, or a name of it stands for itself
-alias-or : (n : ℕ) (c : Content) → ((b : ℕ) × (c ≡ alias_of b)) ⊎ (behind n c ≡ n)
+alias-or : (n : ℕ) (c : Content) → ((b : ℕ) × (c ≡ alias_of b)) ⊎ (alias_target n c ≡ n)
 alias-or n undeclared = inr refl
 alias-or n (alias_of base) = inl (base, refl)
 alias-or n (set_of members) = inr refl
@@ -194,20 +194,20 @@ and-second : (a b : Bool) → (a && b) ≡ true → b ≡ true
 and-second true b e = e
 and-second false b e = absurd cc
 
-module _ (count : ℕ) (state : State) (es : Entries) (known : IsKnown count state es) where
+module _ (count : ℕ) (state : State) (es : DeclarationList) (known : IsKnown count state es) where
   -- what is known is among the names
-  pub known-in : (n : ℕ) → is_unknown state n ≡ false → is_in (names_of_entries es) n ≡ true
+  pub known-in : (n : ℕ) → has_no_declaration state n ≡ false → is_in (names_of_entries es) n ≡ true
   known-in n e = entered-in es n ∙ known.entered n ∙ ap not e
 
   -- and what is not is not
-  pub unknown-in : (n : ℕ) → is_unknown state n ≡ true → is_in (names_of_entries es) n ≡ false
+  pub unknown-in : (n : ℕ) → has_no_declaration state n ≡ true → is_in (names_of_entries es) n ≡ false
   unknown-in n e = entered-in es n ∙ known.entered n ∙ ap not e
 
   -- the set that a known alias stands for is known
-  pub base-known : (n : ℕ) → is_unknown state n ≡ false → is_unknown state (base_of state n) ≡ false
+  pub base-known : (n : ℕ) → has_no_declaration state n ≡ false → has_no_declaration state (base_of state n) ≡ false
   base-known n e = elim (alias-or n (symbol_at state n).content) [
-    | inl a ↦ ap (λ (c : Content). is_unknown state (behind n c)) a.1 ∙ known_plain (symbol_at state a.0).content (known.aliases n a.0 a.1)
-    | inr same ↦ ap (is_unknown state) same ∙ e
+    | inl a ↦ ap (λ (c : Content). has_no_declaration state (alias_target n c)) a.1 ∙ known_plain (symbol_at state a.0).content (known.aliases n a.0 a.1)
+    | inr same ↦ ap (has_no_declaration state) same ∙ e
   ]
     where
       known_plain : (c : Content) → is_plain c ≡ true → is_undeclared c ≡ false
@@ -218,7 +218,7 @@ module _ (count : ℕ) (state : State) (es : Entries) (known : IsKnown count sta
           by false q = refl
 
   -- a known name once more
-  pub known-again : (name : ℕ) (above : Option ℕ) → is_unknown state name ≡ false → IsKnown count state (es ++ (name, above) ∷ [])
+  pub known-again : (name : ℕ) (above : Option ℕ) → has_no_declaration state name ≡ false → IsKnown count state (es ++ (name, above) ∷ [])
   known-again name above old = record {
     size = known.size;
     entered = λ n. list_any-append (λ (e : ℕ × Option ℕ). e.0 == n) es ((name, above) ∷ []) ∙ twice n (name == n) refl;
@@ -226,10 +226,10 @@ module _ (count : ℕ) (state : State) (es : Entries) (known : IsKnown count sta
     above = λ n. above-again es name above n (known.entered name ∙ ap not old) ∙ known.above n ∙ sym (ap (λ names. directly_above state names n) (names-push es name above) ∙ ap (λ (o : Option ℕ). if base_of state n == n then o else None) (ap (λ (o : Option ℕ). if is_index_set state n then o else None) (in_again n (positions state n))));
   }
     where
-      twice : (n : ℕ) (s : Bool) → (name == n) ≡ s → (is_entered es n || (s || false)) ≡ not (is_unknown state n)
+      twice : (n : ℕ) (s : Bool) → (name == n) ≡ s → (is_entered es n || (s || false)) ≡ not (has_no_declaration state n)
       twice n true q =
           let same = eqb-true name n q in
-          or_true (is_entered es n) ∙ sym (ap (λ (k : ℕ). not (is_unknown state k)) (sym same) ∙ ap not old)
+          or_true (is_entered es n) ∙ sym (ap (λ (k : ℕ). not (has_no_declaration state k)) (sym same) ∙ ap not old)
       twice n false q = or_false (is_entered es n) ∙ known.entered n
 
       in_again : (n : ℕ) (domain : List (Option ℕ)) → superset_in state (names_of_entries es ++ name ∷ []) n domain ≡ superset_in state (names_of_entries es) n domain
@@ -240,7 +240,7 @@ module _ (count : ℕ) (state : State) (es : Entries) (known : IsKnown count sta
           ap (λ b. if is_index_set state s && b then Some (base_of state s) else None) (met-again (names_of_entries es) name s (base_of state n) (known-in name old))
       in_again n (Some s ∷ x ∷ xs) = refl
 
-  module _ (name : ℕ) (new : is_unknown state name ≡ true) (symbol : Symbol) where
+  module _ (name : ℕ) (new : has_no_declaration state name ≡ true) (symbol : Symbol) where
     after : State
     after = put_at state name symbol
 
@@ -251,12 +251,12 @@ module _ (count : ℕ) (state : State) (es : Entries) (known : IsKnown count sta
     -- no name stands for a new one
     base-apart : (n : ℕ) → (n ≡ name → ⊥) → base_of state n ≡ name → ⊥
     base-apart n ne is = elim (alias-or n (symbol_at state n).content) [
-      | inl a ↦ plain-known (symbol_at state name).content (ap (λ (k : ℕ). is_plain (symbol_at state k).content) (sym is ∙ ap (behind n) a.1) ∙ known.aliases n a.0 a.1) new
+      | inl a ↦ plain-known (symbol_at state name).content (ap (λ (k : ℕ). is_plain (symbol_at state k).content) (sym is ∙ ap (alias_target n) a.1) ∙ known.aliases n a.0 a.1) new
       | inr same ↦ ne (sym same ∙ is)
     ]
 
     base-kept : (n : ℕ) → (n ≡ name → ⊥) → base_of (put_at state name symbol) n ≡ base_of state n
-    base-kept n ne = ap (λ (s : Symbol). behind n s.content) (other-after n ne)
+    base-kept n ne = ap (λ (s : Symbol). alias_target n s.content) (other-after n ne)
 
     positions-kept : (n : ℕ) → (n ≡ name → ⊥) → positions (put_at state name symbol) n ≡ positions state n
     positions-kept n ne =
@@ -269,7 +269,7 @@ module _ (count : ℕ) (state : State) (es : Entries) (known : IsKnown count sta
     not-index : is_index_set state name ≡ false
     not-index = ap (λ b. b && has_one_position state name) (unknown-unset (symbol_at state name).content new)
 
-    in-kept : (n : ℕ) → (n ≡ name → ⊥) → is_unknown state n ≡ false → (domain : List (Option ℕ)) → superset_in (put_at state name symbol) (names_of_entries es ++ name ∷ []) n domain ≡ superset_in state (names_of_entries es) n domain
+    in-kept : (n : ℕ) → (n ≡ name → ⊥) → has_no_declaration state n ≡ false → (domain : List (Option ℕ)) → superset_in (put_at state name symbol) (names_of_entries es ++ name ∷ []) n domain ≡ superset_in state (names_of_entries es) n domain
     in-kept n ne old [] = refl
     in-kept n ne old (None ∷ []) = refl
     in-kept n ne old (None ∷ x ∷ xs) = refl
@@ -317,10 +317,10 @@ module _ (count : ℕ) (state : State) (es : Entries) (known : IsKnown count sta
         here : symbol_at (put_at state name symbol) name ≡ symbol
         here = read-at (set state.symbols name symbol) name ∙ get_or-set_same state.symbols name symbol no_symbol within
 
-        entered_after : (n : ℕ) (s : Bool) → (name == n) ≡ s → (is_entered es n || (s || false)) ≡ not (is_unknown (put_at state name symbol) n)
+        entered_after : (n : ℕ) (s : Bool) → (name == n) ≡ s → (is_entered es n || (s || false)) ≡ not (has_no_declaration (put_at state name symbol) n)
         entered_after n true q =
             let same = eqb-true name n q in
-            or_true (is_entered es n) ∙ sym (ap (λ (k : ℕ). not (is_unknown (put_at state name symbol) k)) (sym same) ∙ ap (λ (s : Symbol). not (is_undeclared s.content)) here ∙ ap not declared)
+            or_true (is_entered es n) ∙ sym (ap (λ (k : ℕ). not (has_no_declaration (put_at state name symbol) k)) (sym same) ∙ ap (λ (s : Symbol). not (is_undeclared s.content)) here ∙ ap not declared)
         entered_after n false q =
             or_false (is_entered es n) ∙ known.entered n ∙ sym (ap (λ (s : Symbol). not (is_undeclared s.content)) (other-after n (λ e. apart name n q (sym e))))
 
@@ -343,7 +343,7 @@ module _ (count : ℕ) (state : State) (es : Entries) (known : IsKnown count sta
             above-other es name above n q ∙ known.above n ∙ sym (above-kept n (λ e. apart name n q (sym e)))
 
     -- what a new name that is no alias is directly below
-    pub new-above : name < count → behind name symbol.content ≡ name → among es (base_above (put_at state name symbol) name) ≡ directly_above (put_at state name symbol) (names_of_entries es ++ name ∷ []) name
+    pub new-above : name < count → alias_target name symbol.content ≡ name → among es (base_above (put_at state name symbol) name) ≡ directly_above (put_at state name symbol) (names_of_entries es ++ name ∷ []) name
     new-above there itself =
         by (is_index_set (put_at state name symbol) name) refl
         ∙ sym (ap (λ (b : Bool). if b then superset (put_at state name symbol) (names_of_entries es ++ name ∷ []) name else None) (eq-eqb (base_of (put_at state name symbol) name) name base))
@@ -355,7 +355,7 @@ module _ (count : ℕ) (state : State) (es : Entries) (known : IsKnown count sta
         here = read-at (set state.symbols name symbol) name ∙ get_or-set_same state.symbols name symbol no_symbol within
 
         base : base_of (put_at state name symbol) name ≡ name
-        base = ap (λ (s : Symbol). behind name s.content) here ∙ itself
+        base = ap (λ (s : Symbol). alias_target name s.content) here ∙ itself
 
         entered_set : (s : ℕ) → is_index_set (put_at state name symbol) s ≡ true → is_entered es (base_of (put_at state name symbol) s) ≡ is_in (names_of_entries es) s
         entered_set s q = at (s == name) refl
@@ -367,7 +367,7 @@ module _ (count : ℕ) (state : State) (es : Entries) (known : IsKnown count sta
             at false r =
                 let ne = apart s name r in
                 let index : is_index_set state s ≡ true = sym (index-kept s ne) ∙ q in
-                let old : is_unknown state s ≡ false = set-known (symbol_at state s).content (and-first (is_set_name state s) (has_one_position state s) index) in
+                let old : has_no_declaration state s ≡ false = set-known (symbol_at state s).content (and-first (is_set_name state s) (has_one_position state s) index) in
                 ap (is_entered es) (base-kept s ne) ∙ sym (entered-in es (base_of state s)) ∙ known-in (base_of state s) (base-known s old) ∙ sym (known-in s old)
 
         firsts : (domain : List (Option ℕ)) → (length domain == 1) ≡ true → among es (first_base (put_at state name symbol) domain) ≡ superset_in (put_at state name symbol) (names_of_entries es ++ name ∷ []) name domain

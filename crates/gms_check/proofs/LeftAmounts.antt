@@ -18,20 +18,20 @@ use Rattle.gms_store.specs.declared.kind.SymbolKind.{SymbolKind}
 use Rattle.gms_store.specs.declared.kind.SymbolKind.TheVariants as kind
 use Rattle.gms_store.specs.State.{Content, undeclared, alias_of, set_of, parameter_of, variable_of, equation_of, model_with, symbol_at}
 use Rattle.gms_store.specs.Declarations.{kind_in}
-use Rattle.gms_known.specs.Names.{is_index_set, kind_of, positions}
+use Rattle.gms_scope.specs.Names.{is_index_set, declared_kind, positions}
 use Rattle.gms_check.specs.declared.error.ErrorKind.TheVariants.{Endogenous, WrongKind}
 use Rattle.gms_check.specs.Checked.{StandsAfter}
 use Rattle.gms_check.specs.CompileErrors.{compile_errors, errors_after, known_after}
-use Rattle.gms_check.specs.Kinds.{has_wrong_set, is_bare, is_left_amount, is_variable_kind, is_without_positions, may_shift}
+use Rattle.gms_check.specs.Kinds.{has_wrong_set, has_no_indices, is_left_amount, is_variable_kind, is_without_positions, may_shift}
 use Rattle.gms_check.specs.LeftSides.{AreLeftIndices, StandsIn, is_fixed_amount}
 use Rattle.gms_check.specs.Linearity.{is_variable_by}
 use Rattle.gms_check.specs.Loaded.{sound}
 use Rattle.gms_check.specs.Names.{is_variable}
 use Rattle.gms_check.specs.Past.{Known}
 use Rattle.gms_check.specs.Standing.{as_number, may_be_assigned}
-use Rattle.gms_check.specs.Statements.{act_uses}
+use Rattle.gms_check.specs.InnerStatements.{act_uses}
 use Rattle.gms_check.specs.StatementUses.{index_list, left_uses, right_standing, statement_uses, with_left}
-use Rattle.gms_check.specs.Uses.{condition_uses, control_uses, index_sets, sets_of, shift_uses, uses}
+use Rattle.gms_check.specs.Uses.{condition_uses, control_uses, index_sets, sets_of_control, shift_uses, uses}
 use Rattle.gms_check.proofs.ActUses.{uses-Assign, uses-Loop, uses-act}
 use Rattle.gms_check.proofs.NoErrors.{AreClean, clean-left, clean-right}
 use Rattle.gms_check.proofs.Soundness.{after-sound, neither-first, neither-second, not-false, statement-clean}
@@ -47,7 +47,7 @@ no-variable (equation_of entries) e = refl
 no-variable (model_with model solver) e = refl
 
 module _ {F : Type 0} (known : Known F) where
-  bare-index : (indices : tree.Indices F) → is_bare indices ≡ true → indices ≡ tree.no_index
+  bare-index : (indices : tree.Indices F) → has_no_indices indices ≡ true → indices ≡ tree.no_index
   bare-index tree.no_index e = refl
   bare-index (tree.label n rest) e = absurd cc
   bare-index (tree.set n rest) e = absurd cc
@@ -63,9 +63,9 @@ module _ {F : Type 0} (known : Known F) where
   amount-fixed : (at : Place) (controlled : List ℕ) (amount : tree.Tree F) → is_left_amount known amount ≡ true → AreClean known (uses as_number at controlled amount) → is_fixed_amount amount ≡ true
   amount-fixed at controlled (tree.number n) e clean = refl
   amount-fixed at controlled (tree.reference place name suffix.None indices) e clean =
-      ap (λ i. is_fixed_amount (tree.reference place name suffix.None i)) (bare-index indices (scalar-bare (kind_of known.state name) (is_without_positions (positions known.state name)) (is_bare indices) e (plain (clean.0 Endogenous))))
+      ap (λ i. is_fixed_amount (tree.reference place name suffix.None i)) (bare-index indices (scalar-bare (declared_kind known.state name) (is_without_positions (positions known.state name)) (has_no_indices indices) e (plain (clean.0 Endogenous))))
     where
-      plain : (not false && is_variable_by known name suffix.None) ≡ false → not (is_variable_kind (kind_of known.state name)) ≡ true
+      plain : (not false && is_variable_by known name suffix.None) ≡ false → not (is_variable_kind (declared_kind known.state name)) ≡ true
       plain e = no-variable (symbol_at known.state name).content e
   amount-fixed at controlled amount e clean = absurd cc
 
@@ -85,7 +85,7 @@ module _ {F : Type 0} (known : Known F) where
       let inside = with_left controlled target.indices in
       let whole = subst (AreClean known) (uses-act statement known.state controlled ∙ ap (λ (act : Act F). act_uses act known.state statement.at controlled) is ∙ uses-Assign known.state statement.at controlled target condition right_at right) clean in
       let left = clean-left known (left_uses statement.at inside target.indices condition) (uses (right_standing known.state target.name) right_at inside (tree_of right)) whole.1 in
-      left-indices inside (index_list target.indices) (neither-second (not (may_be_assigned (kind_of known.state target.name) target.suffix)) (has_wrong_set known (index_sets (index_list target.indices))) (whole.0 WrongKind)) (clean-left known (shift_uses inside (index_list target.indices)) (condition_uses statement.at inside (option_map tree_of condition)) left)
+      left-indices inside (index_list target.indices) (neither-second (not (may_be_assigned (declared_kind known.state target.name) target.suffix)) (has_wrong_set known (index_sets (index_list target.indices))) (whole.0 WrongKind)) (clean-left known (shift_uses inside (index_list target.indices)) (condition_uses statement.at inside (option_map tree_of condition)) left)
 
   -- one of the statements of a body
   pub clean-one_of : (sets : List ℕ) (before rest : List (Stmt F)) (statement : Stmt F) → AreClean known (flat_map (λ (s : Stmt F). statement_uses s known.state sets) (before ++ statement ∷ rest)) → AreClean known (statement_uses statement known.state sets)
@@ -99,7 +99,7 @@ module _ {F : Type 0} (known : Known F) where
   inner-clean : (depth : ℕ) (outer inner : Stmt F) (controlled : List ℕ) → StandsIn depth inner outer → AreClean known (statement_uses outer known.state controlled) → (sets : List ℕ) × AreClean known (statement_uses inner known.state sets)
   inner-clean zero outer inner controlled same clean = (controlled, subst (λ (s : Stmt F). AreClean known (statement_uses s known.state controlled)) same clean)
   inner-clean (suc depth) outer inner controlled inside clean =
-      let sets = controlled ++ sets_of (control_tree inside.control) in
+      let sets = controlled ++ sets_of_control (control_tree inside.control) in
       let whole = subst (AreClean known) (uses-act outer known.state controlled ∙ ap (λ (act : Act F). act_uses act known.state outer.at controlled) inside.loop ∙ uses-Loop known.state outer.at controlled inside.control inside.body) clean in
       let body = clean-right known (control_uses outer.at controlled (control_tree inside.control)) (flat_map (λ (s : Stmt F). statement_uses s known.state sets) inside.body.items) whole in
       inner-clean depth inside.next inner sets inside.holds (clean-one_of sets inside.before inside.rest inside.next (subst (λ (statements : List (Stmt F)). AreClean known (flat_map (λ (s : Stmt F). statement_uses s known.state sets) statements)) inside.stands body))

@@ -22,15 +22,15 @@ use Rattle.gms_store.specs.Declarations.{blank_state, names_of, positions_of}
 use Rattle.gms_set.specs.declared.fault.SetError.{SetError}
 use Rattle.gms_set.specs.declared.fault.SetError.TheVariants.{BadRange, Repeated, Outside, Full}
 use Rattle.gms_set.specs.declared.fault.SetFault.{SetFault}
-use Rattle.gms_set.specs.Expansion.{Given, expanded}
-use Rattle.gms_known.specs.Names.{is_index_set}
+use Rattle.gms_set.specs.Expansion.{ExpandedData, expanded}
+use Rattle.gms_scope.specs.Names.{is_index_set}
 use Rattle.gms_check.specs.declared.error.ErrorKind.TheVariants.{DataFault, DomainOfLabel, WrongArity, WrongKind}
 use Rattle.gms_check.specs.declared.error.CompileError.{CompileError}
 use Rattle.gms_check.specs.CompileErrors.{act_errors, declaration_errors, errors_after, errors_of, is_faultless, known_after, known_after_item, known_in, statement_error}
 use Rattle.gms_check.specs.DeclarationUses.{are_usable, data_uses, domain_use, expansion_uses, failure, has_all_parts, is_usable_in, item_uses, kind_uses}
 use Rattle.gms_check.specs.Domains.{is_wrong_count}
-use Rattle.gms_check.specs.Errors.{first_of}
-use Rattle.gms_check.specs.Loadable.{AreLoadable, IsLoadable, IsLoadableItem}
+use Rattle.gms_check.specs.Errors.{first_error}
+use Rattle.gms_check.specs.InnerLoadable.{AreLoadable, IsLoadable, IsLoadableItem}
 use Rattle.gms_check.specs.Loaded.{IsAccepted, loaded, sound}
 use Rattle.gms_check.specs.Past.{Known, Past, after_act, after_statement, state_after, with_item, with_name}
 use Rattle.gms_check.specs.Uses.{Use, Uses, bounding, failing, naming, placing}
@@ -77,7 +77,7 @@ module _ {F : Type 0} where
   all-taken known positions (item ∷ items) clean =
       take_while-cons (has_all_parts positions) item items ∙ ap (λ (b : Bool). if not b then item ∷ take_while (has_all_parts positions) items else []) (clean.0 WrongArity) ∙ ap (λ (rest : List (Item F)). item ∷ rest) (all-taken known positions items clean.1)
 
-  no-failure : (known : Known F) (r : Result (Given F) SetFault) → AreClean known (failure r) → (given : Given F) × (r ≡ Ok given)
+  no-failure : (known : Known F) (r : Result (ExpandedData F) SetFault) → AreClean known (failure r) → (given : ExpandedData F) × (r ≡ Ok given)
   no-failure known (Ok given) clean = (given, refl)
   no-failure known (Err fault) clean = absurd (by fault.error clean.0)
     where
@@ -114,7 +114,7 @@ module _ {F : Type 0} where
   act-loadable : (known : Known F) (statement : Stmt F) → statement_error known statement ≡ None → IsLoadable known.value known.state statement.act
   act-loadable known statement = by statement.act
     where
-      by : (act : Act F) → first_of (act_errors known statement act) ≡ None → IsLoadable known.value known.state act
+      by : (act : Act F) → first_error (act_errors known statement act) ≡ None → IsLoadable known.value known.state act
       by (Declare kind items) e =
           items-loadable kind items known (nil-right (errors_of known (kind_uses statement.at kind)) (declaration_errors known kind items) (none-first (act_errors known statement (Declare kind items)) e))
       by act e = tt

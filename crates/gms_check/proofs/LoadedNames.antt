@@ -23,17 +23,17 @@ use Rattle.gms_tuple.specs.TupleOrder.{tuple_cmp}
 use Rattle.gms_tuple.specs.TupleSet.{has}
 use Rattle.gms_store.specs.declared.kind.VariableType.{VariableType}
 use Rattle.gms_store.specs.declared.kind.VariableType.TheVariants as type
-use Rattle.gms_store.specs.State.{Attributes, Content, set_of, parameter_of, variable_of, equation_of, Symbol, State, no_symbol, symbol_at, symbol_of, behind, base_of, value_in, members_in, attributes_in, value_of, members_of, attributes_of, absent_variable, unbounded}
+use Rattle.gms_store.specs.State.{Attributes, Content, set_of, parameter_of, variable_of, equation_of, Symbol, State, no_symbol, symbol_at, symbol_of, alias_target, base_of, value_in, members_in, attributes_in, value_of, members_of, attributes_of, absent_variable, unbounded}
 use Rattle.gms_store.specs.State as state_words
 use Rattle.gms_store.specs.Declarations.{alias_symbol, blank_state, can_join, content_of, declare, declare_alias, declare_model, declare_models, declared_again, is_free, is_undeclared, model_symbol, names_of, positions_of, put_at, symbol_of_kind}
-use Rattle.gms_set.specs.Expansion.{Given, expanded}
-use Rattle.gms_known.specs.Names.{is_unknown}
+use Rattle.gms_set.specs.Expansion.{ExpandedData, expanded}
+use Rattle.gms_scope.specs.Names.{has_no_declaration}
 use Rattle.gms_check.specs.Checked.{StandsAfter}
 use Rattle.gms_check.specs.CompileErrors.{act_errors, declaration_errors, errors_after, errors_of, known_after, known_after_item, known_in, is_faultless, statement_error}
 use Rattle.gms_check.specs.declared.error.CompileError.{CompileError}
 use Rattle.gms_check.specs.DeclarationUses.{item_uses, kind_uses}
 use Rattle.gms_check.specs.DeclaredData.{Declares, IsFree, IsUndeclared, datum_at, has_values, is_put_in, type_of, value_put}
-use Rattle.gms_check.specs.Errors.{first_of}
+use Rattle.gms_check.specs.Errors.{first_error}
 use Rattle.gms_check.specs.Loaded.{IsAccepted, loaded, sound}
 use Rattle.gms_check.specs.Names.{is_variable}
 use Rattle.gms_check.specs.Past.{Known, after_act, after_statement, is_among, names_declared, state_after, with_item, with_name}
@@ -80,7 +80,7 @@ module _ {F : Type 0} (kind : DeclKind) where
 -- the names of a declaration, of a statement without an error
 declaration-clean : {F : Type 0} (known : Known F) (statement : Stmt F) (kind : DeclKind) (items : List (Decl F)) → statement.act ≡ Declare kind items → statement_error known statement ≡ None → declaration_errors known kind items ≡ []
 declaration-clean known statement kind items is e =
-    nil-right (errors_of known (kind_uses statement.at kind)) (declaration_errors known kind items) (none-first (act_errors known statement (Declare kind items)) (sym (ap (λ (act : Act _). first_of (act_errors known statement act)) is) ∙ e))
+    nil-right (errors_of known (kind_uses statement.at kind)) (declaration_errors known kind items) (none-first (act_errors known statement (Declare kind items)) (sym (ap (λ (act : Act _). first_error (act_errors known statement act)) is) ∙ e))
 
 -- before the first statement no name is declared
 blank-at : (k n : ℕ) → symbol_at (blank_state k) n ≡ no_symbol
@@ -168,9 +168,9 @@ settled F n made old fixed = record { item = by; apart = λ state m named p new.
         let e : (false || false) ≡ true = sym (ap (λ b. b || false) old) ∙ sym (ap (λ b. is_undeclared made.content || b) fixed) ∙ sym (ap (λ (s : Symbol). is_undeclared s.content || is_free s.content) is) ∙ bare in
         cc
 
-    known : (state : State) (m : ℕ) → symbol_at state n ≡ made → is_unknown state m ≡ true → n ≡ m → ⊥
+    known : (state : State) (m : ℕ) → symbol_at state n ≡ made → has_no_declaration state m ≡ true → n ≡ m → ⊥
     known state m p new e =
-        let f : false ≡ true = sym old ∙ sym (ap (λ (s : Symbol). is_undeclared s.content) p) ∙ ap (is_unknown state) e ∙ new in
+        let f : false ≡ true = sym old ∙ sym (ap (λ (s : Symbol). is_undeclared s.content) p) ∙ ap (has_no_declaration state) e ∙ new in
         cc
 
     by : (known : Known F) (kind : DeclKind) (item : Decl F) → AreClean known (item_uses known kind item) → Unit {0} → symbol_at known.state n ≡ made → symbol_at (with_item known.value kind known.state item) n ≡ made
@@ -192,9 +192,9 @@ symbol-past state n past =
 free-kept : (F : Type 0) (n : ℕ) → IsKept F n (λ s. s.content ≡ variable_of type.Free finite.empty) (λ kind item. item.named.name ≡ n → type_of kind ≡ Some type.Free) (λ m. Unit {0})
 free-kept F n = record { item = by; apart = λ state m named p new. λ e. absurd (known state m p new e) }
   where
-    known : (state : State) (m : ℕ) → (symbol_at state n).content ≡ variable_of type.Free finite.empty → is_unknown state m ≡ true → n ≡ m → ⊥
+    known : (state : State) (m : ℕ) → (symbol_at state n).content ≡ variable_of type.Free finite.empty → has_no_declaration state m ≡ true → n ≡ m → ⊥
     known state m p new e =
-        let f : false ≡ true = sym (ap is_undeclared p) ∙ ap (is_unknown state) e ∙ new in
+        let f : false ≡ true = sym (ap is_undeclared p) ∙ ap (has_no_declaration state) e ∙ new in
         cc
 
     by : (known : Known F) (kind : DeclKind) (item : Decl F) → AreClean known (item_uses known kind item) → (item.named.name ≡ n → type_of kind ≡ Some type.Free) → (symbol_at known.state n).content ≡ variable_of type.Free finite.empty → (symbol_at (with_item known.value kind known.state item) n).content ≡ variable_of type.Free finite.empty
@@ -316,7 +316,7 @@ module _ {F : Type 0} (value : F → Number) (program : Program F) (accepted : I
         ap (nat_lt item.named.name) (size-front kind (known_behind_all d.before) d.first (item ∷ d.rest) errors-none ∙ size-after d.before (d.statement ∷ d.stands.0) d.stands.1) ∙ is-less item.named.name count within
 
     -- its data
-    abbrev own_data : Given F
+    abbrev own_data : ExpandedData F
     own_data = given before_it kind item is-clean
 
     data-given : expanded before_it.state (positions_of kind (names_of item.domain)) item.items ≡ Ok own_data
@@ -383,8 +383,8 @@ module _ {F : Type 0} (value : F → Number) (program : Program F) (accepted : I
 -- ---- what is read
 
 -- a name whose content is no other name's is read by itself
-own-symbol : (state : State) (name : ℕ) (c : Content) → (symbol_at state name).content ≡ c → behind name c ≡ name → symbol_of state name ≡ symbol_at state name
-own-symbol state name c is own = ap (symbol_at state) (ap (behind name) is ∙ own)
+own-symbol : (state : State) (name : ℕ) (c : Content) → (symbol_at state name).content ≡ c → alias_target name c ≡ name → symbol_of state name ≡ symbol_at state name
+own-symbol state name c is own = ap (symbol_at state) (ap (alias_target name) is ∙ own)
 
 values-kind : (kind : DeclKind) → has_values kind ≡ true → content_of kind ≡ parameter_of finite.empty
 values-kind declaring.Set e = absurd cc
@@ -445,7 +445,7 @@ module _ {F : Type 0} (value : F → Number) where
   pub positions-loaded : (program : Program F) (kind : DeclKind) (item : Decl F) → IsAccepted value program → Declares program kind item → item.named.name < length program.names → type_of kind ≡ None → (symbol_of (loaded value program) item.named.name).domain ≡ positions_of kind (names_of item.domain)
   positions-loaded program kind item accepted d within plain = by kind d plain
     where
-      from : (s : Symbol) → symbol_at (loaded value program) item.named.name ≡ s → behind item.named.name s.content ≡ item.named.name → (symbol_of (loaded value program) item.named.name).domain ≡ s.domain
+      from : (s : Symbol) → symbol_at (loaded value program) item.named.name ≡ s → alias_target item.named.name s.content ≡ item.named.name → (symbol_of (loaded value program) item.named.name).domain ≡ s.domain
       from s is own =
           ap (λ (s : Symbol). s.domain) (own-symbol (loaded value program) item.named.name s.content (ap (λ (s : Symbol). s.content) is) own ∙ is)
 

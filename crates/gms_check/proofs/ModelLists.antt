@@ -5,13 +5,13 @@ use Rattle.gms_ast.specs.declared.word.Named.{Named}
 use Rattle.gms_ast.specs.declared.declaration.ModelDecl.{ModelDecl}
 use Rattle.gms_store.specs.State.{State}
 use Rattle.gms_store.specs.Declarations.{declare_model}
-use Rattle.gms_known.specs.Facts.{with_model, with_model_name}
+use Rattle.gms_scope.specs.Facts.{with_model, with_model_name}
 use Rattle.gms_check.specs.declared.error.CompileError.{CompileError}
-use Rattle.gms_check.specs.Changes.{with_model_names, with_models}
-use Rattle.gms_check.specs.Checking.{Checking, known_of, noted, with_facts}
+use Rattle.gms_check.specs.InnerChanges.{with_model_names, with_models}
+use Rattle.gms_check.specs.InnerChecking.{Checking, known_of, noted, with_facts}
 use Rattle.gms_check.specs.CompileErrors.{errors_at, errors_of, known_in, model_errors}
 use Rattle.gms_check.specs.DeclarationUses.{model_uses}
-use Rattle.gms_check.specs.Errors.{first_of, sooner}
+use Rattle.gms_check.specs.Errors.{first_error, sooner}
 use Rattle.gms_check.specs.Past.{Known, equations_listed}
 use Rattle.gms_check.specs.Uses.{listing, modelling}
 use Rattle.std.specs.Prelude.{Option}
@@ -37,12 +37,12 @@ module _ {F : Type 0} (value : F → Number) where
   -- a check after models were checked, and declared without their equations
   abbrev pub models_checked : Checking → List ModelDecl → Checking
   models_checked c models =
-      record c { first = sooner c.first (first_of (model_errors (known_of value c) models)); facts = with_model_names c.facts models }
+      record c { first = sooner c.first (first_error (model_errors (known_of value c) models)); facts = with_model_names c.facts models }
 
   -- one model, and then others
   pub models-step : (c t u : Checking) (model : ModelDecl) (models : List ModelDecl) → t ≡ noted value c (model_uses model) → u ≡ with_facts t (with_model_name t.facts model.named.name) → models_checked u models ≡ models_checked c (model ∷ models)
   models-step c t u model models e f =
-      ap (λ (u : Checking). models_checked u models) (f ∙ ap (λ (t : Checking). with_facts t (with_model_name t.facts model.named.name)) e) ∙ ap (λ (first : Option CompileError). record c { first = first; facts = with_model_names c.facts (model ∷ models) }) (sooner-assoc c.first (first_of (errors_of (known_of value c) (model_uses model))) (first_of (model_errors (known_of value declared) models)) ∙ ap (sooner c.first) (ap (λ (errors : List CompileError). sooner (first_of (errors_of (known_of value c) (model_uses model))) (first_of errors)) (model_errors-same (known_of value declared) (known_in (known_of value c) (declare_model c.facts.state model.named.name)) refl models) ∙ sym (first_of-append (errors_of (known_of value c) (model_uses model)) (model_errors (known_in (known_of value c) (declare_model c.facts.state model.named.name)) models))))
+      ap (λ (u : Checking). models_checked u models) (f ∙ ap (λ (t : Checking). with_facts t (with_model_name t.facts model.named.name)) e) ∙ ap (λ (first : Option CompileError). record c { first = first; facts = with_model_names c.facts (model ∷ models) }) (sooner-assoc c.first (first_error (errors_of (known_of value c) (model_uses model))) (first_error (model_errors (known_of value declared) models)) ∙ ap (sooner c.first) (ap (λ (errors : List CompileError). sooner (first_error (errors_of (known_of value c) (model_uses model))) (first_error errors)) (model_errors-same (known_of value declared) (known_in (known_of value c) (declare_model c.facts.state model.named.name)) refl models) ∙ sym (first_of-append (errors_of (known_of value c) (model_uses model)) (model_errors (known_in (known_of value c) (declare_model c.facts.state model.named.name)) models))))
     where
       declared : Checking
       declared = with_facts c (with_model_name c.facts model.named.name)

@@ -6,12 +6,12 @@ use Rattle.gms_check.specs.declared.error.ErrorKind.{ErrorKind}
 use Rattle.gms_check.specs.declared.error.ErrorKind.TheVariants.{UnknownName, Redeclared, WrongKind, WrongArity, DomainOfSet, DomainOfLabel, Uncontrolled, ControlledTwice, NotOrdered, DynamicDomain, Nonlinear, Discrete, ModelType, NotDefined, DefinedTwice, Objective, UnknownSolver, OptionRange, Endogenous, Function, DataFault, Restart}
 use Rattle.gms_check.specs.declared.error.CompileError.{CompileError}
 use Rattle.gms_check.specs.CompileErrors.{checked_kinds, errors_at, errors_of, has_error}
-use Rattle.gms_check.specs.Errors.{first_of}
+use Rattle.gms_check.specs.Errors.{first_error}
 use Rattle.gms_check.specs.Past.{Known}
 use Rattle.gms_check.specs.Uses.{Use, Uses}
 
 -- without a first error there is none
-pub none-first : (errors : List CompileError) → first_of errors ≡ None → errors ≡ []
+pub none-first : (errors : List CompileError) → first_error errors ≡ None → errors ≡ []
 none-first [] e = refl
 none-first (error ∷ errors) e = absurd cc
 

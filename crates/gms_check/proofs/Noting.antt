@@ -7,9 +7,9 @@ use Rattle.gq_number.specs.Number.{Number}
 use Rattle.gms_labels.specs.declared.place.Place.{Place}
 use Rattle.gms_check.specs.declared.error.ErrorKind.{ErrorKind}
 use Rattle.gms_check.specs.declared.error.CompileError.{CompileError}
-use Rattle.gms_check.specs.Checking.{Checking, error_if, faulted, first_fault, known_of, noted, with_controlled}
+use Rattle.gms_check.specs.InnerChecking.{Checking, error_if, faulted, first_fault, known_of, noted, with_controlled}
 use Rattle.gms_check.specs.CompileErrors.{checked_kinds, errors_at, errors_of, has_error}
-use Rattle.gms_check.specs.Errors.{first_of, sooner}
+use Rattle.gms_check.specs.Errors.{first_error, sooner}
 use Rattle.gms_check.specs.Past.{Known}
 use Rattle.gms_check.specs.Uses.{Use, Uses}
 use Rattle.gms_check.proofs.Sooner.{first_of-append, sooner-assoc, sooner-comm, sooner-left, sooner-none}
@@ -45,11 +45,11 @@ pub faulted-then : (at : Place) (c s t : Checking) (xs ys : List (Bool × ErrorK
 faulted-then at c s t xs ys e f =
     f ∙ ap (λ s. faulted s at ys) e ∙ ap (with_first c) (sooner-assoc c.first (first_fault at xs) (first_fault at ys) ∙ ap (sooner c.first) (sym (fault-append at xs ys)))
 
-first-at : (at : Place) (test : ErrorKind → Bool) (kinds : List ErrorKind) → first_of (map (λ (kind : ErrorKind). record { kind = kind; at = at }) (filter test kinds)) ≡ first_fault at (map (λ kind. (test kind, kind)) kinds)
+first-at : (at : Place) (test : ErrorKind → Bool) (kinds : List ErrorKind) → first_error (map (λ (kind : ErrorKind). record { kind = kind; at = at }) (filter test kinds)) ≡ first_fault at (map (λ kind. (test kind, kind)) kinds)
 first-at at test [] = refl
 first-at at test (kind ∷ kinds) = by (test kind) (first-at at test kinds)
   where
-    by : (b : Bool) → first_of (map (λ (kind : ErrorKind). record { kind = kind; at = at }) (filter test kinds)) ≡ first_fault at (map (λ kind. (test kind, kind)) kinds) → first_of (map (λ (kind : ErrorKind). record { kind = kind; at = at }) (if b then kind ∷ filter test kinds else filter test kinds)) ≡ sooner (error_if b kind at) (first_fault at (map (λ kind. (test kind, kind)) kinds))
+    by : (b : Bool) → first_error (map (λ (kind : ErrorKind). record { kind = kind; at = at }) (filter test kinds)) ≡ first_fault at (map (λ kind. (test kind, kind)) kinds) → first_error (map (λ (kind : ErrorKind). record { kind = kind; at = at }) (if b then kind ∷ filter test kinds else filter test kinds)) ≡ sooner (error_if b kind at) (first_fault at (map (λ kind. (test kind, kind)) kinds))
     by true e = ap (sooner (Some (record { kind = kind; at = at }))) e
     by false e = e
 
@@ -66,12 +66,12 @@ module _ {F : Type 0} (value : F → Number) where
   -- one part
   pub noted-one : (c : Checking) (at : Place) (used : Use F) → noted value c ((at, used) ∷ []) ≡ faulted c at (map (λ kind. (has_error (known_of value c) used kind, kind)) checked_kinds)
   noted-one c at used =
-      ap (λ errors. with_first c (sooner c.first (first_of errors))) (no_more (errors_at (known_of value c) (at, used))) ∙ ap (λ first. with_first c (sooner c.first first)) (first-at at (has_error (known_of value c) used) checked_kinds)
+      ap (λ errors. with_first c (sooner c.first (first_error errors))) (no_more (errors_at (known_of value c) (at, used))) ∙ ap (λ first. with_first c (sooner c.first first)) (first-at at (has_error (known_of value c) used) checked_kinds)
 
   -- parts and others
   pub noted-then : (c s t : Checking) (xs ys : Uses F) → s ≡ noted value c xs → t ≡ noted value s ys → t ≡ noted value c (xs ++ ys)
   noted-then c s t xs ys e f =
-      f ∙ ap (λ s. noted value s ys) e ∙ ap (with_first c) (sooner-assoc c.first (first_of (errors_of (known_of value c) xs)) (first_of (errors_of (known_of value c) ys)) ∙ ap (sooner c.first) (sym (first_of-append (errors_of (known_of value c) xs) (errors_of (known_of value c) ys)) ∙ ap first_of (sym (errors-append (known_of value c) xs ys))))
+      f ∙ ap (λ s. noted value s ys) e ∙ ap (with_first c) (sooner-assoc c.first (first_error (errors_of (known_of value c) xs)) (first_error (errors_of (known_of value c) ys)) ∙ ap (sooner c.first) (sym (first_of-append (errors_of (known_of value c) xs) (errors_of (known_of value c) ys)) ∙ ap first_error (sym (errors-append (known_of value c) xs ys))))
 
   -- nothing
   pub noted-none : (c : Checking) → c ≡ noted value c []
@@ -150,8 +150,8 @@ pub not-within : (n m : ℕ) → not (nat_le n m) ≡ nat_lt m n
 not-within n m = grind (arith, nat_tests)
 
 module _ {F : Type 0} (value : F → Number) where
-  first-append : (known : Known F) (xs ys : Uses F) → first_of (errors_of known (xs ++ ys)) ≡ sooner (first_of (errors_of known xs)) (first_of (errors_of known ys))
-  first-append known xs ys = ap first_of (errors-append known xs ys) ∙ first_of-append (errors_of known xs) (errors_of known ys)
+  first-append : (known : Known F) (xs ys : Uses F) → first_error (errors_of known (xs ++ ys)) ≡ sooner (first_error (errors_of known xs)) (first_error (errors_of known ys))
+  first-append known xs ys = ap first_error (errors-append known xs ys) ∙ first_of-append (errors_of known xs) (errors_of known ys)
 
   -- parts and steps that are checked alternately
   pub noted-turned : (c s t u : Checking) (xs ss ys zs : Uses F) → s ≡ noted value c (xs ++ ss) → t ≡ noted value s ys → u ≡ noted value t zs → u ≡ noted value c ((xs ++ ys) ++ (ss ++ zs))
@@ -159,22 +159,22 @@ module _ {F : Type 0} (value : F → Number) where
       noted-then value c t u ((xs ++ ss) ++ ys) zs (noted-then value c s t (xs ++ ss) ys e f) g ∙ ap (λ first. with_first c (sooner c.first first)) (apart ∙ ap (λ m. sooner m z) (sooner-assoc x m y ∙ ap (sooner x) (sooner-comm m y) ∙ sym (sooner-assoc x y m)) ∙ sooner-assoc (sooner x y) m z ∙ sym together)
     where
       x : Option CompileError
-      x = first_of (errors_of (known_of value c) xs)
+      x = first_error (errors_of (known_of value c) xs)
 
       m : Option CompileError
-      m = first_of (errors_of (known_of value c) ss)
+      m = first_error (errors_of (known_of value c) ss)
 
       y : Option CompileError
-      y = first_of (errors_of (known_of value c) ys)
+      y = first_error (errors_of (known_of value c) ys)
 
       z : Option CompileError
-      z = first_of (errors_of (known_of value c) zs)
+      z = first_error (errors_of (known_of value c) zs)
 
-      apart : first_of (errors_of (known_of value c) (((xs ++ ss) ++ ys) ++ zs)) ≡ sooner (sooner (sooner x m) y) z
+      apart : first_error (errors_of (known_of value c) (((xs ++ ss) ++ ys) ++ zs)) ≡ sooner (sooner (sooner x m) y) z
       apart = first-append (known_of value c) ((xs ++ ss) ++ ys) zs ∙ ap (λ n. sooner n z) (first-append (known_of value c) (xs ++ ss) ys ∙ ap (λ n. sooner n y) (first-append (known_of value c) xs ss))
 
-      together : first_of (errors_of (known_of value c) ((xs ++ ys) ++ (ss ++ zs))) ≡ sooner (sooner x y) (sooner m z)
-      together = first-append (known_of value c) (xs ++ ys) (ss ++ zs) ∙ ap (λ n. sooner n (first_of (errors_of (known_of value c) (ss ++ zs)))) (first-append (known_of value c) xs ys) ∙ ap (sooner (sooner x y)) (first-append (known_of value c) ss zs)
+      together : first_error (errors_of (known_of value c) ((xs ++ ys) ++ (ss ++ zs))) ≡ sooner (sooner x y) (sooner m z)
+      together = first-append (known_of value c) (xs ++ ys) (ss ++ zs) ∙ ap (λ n. sooner n (first_error (errors_of (known_of value c) (ss ++ zs)))) (first-append (known_of value c) xs ys) ∙ ap (sooner (sooner x y)) (first-append (known_of value c) ss zs)
 
   -- a part of which some errors are looked for before other parts, and some after them
   pub noted-around : (c s t u : Checking) (at : Place) (used : Use F) (faults late : List (Bool × ErrorKind)) (xs : Uses F) → first_fault at (faults ++ late) ≡ first_fault at (map (λ kind. (has_error (known_of value c) used kind, kind)) checked_kinds) → s ≡ faulted c at faults → t ≡ noted value s xs → u ≡ faulted t at late → u ≡ noted value c ((at, used) ∷ xs)
@@ -182,7 +182,7 @@ module _ {F : Type 0} (value : F → Number) where
       g ∙ ap (λ n. faulted n at late) (f ∙ ap (λ n. noted value n xs) e) ∙ ap (with_first c) moved ∙ noted-then value c (faulted c at (faults ++ late)) _ ((at, used) ∷ []) xs (noted-by value c (faulted c at (faults ++ late)) at used (faults ++ late) same refl) refl
     where
       x : Option CompileError
-      x = first_of (errors_of (known_of value c) xs)
+      x = first_error (errors_of (known_of value c) xs)
 
       before : Option CompileError
       before = sooner c.first (first_fault at faults)

@@ -12,11 +12,11 @@ use Rattle.gq_extended.specs.declared.extended.Ext.{Ext}
 use Rattle.gms_ast.specs.declared.declaration.DeclKind.{DeclKind}
 use Rattle.gms_store.specs.declared.kind.SymbolKind.{SymbolKind}
 use Rattle.gms_store.specs.declared.kind.VariableType.TheVariants.{Free, Positive, Negative, Discrete}
-use Rattle.gms_store.specs.State.{Content, undeclared, alias_of, set_of, parameter_of, variable_of, equation_of, model_with, Symbol, State, no_symbol, symbol_at, behind, base_of, symbol_of, with_symbol, with_content, with_membership, with_value, if_fits, after_membership, after_value}
+use Rattle.gms_store.specs.State.{Content, undeclared, alias_of, set_of, parameter_of, variable_of, equation_of, model_with, Symbol, State, no_symbol, symbol_at, alias_target, base_of, symbol_of, with_symbol, with_content, with_membership, with_value, if_fits, after_membership, after_value}
 use Rattle.gms_store.specs.Declarations.{can_join, content_of, declare, declare_alias, declare_model, declared_again, first_settings, is_set, is_undeclared, join_name, kind_in, put_at, retyped, symbol_of_kind}
-use Rattle.gms_known.specs.Below.{base_above, bounds, first_base, is_met_before}
-use Rattle.gms_known.specs.Data.{given_to, with_datum}
-use Rattle.gms_known.specs.Names.{has_one_position, is_index_set, is_set_name, is_unknown, kind_of, positions}
+use Rattle.gms_scope.specs.Below.{base_above, bounds, first_base, is_met_before}
+use Rattle.gms_scope.specs.Data.{given_to, with_datum}
+use Rattle.gms_scope.specs.Names.{has_one_position, is_index_set, is_set_name, has_no_declaration, declared_kind, positions}
 
 -- a content with nothing given
 abbrev pub shape : Content → Content
@@ -38,7 +38,7 @@ drawn state = record { symbols = map outline state.symbols; settings = first_set
 
 -- ---- what is read of it
 
-behind-shape : (name : ℕ) (c : Content) → behind name (shape c) ≡ behind name c
+behind-shape : (name : ℕ) (c : Content) → alias_target name (shape c) ≡ alias_target name c
 behind-shape name undeclared = refl
 behind-shape name (alias_of base) = refl
 behind-shape name (set_of members) = refl
@@ -89,12 +89,12 @@ module _ (state : State) where
   at-drawn n = read-outline state.symbols n
 
   pub base-drawn : (n : ℕ) → base_of (drawn state) n ≡ base_of state n
-  base-drawn n = ap (λ (s : Symbol). behind n s.content) (at-drawn n) ∙ behind-shape n (symbol_at state n).content
+  base-drawn n = ap (λ (s : Symbol). alias_target n s.content) (at-drawn n) ∙ behind-shape n (symbol_at state n).content
 
-  pub kind-drawn : (n : ℕ) → kind_of (drawn state) n ≡ kind_of state n
+  pub kind-drawn : (n : ℕ) → declared_kind (drawn state) n ≡ declared_kind state n
   kind-drawn n = ap (λ (s : Symbol). kind_in s.content) (at-drawn n) ∙ kind-shape (symbol_at state n).content
 
-  pub unknown-drawn : (n : ℕ) → is_unknown (drawn state) n ≡ is_unknown state n
+  pub unknown-drawn : (n : ℕ) → has_no_declaration (drawn state) n ≡ has_no_declaration state n
   unknown-drawn n = ap (λ (s : Symbol). is_undeclared s.content) (at-drawn n) ∙ undeclared-shape (symbol_at state n).content
 
   pub set-drawn : (n : ℕ) → is_set_name (drawn state) n ≡ is_set_name state n
@@ -150,11 +150,11 @@ retyped-shape (variable_of Discrete entries) later = refl
 retyped-shape (equation_of entries) later = refl
 retyped-shape (model_with model solver) later = refl
 
-pub drawn-declare_new : (kind : DeclKind) (domain : List (Option ℕ)) (state : State) (name : ℕ) → is_unknown state name ≡ true → drawn (declare kind domain state name) ≡ put_at (drawn state) name (outline (symbol_of_kind kind domain))
+pub drawn-declare_new : (kind : DeclKind) (domain : List (Option ℕ)) (state : State) (name : ℕ) → has_no_declaration state name ≡ true → drawn (declare kind domain state name) ≡ put_at (drawn state) name (outline (symbol_of_kind kind domain))
 drawn-declare_new kind domain state name new =
     ap (λ (b : Bool). drawn (put_at state name (if b then symbol_of_kind kind domain else with_content (symbol_at state name) (retyped (symbol_at state name).content (content_of kind))))) new ∙ drawn-put state name (symbol_of_kind kind domain)
 
-pub drawn-declare_again : (kind : DeclKind) (domain : List (Option ℕ)) (state : State) (name : ℕ) → is_unknown state name ≡ false → drawn (declare kind domain state name) ≡ drawn state
+pub drawn-declare_again : (kind : DeclKind) (domain : List (Option ℕ)) (state : State) (name : ℕ) → has_no_declaration state name ≡ false → drawn (declare kind domain state name) ≡ drawn state
 drawn-declare_again kind domain state name old =
     ap (λ (b : Bool). drawn (put_at state name (if b then symbol_of_kind kind domain else with_content (symbol_at state name) (retyped (symbol_at state name).content (content_of kind))))) old ∙ drawn-same state name (with_content (symbol_at state name) (retyped (symbol_at state name).content (content_of kind))) (ap (λ (c : Content). record { domain = (symbol_at state name).domain; content = c }) (retyped-shape (symbol_at state name).content (content_of kind)))
 

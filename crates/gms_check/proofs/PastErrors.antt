@@ -13,19 +13,19 @@ use Rattle.gms_ast.specs.declared.program.Stmt.{Stmt}
 use Rattle.gms_ast.specs.declared.program.Program.{Program}
 use Rattle.gms_store.specs.State.{Content, undeclared, alias_of, set_of, parameter_of, variable_of, equation_of, model_with, Symbol, State, no_symbol, symbol_at, base_of}
 use Rattle.gms_store.specs.Declarations.{declare_model, declare_models, is_undeclared, kind_in, model_symbol, put_at}
-use Rattle.gms_known.specs.Below.{is_met_before, superset, superset_in}
-use Rattle.gms_known.specs.DynamicSets.{dynamic_sets}
-use Rattle.gms_known.specs.Entries.{above_of}
-use Rattle.gms_known.specs.Facts.{Facts, first_facts, marked, names}
-use Rattle.gms_known.specs.Names.{is_equation, is_index_set, kind_of, positions}
+use Rattle.gms_scope.specs.Below.{is_met_before, superset, superset_in}
+use Rattle.gms_scope.specs.DynamicSets.{dynamic_sets}
+use Rattle.gms_scope.specs.Entries.{above_of}
+use Rattle.gms_scope.specs.Facts.{Facts, first_facts, marked, names}
+use Rattle.gms_scope.specs.Names.{is_equation, is_index_set, declared_kind, positions}
 use Rattle.gms_check.specs.declared.error.ErrorKind.TheVariants.{WrongKind}
 use Rattle.gms_check.specs.declared.error.CompileError.{CompileError}
 use Rattle.gms_check.specs.Above.{directly_above}
-use Rattle.gms_check.specs.Changes.{facts_after}
-use Rattle.gms_check.specs.Checking.{known_by}
+use Rattle.gms_check.specs.InnerChanges.{facts_after}
+use Rattle.gms_check.specs.InnerChecking.{known_by}
 use Rattle.gms_check.specs.CompileErrors.{act_errors, each_error, statement_errors, errors_of, known_after, known_in, model_errors, models_before, names_before, of_program, statement_error}
 use Rattle.gms_check.specs.DeclarationUses.{model_uses}
-use Rattle.gms_check.specs.Errors.{first_of}
+use Rattle.gms_check.specs.Errors.{first_error}
 use Rattle.gms_check.specs.Past.{Known, Past, is_among, is_defined, is_unordered, models_after, state_after}
 use Rattle.gms_check.specs.Uses.{Uses, listing}
 use Rattle.gms_check.proofs.NoErrors.{AreClean, are-clean, nil-left, nil-right, none-first}
@@ -50,16 +50,16 @@ kind-declared (equation_of entries) e f = absurd cc
 kind-declared (model_with model solver) e f = absurd cc
 
 -- an equation stays one where a model is declared
-equation-one : (state : State) (name n : ℕ) → is_equation (kind_of state n) ≡ true → is_equation (kind_of (declare_model state name) n) ≡ true
+equation-one : (state : State) (name n : ℕ) → is_equation (declared_kind state n) ≡ true → is_equation (declared_kind (declare_model state name) n) ≡ true
 equation-one state name n e = by (is_undeclared (symbol_at state name).content) refl (name == n) refl
   where
-    by : (b : Bool) → is_undeclared (symbol_at state name).content ≡ b → (s : Bool) → (name == n) ≡ s → is_equation (kind_of (if b then put_at state name model_symbol else state) n) ≡ true
+    by : (b : Bool) → is_undeclared (symbol_at state name).content ≡ b → (s : Bool) → (name == n) ≡ s → is_equation (declared_kind (if b then put_at state name model_symbol else state) n) ≡ true
     by true q true r = absurd (kind-declared (symbol_at state n).content e (ap (λ (k : ℕ). is_undeclared (symbol_at state k).content) (sym (eqb-true name n r)) ∙ q))
     by true q false r =
         ap (λ (s : Symbol). is_equation (kind_in s.content)) (read-at (set state.symbols name model_symbol) n ∙ get_or-set_other state.symbols name n model_symbol no_symbol (λ f. absurd (let g = eq-eqb name n (sym f) in cc)) ∙ sym (read-at state.symbols n)) ∙ e
     by false q s r = e
 
-equation-many : (models : List ModelDecl) (state : State) (n : ℕ) → is_equation (kind_of state n) ≡ true → is_equation (kind_of (declare_models state models) n) ≡ true
+equation-many : (models : List ModelDecl) (state : State) (n : ℕ) → is_equation (declared_kind state n) ≡ true → is_equation (declared_kind (declare_models state models) n) ≡ true
 equation-many [] state n e = e
 equation-many (model ∷ models) state n e =
     equation-many models (declare_model state model.named.name) n (equation-one state model.named.name n e)
@@ -72,7 +72,7 @@ module _ {F : Type 0} where
   listing-equations : (known : Known F) (ns : List Named) → AreClean known (map (λ (equation : Named). (equation.at, listing equation.name)) ns) → AreEquations known.state ns
   listing-equations known [] a = tt
   listing-equations known (named ∷ ns) a =
-      (not-false (is_equation (kind_of known.state named.name)) (a.0 WrongKind), listing-equations known ns a.1)
+      (not-false (is_equation (declared_kind known.state named.name)) (a.0 WrongKind), listing-equations known ns a.1)
 
   models-sound : (models : List ModelDecl) (known : Known F) → model_errors known models ≡ [] → AreOfEquations (declare_models known.state models) models
   models-sound [] known e = tt
@@ -84,9 +84,9 @@ module _ {F : Type 0} where
 module _ {F : Type 0} (value : F → Number) where
   -- a statement without an error lists equations alone
   listed-sound : (known : Known F) (statement : Stmt F) → IsListed value known.state statement.act (is_none (statement_error known statement))
-  listed-sound known statement = by statement.act (first_of (act_errors known statement statement.act)) refl
+  listed-sound known statement = by statement.act (first_error (act_errors known statement statement.act)) refl
     where
-      by : (act : Act F) (o : Option CompileError) → first_of (act_errors known statement act) ≡ o → IsListed value known.state act (is_none o)
+      by : (act : Act F) (o : Option CompileError) → first_error (act_errors known statement act) ≡ o → IsListed value known.state act (is_none o)
       by (Model models) None e = models-sound models known (none-first (model_errors known models) e)
       by (Model models) (Some error) e = tt
       by act o e = tt
@@ -117,7 +117,7 @@ module _ {F : Type 0} (value : F → Number) (program : Program F) (solvers : Li
       let state = state_after value (length program.names) past in
       let declared = names_before program past in
       let above : above_of facts.declared ≡ directly_above state declared = fun_ext (λ n. s.known.above n ∙ above-drawn facts.state (names facts) n ∙ ap (λ (t : State). directly_above t (names facts) n) s.state ∙ ap (λ (ns : List ℕ). directly_above state ns n) s.named) in
-      let models : facts.models ≡ models_before state program past = s.models ∙ ap (λ (test : ℕ → Bool). map {B = ℕ × List ℕ} (λ (model : ℕ × List ℕ). (model.0, filter test model.1)) (filter (λ (model : ℕ × List ℕ). in_table (length program.names) model.0) (models_after [] past))) (fun_ext (λ n. ap is_equation (kind-drawn facts.state n) ∙ ap (λ (t : State). is_equation (kind_of t n)) s.state)) in
+      let models : facts.models ≡ models_before state program past = s.models ∙ ap (λ (test : ℕ → Bool). map {B = ℕ × List ℕ} (λ (model : ℕ × List ℕ). (model.0, filter test model.1)) (filter (λ (model : ℕ × List ℕ). in_table (length program.names) model.0) (models_after [] past))) (fun_ext (λ n. ap is_equation (kind-drawn facts.state n) ∙ ap (λ (t : State). is_equation (declared_kind t n)) s.state)) in
       ap (λ (t : State). made t (names facts) (above_of facts.declared) (marked facts.dynamic) (marked facts.unordered) (marked facts.defined) facts.models) s.state
       ∙ ap (λ (ns : List ℕ). made state ns (above_of facts.declared) (marked facts.dynamic) (marked facts.unordered) (marked facts.defined) facts.models) s.named
       ∙ ap (λ (f : ℕ → Option ℕ). made state declared f (marked facts.dynamic) (marked facts.unordered) (marked facts.defined) facts.models) above

@@ -23,17 +23,17 @@ use Rattle.gms_ast.specs.declared.program.Program.{Program}
 use Rattle.gms_store.specs.State.{alias_of, Symbol, State, no_symbol, symbol_at, base_of}
 use Rattle.gms_store.specs.Declarations.{blank_state, declare_model, declare_models, declared_by, first_settings, is_set, is_undeclared, names_of, positions_of}
 use Rattle.gms_set.specs.declared.fault.SetFault.{SetFault}
-use Rattle.gms_set.specs.Expansion.{Given, expanded}
-use Rattle.gms_known.specs.Below.{superset_in}
-use Rattle.gms_known.specs.Data.{is_ascending, labels_of}
-use Rattle.gms_known.specs.DynamicSets.{dynamic_sets}
-use Rattle.gms_known.specs.Entries.{above_of, names_of_entries}
-use Rattle.gms_known.specs.Facts.{Facts, first_facts, marked, model_entry, names, with_declared, with_marks, with_model, with_unordered}
-use Rattle.gms_known.specs.Names.{has_one_position, is_equation, is_index_set, is_unknown, kind_of, positions}
+use Rattle.gms_set.specs.Expansion.{ExpandedData, expanded}
+use Rattle.gms_scope.specs.Below.{superset_in}
+use Rattle.gms_scope.specs.Data.{is_ascending, labels_of_items}
+use Rattle.gms_scope.specs.DynamicSets.{dynamic_sets}
+use Rattle.gms_scope.specs.Entries.{above_of, names_of_entries}
+use Rattle.gms_scope.specs.Facts.{Facts, first_facts, marked, model_entry, names, with_declared, with_marks, with_model, with_unordered}
+use Rattle.gms_scope.specs.Names.{has_one_position, is_equation, is_index_set, has_no_declaration, declared_kind, positions}
 use Rattle.gms_check.specs.Above.{directly_above}
-use Rattle.gms_check.specs.Changes.{after_declaration, after_item, after_items, facts_after, with_given, with_model_names, with_models, with_order}
+use Rattle.gms_check.specs.InnerChanges.{after_declaration, after_item, after_items, facts_after, with_given, with_model_names, with_models, with_order}
 use Rattle.gms_check.specs.CompileErrors.{names_before, of_program}
-use Rattle.gms_check.specs.Past.{Past, after_act, after_statement, declared_names, defines, equations_declared, equations_listed, gives_unordered, is_among, is_defined, is_unordered, models_after, models_in, names_declared, numbers_of, state_after, with_data, with_item, with_name}
+use Rattle.gms_check.specs.Past.{Past, after_act, after_statement, declared_names, defines, equations_declared, equations_listed, gives_unordered, is_among, is_defined, is_unordered, models_after, models_declared_by, names_declared, numbers_of_names, state_after, with_data, with_item, with_name}
 use Rattle.gms_check.proofs.Outlines.{at-drawn, drawn, outline, read-at}
 use Rattle.gms_check.proofs.KnownNames.{IsKnown}
 use Rattle.gms_check.proofs.KnownFacts.{AreSettled, FactsGo, Goes, Grows, IsSettled, Keeps, alias-goes, equation_names, goes-none, in_table, is_equation_in, item_names, items-go, items-keeps, kept-equations, model_names-keeps, models-go, settled-append, settled-grows}
@@ -125,11 +125,11 @@ module _ {F : Type 0} where
   abbrev pub equations_before : Past F → List ℕ
   equations_before past = flat_map (λ (p : Stmt F × Bool). equations_declared p.0.act) past
 
-  models-push : (declared : List ℕ) (past : Past F) (p : Stmt F × Bool) → models_after declared (past ++ p ∷ []) ≡ models_after declared past ++ models_in (declared ++ equations_before past) p.1 p.0.act
+  models-push : (declared : List ℕ) (past : Past F) (p : Stmt F × Bool) → models_after declared (past ++ p ∷ []) ≡ models_after declared past ++ models_declared_by (declared ++ equations_before past) p.1 p.0.act
   models-push declared [] p =
-      append-nil (models_in declared p.1 p.0.act) ∙ ap (λ (es : List ℕ). models_in es p.1 p.0.act) (sym (append-nil declared))
+      append-nil (models_declared_by declared p.1 p.0.act) ∙ ap (λ (es : List ℕ). models_declared_by es p.1 p.0.act) (sym (append-nil declared))
   models-push declared (q ∷ past) p =
-      ap (λ ms. models_in declared q.1 q.0.act ++ ms) (models-push (declared ++ equations_declared q.0.act) past p ∙ ap (λ (es : List ℕ). models_after (declared ++ equations_declared q.0.act) past ++ models_in es p.1 p.0.act) (append_assoc declared (equations_declared q.0.act) (equations_before past))) ∙ sym (append_assoc (models_in declared q.1 q.0.act) (models_after (declared ++ equations_declared q.0.act) past) (models_in (declared ++ equations_before (q ∷ past)) p.1 p.0.act))
+      ap (λ ms. models_declared_by declared q.1 q.0.act ++ ms) (models-push (declared ++ equations_declared q.0.act) past p ∙ ap (λ (es : List ℕ). models_after (declared ++ equations_declared q.0.act) past ++ models_declared_by es p.1 p.0.act) (append_assoc declared (equations_declared q.0.act) (equations_before past))) ∙ sym (append_assoc (models_declared_by declared q.1 q.0.act) (models_after (declared ++ equations_declared q.0.act) past) (models_declared_by (declared ++ equations_before (q ∷ past)) p.1 p.0.act))
 
 -- what of models is listed stays
 listed-grows : (count : ℕ) (a b : State) (keep : (ns : List ℕ) → AreSettled count a ns → filter (is_equation_in b) ns ≡ filter (is_equation_in a) ns) (ms : List (ℕ × List ℕ)) → AreFixed count a ms → listed_in count b ms ≡ listed_in count a ms
@@ -191,7 +191,7 @@ module _ {F : Type 0} (value : F → Number) (program : Program F) where
 
   -- one statement more
   module _ (facts after : Facts) (past : Past F) (stands : Stands facts past) (p : Stmt F × Bool) where
-    pub stands-more : after.state ≡ after_statement value facts.state p → FactsGo (length program.names) facts after (names_declared p.0.act) (equations_declared p.0.act) → after.dynamic ≡ facts.dynamic → length after.unordered ≡ length program.names → ((n : ℕ) → marked after.unordered n ≡ (marked facts.unordered n || (nat_lt n (length program.names) && (p.1 && gives_unordered n p.0.act)))) → length after.defined ≡ length program.names → ((n : ℕ) → marked after.defined n ≡ (marked facts.defined n || (nat_lt n (length program.names) && defines n p.0.act))) → after.models ≡ facts.models ++ listed_in (length program.names) (drawn after.state) (models_in (equations_before past) p.1 p.0.act) → AreFixed (length program.names) (drawn after.state) (models_in (equations_before past) p.1 p.0.act) → Stands after (past ++ p ∷ [])
+    pub stands-more : after.state ≡ after_statement value facts.state p → FactsGo (length program.names) facts after (names_declared p.0.act) (equations_declared p.0.act) → after.dynamic ≡ facts.dynamic → length after.unordered ≡ length program.names → ((n : ℕ) → marked after.unordered n ≡ (marked facts.unordered n || (nat_lt n (length program.names) && (p.1 && gives_unordered n p.0.act)))) → length after.defined ≡ length program.names → ((n : ℕ) → marked after.defined n ≡ (marked facts.defined n || (nat_lt n (length program.names) && defines n p.0.act))) → after.models ≡ facts.models ++ listed_in (length program.names) (drawn after.state) (models_declared_by (equations_before past) p.1 p.0.act) → AreFixed (length program.names) (drawn after.state) (models_declared_by (equations_before past) p.1 p.0.act) → Stands after (past ++ p ∷ [])
     stands-more state go dynamic unordered_size unordered defined_size defined models fixed = record {
       state = state ∙ ap (λ (s : State). after_statement value s p) stands.state ∙ sym (fold-append (after_statement value) (blank_state (length program.names)) past (p ∷ []));
       known = go.known;
@@ -203,8 +203,8 @@ module _ {F : Type 0} (value : F → Number) (program : Program F) where
       defined = λ n. defined n ∙ ap (λ b. b || (nat_lt n (length program.names) && defines n p.0.act)) (stands.defined n) ∙ and-or (nat_lt n (length program.names)) (is_defined past n) (defines n p.0.act) ∙ ap (λ b. nat_lt n (length program.names) && b) (sym (list_any-append (λ (p : Stmt F × Bool). defines n p.0.act) past (p ∷ []) ∙ ap (λ b. is_defined past n || b) (or_false (defines n p.0.act))));
       equations = go.equated ∙ ap (λ es. es ++ filter (is_equation_in (drawn after.state)) (equations_declared p.0.act)) (stands.equations ∙ sym (keep (equations_before past) stands.settled)) ∙ sym (ap (filter (is_equation_in (drawn after.state))) equations ∙ filter-append (is_equation_in (drawn after.state)) (equations_before past) (equations_declared p.0.act));
       settled = subst (AreSettled (length program.names) (drawn after.state)) (sym equations) (settled-append (length program.names) (drawn after.state) (equations_before past) (equations_declared p.0.act) (settled-grows (length program.names) (drawn facts.state) (drawn after.state) go.grows (equations_before past) stands.settled) go.settled);
-      models = models ∙ ap (λ ms. ms ++ listed_in (length program.names) (drawn after.state) (models_in (equations_before past) p.1 p.0.act)) (stands.models ∙ sym (listed-grows (length program.names) (drawn facts.state) (drawn after.state) keep (models_after [] past) stands.fixed)) ∙ sym (ap (listed_in (length program.names) (drawn after.state)) (models-push [] past p) ∙ listed-append (length program.names) (drawn after.state) (models_after [] past) (models_in (equations_before past) p.1 p.0.act));
-      fixed = subst (AreFixed (length program.names) (drawn after.state)) (sym (models-push [] past p)) (fixed-append (length program.names) (drawn after.state) (models_after [] past) (models_in (equations_before past) p.1 p.0.act) (fixed-grows (length program.names) (drawn facts.state) (drawn after.state) go.grows (models_after [] past) stands.fixed) fixed);
+      models = models ∙ ap (λ ms. ms ++ listed_in (length program.names) (drawn after.state) (models_declared_by (equations_before past) p.1 p.0.act)) (stands.models ∙ sym (listed-grows (length program.names) (drawn facts.state) (drawn after.state) keep (models_after [] past) stands.fixed)) ∙ sym (ap (listed_in (length program.names) (drawn after.state)) (models-push [] past p) ∙ listed-append (length program.names) (drawn after.state) (models_after [] past) (models_declared_by (equations_before past) p.1 p.0.act));
+      fixed = subst (AreFixed (length program.names) (drawn after.state)) (sym (models-push [] past p)) (fixed-append (length program.names) (drawn after.state) (models_after [] past) (models_declared_by (equations_before past) p.1 p.0.act) (fixed-grows (length program.names) (drawn facts.state) (drawn after.state) go.grows (models_after [] past) stands.fixed) fixed);
     }
       where
         keep : (ns : List ℕ) → AreSettled (length program.names) (drawn facts.state) ns → filter (is_equation_in (drawn after.state)) ns ≡ filter (is_equation_in (drawn facts.state)) ns

@@ -18,22 +18,22 @@ use Rattle.gms_ast.specs.declared.program.Program.{Program}
 use Rattle.gms_store.specs.State.{Content, undeclared, alias_of, set_of, parameter_of, variable_of, equation_of, model_with, Symbol, State, no_symbol, symbol_at, base_of}
 use Rattle.gms_store.specs.Declarations.{declare_alias, declare_each, declare_model, declare_models, declared_by, is_undeclared, kind_in, model_symbol, names_of, positions_of, put_at}
 use Rattle.gms_set.specs.declared.fault.SetFault.{SetFault}
-use Rattle.gms_set.specs.Expansion.{Given, expanded}
-use Rattle.gms_known.specs.Below.{superset_in}
-use Rattle.gms_known.specs.Data.{is_ascending, labels_of}
-use Rattle.gms_known.specs.DynamicSets.{dynamic_sets}
-use Rattle.gms_known.specs.Entries.{above_of, names_of_entries}
-use Rattle.gms_known.specs.Facts.{Facts, marked, model_entry, names, with_declared, with_model, with_model_name, with_unordered}
-use Rattle.gms_known.specs.Names.{is_equation, is_index_set, is_unknown, kind_of, positions}
+use Rattle.gms_set.specs.Expansion.{ExpandedData, expanded}
+use Rattle.gms_scope.specs.Below.{superset_in}
+use Rattle.gms_scope.specs.Data.{is_ascending, labels_of_items}
+use Rattle.gms_scope.specs.DynamicSets.{dynamic_sets}
+use Rattle.gms_scope.specs.Entries.{above_of, names_of_entries}
+use Rattle.gms_scope.specs.Facts.{Facts, marked, model_entry, names, with_declared, with_model, with_model_name, with_unordered}
+use Rattle.gms_scope.specs.Names.{is_equation, is_index_set, has_no_declaration, declared_kind, positions}
 use Rattle.gms_check.specs.declared.error.ErrorKind.TheVariants.{WrongKind}
 use Rattle.gms_check.specs.declared.error.CompileError.{CompileError}
 use Rattle.gms_check.specs.Above.{directly_above}
-use Rattle.gms_check.specs.Changes.{after_declaration, after_item, after_items, facts_after, with_given, with_model_names, with_models, with_order}
-use Rattle.gms_check.specs.Checking.{known_by}
+use Rattle.gms_check.specs.InnerChanges.{after_declaration, after_item, after_items, facts_after, with_given, with_model_names, with_models, with_order}
+use Rattle.gms_check.specs.InnerChecking.{known_by}
 use Rattle.gms_check.specs.CompileErrors.{act_errors, errors_after, errors_of, known_after, known_in, model_errors, models_before, of_program, statement_error}
 use Rattle.gms_check.specs.DeclarationUses.{model_uses}
-use Rattle.gms_check.specs.Errors.{first_of}
-use Rattle.gms_check.specs.Past.{Known, Past, after_act, after_statement, defines, equations_declared, equations_listed, gives_unordered, is_among, is_defined, is_unordered, models_after, models_in, names_declared, numbers_of, state_after, with_data, with_item}
+use Rattle.gms_check.specs.Errors.{first_error}
+use Rattle.gms_check.specs.Past.{Known, Past, after_act, after_statement, defines, equations_declared, equations_listed, gives_unordered, is_among, is_defined, is_unordered, models_after, models_declared_by, names_declared, numbers_of_names, state_after, with_data, with_item}
 use Rattle.gms_check.specs.Uses.{Uses, listing, modelling}
 use Rattle.gms_check.proofs.NoErrors.{AreClean, are-clean, nil-left, nil-right, none-first}
 use Rattle.gms_check.proofs.Outlines.{base-drawn, bounds-drawn, drawn, index-drawn, kind-drawn, positions-drawn, read-at}
@@ -72,12 +72,12 @@ module _ {F : Type 0} where
   -- what is known after the order of the labels of sets was examined
   abbrev ordered : Facts → List (Decl F) → Facts
   ordered facts items =
-      fold (λ facts (item : Decl F). if is_ascending (labels_of item.items) then facts else with_unordered facts item.named.name) facts items
+      fold (λ facts (item : Decl F). if is_ascending (labels_of_items item.items) then facts else with_unordered facts item.named.name) facts items
 
   ordered-same : (items : List (Decl F)) (facts : Facts) → ordered facts items ≡ record facts { unordered = (ordered facts items).unordered }
   ordered-same [] facts = refl
   ordered-same (item ∷ items) facts =
-      by (is_ascending (labels_of item.items)) (ordered-same items)
+      by (is_ascending (labels_of_items item.items)) (ordered-same items)
     where
       by : (b : Bool) → ((facts : Facts) → ordered facts items ≡ record facts { unordered = (ordered facts items).unordered }) → ordered (if b then facts else with_unordered facts item.named.name) items ≡ record facts { unordered = (ordered (if b then facts else with_unordered facts item.named.name) items).unordered }
       by true rest = rest facts
@@ -86,7 +86,7 @@ module _ {F : Type 0} where
   ordered-length : (items : List (Decl F)) (facts : Facts) → length (ordered facts items).unordered ≡ length facts.unordered
   ordered-length [] facts = refl
   ordered-length (item ∷ items) facts =
-      by (is_ascending (labels_of item.items)) (ordered-length items)
+      by (is_ascending (labels_of_items item.items)) (ordered-length items)
     where
       by : (b : Bool) → ((facts : Facts) → length (ordered facts items).unordered ≡ length facts.unordered) → length (ordered (if b then facts else with_unordered facts item.named.name) items).unordered ≡ length facts.unordered
       by true rest = rest facts
@@ -94,12 +94,12 @@ module _ {F : Type 0} where
 
   -- whether a name is given its labels in another order
   abbrev is_turned : ℕ → Decl F → Bool
-  is_turned n item = item.named.name == n && not (is_ascending (labels_of item.items))
+  is_turned n item = item.named.name == n && not (is_ascending (labels_of_items item.items))
 
   ordered-marked : (n : ℕ) (items : List (Decl F)) (facts : Facts) → marked (ordered facts items).unordered n ≡ (marked facts.unordered n || (nat_lt n (length facts.unordered) && list_any (is_turned n) items))
   ordered-marked n [] facts = unmarked (marked facts.unordered n) (nat_lt n (length facts.unordered))
   ordered-marked n (item ∷ items) facts =
-      by (is_ascending (labels_of item.items)) (ordered-marked n items)
+      by (is_ascending (labels_of_items item.items)) (ordered-marked n items)
     where
       by : (b : Bool) → ((facts : Facts) → marked (ordered facts items).unordered n ≡ (marked facts.unordered n || (nat_lt n (length facts.unordered) && list_any (is_turned n) items))) → marked (ordered (if b then facts else with_unordered facts item.named.name) items).unordered n ≡ (marked facts.unordered n || (nat_lt n (length facts.unordered) && ((item.named.name == n && not b) || list_any (is_turned n) items)))
       by true rest =
@@ -161,7 +161,7 @@ module _ {F : Type 0} where
 -- names that are all equations
 abbrev pub AreEquations : State → List Named → Type 0
 AreEquations state [] = Unit {0}
-AreEquations state (named ∷ ns) = (is_equation (kind_of state named.name) ≡ true) × AreEquations state ns
+AreEquations state (named ∷ ns) = (is_equation (declared_kind state named.name) ≡ true) × AreEquations state ns
 
 -- models that list equations alone
 abbrev pub AreOfEquations : State → List ModelDecl → Type 0
@@ -192,15 +192,15 @@ known_kind (equation_of entries) e = refl
 known_kind (model_with model solver) e = refl
 
 module _ (count : ℕ) (state : State) where
-  all-filtered : (ns : List Named) → AreEquations state ns → filter (is_equation_in (drawn state)) (numbers_of ns) ≡ numbers_of ns
+  all-filtered : (ns : List Named) → AreEquations state ns → filter (is_equation_in (drawn state)) (numbers_of_names ns) ≡ numbers_of_names ns
   all-filtered [] a = refl
   all-filtered (named ∷ ns) a =
-      ap (λ (b : Bool). if b then named.name ∷ filter (is_equation_in (drawn state)) (numbers_of ns) else filter (is_equation_in (drawn state)) (numbers_of ns)) (ap is_equation (kind-drawn state named.name) ∙ a.0) ∙ ap (λ (ms : List ℕ). named.name ∷ ms) (all-filtered ns a.1)
+      ap (λ (b : Bool). if b then named.name ∷ filter (is_equation_in (drawn state)) (numbers_of_names ns) else filter (is_equation_in (drawn state)) (numbers_of_names ns)) (ap is_equation (kind-drawn state named.name) ∙ a.0) ∙ ap (λ (ms : List ℕ). named.name ∷ ms) (all-filtered ns a.1)
 
-  equation-known : (n : ℕ) → is_equation (kind_of state n) ≡ true → is_unknown (drawn state) n ≡ false
+  equation-known : (n : ℕ) → is_equation (declared_kind state n) ≡ true → has_no_declaration (drawn state) n ≡ false
   equation-known n e = known_kind (symbol_at (drawn state) n).content (ap is_equation (kind-drawn state n) ∙ e)
 
-  all-settled : (ns : List Named) → AreEquations state ns → AreSettled count (drawn state) (numbers_of ns)
+  all-settled : (ns : List Named) → AreEquations state ns → AreSettled count (drawn state) (numbers_of_names ns)
   all-settled [] a = tt
   all-settled (named ∷ ns) a = (inl (equation-known named.name a.0), all-settled ns a.1)
 
@@ -209,7 +209,7 @@ module _ (count : ℕ) (state : State) where
     one-listed false model right = (refl, tt)
     one-listed true model right = by model.all
       where
-        by : (b : Bool) → ((if b then had else numbers_of model.equations) ≡ filter (is_equation_in (drawn state)) (if b then all else numbers_of model.equations)) × AreSettled count (drawn state) (if b then all else numbers_of model.equations)
+        by : (b : Bool) → ((if b then had else numbers_of_names model.equations) ≡ filter (is_equation_in (drawn state)) (if b then all else numbers_of_names model.equations)) × AreSettled count (drawn state) (if b then all else numbers_of_names model.equations)
         by true = (same, settled)
         by false = (sym (all-filtered model.equations (right refl)), all-settled model.equations (right refl))
 
@@ -239,7 +239,7 @@ module _ (count : ℕ) (state : State) where
 -- ---- one statement more
 
 module _ {F : Type 0} (value : F → Number) where
-  given-state : (g : Facts) (name : ℕ) (r : Result (Given F) SetFault) → (with_given value g name r).state ≡ with_data value g.state name r
+  given-state : (g : Facts) (name : ℕ) (r : Result (ExpandedData F) SetFault) → (with_given value g name r).state ≡ with_data value g.state name r
   given-state g name (Ok given) = refl
   given-state g name (Err fault) = refl
 
@@ -275,8 +275,8 @@ module _ {F : Type 0} (value : F → Number) where
       pub unordered : (n : ℕ) → marked after.unordered n ≡ (marked facts.unordered n || (nat_lt n (length program.names) && (sound && gives_unordered n act)))
       pub defined_size : length after.defined ≡ length program.names
       pub defined : (n : ℕ) → marked after.defined n ≡ (marked facts.defined n || (nat_lt n (length program.names) && defines n act))
-      pub models : after.models ≡ facts.models ++ listed_in (length program.names) (drawn after.state) (models_in (equations_before past) sound act)
-      pub fixed : AreFixed (length program.names) (drawn after.state) (models_in (equations_before past) sound act)
+      pub models : after.models ≡ facts.models ++ listed_in (length program.names) (drawn after.state) (models_declared_by (equations_before past) sound act)
+      pub fixed : AreFixed (length program.names) (drawn after.state) (models_declared_by (equations_before past) sound act)
 
     module _ (facts : Facts) (past : Past F) (stands : Stands value program facts past) where
       unmarked-order : (sound : Bool) (n : ℕ) → marked facts.unordered n ≡ (marked facts.unordered n || (nat_lt n (length program.names) && (sound && false)))
@@ -284,7 +284,7 @@ module _ {F : Type 0} (value : F → Number) where
           unmarked (marked facts.unordered n) (nat_lt n (length program.names)) ∙ ap (λ b. marked facts.unordered n || (nat_lt n (length program.names) && b)) (sym (no_right sound))
 
       -- an act that declares and defines nothing
-      step-none : (act : Act F) (sound : Bool) → facts.state ≡ state_by facts.state act sound → names_declared act ≡ [] → equations_declared act ≡ [] → ((n : ℕ) → gives_unordered n act ≡ false) → ((n : ℕ) → defines n act ≡ false) → models_in (equations_before past) sound act ≡ [] → Step facts facts past act sound
+      step-none : (act : Act F) (sound : Bool) → facts.state ≡ state_by facts.state act sound → names_declared act ≡ [] → equations_declared act ≡ [] → ((n : ℕ) → gives_unordered n act ≡ false) → ((n : ℕ) → defines n act ≡ false) → models_declared_by (equations_before past) sound act ≡ [] → Step facts facts past act sound
       step-none act sound state none_named none_equated none_turned none_defined none_modelled = record {
         state = state;
         go = subst (λ (ns : List ℕ). FactsGo (length program.names) facts facts ns (equations_declared act)) (sym none_named) (subst (λ (es : List ℕ). FactsGo (length program.names) facts facts [] es) (sym none_equated) (goes-none (length program.names) (drawn facts.state) facts.declared facts.equations stands.known));

@@ -13,11 +13,11 @@ use Rattle.gms_check.specs.declared.error.ErrorKind.TheVariants.{WrongKind, Nonl
 use Rattle.gms_check.specs.declared.expression.Operation.{Operation}
 use Rattle.gms_check.specs.declared.expression.Operation.TheVariants.{Multiplies, Divides, Raises}
 use Rattle.gms_check.specs.declared.standing.Standing.{Standing}
-use Rattle.gms_check.specs.Checking.{Checking, faulted, known_of, noted}
+use Rattle.gms_check.specs.InnerChecking.{Checking, faulted, known_of, noted}
 use Rattle.gms_check.specs.Linearity.{has_variable}
-use Rattle.gms_check.specs.PartLists.{in_no_place, step_curved, step_faults, step_wrong}
+use Rattle.gms_check.specs.InnerPartLists.{in_no_place, step_curved, step_faults, step_wrong}
 use Rattle.gms_check.specs.Standing.{as_part}
-use Rattle.gms_check.specs.Uses.{Uses, multiplies, divides, raises, operation_of, place_of, stepping, steps, uses}
+use Rattle.gms_check.specs.Uses.{Uses, multiplies, divides, raises, operation_of, place_by_mark, stepping, steps, uses}
 use Rattle.gms_check.proofs.Noting.{chain-2, noted-by, noted-turned}
 use Rattle.gms_check.proofs.PartUses.{steps-first, steps-more}
 
@@ -63,7 +63,7 @@ no-less i none = omega arith
 module _ {F : Type 0} {X : Type 0} (value : F → Number) (mark : X → Mark) (tree : X → Tree F) (standing : Standing) (controlled : List ℕ) where
   -- what one part uses
   abbrev part_use : X → Uses F
-  part_use x = uses (as_part standing) (place_of (mark x) in_no_place) controlled (tree x)
+  part_use x = uses (as_part standing) (place_by_mark (mark x) in_no_place) controlled (tree x)
 
   -- the steps between parts
   abbrev steps_of : List X → Uses F
@@ -80,14 +80,14 @@ module _ {F : Type 0} {X : Type 0} (value : F → Number) (mark : X → Mark) (t
         noted-turned value s now after next (flat_map part_use (take i xs)) (steps_of (take i xs)) (part_use x) zs noted_now part step ∙ ap (λ (parts : Uses F). noted value s (parts ++ (steps_of (take i xs) ++ zs))) parts-more ∙ ap (λ (more : Uses F). noted value s (flat_map part_use (take (i + 1) xs) ++ more)) (sym so)
 
     -- the first part
-    pub turn-first : i ≤ 0 → next ≡ noted value after [] → next ≡ noted value s (flat_map (λ x. uses (as_part standing) (place_of (mark x) in_no_place) controlled (tree x)) (take (i + 1) xs) ++ steps standing in_no_place (parts_of (map (λ x. (mark x, tree x)) (take (i + 1) xs))))
+    pub turn-first : i ≤ 0 → next ≡ noted value after [] → next ≡ noted value s (flat_map (λ x. uses (as_part standing) (place_by_mark (mark x) in_no_place) controlled (tree x)) (take (i + 1) xs) ++ steps standing in_no_place (parts_of (map (λ x. (mark x, tree x)) (take (i + 1) xs))))
     turn-first none step =
         turn [] step (steps-first mark tree standing in_no_place xs i x (no-less i none) l is ∙ sym (append-nil (steps_of (take i xs))))
 
     -- a part after others
-    pub turn-more : 0 < i → next ≡ noted value after ((place_of (mark x) in_no_place, stepping standing (operation_of (mark x)) (map tree (take i xs)) (tree x)) ∷ []) → next ≡ noted value s (flat_map (λ x. uses (as_part standing) (place_of (mark x) in_no_place) controlled (tree x)) (take (i + 1) xs) ++ steps standing in_no_place (parts_of (map (λ x. (mark x, tree x)) (take (i + 1) xs))))
+    pub turn-more : 0 < i → next ≡ noted value after ((place_by_mark (mark x) in_no_place, stepping standing (operation_of (mark x)) (map tree (take i xs)) (tree x)) ∷ []) → next ≡ noted value s (flat_map (λ x. uses (as_part standing) (place_by_mark (mark x) in_no_place) controlled (tree x)) (take (i + 1) xs) ++ steps standing in_no_place (parts_of (map (λ x. (mark x, tree x)) (take (i + 1) xs))))
     turn-more some step =
-        turn ((place_of (mark x) in_no_place, stepping standing (operation_of (mark x)) (map tree (take i xs)) (tree x)) ∷ []) step (steps-more mark tree standing in_no_place xs i x some l is)
+        turn ((place_by_mark (mark x) in_no_place, stepping standing (operation_of (mark x)) (map tree (take i xs)) (tree x)) ∷ []) step (steps-more mark tree standing in_no_place xs i x some l is)
 
     -- whether an operand before has variables
     pub before-mapped : (known_now : known_of value now ≡ known_of value s) (earlier : Bool) → earlier ≡ list_any (λ x. has_variable (known_of value s) (tree x)) (take i xs) → earlier ≡ list_any (has_variable (known_of value after)) (map tree (take i xs))

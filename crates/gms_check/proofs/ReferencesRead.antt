@@ -15,9 +15,9 @@ use Rattle.gms_check.specs.Loaded.{sound}
 use Rattle.gms_check.specs.Past.{Known}
 use Rattle.gms_check.specs.References.{Asking, InTree, a_reference, an_ord, in_amount, in_argument, in_condition, in_body, in_negated, in_sum, in_product, in_power, in_relation, in_not, in_and, in_or, in_guarded, in_guard, InParts, in_part, in_later_part, InIndices, in_lag, behind_label, behind_set, behind_lag, InControl, in_where, InAct, on_the_left, in_left_condition, on_the_right, in_definition_condition, in_left_side, in_right_side, in_loop_condition, in_abort_condition, InStatement, IsMeant}
 use Rattle.gms_check.specs.Standing.{as_number, as_condition, as_side, as_part, as_inner, as_guarded, as_denied}
-use Rattle.gms_check.specs.Statements.{act_uses}
+use Rattle.gms_check.specs.InnerStatements.{act_uses}
 use Rattle.gms_check.specs.StatementUses.{index_list, left_uses, right_standing, show_uses, statement_uses, with_left}
-use Rattle.gms_check.specs.Uses.{Uses, reading, ordinal, place_of, steps, sets_of, uses, part_uses, amount_uses, control_uses, shift_uses, condition_uses}
+use Rattle.gms_check.specs.Uses.{Uses, reading, ordinal, place_by_mark, steps, sets_of_control, uses, part_uses, amount_uses, control_uses, shift_uses, condition_uses}
 use Rattle.gms_check.proofs.ActUses.{uses-Abort, uses-Assign, uses-Define, uses-Loop, uses-act}
 use Rattle.gms_check.proofs.LeftAmounts.{clean-one_of}
 use Rattle.gms_check.proofs.NoErrors.{AreClean, clean-left, clean-right}
@@ -33,9 +33,9 @@ module _ {F : Type 0} (known : Known F) (within : List ℕ) where
     in-tree (in_amount inside) standing at clean = in-indices inside clean.1
     in-tree (in_argument {at = place} inside) standing at clean = in-parts inside (as_inner standing) place clean.1
     in-tree (in_condition {around = around} {at = place} {control = control} {body = body} inside) standing at clean =
-        in-control inside place (clean-left known (control_uses place around control) (uses (as_inner standing) place (around ++ sets_of control) body) clean.1)
+        in-control inside place (clean-left known (control_uses place around control) (uses (as_inner standing) place (around ++ sets_of_control control) body) clean.1)
     in-tree (in_body {around = around} {at = place} {control = control} {body = body} inside) standing at clean =
-        in-tree inside (as_inner standing) place (clean-right known (control_uses place around control) (uses (as_inner standing) place (around ++ sets_of control) body) clean.1)
+        in-tree inside (as_inner standing) place (clean-right known (control_uses place around control) (uses (as_inner standing) place (around ++ sets_of_control control) body) clean.1)
     in-tree (in_negated inside) standing at clean = in-tree inside (as_part standing) at clean
     in-tree (in_sum inside) standing at clean = in-parts inside (as_part standing) at clean
     in-tree (in_product {around = around} {parts = parts} inside) standing at clean =
@@ -53,9 +53,9 @@ module _ {F : Type 0} (known : Known F) (within : List ℕ) where
 
     in-parts : {what : Asking F} {around : List ℕ} {parts : Parts F} → InParts within what around parts → (standing : Standing) (at : Place) → AreClean known (part_uses standing at around parts) → IsMeant known within what
     in-parts (in_part {around = around} {mark = mark} {tree = tree} {rest = rest} inside) standing at clean =
-        in-tree inside standing (place_of mark at) (clean-left known (uses standing (place_of mark at) around tree) (part_uses standing at around rest) clean)
+        in-tree inside standing (place_by_mark mark at) (clean-left known (uses standing (place_by_mark mark at) around tree) (part_uses standing at around rest) clean)
     in-parts (in_later_part {around = around} {mark = mark} {tree = tree} {rest = rest} inside) standing at clean =
-        in-parts inside standing at (clean-right known (uses standing (place_of mark at) around tree) (part_uses standing at around rest) clean)
+        in-parts inside standing at (clean-right known (uses standing (place_by_mark mark at) around tree) (part_uses standing at around rest) clean)
 
     in-indices : {what : Asking F} {around : List ℕ} {indices : Indices F} → InIndices within what around indices → AreClean known (amount_uses around indices) → IsMeant known within what
     in-indices (in_lag {around = around} {at = place} {amount = amount} {rest = rest} inside) clean =
@@ -121,7 +121,7 @@ module _ {F : Type 0} (known : Known F) (within : List ℕ) where
             let sides = clean-right known (left_uses statement.at around indices condition) (uses as_side left_at around (tree_of left) ++ uses as_side right_at around (tree_of right)) whole.1 in
             in-tree inside as_side right_at (clean-right known (uses as_side left_at around (tree_of left)) (uses as_side right_at around (tree_of right)) sides)
         by (in_loop_condition control body is inside) clean =
-            let sets = loops ++ sets_of (control_tree control) in
+            let sets = loops ++ sets_of_control (control_tree control) in
             let whole = subst (AreClean known) (uses-Loop known.state statement.at loops control body) (as-act _ is clean) in
             in-control inside statement.at (clean-left known (control_uses statement.at loops (control_tree control)) (flat_map (λ (s : Stmt F). statement_uses s known.state sets) body.items) whole)
         by (in_abort_condition condition items is inside) clean =
@@ -132,7 +132,7 @@ module _ {F : Type 0} (known : Known F) (within : List ℕ) where
     in-statement : (depth : ℕ) (statement : Stmt F) (loops : List ℕ) → InStatement depth within what loops statement → AreClean known (statement_uses statement known.state loops) → IsMeant known within what
     in-statement zero statement loops inside clean = in-act statement loops inside clean
     in-statement (suc depth) statement loops inside clean =
-        let sets = loops ++ sets_of (control_tree inside.control) in
+        let sets = loops ++ sets_of_control (control_tree inside.control) in
         let whole = subst (AreClean known) (uses-act statement known.state loops ∙ ap (λ (act : Act F). act_uses act known.state statement.at loops) inside.loop ∙ uses-Loop known.state statement.at loops inside.control inside.body) clean in
         let body = clean-right known (control_uses statement.at loops (control_tree inside.control)) (flat_map (λ (s : Stmt F). statement_uses s known.state sets) inside.body.items) whole in
         in-statement depth inside.next sets inside.holds (clean-one_of known sets inside.before inside.rest inside.next (subst (λ (statements : List (Stmt F)). AreClean known (flat_map (λ (s : Stmt F). statement_uses s known.state sets) statements)) inside.stands body))

@@ -7,7 +7,7 @@ use Rattle.gms_labels.specs.declared.place.Place.{Place}
 use Rattle.gms_check.specs.declared.error.ErrorKind.{ErrorKind}
 use Rattle.gms_check.specs.declared.error.ErrorKind.TheVariants.{UnknownName, Redeclared, WrongKind, WrongArity, DomainOfSet, DomainOfLabel, Uncontrolled, ControlledTwice, NotOrdered, DynamicDomain, Nonlinear, Discrete, ModelType, NotDefined, DefinedTwice, Objective, UnknownSolver, OptionRange, Endogenous, Function, DataFault, Restart}
 use Rattle.gms_check.specs.declared.error.CompileError.{CompileError}
-use Rattle.gms_check.specs.Errors.{comes_first, earlier, error_code, first_of, sooner}
+use Rattle.gms_check.specs.Errors.{comes_first, earlier, error_code, first_error, sooner}
 
 -- an error from its number
 abbrev kind_of_code : ℕ → ErrorKind
@@ -162,6 +162,6 @@ sooner-same (Some a) = by (L a a)
     by false = refl
 
 -- the first of errors and others
-pub first_of-append : (xs ys : List CompileError) → first_of (xs ++ ys) ≡ sooner (first_of xs) (first_of ys)
+pub first_of-append : (xs ys : List CompileError) → first_error (xs ++ ys) ≡ sooner (first_error xs) (first_error ys)
 first_of-append [] ys = refl
-first_of-append (x ∷ xs) ys = ap (sooner (Some x)) (first_of-append xs ys) ∙ sym (sooner-assoc (Some x) (first_of xs) (first_of ys))
+first_of-append (x ∷ xs) ys = ap (sooner (Some x)) (first_of-append xs ys) ∙ sym (sooner-assoc (Some x) (first_error xs) (first_error ys))

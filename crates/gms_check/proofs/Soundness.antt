@@ -14,19 +14,19 @@ use Rattle.gms_ast.specs.declared.program.Stmt.{Stmt}
 use Rattle.gms_ast.specs.declared.program.Program.{Program}
 use Rattle.gms_ast.specs.Trees.{Indices}
 use Rattle.gms_store.specs.State.{State}
-use Rattle.gms_known.specs.Names.{is_equation, is_index_set, is_set_name, is_unknown, kind_of, positions}
+use Rattle.gms_scope.specs.Names.{is_equation, is_index_set, is_set_name, has_no_declaration, declared_kind, positions}
 use Rattle.gms_check.specs.declared.error.ErrorKind.TheVariants.{UnknownName, WrongKind, WrongArity, DomainOfSet, DomainOfLabel, Uncontrolled, ControlledTwice, NotOrdered}
 use Rattle.gms_check.specs.declared.error.CompileError.{CompileError}
 use Rattle.gms_check.specs.Checked.{AreIndices, AreSound, IsChecked, IsReading, IsSound, StandsAfter}
 use Rattle.gms_check.specs.CompileErrors.{act_errors, compile_errors, errors_after, errors_of, known_after, statement_error}
 use Rattle.gms_check.specs.Controls.{is_controlled_twice, is_ordered, lagged_sets}
 use Rattle.gms_check.specs.Domains.{has_unfit_label, has_unfit_set, index_count, is_wrong_count}
-use Rattle.gms_check.specs.Errors.{first_of}
+use Rattle.gms_check.specs.Errors.{first_error}
 use Rattle.gms_check.specs.Kinds.{has_wrong_set}
 use Rattle.gms_check.specs.Loaded.{sound}
 use Rattle.gms_check.specs.Past.{Known, Past, is_among}
 use Rattle.gms_check.specs.Standing.{may_be_assigned, may_stand}
-use Rattle.gms_check.specs.Statements.{act_uses}
+use Rattle.gms_check.specs.InnerStatements.{act_uses}
 use Rattle.gms_check.specs.StatementUses.{statement_uses}
 use Rattle.gms_check.specs.Uses.{Use, Uses, assigning, cardinal, controlling, defining, index_sets, ordinal, reading}
 use Rattle.gms_check.proofs.ActUses.{uses-Declare, uses-Model, uses-act}
@@ -83,9 +83,9 @@ module _ {F : Type 0} where
   -- what has no error is sound
   pub sound-use : (known : Known F) (used : Use F) → IsClean known used → IsSound known used
   sound-use known (reading standing controlled name suffix indices) clean = record {
-    declared = neither-first (is_unknown known.state name) (list_any (is_unknown known.state) (index_sets indices)) (clean UnknownName);
-    stands = not-false (may_stand standing (kind_of known.state name) suffix) (neither-first (not (may_stand standing (kind_of known.state name) suffix)) (has_wrong_set known (index_sets indices)) (clean WrongKind));
-    fitting = are-indices known name indices (neither-second (not (may_stand standing (kind_of known.state name) suffix)) (has_wrong_set known (index_sets indices)) (clean WrongKind)) (clean WrongArity) (clean DomainOfSet) (clean DomainOfLabel) (clean NotOrdered);
+    declared = neither-first (has_no_declaration known.state name) (list_any (has_no_declaration known.state) (index_sets indices)) (clean UnknownName);
+    stands = not-false (may_stand standing (declared_kind known.state name) suffix) (neither-first (not (may_stand standing (declared_kind known.state name) suffix)) (has_wrong_set known (index_sets indices)) (clean WrongKind));
+    fitting = are-indices known name indices (neither-second (not (may_stand standing (declared_kind known.state name) suffix)) (has_wrong_set known (index_sets indices)) (clean WrongKind)) (clean WrongArity) (clean DomainOfSet) (clean DomainOfLabel) (clean NotOrdered);
     controls = all-pass (is_among controlled) (index_sets indices) (clean Uncontrolled);
   }
   sound-use known (ordinal standing controlled name) clean =
@@ -96,9 +96,9 @@ module _ {F : Type 0} where
   sound-use known (controlling controlled sets) clean =
       (all-pass (is_index_set known.state) sets (clean WrongKind), clean ControlledTwice, at-most 10 (length sets) (clean WrongArity))
   sound-use known (assigning name suffix indices) clean =
-      (neither-first (is_unknown known.state name) (list_any (is_unknown known.state) (index_sets indices)) (clean UnknownName), not-false (may_be_assigned (kind_of known.state name) suffix) (neither-first (not (may_be_assigned (kind_of known.state name) suffix)) (has_wrong_set known (index_sets indices)) (clean WrongKind)), are-indices known name indices (neither-second (not (may_be_assigned (kind_of known.state name) suffix)) (has_wrong_set known (index_sets indices)) (clean WrongKind)) (clean WrongArity) (clean DomainOfSet) (clean DomainOfLabel) (clean NotOrdered))
+      (neither-first (has_no_declaration known.state name) (list_any (has_no_declaration known.state) (index_sets indices)) (clean UnknownName), not-false (may_be_assigned (declared_kind known.state name) suffix) (neither-first (not (may_be_assigned (declared_kind known.state name) suffix)) (has_wrong_set known (index_sets indices)) (clean WrongKind)), are-indices known name indices (neither-second (not (may_be_assigned (declared_kind known.state name) suffix)) (has_wrong_set known (index_sets indices)) (clean WrongKind)) (clean WrongArity) (clean DomainOfSet) (clean DomainOfLabel) (clean NotOrdered))
   sound-use known (defining name indices) clean =
-      (neither-first (is_unknown known.state name) (list_any (is_unknown known.state) (index_sets indices)) (clean UnknownName), not-false (is_equation (kind_of known.state name)) (neither-first (not (is_equation (kind_of known.state name))) (has_wrong_set known (index_sets indices)) (clean WrongKind)), are-indices known name indices (neither-second (not (is_equation (kind_of known.state name))) (has_wrong_set known (index_sets indices)) (clean WrongKind)) (clean WrongArity) (clean DomainOfSet) (clean DomainOfLabel) (clean NotOrdered))
+      (neither-first (has_no_declaration known.state name) (list_any (has_no_declaration known.state) (index_sets indices)) (clean UnknownName), not-false (is_equation (declared_kind known.state name)) (neither-first (not (is_equation (declared_kind known.state name))) (has_wrong_set known (index_sets indices)) (clean WrongKind)), are-indices known name indices (neither-second (not (is_equation (declared_kind known.state name))) (has_wrong_set known (index_sets indices)) (clean WrongKind)) (clean WrongArity) (clean DomainOfSet) (clean DomainOfLabel) (clean NotOrdered))
   sound-use known used clean = clean
 
   sound-uses : (known : Known F) (uses : Uses F) → AreClean known uses → AllByRecursion (λ (u : Place × Use F). IsSound known u.1) uses
@@ -111,7 +111,7 @@ module _ {F : Type 0} where
   pub statement-clean : (known : Known F) (statement : Stmt F) → statement_error known statement ≡ None → AreClean known (statement_uses statement known.state [])
   statement-clean known statement = by statement.act refl
     where
-      by : (act : Act F) → statement.act ≡ act → first_of (act_errors known statement act) ≡ None → AreClean known (statement_uses statement known.state [])
+      by : (act : Act F) → statement.act ≡ act → first_error (act_errors known statement act) ≡ None → AreClean known (statement_uses statement known.state [])
       by (Declare kind items) is e =
           subst (AreClean known) (sym (uses-act statement known.state [] ∙ ap (λ (act : Act F). act_uses act known.state statement.at []) is ∙ uses-Declare known.state statement.at [] kind items)) tt
       by (Model models) is e =

@@ -7,15 +7,15 @@ use Rattle.gms_labels.specs.declared.place.Place.{Place}
 use Rattle.gms_ast.specs.declared.program.Act.{Act}
 use Rattle.gms_ast.specs.declared.program.Act.TheVariants.{Declare, Model}
 use Rattle.gms_ast.specs.declared.program.Stmt.{Stmt}
-use Rattle.gms_known.specs.Facts.{Facts}
+use Rattle.gms_scope.specs.Facts.{Facts}
 use Rattle.gms_store.specs.State.{State}
 use Rattle.gms_check.specs.declared.error.CompileError.{CompileError}
-use Rattle.gms_check.specs.Changes.{facts_after}
-use Rattle.gms_check.specs.Checking.{Checking, known_of, noted, with_controlled, with_facts, with_sets}
+use Rattle.gms_check.specs.InnerChanges.{facts_after}
+use Rattle.gms_check.specs.InnerChecking.{Checking, known_of, noted, with_controlled, with_facts, with_sets}
 use Rattle.gms_check.specs.CompileErrors.{act_errors, errors_of, statement_error}
-use Rattle.gms_check.specs.Errors.{first_of}
+use Rattle.gms_check.specs.Errors.{first_error}
 use Rattle.gms_check.specs.Past.{Known}
-use Rattle.gms_check.specs.Statements.{act_uses, is_action}
+use Rattle.gms_check.specs.InnerStatements.{act_uses, is_action}
 use Rattle.gms_check.specs.StatementUses.{statement_uses}
 use Rattle.gms_check.specs.Uses.{Uses}
 use Rattle.gms_check.proofs.ActUses.{uses-act}

@@ -12,18 +12,18 @@ use Rattle.gms_ast.specs.declared.word.Named.{Named}
 use Rattle.gms_store.specs.State.{State}
 use Rattle.gms_store.specs.Declarations.{declare, names_of, positions_of}
 use Rattle.gms_set.specs.declared.fault.SetFault.{SetFault}
-use Rattle.gms_set.specs.Expansion.{Given, expanded}
-use Rattle.gms_known.specs.Data.{emptied}
-use Rattle.gms_known.specs.Facts.{Facts, marked, with_declared, without_data}
+use Rattle.gms_set.specs.Expansion.{ExpandedData, expanded}
+use Rattle.gms_scope.specs.Data.{with_no_data}
+use Rattle.gms_scope.specs.Facts.{Facts, marked, with_declared, without_data}
 use Rattle.gms_check.specs.declared.error.CompileError.{CompileError}
 use Rattle.gms_check.specs.declared.error.ErrorKind.TheVariants.{Discrete}
-use Rattle.gms_check.specs.Changes.{after_declaration, after_item, after_items, with_given, with_order}
-use Rattle.gms_check.specs.Checking.{Checking, faulted, known_by, known_of, noted, with_facts}
+use Rattle.gms_check.specs.InnerChanges.{after_declaration, after_item, after_items, with_given, with_order}
+use Rattle.gms_check.specs.InnerChecking.{Checking, faulted, known_by, known_of, noted, with_facts}
 use Rattle.gms_check.specs.CompileErrors.{declaration_errors, errors_at, errors_of, is_faultless, known_after_item}
 use Rattle.gms_check.specs.DeclarationUses.{are_usable, domain_use, expansion_uses, failure, has_all_parts, is_continuous, item_uses, kind_uses}
-use Rattle.gms_check.specs.Errors.{first_of, sooner}
+use Rattle.gms_check.specs.Errors.{first_error, sooner}
 use Rattle.gms_check.specs.Past.{Known, with_data, with_item, with_name}
-use Rattle.gms_check.specs.Trials.{is_sound, taken_back, trial_facts, trial_names}
+use Rattle.gms_check.specs.InnerTrials.{is_sound, taken_back, trial_facts, trial_names}
 use Rattle.gms_check.specs.Uses.{bounding, naming, not_continuous, placing}
 use Rattle.gms_check.proofs.Emptied.{declared-without, emptied-declared, emptied-given, without-comm}
 use Rattle.gms_check.proofs.Faultless.{faultless-item, none-faultless, none-first, none-left, none-right}
@@ -64,7 +64,7 @@ module _ {F : Type 0} where
   core-items known due (item ∷ items) =
       ap (λ (errors : List CompileError). errors_at known (item.at, placing due (length item.parts)) ++ errors) (core-items known due items)
 
-  core-failure : (known : Known F) (result : Result (Given F) SetFault) → errors_of known (failure result) ≡ errors_of (core_of known) (failure result)
+  core-failure : (known : Known F) (result : Result (ExpandedData F) SetFault) → errors_of known (failure result) ≡ errors_of (core_of known) (failure result)
   core-failure known (Ok given) = refl
   core-failure known (Err fault) = refl
 
@@ -109,7 +109,7 @@ module _ {F : Type 0} (value : F → Number) where
   item-state kind false facts item = refl
   item-state kind true facts item = by (expanded facts.state (positions_of kind (names_of item.domain)) item.items)
     where
-      by : (result : Result (Given F) SetFault) → (with_given value (with_declared kind (names_of item.domain) facts item.named.name) item.named.name result).state ≡ with_data value (with_name value kind facts.state item) item.named.name result
+      by : (result : Result (ExpandedData F) SetFault) → (with_given value (with_declared kind (names_of item.domain) facts item.named.name) item.named.name result).state ≡ with_data value (with_name value kind facts.state item) item.named.name result
       by (Ok given) = refl
       by (Err fault) = refl
 
@@ -117,7 +117,7 @@ module _ {F : Type 0} (value : F → Number) where
   item-dynamic kind false facts item = refl
   item-dynamic kind true facts item = by (expanded facts.state (positions_of kind (names_of item.domain)) item.items)
     where
-      by : (result : Result (Given F) SetFault) → (with_given value (with_declared kind (names_of item.domain) facts item.named.name) item.named.name result).dynamic ≡ facts.dynamic
+      by : (result : Result (ExpandedData F) SetFault) → (with_given value (with_declared kind (names_of item.domain) facts item.named.name) item.named.name result).dynamic ≡ facts.dynamic
       by (Ok given) = refl
       by (Err fault) = refl
 
@@ -136,7 +136,7 @@ module _ {F : Type 0} (value : F → Number) where
   -- have no error
   abbrev pub items_checked : DeclKind → Checking → List (Decl F) → Checking
   items_checked kind c items =
-      record c { first = sooner c.first (first_of (declaration_errors (known_of value c) kind items)); facts = trial_facts value c.solvers kind c.facts items }
+      record c { first = sooner c.first (first_error (declaration_errors (known_of value c) kind items)); facts = trial_facts value c.solvers kind c.facts items }
 
   -- one name, and then others
   pub items-step : (kind : DeclKind) (c u : Checking) (sound : Bool) (item : Decl F) (items : List (Decl F)) → sound ≡ is_sound value c.solvers kind c.facts item → u ≡ with_facts (noted value c (item_uses (known_of value c) kind item)) (after_item value kind sound c.facts item) → items_checked kind u items ≡ items_checked kind c (item ∷ items)
@@ -147,7 +147,7 @@ module _ {F : Type 0} (value : F → Number) where
       let next = after_item value kind answer c.facts item in
       let later = declaration_errors (known_after_item known kind item) kind items in
       ap (λ (u : Checking). items_checked kind u items) (e ∙ ap (λ (b : Bool). with_facts (noted value c (item_uses known kind item)) (after_item value kind b c.facts item)) s)
-      ∙ ap (λ (first : Option CompileError). record c { first = first; facts = trial_facts value c.solvers kind next items }) (sooner-assoc c.first (first_of here) (first_of (declaration_errors (known_by value c.solvers next) kind items)) ∙ ap (sooner c.first) (ap (λ (errors : List CompileError). sooner (first_of here) (first_of errors)) (after-name c.solvers kind c.facts item items) ∙ sym (first_of-append here later)))
+      ∙ ap (λ (first : Option CompileError). record c { first = first; facts = trial_facts value c.solvers kind next items }) (sooner-assoc c.first (first_error here) (first_error (declaration_errors (known_by value c.solvers next) kind items)) ∙ ap (sooner c.first) (ap (λ (errors : List CompileError). sooner (first_error here) (first_error errors)) (after-name c.solvers kind c.facts item items) ∙ sym (first_of-append here later)))
 
   -- the names whose data are given: those so far, and those of the names that are left
   pub names-step : (solvers : List (List ℕ)) (kind : DeclKind) (facts next : Facts) (sound : Bool) (item : Decl F) (items : List (Decl F)) (given more : List ℕ) → sound ≡ is_sound value solvers kind facts item → next ≡ after_item value kind sound facts item → more ≡ given ++ (if sound then item.named.name ∷ [] else []) → more ++ trial_names value solvers kind next items ≡ given ++ trial_names value solvers kind facts (item ∷ items)
@@ -199,10 +199,10 @@ module _ {F : Type 0} (value : F → Number) where
   item-without : (solvers : List (List ℕ)) (kind : DeclKind) (facts : Facts) (item : Decl F) → is_sound value solvers kind facts item ≡ true → without_data (after_item value kind true facts item) item.named.name ≡ after_item value kind false facts item
   item-without solvers kind facts item sound = by (expanded facts.state (positions_of kind (names_of item.domain)) item.items)
     where
-      bare : emptied (declare kind (names_of item.domain) facts.state item.named.name) item.named.name ≡ declare kind (names_of item.domain) facts.state item.named.name
+      bare : with_no_data (declare kind (names_of item.domain) facts.state item.named.name) item.named.name ≡ declare kind (names_of item.domain) facts.state item.named.name
       bare = emptied-declared kind (names_of item.domain) facts.state item.named.name (faultless-item (known_by value solvers facts) kind item (none-faultless (errors_of (known_by value solvers facts) (item_uses (known_by value solvers facts) kind item)) sound)).new
 
-      by : (result : Result (Given F) SetFault) → without_data (with_given value (with_declared kind (names_of item.domain) facts item.named.name) item.named.name result) item.named.name ≡ with_declared kind (names_of item.domain) facts item.named.name
+      by : (result : Result (ExpandedData F) SetFault) → without_data (with_given value (with_declared kind (names_of item.domain) facts item.named.name) item.named.name result) item.named.name ≡ with_declared kind (names_of item.domain) facts item.named.name
       by (Ok given) =
           ap (λ (state : State). record (with_declared kind (names_of item.domain) facts item.named.name) { state = state }) (emptied-given value item.named.name (declare kind (names_of item.domain) facts.state item.named.name) given ∙ bare)
       by (Err fault) = ap (λ (state : State). record (with_declared kind (names_of item.domain) facts item.named.name) { state = state }) bare
@@ -228,10 +228,10 @@ module _ {F : Type 0} (value : F → Number) where
     later = all ∙ ap (λ (s : Checking). items_checked kind s items) begun
 
     -- its first error
-    pub declaration-first : u.first ≡ sooner c.first (first_of (errors_of (known_of value c) (kind_uses at kind) ++ declaration_errors (known_of value c) kind items))
+    pub declaration-first : u.first ≡ sooner c.first (first_error (errors_of (known_of value c) (kind_uses at kind) ++ declaration_errors (known_of value c) kind items))
     declaration-first =
         kept ∙ ap (λ (t : Checking). t.first) later
-        ∙ sooner-assoc c.first (first_of (errors_of (known_of value c) (kind_uses at kind))) (first_of (declaration_errors (known_of value c) kind items))
+        ∙ sooner-assoc c.first (first_error (errors_of (known_of value c) (kind_uses at kind))) (first_error (declaration_errors (known_of value c) kind items))
         ∙ ap (sooner c.first) (sym (first_of-append (errors_of (known_of value c) (kind_uses at kind)) (declaration_errors (known_of value c) kind items)))
 
     -- if it has an error its data are removed again
@@ -252,7 +252,7 @@ module _ {F : Type 0} (value : F → Number) where
     declaration-accepted none e =
         let first = (items_checked kind (noted value c (kind_uses at kind)) items).first in
         let same : first ≡ u.first = sym (kept ∙ ap (λ (t : Checking). t.first) later) in
-        let errors : declaration_errors (known_of value c) kind items ≡ [] = none-first (declaration_errors (known_of value c) kind items) (none-later (noted value c (kind_uses at kind)).first (first_of (declaration_errors (known_of value c) kind items)) (same ∙ none)) in
+        let errors : declaration_errors (known_of value c) kind items ≡ [] = none-first (declaration_errors (known_of value c) kind items) (none-later (noted value c (kind_uses at kind)).first (first_error (declaration_errors (known_of value c) kind items)) (same ∙ none)) in
         e
         ∙ ap (λ (t : Checking). with_facts t (with_order kind t.facts items)) later
         ∙ ap (λ (facts : Facts). record c { first = first; facts = with_order kind facts items }) (sound-all c.solvers kind c.facts items errors)

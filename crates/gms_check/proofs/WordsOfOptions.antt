@@ -9,8 +9,8 @@ use Rattle.gq_number.specs.Number.{Number}
 use Rattle.gms_ast.specs.declared.program.Setting.{Setting}
 use Rattle.gms_check.specs.declared.option.OptionWord.{OptionWord}
 use Rattle.gms_check.specs.declared.option.OptionWord.TheVariants.{Count, Decimals, Switch, Solver, Ignored, Unknown}
-use Rattle.gms_check.specs.OptionKinds.{is_known_option, is_within, kind_of_word, names_solver}
-use Rattle.gms_check.specs.OptionWords.{counts, ignored, is_count_up_to, is_in_range, is_one_of, is_option, is_switch, is_worded, others}
+use Rattle.gms_check.specs.InnerOptionKinds.{is_known_option, is_within, kind_of_word, names_solver}
+use Rattle.gms_check.specs.OptionWords.{counts, ignored, is_count_up_to, is_in_range, is_one_of, is_option, is_switch, is_worded, other_options}
 
 -- an option by the questions on its word
 abbrev kinds : Bool → Bool → Bool → Bool → Bool → OptionWord
@@ -44,7 +44,7 @@ known-kinds false false false false false = refl
 pub known-option : (word : List ℕ) → is_known_option (kind_of_word word) ≡ is_option word
 known-option word =
     known-kinds (is_one_of counts word) (str_eq_ignore_ascii_case word (codes "decimals")) (str_eq_ignore_ascii_case word (codes "solprint")) (str_eq_ignore_ascii_case word (codes "lp")) (is_one_of ignored word)
-    ∙ sym (list_any-append (str_eq_ignore_ascii_case word) (counts ++ others) ignored ∙ ap (λ (b : Bool). b || is_one_of ignored word) (list_any-append (str_eq_ignore_ascii_case word) counts others))
+    ∙ sym (list_any-append (str_eq_ignore_ascii_case word) (counts ++ other_options) ignored ∙ ap (λ (b : Bool). b || is_one_of ignored word) (list_any-append (str_eq_ignore_ascii_case word) counts other_options))
 
 -- ---- the option for the solver
 

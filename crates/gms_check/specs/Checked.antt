@@ -12,7 +12,7 @@ use Rattle.gms_check.specs.Standing.{may_stand, may_be_assigned}
 use Rattle.gms_check.specs.Uses.{Use, Uses, reading, ordinal, cardinal, controlling, assigning, defining, index_sets}
 use Rattle.gms_check.specs.StatementUses.{statement_uses}
 use Rattle.gms_check.specs.Past.{Known, is_among}
-use Rattle.gms_known.specs.Names.{is_equation, is_index_set, is_set_name, is_unknown, kind_of, positions}
+use Rattle.gms_scope.specs.Names.{is_equation, is_index_set, is_set_name, has_no_declaration, declared_kind, positions}
 use Rattle.gms_check.specs.Domains.{index_count, has_unfit_set, has_unfit_label}
 use Rattle.gms_check.specs.Controls.{lagged_sets, is_controlled_twice, is_ordered}
 use Rattle.gms_check.specs.declared.error.ErrorKind.{ErrorKind}
@@ -34,8 +34,8 @@ module _ {F : Type 0} where
   -- A reference that has a meaning: its name is declared and may occur in this context, its indices
   -- fit it, and each index set is controlled.
   pub record IsReading (known : Known F) (standing : Standing) (controlled : List ℕ) (name : ℕ) (suffix : Suffix) (indices : Indices F) : Type 0 where
-    pub declared : is_unknown known.state name ≡ false
-    pub stands : may_stand standing (kind_of known.state name) suffix ≡ true
+    pub declared : has_no_declaration known.state name ≡ false
+    pub stands : may_stand standing (declared_kind known.state name) suffix ≡ true
     pub fitting : AreIndices known name indices
     pub controls : All (λ index. is_among controlled index ≡ true) (index_sets indices)
 
@@ -49,9 +49,9 @@ module _ {F : Type 0} where
   IsSound known (controlling controlled sets) =
       All (λ name. is_index_set known.state name ≡ true) sets × (is_controlled_twice controlled sets ≡ false) × (length sets ≤ 10)
   IsSound known (assigning name suffix indices) =
-      (is_unknown known.state name ≡ false) × (may_be_assigned (kind_of known.state name) suffix ≡ true) × AreIndices known name indices
+      (has_no_declaration known.state name ≡ false) × (may_be_assigned (declared_kind known.state name) suffix ≡ true) × AreIndices known name indices
   IsSound known (defining name indices) =
-      (is_unknown known.state name ≡ false) × (is_equation (kind_of known.state name) ≡ true) × AreIndices known name indices
+      (has_no_declaration known.state name ≡ false) × (is_equation (declared_kind known.state name) ≡ true) × AreIndices known name indices
   IsSound known used = (kind : ErrorKind) → has_error known used kind ≡ false
 
   -- each of these uses is sound

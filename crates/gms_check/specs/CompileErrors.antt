@@ -16,14 +16,14 @@ use Rattle.gms_store.specs.Declarations.{declare_model}
 use Rattle.gms_check.specs.declared.error.ErrorKind.{ErrorKind}
 use Rattle.gms_check.specs.declared.error.ErrorKind.TheVariants.{UnknownName, Redeclared, WrongKind, WrongArity, DomainOfSet, DomainOfLabel, Uncontrolled, ControlledTwice, NotOrdered, DynamicDomain, Nonlinear, Discrete, ModelType, NotDefined, DefinedTwice, Objective, UnknownSolver, OptionRange, Endogenous, Function, DataFault, Restart}
 use Rattle.gms_check.specs.declared.error.CompileError.{CompileError}
-use Rattle.gms_check.specs.Errors.{first_of}
+use Rattle.gms_check.specs.Errors.{first_error}
 use Rattle.gms_check.specs.Uses.{Use, Uses}
 use Rattle.gms_check.specs.StatementUses.{statement_uses}
 use Rattle.gms_check.specs.DeclarationUses.{item_uses, kind_uses, model_uses}
 use Rattle.gms_check.specs.Past.{Past, Known, declared_names, is_among, is_defined, is_unordered, models_after, with_name, with_item, state_after}
 use Rattle.gms_check.specs.Above.{directly_above}
-use Rattle.gms_known.specs.DynamicSets.{dynamic_sets}
-use Rattle.gms_known.specs.Names.{is_equation, kind_of}
+use Rattle.gms_scope.specs.DynamicSets.{dynamic_sets}
+use Rattle.gms_scope.specs.Names.{is_equation, declared_kind}
 use Rattle.gms_check.specs.Names.{unknown_name, redeclared}
 use Rattle.gms_check.specs.Kinds.{wrong_kind, discrete, wrong_function}
 use Rattle.gms_check.specs.Domains.{wrong_arity, domain_of_set, domain_of_label, dynamic_domain}
@@ -38,7 +38,7 @@ checked_kinds =
 
 -- whether there is no error
 abbrev pub is_faultless : List CompileError → Bool
-is_faultless errors = is_none (first_of errors)
+is_faultless errors = is_none (first_error errors)
 
 module _ {F : Type 0} where
   -- whether a use has this error
@@ -103,7 +103,7 @@ module _ {F : Type 0} where
 
   -- the error of a statement, if it has one
   abbrev pub statement_error : Known F → Stmt F → Option CompileError
-  statement_error known statement = first_of (act_errors known statement statement.act)
+  statement_error known statement = first_error (act_errors known statement statement.act)
 
   -- whether a name of a program has a property
   abbrev pub of_program : Program F → (ℕ → Bool) → ℕ → Bool
@@ -117,7 +117,7 @@ module _ {F : Type 0} where
   -- equations
   abbrev pub models_before : State → Program F → Past F → List (ℕ × List ℕ)
   models_before state program past =
-      map (λ (model : ℕ × List ℕ). (model.0, filter (λ equation. is_equation (kind_of state equation)) model.1)) (filter (λ (model : ℕ × List ℕ). of_program program (λ name. true) model.0) (models_after [] past))
+      map (λ (model : ℕ × List ℕ). (model.0, filter (λ equation. is_equation (declared_kind state equation)) model.1)) (filter (λ (model : ℕ × List ℕ). of_program program (λ name. true) model.0) (models_after [] past))
 
   -- what is known before a statement of a program
   abbrev pub known_after : (F → Number) → Program F → List (List ℕ) → Past F → Known F

@@ -7,7 +7,7 @@ use Rattle.gms_ast.specs.Trees.{Indices, no_index, label, set, lagged}
 use Rattle.gms_store.specs.State.{base_of}
 use Rattle.gms_check.specs.Uses.{Use, reading, ordinal, controlling, assigning, defining, index_sets}
 use Rattle.gms_check.specs.Past.{Known, is_among, is_dynamic}
-use Rattle.gms_known.specs.Names.{is_index_set}
+use Rattle.gms_scope.specs.Names.{is_index_set}
 
 -- whether one of some sets is controlled already, by others or by one before it
 abbrev pub is_controlled_twice : List ℕ → List ℕ → Bool

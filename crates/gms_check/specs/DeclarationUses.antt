@@ -13,10 +13,10 @@ use Rattle.gms_ast.specs.declared.declaration.ModelDecl.{ModelDecl}
 use Rattle.gms_store.specs.State.{State}
 use Rattle.gms_store.specs.Declarations.{names_of, positions_of}
 use Rattle.gms_set.specs.declared.fault.SetFault.{SetFault}
-use Rattle.gms_set.specs.Expansion.{Given, expanded}
+use Rattle.gms_set.specs.Expansion.{ExpandedData, expanded}
 use Rattle.gms_check.specs.Uses.{Use, Uses, naming, not_continuous, bounding, placing, failing, modelling, listing}
 use Rattle.gms_check.specs.Past.{Known}
-use Rattle.gms_known.specs.Names.{is_index_set}
+use Rattle.gms_scope.specs.Names.{is_index_set}
 use Rattle.gms_check.specs.Domains.{is_wrong_count}
 
 -- whether a position is of any label, or of a set that can be in a domain
@@ -49,7 +49,7 @@ module _ {F : Type 0} where
   has_all_parts domain item = not (is_wrong_count (length domain) (length item.parts))
 
   -- the error of a list of data, if it has one
-  abbrev pub failure : Result (Given F) SetFault → Uses F
+  abbrev pub failure : Result (ExpandedData F) SetFault → Uses F
   failure (Ok given) = []
   failure (Err fault) = (fault.at, failing fault.error) ∷ []
 

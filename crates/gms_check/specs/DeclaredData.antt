@@ -13,7 +13,7 @@ use Rattle.gms_ast.specs.declared.declaration.Item.{Item}
 use Rattle.gms_ast.specs.declared.program.Act.TheVariants.{Declare}
 use Rattle.gms_ast.specs.declared.program.Program.{Program}
 use Rattle.gms_ast.specs.declared.program.Stmt.{Stmt}
-use Rattle.gms_tuple.specs.Products.{product}
+use Rattle.gms_tuple.specs.Products.{tuple_product}
 use Rattle.gms_tuple.specs.TupleSet.{has}
 use Rattle.gms_store.specs.declared.kind.VariableType.{VariableType}
 use Rattle.gms_store.specs.declared.kind.VariableType.TheVariants.{Free, Positive, Negative, Discrete}
@@ -41,7 +41,7 @@ module _ {F : Type 0} where
   -- no value; nothing if no item has the tuple
   abbrev pub datum_at : List (Item F) → List ℕ → Option (Option (Ext F))
   datum_at [] t = None
-  datum_at (item ∷ items) t = if has (product item.parts) t then Some item.value else datum_at items t
+  datum_at (item ∷ items) t = if has (tuple_product item.parts) t then Some item.value else datum_at items t
 
   -- whether a tuple is put into a set: the item that has it has no value
   abbrev pub is_put_in : Option (Option (Ext F)) → Bool

@@ -7,7 +7,7 @@ use Rattle.gms_store.specs.Declarations.{positions_of}
 use Rattle.gms_set.specs.declared.fault.SetError.TheVariants.{Outside}
 use Rattle.gms_check.specs.Uses.{Use, reading, controlling, assigning, defining, naming, bounding, placing, failing}
 use Rattle.gms_check.specs.Past.{Known, is_dynamic}
-use Rattle.gms_known.specs.Names.{positions}
+use Rattle.gms_scope.specs.Names.{positions}
 use Rattle.gms_check.specs.IndexList.{have_unfit_label, have_unfit_set}
 
 -- whether a number of indices is not the expected one, or over 10

@@ -78,6 +78,6 @@ sooner None other = other
 sooner (Some error) other = Some (earlier error other)
 
 -- the first of some errors, if there is one
-abbrev pub first_of : List CompileError → Option CompileError
-first_of [] = None
-first_of (error ∷ errors) = Some (earlier error (first_of errors))
+abbrev pub first_error : List CompileError → Option CompileError
+first_error [] = None
+first_error (error ∷ errors) = Some (earlier error (first_error errors))

@@ -3,22 +3,22 @@
 use Rattle.std.specs.Prelude.{ℕ, Bool, false, not, ◌||◌, List, [], ◌∷◌, Option}
 use Rattle.gms_ast.specs.Trees.{Indices, no_index, label, set, lagged}
 use Rattle.gms_store.specs.State.{State}
-use Rattle.gms_known.specs.Below.{fits, holds}
+use Rattle.gms_scope.specs.Below.{set_fits_position, label_fits_position}
 
 module _ {F : Type 0} where
   -- whether some index set does not fit its position
   abbrev pub have_unfit_set : State → List ℕ → (ℕ → Option ℕ) → ℕ → List (Option ℕ) → Indices F → Bool
   have_unfit_set state declared above name (position ∷ rest) (label n indices) = have_unfit_set state declared above name rest indices
   have_unfit_set state declared above name (position ∷ rest) (set index indices) =
-      not (fits state declared above name position index) || have_unfit_set state declared above name rest indices
+      not (set_fits_position state declared above name position index) || have_unfit_set state declared above name rest indices
   have_unfit_set state declared above name (position ∷ rest) (lagged index op at amount indices) =
-      not (fits state declared above name position index) || have_unfit_set state declared above name rest indices
+      not (set_fits_position state declared above name position index) || have_unfit_set state declared above name rest indices
   have_unfit_set state declared above name domain indices = false
 
   -- whether some label does not fit its position
   abbrev pub have_unfit_label : State → List ℕ → ℕ → List (Option ℕ) → Indices F → Bool
   have_unfit_label state declared name (position ∷ rest) (label n indices) =
-      not (holds state declared name position n) || have_unfit_label state declared name rest indices
+      not (label_fits_position state declared name position n) || have_unfit_label state declared name rest indices
   have_unfit_label state declared name (position ∷ rest) (set index indices) = have_unfit_label state declared name rest indices
   have_unfit_label state declared name (position ∷ rest) (lagged index op at amount indices) =
       have_unfit_label state declared name rest indices

@@ -13,7 +13,7 @@ use Rattle.gms_check.specs.declared.standing.Standing.{Standing}
 use Rattle.gms_check.specs.Standing.{as_condition, may_stand, may_be_assigned}
 use Rattle.gms_check.specs.Uses.{Use, literal, truth, reading, ordinal, cardinal, calling, folding, controlling, stepping, multiplies, divides, raises, logic, assigning, defining, shifting, not_continuous, bounding, first_alias, second_alias, listing, solving, optimizing, showing, index_sets}
 use Rattle.gms_check.specs.Past.{Known}
-use Rattle.gms_known.specs.Names.{is_equation, is_index_set, is_model, is_set_name, is_unknown, kind_of, positions}
+use Rattle.gms_scope.specs.Names.{is_equation, is_index_set, is_model, is_set_name, has_no_declaration, declared_kind, positions}
 use Rattle.gms_check.specs.OptionWords.{is_whole}
 
 -- whether a kind is that of a variable
@@ -22,9 +22,9 @@ is_variable_kind kind.Variable = true
 is_variable_kind kind = false
 
 -- whether there are no indices
-abbrev pub is_bare : {F : Type 0} → Indices F → Bool
-is_bare no_index = true
-is_bare indices = false
+abbrev pub has_no_indices : {F : Type 0} → Indices F → Bool
+has_no_indices no_index = true
+has_no_indices indices = false
 
 -- whether there are no positions
 abbrev pub is_without_positions : {X : Type 0} → List X → Bool
@@ -37,19 +37,19 @@ part_count no_part = 0
 part_count (part mark tree rest) = part_count rest + 1
 
 -- whether a function takes `count` arguments; one that is left out takes none
-abbrev pub takes : Function → ℕ → Bool
-takes function.Abs count = count == 1
-takes function.Max count = nat_lt 1 count
-takes function.Min count = nat_lt 1 count
-takes function.Mod count = count == 2
-takes function.Sqr count = count == 1
-takes function.Power count = count == 2
-takes function.Round count = count == 1
-takes function.Floor count = count == 1
-takes function.Ceil count = count == 1
-takes function.Trunc count = count == 1
-takes function.Sign count = count == 1
-takes function.NotInProfile count = false
+abbrev pub takes_arguments : Function → ℕ → Bool
+takes_arguments function.Abs count = count == 1
+takes_arguments function.Max count = nat_lt 1 count
+takes_arguments function.Min count = nat_lt 1 count
+takes_arguments function.Mod count = count == 2
+takes_arguments function.Sqr count = count == 1
+takes_arguments function.Power count = count == 2
+takes_arguments function.Round count = count == 1
+takes_arguments function.Floor count = count == 1
+takes_arguments function.Ceil count = count == 1
+takes_arguments function.Trunc count = count == 1
+takes_arguments function.Sign count = count == 1
+takes_arguments function.NotInProfile count = false
 
 -- whether a reference may be the amount of a lag on the left: a scalar may. A variable without
 -- suffix is another error
@@ -63,7 +63,7 @@ module _ {F : Type 0} where
   abbrev pub is_left_amount : Known F → Tree F → Bool
   is_left_amount known (number n) = is_whole (known.value n)
   is_left_amount known (reference at name suffix.None indices) =
-      may_shift (kind_of known.state name) (is_without_positions (positions known.state name) && is_bare indices)
+      may_shift (declared_kind known.state name) (is_without_positions (positions known.state name) && has_no_indices indices)
   is_left_amount known tree = false
 
   -- whether some index is no one-dimensional set
@@ -78,7 +78,7 @@ module _ {F : Type 0} where
   wrong_kind known (literal standing) = not standing.numbers
   wrong_kind known (truth standing) = not standing.membership
   wrong_kind known (reading standing controlled name suffix indices) =
-      not (may_stand standing (kind_of known.state name) suffix) || has_wrong_set known (index_sets indices)
+      not (may_stand standing (declared_kind known.state name) suffix) || has_wrong_set known (index_sets indices)
   wrong_kind known (ordinal standing controlled name) = not standing.numbers || not (is_set_name known.state name)
   wrong_kind known (cardinal standing name) = not standing.numbers || not (is_set_name known.state name)
   wrong_kind known (calling standing function args) = not standing.numbers
@@ -89,16 +89,16 @@ module _ {F : Type 0} where
   wrong_kind known (stepping standing raises earlier right) = not standing.numbers
   wrong_kind known (logic standing) = not standing.numbers
   wrong_kind known (assigning name suffix indices) =
-      not (may_be_assigned (kind_of known.state name) suffix) || has_wrong_set known (index_sets indices)
-  wrong_kind known (defining name indices) = not (is_equation (kind_of known.state name)) || has_wrong_set known (index_sets indices)
+      not (may_be_assigned (declared_kind known.state name) suffix) || has_wrong_set known (index_sets indices)
+  wrong_kind known (defining name indices) = not (is_equation (declared_kind known.state name)) || has_wrong_set known (index_sets indices)
   wrong_kind known (shifting amount) = not (is_left_amount known amount)
   wrong_kind known (bounding name) = not (is_index_set known.state name)
-  wrong_kind known (first_alias first second) = not (is_unknown known.state first) && not (is_set_name known.state first)
-  wrong_kind known (second_alias first second) = not (is_unknown known.state second) && not (is_set_name known.state second)
-  wrong_kind known (listing name) = not (is_equation (kind_of known.state name))
-  wrong_kind known (solving name) = not (is_model (kind_of known.state name))
-  wrong_kind known (optimizing name) = not (is_variable_kind (kind_of known.state name))
-  wrong_kind known (showing name suffix) = not (may_stand as_condition (kind_of known.state name) suffix)
+  wrong_kind known (first_alias first second) = not (has_no_declaration known.state first) && not (is_set_name known.state first)
+  wrong_kind known (second_alias first second) = not (has_no_declaration known.state second) && not (is_set_name known.state second)
+  wrong_kind known (listing name) = not (is_equation (declared_kind known.state name))
+  wrong_kind known (solving name) = not (is_model (declared_kind known.state name))
+  wrong_kind known (optimizing name) = not (is_variable_kind (declared_kind known.state name))
+  wrong_kind known (showing name suffix) = not (may_stand as_condition (declared_kind known.state name) suffix)
   wrong_kind known used = false
 
   -- Discrete: variables that are binary, integer or of a special ordered set
@@ -108,5 +108,5 @@ module _ {F : Type 0} where
 
   -- Function: a function that is left out, or that takes another number of arguments
   abbrev pub wrong_function : Known F → Use F → Bool
-  wrong_function known (calling standing function args) = not (takes function (part_count args))
+  wrong_function known (calling standing function args) = not (takes_arguments function (part_count args))
   wrong_function known used = false

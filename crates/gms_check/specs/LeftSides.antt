@@ -9,7 +9,7 @@ use Rattle.gms_ast.specs.declared.program.Act.{Loop}
 use Rattle.gms_ast.specs.declared.program.Stmt.{Stmt}
 use Rattle.gms_ast.specs.Trees as tree
 use Rattle.gms_store.specs.State.{State}
-use Rattle.gms_known.specs.Names.{is_index_set}
+use Rattle.gms_scope.specs.Names.{is_index_set}
 
 -- whether an amount of a lag is a number or a scalar
 abbrev pub is_fixed_amount : {F : Type 0} → tree.Tree F → Bool

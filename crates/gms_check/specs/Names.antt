@@ -7,7 +7,7 @@ use Rattle.std.specs.List.{list_any}
 use Rattle.gms_ast.specs.declared.declaration.DeclKind.{DeclKind}
 use Rattle.gms_store.specs.State.{State, Content, variable_of, symbol_at, base_of}
 use Rattle.gms_store.specs.Declarations.{is_free, content_of}
-use Rattle.gms_known.specs.Names.{is_unknown, positions}
+use Rattle.gms_scope.specs.Names.{has_no_declaration, positions}
 use Rattle.gms_check.specs.Uses.{Use, reading, ordinal, cardinal, controlling, assigning, defining, naming, bounding, first_alias, second_alias, modelling, listing, solving, optimizing, showing, option_word, index_sets}
 use Rattle.gms_check.specs.Past.{Known}
 use Rattle.gms_check.specs.OptionWords.{is_option}
@@ -53,9 +53,9 @@ module _ {F : Type 0} where
   -- UnknownName: a name that no statement before declares, of an alias both names; a word that is
   -- no option
   abbrev pub unknown_name : Known F → Use F → Bool
-  unknown_name known (first_alias first second) = is_unknown known.state first && is_unknown known.state second
+  unknown_name known (first_alias first second) = has_no_declaration known.state first && has_no_declaration known.state second
   unknown_name known (option_word word) = not (is_option word)
-  unknown_name known used = list_any (is_unknown known.state) (names_used used)
+  unknown_name known used = list_any (has_no_declaration known.state) (names_used used)
 
   -- whether a declaration gives a variable a type once more: its type is free, and its domain is
   -- left out or the same
@@ -66,7 +66,7 @@ module _ {F : Type 0} where
   -- Redeclared: a name that is declared already, except for a variable that gets a type again; of
   -- an alias both names are declared
   abbrev pub redeclared : Known F → Use F → Bool
-  redeclared known (naming kind name domain) = not (is_unknown known.state name) && not (may_be_typed known kind name domain)
-  redeclared known (modelling name) = not (is_unknown known.state name)
-  redeclared known (second_alias first second) = not (is_unknown known.state first) && not (is_unknown known.state second)
+  redeclared known (naming kind name domain) = not (has_no_declaration known.state name) && not (may_be_typed known kind name domain)
+  redeclared known (modelling name) = not (has_no_declaration known.state name)
+  redeclared known (second_alias first second) = not (has_no_declaration known.state first) && not (has_no_declaration known.state second)
   redeclared known used = false

@@ -21,12 +21,12 @@ ignored =
     codes "reslim" ∷ codes "optcr" ∷ codes "optca" ∷ codes "domlim" ∷ codes "bratio" ∷ codes "sysout" ∷ codes "solslack" ∷ codes "nlp" ∷ codes "mip" ∷ codes "rmip" ∷ codes "dnlp" ∷ codes "mcp" ∷ []
 
 -- the other options
-abbrev pub others : List (List ℕ)
-others = codes "decimals" ∷ codes "solprint" ∷ codes "lp" ∷ []
+abbrev pub other_options : List (List ℕ)
+other_options = codes "decimals" ∷ codes "solprint" ∷ codes "lp" ∷ []
 
 -- whether a word is that of an option
 abbrev pub is_option : List ℕ → Bool
-is_option word = is_one_of (counts ++ others ++ ignored) word
+is_option word = is_one_of (counts ++ other_options ++ ignored) word
 
 -- whether an integer is from 0 to `most`
 abbrev pub is_up_to : ℕ → ℤ → Bool

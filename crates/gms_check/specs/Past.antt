@@ -17,8 +17,8 @@ use Rattle.gms_ast.specs.declared.program.Stmt.{Stmt}
 use Rattle.gms_store.specs.State.{State, base_of}
 use Rattle.gms_store.specs.Declarations.{names_of, positions_of, declare, declared_by, blank_state}
 use Rattle.gms_set.specs.declared.fault.SetFault.{SetFault}
-use Rattle.gms_set.specs.Expansion.{Given, expanded}
-use Rattle.gms_known.specs.Data.{given_to, is_ascending, labels_of}
+use Rattle.gms_set.specs.Expansion.{ExpandedData, expanded}
+use Rattle.gms_scope.specs.Data.{given_to, is_ascending, labels_of_items}
 
 -- statements in order, each with whether it has no error
 abbrev pub Past : Type 0 → Type 0
@@ -27,8 +27,8 @@ Past F = List (Stmt F × Bool)
 -- ---- names
 
 -- the numbers of names
-abbrev pub numbers_of : List Named → List ℕ
-numbers_of names = map (λ (named : Named). named.name) names
+abbrev pub numbers_of_names : List Named → List ℕ
+numbers_of_names names = map (λ (named : Named). named.name) names
 
 -- whether a name is one of these
 abbrev pub is_among : List ℕ → ℕ → Bool
@@ -37,7 +37,7 @@ is_among names name = list_any (λ other. other == name) names
 -- the equations of a model: those that are listed, or all that are declared before; none where its
 -- statement has an error
 abbrev pub equations_listed : List ℕ → Bool → ModelDecl → List ℕ
-equations_listed declared true model = if model.all then declared else numbers_of model.equations
+equations_listed declared true model = if model.all then declared else numbers_of_names model.equations
 equations_listed declared false model = []
 
 module _ {F : Type 0} where
@@ -71,20 +71,20 @@ module _ {F : Type 0} where
   -- ---- models
 
   -- the models that an act declares, each with its equations
-  abbrev pub models_in : List ℕ → Bool → Act F → List (ℕ × List ℕ)
-  models_in declared sound (Model models) = map (λ (model : ModelDecl). (model.named.name, equations_listed declared sound model)) models
-  models_in declared sound act = []
+  abbrev pub models_declared_by : List ℕ → Bool → Act F → List (ℕ × List ℕ)
+  models_declared_by declared sound (Model models) = map (λ (model : ModelDecl). (model.named.name, equations_listed declared sound model)) models
+  models_declared_by declared sound act = []
 
   -- the models that statements declare, where these equations are declared before them
   abbrev pub models_after : List ℕ → Past F → List (ℕ × List ℕ)
   models_after declared [] = []
-  models_after declared (p ∷ past) = models_in declared p.1 p.0.act ++ models_after (declared ++ equations_declared p.0.act) past
+  models_after declared (p ∷ past) = models_declared_by declared p.1 p.0.act ++ models_after (declared ++ equations_declared p.0.act) past
 
   -- ---- the order of a set's labels
 
   -- whether an act gives a set its labels in another order than that of all labels
   abbrev pub gives_unordered : ℕ → Act F → Bool
-  gives_unordered name (Declare declaring.Set items) = list_any (λ (item : Decl F). item.named.name == name && not (is_ascending (labels_of item.items))) items
+  gives_unordered name (Declare declaring.Set items) = list_any (λ (item : Decl F). item.named.name == name && not (is_ascending (labels_of_items item.items))) items
   gives_unordered name act = false
 
   -- whether a statement without an error gives a set its labels in another order than that of all
@@ -96,7 +96,7 @@ module _ {F : Type 0} (value : F → Number) where
   -- ---- the state
 
   -- the state after the data of a name
-  abbrev pub with_data : State → ℕ → Result (Given F) SetFault → State
+  abbrev pub with_data : State → ℕ → Result (ExpandedData F) SetFault → State
   with_data state name (Ok given) = given_to value name state given
   with_data state name (Err fault) = state
 

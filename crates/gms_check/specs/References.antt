@@ -22,13 +22,13 @@ use Rattle.gms_ast.specs.declared.program.Target.{Target}
 use Rattle.gms_ast.specs.declared.word.Named.{Named}
 use Rattle.gms_ast.specs.TreeView.{tree_of, control_tree}
 use Rattle.gms_ast.specs.Trees.{Mark, Tree, reference, place_in_set, call, fold_over, negated, sum, product, power, relation, not_so, all_of, one_of, guarded, Parts, part, Indices, label, set, lagged, Control, over_where}
-use Rattle.gms_known.specs.Names.{is_index_set}
+use Rattle.gms_scope.specs.Names.{is_index_set}
 use Rattle.gms_check.specs.declared.standing.Standing.{Standing}
 use Rattle.gms_check.specs.Checked.{IsReading}
 use Rattle.gms_check.specs.Controls.{is_ordered}
 use Rattle.gms_check.specs.Past.{Known, is_among}
 use Rattle.gms_check.specs.StatementUses.{index_list, with_left}
-use Rattle.gms_check.specs.Uses.{sets_of}
+use Rattle.gms_check.specs.Uses.{sets_of_control}
 
 -- ---- in an expression
 
@@ -56,7 +56,7 @@ mutual
     in_condition : {what : Asking F} {around : List ℕ} {at : Place} {op : FoldOp} {control : Control F} {body : Tree F} →
         InControl within what around control → InTree within what around (fold_over at op control body)
     in_body : {what : Asking F} {around : List ℕ} {at : Place} {op : FoldOp} {control : Control F} {body : Tree F} →
-        InTree within what (around ++ sets_of control) body → InTree within what around (fold_over at op control body)
+        InTree within what (around ++ sets_of_control control) body → InTree within what around (fold_over at op control body)
     in_negated : {what : Asking F} {around : List ℕ} {operand : Tree F} →
         InTree within what around operand → InTree within what around (negated operand)
     in_sum : {what : Asking F} {around : List ℕ} {parts : Parts F} → InParts within what around parts → InTree within what around (sum parts)
@@ -135,7 +135,7 @@ module _ {F : Type 0} where
     pub next : Stmt F
     pub rest : List (Stmt F)
     pub stands : body.items ≡ before ++ next ∷ rest
-    pub holds : Inner (loops ++ sets_of (control_tree control)) next
+    pub holds : Inner (loops ++ sets_of_control (control_tree control)) next
 
   -- it occurs in a statement, `depth` loops deep
   abbrev pub InStatement : ℕ → List ℕ → Asking F → List ℕ → Stmt F → Type 0

@@ -8,8 +8,8 @@ use Rattle.gms_set.specs.declared.fault.SetError.TheVariants.{BadRange, Repeated
 use Rattle.gms_check.specs.Uses.{Use, defining, solving, method, optimizing, option_value, failing}
 use Rattle.gms_check.specs.Past.{Known}
 use Rattle.gms_store.specs.Declarations.{is_free}
-use Rattle.gms_known.specs.Names.{is_model, kind_of, positions}
-use Rattle.gms_known.specs.Facts.{equations_of}
+use Rattle.gms_scope.specs.Names.{is_model, declared_kind, positions}
+use Rattle.gms_scope.specs.Facts.{declared_equations}
 use Rattle.gms_check.specs.Kinds.{is_without_positions}
 use Rattle.gms_check.specs.OptionWords.{is_none_of, is_in_range}
 
@@ -22,7 +22,7 @@ module _ {F : Type 0} where
   -- NotDefined: no statement before the solve defines an equation of the model
   abbrev pub not_defined : Known F → Use F → Bool
   not_defined known (solving name) =
-      is_model (kind_of known.state name) && list_any (λ equation. not (known.defined equation)) (equations_of known.models name)
+      is_model (declared_kind known.state name) && list_any (λ equation. not (known.defined equation)) (declared_equations known.models name)
   not_defined known used = false
 
   -- DefinedTwice: a statement before defines the equation

@@ -20,20 +20,20 @@ use Rattle.gms_store.specs.State.{State, symbol_at}
 use Rattle.gms_store.specs.Declarations.{is_set}
 use Rattle.gms_check.specs.declared.standing.Standing.{Standing}
 use Rattle.gms_check.specs.Standing.{as_number, as_side, as_members}
-use Rattle.gms_check.specs.Uses.{Use, Uses, assigning, defining, first_alias, second_alias, solving, method, optimizing, showing, option_word, option_value, sets_of, index_sets, uses, control_uses, shift_uses, condition_uses}
+use Rattle.gms_check.specs.Uses.{Use, Uses, assigning, defining, first_alias, second_alias, solving, method, optimizing, showing, option_word, option_value, sets_of_control, index_sets, uses, control_uses, shift_uses, condition_uses}
 
 -- the context of the right side of an assignment to a name
 abbrev pub right_standing : State → ℕ → Standing
 right_standing state name = if is_set (symbol_at state name).content then as_members else as_number
 
 -- what a statement uses, by what is declared and the sets that are controlled
-abbrev pub OfStatement : Type 0 → Type 0
-OfStatement F = State → List ℕ → Uses F
+abbrev pub UsesOfStatement : Type 0 → Type 0
+UsesOfStatement F = State → List ℕ → Uses F
 
 -- what an act uses, by what is declared, the place of its statement and the sets that are
 -- controlled
-abbrev pub OfAct : Type 0 → Type 0
-OfAct F = State → Place → List ℕ → Uses F
+abbrev pub UsesOfAct : Type 0 → Type 0
+UsesOfAct F = State → Place → List ℕ → Uses F
 
 module _ {F : Type 0} where
   -- the view of indices
@@ -65,28 +65,28 @@ module _ {F : Type 0} where
 
   -- what one statement uses, where the statements of a loop's body are already given by what they
   -- use
-  abbrev pub act_step : Act-F F (OfAct F) (OfStatement F) → OfAct F
-  act_step (Act-F.Declare kind items) state at controlled = []
-  act_step (Act-F.Alias first second) state at controlled =
+  abbrev pub act_uses_step : Act-F F (UsesOfAct F) (UsesOfStatement F) → UsesOfAct F
+  act_uses_step (Act-F.Declare kind items) state at controlled = []
+  act_uses_step (Act-F.Alias first second) state at controlled =
       (first.at, first_alias first.name second.name) ∷ (second.at, second_alias first.name second.name) ∷ []
-  act_step (Act-F.Assign target condition right_at (Value right)) state at controlled =
+  act_uses_step (Act-F.Assign target condition right_at (Value right)) state at controlled =
       (target.at, assigning target.name target.suffix (index_list target.indices)) ∷ (left_uses at (with_left controlled target.indices) target.indices condition ++ uses (right_standing state target.name) right_at (with_left controlled target.indices) (tree_of right))
-  act_step (Act-F.Define equation indices condition left_at left side right_at right) state at controlled =
+  act_uses_step (Act-F.Define equation indices condition left_at left side right_at right) state at controlled =
       (equation.at, defining equation.name (index_list indices)) ∷ (left_uses at (with_left controlled indices) indices condition ++ (uses as_side left_at (with_left controlled indices) (tree_of left) ++ uses as_side right_at (with_left controlled indices) (tree_of right)))
-  act_step (Act-F.Model models) state at controlled = []
-  act_step (Act-F.Solve model word objective maximize) state at controlled =
+  act_uses_step (Act-F.Model models) state at controlled = []
+  act_uses_step (Act-F.Solve model word objective maximize) state at controlled =
       (model.at, solving model.name) ∷ (word.at, method word.text) ∷ (objective.at, optimizing objective.name) ∷ []
-  act_step (Act-F.Display items) state at controlled = flat_map show_uses items
-  act_step (Act-F.Loop control body) state at controlled =
-      control_uses at controlled (control_tree control) ++ flat_map (λ statement. statement state (controlled ++ sets_of (control_tree control))) body.items
-  act_step (Act-F.Options settings) state at controlled = flat_map option_uses settings
-  act_step (Act-F.Abort condition items) state at controlled =
+  act_uses_step (Act-F.Display items) state at controlled = flat_map show_uses items
+  act_uses_step (Act-F.Loop control body) state at controlled =
+      control_uses at controlled (control_tree control) ++ flat_map (λ statement. statement state (controlled ++ sets_of_control (control_tree control))) body.items
+  act_uses_step (Act-F.Options settings) state at controlled = flat_map option_uses settings
+  act_uses_step (Act-F.Abort condition items) state at controlled =
       condition_uses at controlled (option_map tree_of condition) ++ flat_map show_uses items
 
   -- the uses of a statement, at its place
-  abbrev pub statement_step : Stmt-F F (OfAct F) (OfStatement F) → OfStatement F
-  statement_step statement state controlled = statement.act state statement.at controlled
+  abbrev pub statement_uses_step : Stmt-F F (UsesOfAct F) (UsesOfStatement F) → UsesOfStatement F
+  statement_uses_step statement state controlled = statement.act state statement.at controlled
 
   -- what a statement uses, and what the statements of its body use
-  abbrev pub statement_uses : Stmt F → OfStatement F
-  statement_uses = fold-Stmt F (OfAct F) (OfStatement F) act_step statement_step
+  abbrev pub statement_uses : Stmt F → UsesOfStatement F
+  statement_uses = fold-Stmt F (UsesOfAct F) (UsesOfStatement F) act_uses_step statement_uses_step

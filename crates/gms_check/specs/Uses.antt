@@ -83,10 +83,10 @@ abbrev pub Uses : Type 0 → Type 0
 Uses F = List (Place × Use F)
 
 -- the place of a part: its own, or that of the smallest part around it
-abbrev pub place_of : Mark → Place → Place
-place_of (placed at) around = at
-place_of (signed at mark) around = at
-place_of mark around = around
+abbrev pub place_by_mark : Mark → Place → Place
+place_by_mark (placed at) around = at
+place_by_mark (signed at mark) around = at
+place_by_mark mark around = around
 
 -- which step comes before a part of a product or a power
 abbrev pub operation_of : Mark → Operation
@@ -96,9 +96,9 @@ operation_of mark = raises
 
 module _ {F : Type 0} where
   -- the sets of a control
-  abbrev pub sets_of : Control F → List ℕ
-  sets_of (over sets) = sets
-  sets_of (over_where sets condition) = sets
+  abbrev pub sets_of_control : Control F → List ℕ
+  sets_of_control (over sets) = sets
+  sets_of_control (over_where sets condition) = sets
 
   -- the sets among indices, in order
   abbrev pub index_sets : Indices F → List ℕ
@@ -111,7 +111,7 @@ module _ {F : Type 0} where
   abbrev pub later_steps : Standing → Place → List (Tree F) → Parts F → Uses F
   later_steps standing around earlier no_part = []
   later_steps standing around earlier (part mark tree rest) =
-      (place_of mark around, stepping standing (operation_of mark) earlier tree) ∷ later_steps standing around (earlier ++ tree ∷ []) rest
+      (place_by_mark mark around, stepping standing (operation_of mark) earlier tree) ∷ later_steps standing around (earlier ++ tree ∷ []) rest
 
   -- the steps of a product or a power: one for each part except the first
   abbrev pub steps : Standing → Place → Parts F → Uses F
@@ -133,7 +133,7 @@ abbrev mutual
   uses standing around controlled (call at function args) =
       (at, calling standing function args) ∷ part_uses (as_inner standing) at controlled args
   uses standing around controlled (fold_over at op control body) =
-      (at, folding standing op body) ∷ (control_uses at controlled control ++ uses (as_inner standing) at (controlled ++ sets_of control) body)
+      (at, folding standing op body) ∷ (control_uses at controlled control ++ uses (as_inner standing) at (controlled ++ sets_of_control control) body)
   uses standing around controlled (negated operand) = uses (as_part standing) around controlled operand
   uses standing around controlled (sum parts) = part_uses (as_part standing) around controlled parts
   uses standing around controlled (product parts) = part_uses (as_part standing) around controlled parts ++ steps standing around parts
@@ -149,7 +149,7 @@ abbrev mutual
   pub part_uses : {F : Type 0} → Standing → Place → List ℕ → Parts F → Uses F
   part_uses standing around controlled no_part = []
   part_uses standing around controlled (part mark tree rest) =
-      uses standing (place_of mark around) controlled tree ++ part_uses standing around controlled rest
+      uses standing (place_by_mark mark around) controlled tree ++ part_uses standing around controlled rest
 
   -- what the amounts of lags use
   pub amount_uses : {F : Type 0} → List ℕ → Indices F → Uses F

@@ -1,15 +1,15 @@
 //! The check of a program, statement by statement.
 ghost use Rattle.std.specs.Prelude.{◌≡◌, [], ◌∷◌, ◌++◌, map, flat_map, not, None, Some, option_to_list, string_bytes, IfOk, OnOk};
-ghost use Rattle.gms_known.specs.Facts.{first_facts};
-ghost use Rattle.gms_check.specs.Checking.{faulted, seen};
+ghost use Rattle.gms_scope.specs.Facts.{first_facts};
+ghost use Rattle.gms_check.specs.InnerChecking.{faulted, seen};
 ghost use Rattle.gms_check.specs.CompileErrors.{compile_errors, statement_errors};
 ghost use Rattle.gms_check.specs.Errors.{sooner};
 
 use crate::controlled::Controlled;
 use crate::error::{CompileError, ErrorKind};
 use gms_ast::{Program, Sequence};
-use gms_known::Known;
 use gms_labels::Place;
+use gms_scope::Known;
 use gq_field::ExactField;
 use std::alloc::{AllocError, Global};
 

@@ -1,7 +1,7 @@
 //! The check of sets: those that folds and loops control, and those of `ord` and `card`.
 ghost use Rattle.std.specs.Prelude.{◌≡◌, ◌++◌, [], ◌∷◌, false, not, IfOk, OnOk};
-ghost use Rattle.gms_known.specs.Names.{is_unknown};
-ghost use Rattle.gms_check.specs.Checking.{faulted, noted, seen, with_controlled};
+ghost use Rattle.gms_scope.specs.Names.{has_no_declaration};
+ghost use Rattle.gms_check.specs.InnerChecking.{faulted, noted, seen, with_controlled};
 ghost use Rattle.gms_check.specs.Controls.{is_controlled_twice};
 ghost use Rattle.gms_check.specs.Uses.{cardinal, controlling, ordinal};
 ghost use Rattle.gms_check.specs.declared.error.ErrorKind.TheVariants.{UnknownName};
@@ -17,7 +17,7 @@ use std::alloc::AllocError;
 impl<'s, F: ExactField> Checker<'s, F> {
     /// Checks that a name is declared.
     pub fn require_known(&mut self, name: u32, at: Place)
-        ensures { seen self.new ≡ faulted (seen self.old) at ((is_unknown (seen self.old).facts.state name, UnknownName) ∷ []) }
+        ensures { seen self.new ≡ faulted (seen self.old) at ((has_no_declaration (seen self.old).facts.state name, UnknownName) ∷ []) }
     {
         let known = !self.known.is_unknown(name);
         self.require(known, ErrorKind::UnknownName, at);

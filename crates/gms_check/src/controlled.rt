@@ -16,7 +16,7 @@ pub struct Controlled {
 
 impl Model for Controlled {
     ghost use Rattle.std.specs.Prelude.{◌≡◌, List, ℕ, slice_index_or};
-    ghost use Rattle.gms_known.specs.Order.{order_of};
+    ghost use Rattle.gms_scope.specs.Order.{order_of};
 
     ghost Value = { List ℕ };
 

@@ -3,26 +3,26 @@ ghost use Rattle.std.specs.Prelude.{◌≡◌, ◌++◌, ◌∷◌, [], Some, Ok
 ghost use Rattle.std.specs.List.{list_all};
 ghost use Rattle.gms_set.specs.Expansion.{expanded};
 ghost use Rattle.gms_store.specs.Declarations.{content_of, names_of, positions_of};
-ghost use Rattle.gms_known.specs.Names.{positions as positions_in};
-ghost use Rattle.gms_check.specs.Changes.{after_declaration, after_item, with_order};
-ghost use Rattle.gms_check.specs.Checking.{faulted, known_of, noted, seen, with_facts};
+ghost use Rattle.gms_scope.specs.Names.{positions as positions_in};
+ghost use Rattle.gms_check.specs.InnerChanges.{after_declaration, after_item, with_order};
+ghost use Rattle.gms_check.specs.InnerChecking.{faulted, known_of, noted, seen, with_facts};
 ghost use Rattle.gms_check.specs.CompileErrors.{declaration_errors, errors_of, is_faultless};
 ghost use Rattle.gms_ast.specs.declared.declaration.Item.{Item};
 ghost use Rattle.gms_ast.specs.declared.word.Named.{Named};
 ghost use Rattle.gms_check.specs.DeclarationUses.{are_usable, are_usable_in, domain_use, expansion_uses, has_all_parts, is_continuous, item_uses, kind_uses};
 ghost use Rattle.gms_check.specs.Domains.{is_wrong_count};
-ghost use Rattle.gms_check.specs.Errors.{first_of, sooner};
-ghost use Rattle.gms_check.specs.Faults.{kind_of_fault};
+ghost use Rattle.gms_check.specs.Errors.{first_error, sooner};
+ghost use Rattle.gms_check.specs.InnerFaults.{kind_of_fault};
 ghost use Rattle.gms_check.specs.Names.{is_variable, may_be_typed, same_domain, same_position};
-ghost use Rattle.gms_check.specs.Trials.{taken_back, trial_facts, trial_names};
+ghost use Rattle.gms_check.specs.InnerTrials.{taken_back, trial_facts, trial_names};
 ghost use Rattle.gms_check.specs.Uses.{failing, naming, placing};
 
 use crate::checker::Checker;
 use crate::error::ErrorKind;
 use crate::indices::{MOST, is_wrong_count};
 use gms_ast::{Decl, DeclKind, Item, Named};
-use gms_known::{Data, Known, are_ascending, positions};
 use gms_labels::Place;
+use gms_scope::{Data, Known, are_ascending, positions};
 use gms_set::{SetError, SetFault, SetFaultOrMemory, expand};
 use gq_field::ExactField;
 use std::alloc::AllocError;
@@ -36,7 +36,7 @@ impl<'s, F: ExactField> Checker<'s, F> {
         items: &[Decl<F>],
     ) -> Result<(), AllocError>
         ensures first { OnOk result ((seen self.new).first
-            ≡ sooner (seen self.old).first (first_of (errors_of (known_of F.value (seen self.old)) (kind_uses at kind) ++ declaration_errors (known_of F.value (seen self.old)) kind items.now))) }
+            ≡ sooner (seen self.old).first (first_error (errors_of (known_of F.value (seen self.old)) (kind_uses at kind) ++ declaration_errors (known_of F.value (seen self.old)) kind items.now))) }
         ensures facts { OnOk result (seen self.new
             ≡ record (seen self.old) { first = (seen self.new).first; facts = after_declaration F.value kind (is_none (seen self.new).first) (seen self.old).facts items.now }) }
     {
@@ -55,7 +55,7 @@ impl<'s, F: ExactField> Checker<'s, F> {
     /// given.
     fn declared_items(&mut self, kind: DeclKind, items: &[Decl<F>]) -> Result<Vec<u32>, AllocError>
         ensures noted { OnOk result (seen self.new
-            ≡ record (seen self.old) { first = sooner (seen self.old).first (first_of (declaration_errors (known_of F.value (seen self.old)) kind items.now)); facts = trial_facts F.value (seen self.old).solvers kind (seen self.old).facts items.now }) }
+            ≡ record (seen self.old) { first = sooner (seen self.old).first (first_error (declaration_errors (known_of F.value (seen self.old)) kind items.now)); facts = trial_facts F.value (seen self.old).solvers kind (seen self.old).facts items.now }) }
         ensures given { IfOk result (λ given. given.items ≡ trial_names F.value (seen self.old).solvers kind (seen self.old).facts items.now) }
     {
         let mut given = Vec::new(self.alloc);

@@ -1,14 +1,14 @@
 //! The check of expressions: what may occur in them, and which steps are not linear.
 ghost use Rattle.std.specs.Prelude.{◌≡◌, ◌++◌, ◌∷◌, [], ◌&&◌, false, not, take, IfOk, OnOk};
 ghost use Rattle.gms_ast.specs.TreeView.{control_tree, tree_of};
-ghost use Rattle.gms_check.specs.Checking.{faulted, known_of, noted, seen, with_controlled, with_sets};
-ghost use Rattle.gms_check.specs.Kinds.{takes};
+ghost use Rattle.gms_check.specs.InnerChecking.{faulted, known_of, noted, seen, with_controlled, with_sets};
+ghost use Rattle.gms_check.specs.Kinds.{takes_arguments};
 ghost use Rattle.gms_check.specs.Linearity.{has_variable, have_variable, is_sum, is_variable_by};
-ghost use Rattle.gms_check.specs.PartLists.{chosen_list, in_no_place, placed_list, plain_list, related_list, signed_list, step_curved, step_faults, step_wrong};
+ghost use Rattle.gms_check.specs.InnerPartLists.{chosen_list, in_no_place, placed_list, plain_list, related_list, signed_list, step_curved, step_faults, step_wrong};
 ghost use Rattle.gms_check.specs.Standing.{as_condition, as_inner, as_number, as_part};
 ghost use Rattle.gms_check.specs.StatementUses.{index_list};
 ghost use Rattle.gms_check.specs.declared.error.ErrorKind.TheVariants.{Nonlinear, WrongKind};
-ghost use Rattle.gms_check.specs.Uses.{amount_uses, calling, control_uses, folding, logic, part_uses, reading, sets_of, steps, uses};
+ghost use Rattle.gms_check.specs.Uses.{amount_uses, calling, control_uses, folding, logic, part_uses, reading, sets_of_control, steps, uses};
 
 use crate::checker::Checker;
 use crate::error::ErrorKind;
@@ -192,7 +192,7 @@ impl<'s, F: ExactField> Checker<'s, F> {
     #[cycle(expression)]
     pub fn control(&mut self, control: &Control<F>, at: Place) -> Result<(), AllocError>
         ensures { OnOk result (seen self.new
-            ≡ with_controlled (noted F.value (seen self.old) (control_uses at (seen self.old).controlled (control_tree control.now))) (sets_of (control_tree control.now))) }
+            ≡ with_controlled (noted F.value (seen self.old) (control_uses at (seen self.old).controlled (control_tree control.now))) (sets_of_control (control_tree control.now))) }
     {
         self.control_sets(control.sets.as_slice(), at)?;
         if let Some(condition) = &control.condition {
@@ -388,7 +388,7 @@ fn is_linear_step(operation: Operation, earlier: bool, right: bool) -> bool
 
 /// Whether a function takes `count` arguments. One that is left out takes none.
 fn takes(function: Function, count: usize) -> bool
-    ensures { result ≡ takes function count }
+    ensures { result ≡ takes_arguments function count }
 {
     match function {
         Function::Max | Function::Min => count > 1,

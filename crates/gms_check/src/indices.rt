@@ -1,9 +1,9 @@
 //! Questions on the indices of a reference, and on the sets among them.
 ghost use Rattle.std.specs.Prelude.{◌≡◌, ℕ, List, drop, not, IfOk};
 ghost use Rattle.std.specs.List.{list_any};
-ghost use Rattle.gms_known.specs.Entries.{above_of};
-ghost use Rattle.gms_known.specs.Facts.{is_ordered, names};
-ghost use Rattle.gms_known.specs.Names.{is_index_set, is_unknown, positions};
+ghost use Rattle.gms_scope.specs.Entries.{above_of};
+ghost use Rattle.gms_scope.specs.Facts.{is_known_ordered, names};
+ghost use Rattle.gms_scope.specs.Names.{is_index_set, has_no_declaration, positions};
 ghost use Rattle.gms_check.specs.Controls.{lagged_sets};
 ghost use Rattle.gms_check.specs.Domains.{is_wrong_count};
 ghost use Rattle.gms_check.specs.IndexList.{have_unfit_label, have_unfit_set};
@@ -13,7 +13,7 @@ ghost use Rattle.gms_check.specs.Uses.{index_sets};
 
 use crate::controlled::Controlled;
 use gms_ast::Index;
-use gms_known::Known;
+use gms_scope::Known;
 use gq_field::ExactField;
 use std::alloc::{AllocError, Global};
 
@@ -57,7 +57,7 @@ pub fn lagged_sets<F>(alloc: Global, indices: &[Index<F>]) -> Result<Vec<u32>, A
 
 /// Whether some of these names is not declared.
 pub fn has_unknown<F: ExactField>(known: &Known<F>, names: &[u32]) -> bool
-    ensures { result ≡ list_any (is_unknown known.now.state) names.now }
+    ensures { result ≡ list_any (has_no_declaration known.now.state) names.now }
 {
     for name in names {
         if known.is_unknown(*name) {
@@ -81,7 +81,7 @@ pub fn has_wrong_set<F: ExactField>(known: &Known<F>, names: &[u32]) -> bool
 
 /// Whether some of these sets is not ordered.
 pub fn has_unordered<F: ExactField>(known: &Known<F>, sets: &[u32]) -> bool
-    ensures { result ≡ list_any (λ set. not (is_ordered known.now set)) sets.now }
+    ensures { result ≡ list_any (λ set. not (is_known_ordered known.now set)) sets.now }
 {
     for set in sets {
         if !known.is_ordered(*set) {

@@ -1,6 +1,6 @@
 //! What a name is, by its kind.
 ghost use Rattle.std.specs.Prelude.{◌≡◌};
-ghost use Rattle.gms_known.specs.Names.{is_equation, is_model};
+ghost use Rattle.gms_scope.specs.Names.{is_equation, is_model};
 ghost use Rattle.gms_check.specs.Kinds.{is_variable_kind};
 
 use gms_store::SymbolKind;

@@ -3,12 +3,12 @@ ghost use Rattle.std.specs.Prelude.{◌≡◌, length, Ok, IfOk, OnOk};
 ghost use Rattle.std.specs.List.{fold};
 ghost use Rattle.gms_set.specs.Expansion.{expanded};
 ghost use Rattle.gms_store.specs.Declarations.{blank_state, names_of, positions_of};
-ghost use Rattle.gms_check.specs.Loadable.{AreLoadable, IsLoadable, IsLoadableItem};
+ghost use Rattle.gms_check.specs.InnerLoadable.{AreLoadable, IsLoadable, IsLoadableItem};
 ghost use Rattle.gms_check.specs.Loaded.{loaded, IsAccepted};
 ghost use Rattle.gms_check.specs.Past.{after_act, with_item};
 
 use gms_ast::{Act, Decl, DeclKind, Program};
-use gms_known::{Data, positions, put_data};
+use gms_scope::{Data, positions, put_data};
 use gms_set::{SetFaultOrMemory, expand};
 use gms_store::Store;
 use gq_field::ExactField;

@@ -1,8 +1,8 @@
 //! The check of options: their words, and what they are set to.
 ghost use Rattle.std.specs.Prelude.{◌≡◌, flat_map, not};
 ghost use Rattle.std.specs.Str.{str_eq_ignore_ascii_case};
-ghost use Rattle.gms_check.specs.Checking.{noted, seen};
-ghost use Rattle.gms_check.specs.OptionKinds.{is_known_option, is_within, kind_of_word, names_solver};
+ghost use Rattle.gms_check.specs.InnerChecking.{noted, seen};
+ghost use Rattle.gms_check.specs.InnerOptionKinds.{is_known_option, is_within, kind_of_word, names_solver};
 ghost use Rattle.gms_check.specs.OptionWords.{ignored, is_count_up_to, is_none_of, is_one_of, is_switch};
 ghost use Rattle.gms_check.specs.StatementUses.{option_uses, setting_place};
 

@@ -1,7 +1,7 @@
 //! The check of references: names, suffixes and indices.
 ghost use Rattle.std.specs.Prelude.{◌≡◌, [], ◌∷◌, flat_map, IfOk, OnOk};
-ghost use Rattle.gms_check.specs.Checking.{faulted, known_of, noted, seen};
-ghost use Rattle.gms_check.specs.Faults.{index_faults};
+ghost use Rattle.gms_check.specs.InnerChecking.{faulted, known_of, noted, seen};
+ghost use Rattle.gms_check.specs.InnerFaults.{index_faults};
 ghost use Rattle.gms_check.specs.Linearity.{is_variable_by};
 ghost use Rattle.gms_check.specs.StatementUses.{index_list, show_uses};
 ghost use Rattle.gms_check.specs.Uses.{reading, showing};

@@ -1,13 +1,13 @@
 //! The check of aliases, of models and of their solves.
 ghost use Rattle.std.specs.Prelude.{◌≡◌, ◌∷◌, [], is_none, OnOk};
-ghost use Rattle.gms_check.specs.Changes.{with_model_names, with_models};
-ghost use Rattle.gms_check.specs.Checking.{known_of, noted, seen, with_facts};
+ghost use Rattle.gms_check.specs.InnerChanges.{with_model_names, with_models};
+ghost use Rattle.gms_check.specs.InnerChecking.{known_of, noted, seen, with_facts};
 ghost use Rattle.gms_check.specs.CompileErrors.{model_errors};
 ghost use Rattle.gms_check.specs.DeclarationUses.{model_uses};
-ghost use Rattle.gms_check.specs.Errors.{first_of, sooner};
+ghost use Rattle.gms_check.specs.Errors.{first_error, sooner};
 ghost use Rattle.gms_check.specs.Past.{equations_listed};
 ghost use Rattle.gms_check.specs.Uses.{first_alias, method as using_word, optimizing, second_alias, solving};
-ghost use Rattle.gms_known.specs.Facts.{with_model, with_model_name};
+ghost use Rattle.gms_scope.specs.Facts.{with_model, with_model_name};
 
 use crate::checker::Checker;
 use crate::error::ErrorKind;
@@ -35,7 +35,7 @@ impl<'s, F: ExactField> Checker<'s, F> {
 
     /// Checks a declaration of models, and declares them.
     pub fn models(&mut self, models: &[ModelDecl]) -> Result<(), AllocError>
-        ensures first { OnOk result ((seen self.new).first ≡ sooner (seen self.old).first (first_of (model_errors (known_of F.value (seen self.old)) models.now))) }
+        ensures first { OnOk result ((seen self.new).first ≡ sooner (seen self.old).first (first_error (model_errors (known_of F.value (seen self.old)) models.now))) }
         ensures facts { OnOk result
             (seen self.new ≡ record (seen self.old) { first = (seen self.new).first; facts = with_models (is_none (seen self.new).first) (with_model_names (seen self.old).facts models.now) models.now }) }
     {
@@ -50,7 +50,7 @@ impl<'s, F: ExactField> Checker<'s, F> {
     /// Checks models in sequence, and declares their names.
     fn declare_models(&mut self, models: &[ModelDecl]) -> Result<(), AllocError>
         ensures { OnOk result (seen self.new
-            ≡ record (seen self.old) { first = sooner (seen self.old).first (first_of (model_errors (known_of F.value (seen self.old)) models.now)); facts = with_model_names (seen self.old).facts models.now }) }
+            ≡ record (seen self.old) { first = sooner (seen self.old).first (first_error (model_errors (known_of F.value (seen self.old)) models.now)); facts = with_model_names (seen self.old).facts models.now }) }
     {
         for model in models {
             self.model(model);

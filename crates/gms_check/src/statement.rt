@@ -2,13 +2,13 @@
 ghost use Rattle.std.specs.Prelude.{◌≡◌, ◌++◌, ◌∷◌, [], flat_map, is_none, None, true, take, IfOk, OnOk};
 ghost use Rattle.gms_ast.specs.TreeView.{control_tree, tree_of};
 ghost use Rattle.gms_ast.specs.declared.program.Right.TheVariants.{Value};
-ghost use Rattle.gms_check.specs.Changes.{facts_after};
-ghost use Rattle.gms_check.specs.Checking.{known_of, noted, seen, with_controlled, with_facts, with_sets};
+ghost use Rattle.gms_check.specs.InnerChanges.{facts_after};
+ghost use Rattle.gms_check.specs.InnerChecking.{known_of, noted, seen, with_controlled, with_facts, with_sets};
 ghost use Rattle.gms_check.specs.CompileErrors.{statement_error};
 ghost use Rattle.gms_check.specs.Standing.{as_side};
-ghost use Rattle.gms_check.specs.Statements.{act_uses, is_action};
+ghost use Rattle.gms_check.specs.InnerStatements.{act_uses, is_action};
 ghost use Rattle.gms_check.specs.StatementUses.{index_list, left_uses, right_standing, statement_uses, with_left};
-ghost use Rattle.gms_check.specs.Uses.{assigning, control_uses, defining, index_sets, sets_of, uses};
+ghost use Rattle.gms_check.specs.Uses.{assigning, control_uses, defining, index_sets, sets_of_control, uses};
 
 use crate::checker::Checker;
 use crate::error::CompileError;
@@ -117,7 +117,7 @@ impl<'s, F: ExactField> Checker<'s, F> {
         control: &Control<F>,
     ) -> Result<(), AllocError>
         ensures { OnOk result (seen self.new
-            ≡ noted F.value (seen self.old) (control_uses at (seen self.old).controlled (control_tree control.now) ++ flat_map (λ statement. statement_uses statement (seen self.old).facts.state ((seen self.old).controlled ++ sets_of (control_tree control.now))) body.now)) }
+            ≡ noted F.value (seen self.old) (control_uses at (seen self.old).controlled (control_tree control.now) ++ flat_map (λ statement. statement_uses statement (seen self.old).facts.state ((seen self.old).controlled ++ sets_of_control (control_tree control.now))) body.now)) }
     {
         let outer = self.controlled.len();
         self.control(control, at)?;

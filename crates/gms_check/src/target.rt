@@ -2,8 +2,8 @@
 //! it controls.
 ghost use Rattle.std.specs.Prelude.{◌≡◌, ◌∷◌, ◌&&◌, [], option_map, OnOk};
 ghost use Rattle.gms_ast.specs.TreeView.{tree_of};
-ghost use Rattle.gms_check.specs.Checking.{known_of, noted, seen, with_controlled};
-ghost use Rattle.gms_known.specs.Names.{kind_of, positions};
+ghost use Rattle.gms_check.specs.InnerChecking.{known_of, noted, seen, with_controlled};
+ghost use Rattle.gms_scope.specs.Names.{declared_kind, positions};
 ghost use Rattle.gms_check.specs.Kinds.{is_left_amount, is_without_positions, may_shift};
 ghost use Rattle.gms_check.specs.OptionWords.{is_whole};
 ghost use Rattle.gms_check.specs.StatementUses.{index_list};
@@ -118,7 +118,7 @@ impl<'s, F: ExactField> Checker<'s, F> {
     /// Whether a name without suffix, with indices or without, is that of a scalar or of a
     /// variable.
     fn may_shift(&self, name: u32, bare: bool) -> bool
-        ensures { result ≡ may_shift (kind_of (seen self.now).facts.state name) (is_without_positions (positions (seen self.now).facts.state name) && bare) }
+        ensures { result ≡ may_shift (declared_kind (seen self.now).facts.state name) (is_without_positions (positions (seen self.now).facts.state name) && bare) }
     {
         match self.known.kind(name) {
             SymbolKind::Parameter => self.known.position_count(name) == 0 && bare,

@@ -8,7 +8,7 @@ use Rattle.gms_eval.specs.declared.stop.ExecStopOrMemory.{ExecStopOrMemory}
 use Rattle.gms_eval.specs.declared.stop.ExecStopOrMemory.TheVariants.{Memory, Fault as Stop}
 use Rattle.gms_eval.specs.Nodes.{in_order}
 use Rattle.gms_eval.specs.Faults.{Answer, Fault, ◌and_then◌}
-use Rattle.gms_eval.specs.Gives.{fault_of, Stops, Gives}
+use Rattle.gms_eval.specs.Gives.{fault_of, ShowsStop, Gives}
 
 -- three steps are two and then the third
 pub and_then_assoc : {A B C : Type 0} (a : Answer A) (f : A → Answer B) (g : B → Answer C) → ((a and_then f) and_then g) ≡ (a and_then λ x. f x and_then g)
@@ -17,17 +17,17 @@ and_then_assoc (Err fault) f g = refl
 
 module _ {F : Type 0} (v : F → Number) where
   -- a stop says the same of an equal answer
-  pub stops-same : {A : Type 0} (stop : ExecStopOrMemory F) (a b : Answer A) → a ≡ b → Stops v stop b → Stops v stop a
+  pub stops-same : {A : Type 0} (stop : ExecStopOrMemory F) (a b : Answer A) → a ≡ b → ShowsStop v stop b → ShowsStop v stop a
   stops-same Memory a b e s = tt
   stops-same (Stop stop) a b e s = e ∙ s
 
   -- a stop remains one where another step follows
-  pub stops-then : {A B : Type 0} (stop : ExecStopOrMemory F) (a : Answer A) (next : A → Answer B) → Stops v stop a → Stops v stop (a and_then next)
+  pub stops-then : {A B : Type 0} (stop : ExecStopOrMemory F) (a : Answer A) (next : A → Answer B) → ShowsStop v stop a → ShowsStop v stop (a and_then next)
   stops-then Memory a next s = tt
   stops-then (Stop stop) a next s = ap (λ b. b and_then next) s
 
   -- a stop shows a fault of one answer where another answer has the same faults
-  pub stops-along : {A B : Type 0} (stop : ExecStopOrMemory F) (a : Answer A) (b : Answer B) → ((fault : Fault) → a ≡ Err fault → b ≡ Err fault) → Stops v stop a → Stops v stop b
+  pub stops-along : {A B : Type 0} (stop : ExecStopOrMemory F) (a : Answer A) (b : Answer B) → ((fault : Fault) → a ≡ Err fault → b ≡ Err fault) → ShowsStop v stop a → ShowsStop v stop b
   stops-along Memory a b along s = tt
   stops-along (Stop stop) a b along s = along (fault_of v stop) s
 
@@ -85,5 +85,5 @@ pub then-value : {A B : Type 0} (a : Answer A) (x : A) (next : A → Answer B) �
 then-value a x next e = ap (λ b. b and_then next) e
 
 -- a stop that is returned as it is
-pub handed_on : {F A R : Type 0} (v : F → Number) (shown : R → A) (r : Result R (ExecStopOrMemory F)) (stop : ExecStopOrMemory F) (a : Answer A) → IsErrAnd r (λ e. e ≡ stop) → Stops v stop a → Gives v shown r a
+pub handed_on : {F A R : Type 0} (v : F → Number) (shown : R → A) (r : Result R (ExecStopOrMemory F)) (stop : ExecStopOrMemory F) (a : Answer A) → IsErrAnd r (λ e. e ≡ stop) → ShowsStop v stop a → Gives v shown r a
 handed_on v shown r stop a h s = let p = err_from_is_err_and r h in rw (p.1, p.2) s

@@ -8,7 +8,7 @@ use Rattle.std.proofs.lemmas.List.Elements.{All-nil, All-cons, All-head, All-tai
 use Rattle.std.proofs.lemmas.List.Folds.{list_any-append}
 use Rattle.gms_tuple.specs.TupleOrder.{tuple_cmp, same_tuple, IsOrdered}
 use Rattle.gms_tuple.specs.TupleSet.{has}
-use Rattle.gms_tuple.specs.Products.{product}
+use Rattle.gms_tuple.specs.Products.{tuple_product}
 use Rattle.gms_tuple.proofs.Ordered.{first-before, rest-ordered, ordered-cons, ordered-nil, tuple_cmp-flip}
 
 -- ---- elements
@@ -58,12 +58,12 @@ has_not-behind_each tuples (m ∷ labels) =
     ∙ has_not-behind_each tuples labels
 
 -- the elements of a product are the tuples with such labels
-pub has-product : (lists : List (List ℕ)) (tuple : List ℕ) → has (product lists) tuple ≡ all_in lists tuple
+pub has-product : (lists : List (List ℕ)) (tuple : List ℕ) → has (tuple_product lists) tuple ≡ all_in lists tuple
 has-product [] [] = refl
 has-product [] (l ∷ tuple) = refl
-has-product (labels ∷ lists) [] = has_not-behind_each (product lists) labels
+has-product (labels ∷ lists) [] = has_not-behind_each (tuple_product lists) labels
 has-product (labels ∷ lists) (l ∷ tuple) =
-    has-behind_each (product lists) labels l tuple ∙ ap (λ b. list_any (λ m. nat_eq m l) labels && b) (has-product lists tuple)
+    has-behind_each (tuple_product lists) labels l tuple ∙ ap (λ b. list_any (λ m. nat_eq m l) labels && b) (has-product lists tuple)
 
 second : (a b : Bool) → (a && b) ≡ true → b ≡ true
 second true b e = e
@@ -138,7 +138,7 @@ ordered-behind_each tuples (l ∷ labels) ascending in_order =
     (every (λ t. All (λ y. tuple_cmp (l ∷ t) y ≡ Less) (behind_each tuples labels)) (λ t. all-behind (λ y. tuple_cmp (l ∷ t) y ≡ Less) tuples labels (All-weaker (λ m. tuple_cmp (l ∷ []) (m ∷ []) ≡ Less) (λ m. (s : List ℕ) → tuple_cmp (l ∷ t) (m ∷ s) ≡ Less) (λ m less s. first-decides l m t s less) labels later)) tuples))
 
 -- the product of ascending lists is in order
-pub ordered-product : (lists : List (List ℕ)) → All AreAscending lists → IsOrdered (product lists)
+pub ordered-product : (lists : List (List ℕ)) → All AreAscending lists → IsOrdered (tuple_product lists)
 ordered-product [] ascending = ordered-cons [] [] (All-nil (λ y. tuple_cmp [] y ≡ Less)) ordered-nil
 ordered-product (labels ∷ lists) ascending =
-    ordered-behind_each (product lists) labels (All-head AreAscending labels lists ascending) (ordered-product lists (All-tail AreAscending labels lists ascending))
+    ordered-behind_each (tuple_product lists) labels (All-head AreAscending labels lists ascending) (ordered-product lists (All-tail AreAscending labels lists ascending))

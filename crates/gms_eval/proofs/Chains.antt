@@ -6,12 +6,12 @@ use Rattle.gq_extended.specs.Extended.{Extended}
 use Rattle.gms_ast.specs.Trees.{Mark}
 use Rattle.gms_eval.specs.declared.stop.ExecStopOrMemory.{ExecStopOrMemory}
 use Rattle.gms_eval.specs.declared.stop.ExecStopOrMemory.TheVariants.{Memory, Fault as Stop}
-use Rattle.gms_eval.specs.Nodes.{Marked, Step, joined}
+use Rattle.gms_eval.specs.Nodes.{Marked, ValueStep, joined}
 use Rattle.gms_eval.specs.Faults.{Answer, Fault, ◌and_then◌}
-use Rattle.gms_eval.specs.Gives.{fault_of, Stops}
+use Rattle.gms_eval.specs.Gives.{fault_of, ShowsStop}
 use Rattle.gms_eval.specs.InnerSteps.{after}
 
-module _ (step : Step) (empty : Answer Extended) where
+module _ (step : ValueStep) (empty : Answer Extended) where
   -- the next part has a value, and the step gives one
   part_joined : (o : Option Extended) (mark : Mark) (a : Answer Extended) (parts : Marked) (y z : Extended) → a ≡ Ok y → after step mark o y ≡ Ok z → joined step empty o ((mark, a) ∷ parts) ≡ joined step empty (Some z) parts
   part_joined None mark a parts y z e s =
@@ -68,12 +68,12 @@ module _ (step : Step) (empty : Answer Extended) where
     -- the same of stops
 
     module _ {F : Type 0} (v : F → Number) where
-      pub chain-part-stops : (stop : ExecStopOrMemory F) (whole : Answer Extended) (o : Option Extended) (xs : List X) (i : ℕ) (x : X) → whole ≡ from_here o (drop i xs) → i < length xs → x ≡ get_or xs i x → ((fault : Fault) (y : Extended) → o ≡ Some y → step (mark x) y (Err fault) ≡ Err fault) → Stops v stop (answer x) → Stops v stop whole
+      pub chain-part-stops : (stop : ExecStopOrMemory F) (whole : Answer Extended) (o : Option Extended) (xs : List X) (i : ℕ) (x : X) → whole ≡ from_here o (drop i xs) → i < length xs → x ≡ get_or xs i x → ((fault : Fault) (y : Extended) → o ≡ Some y → step (mark x) y (Err fault) ≡ Err fault) → ShowsStop v stop (answer x) → ShowsStop v stop whole
       chain-part-stops Memory whole o xs i x so l at takes s = tt
       chain-part-stops (Stop stop) whole o xs i x so l at takes s =
           so ∙ chain-part-fault o xs i x (fault_of v stop) l at s (takes (fault_of v stop))
 
-      pub chain-step-stops : (stop : ExecStopOrMemory F) (whole : Answer Extended) (o : Option Extended) (xs : List X) (i : ℕ) (x : X) (y : Extended) → whole ≡ from_here o (drop i xs) → i < length xs → x ≡ get_or xs i x → answer x ≡ Ok y → Stops v stop (after step (mark x) o y) → Stops v stop whole
+      pub chain-step-stops : (stop : ExecStopOrMemory F) (whole : Answer Extended) (o : Option Extended) (xs : List X) (i : ℕ) (x : X) (y : Extended) → whole ≡ from_here o (drop i xs) → i < length xs → x ≡ get_or xs i x → answer x ≡ Ok y → ShowsStop v stop (after step (mark x) o y) → ShowsStop v stop whole
       chain-step-stops Memory whole o xs i x y so l at e s = tt
       chain-step-stops (Stop stop) whole o xs i x y so l at e s =
           so ∙ chain-step-fault o xs i x y (fault_of v stop) l at e s

@@ -6,7 +6,7 @@ use Rattle.gms_eval.specs.declared.stop.ExecStopOrMemory.{ExecStopOrMemory}
 use Rattle.gms_eval.specs.declared.stop.ExecStopOrMemory.TheVariants.{Memory, Fault as Stop}
 use Rattle.gms_eval.specs.Domain.{those_where}
 use Rattle.gms_eval.specs.Faults.{Answer, Fault, ◌and_then◌}
-use Rattle.gms_eval.specs.Gives.{fault_of, Stops}
+use Rattle.gms_eval.specs.Gives.{fault_of, ShowsStop}
 use Rattle.gms_eval.specs.InnerWalks.{with_element}
 use Rattle.gms_eval.proofs.Answering.{and_then_assoc}
 
@@ -49,6 +49,6 @@ module _ (test : List ℕ → Answer Bool) where
   choosing-end done xs i all = at_drop_all (choosing done) xs i all ∙ ap Ok (append-nil done)
 
   -- the same of stops
-  pub choosing-stops : {F : Type 0} (v : F → Number) (stop : ExecStopOrMemory F) (whole : Answer (List (List ℕ))) (done xs : List (List ℕ)) (i : ℕ) (x : List ℕ) → whole ≡ choosing done (drop i xs) → i < length xs → x ≡ get_or xs i [] → Stops v stop (test x) → Stops v stop whole
+  pub choosing-stops : {F : Type 0} (v : F → Number) (stop : ExecStopOrMemory F) (whole : Answer (List (List ℕ))) (done xs : List (List ℕ)) (i : ℕ) (x : List ℕ) → whole ≡ choosing done (drop i xs) → i < length xs → x ≡ get_or xs i [] → ShowsStop v stop (test x) → ShowsStop v stop whole
   choosing-stops v Memory whole done xs i x so l at s = tt
   choosing-stops v (Stop stop) whole done xs i x so l at s = so ∙ choosing-fault done xs i x (fault_of v stop) l at s

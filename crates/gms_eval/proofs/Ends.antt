@@ -6,22 +6,22 @@ use Rattle.gq_extended.specs.Extended.{Extended}
 use Rattle.gq_extended.specs.declared.extended.Ext.{Ext}
 use Rattle.gq_extended.specs.Meaning.{extended}
 use Rattle.gms_ast.specs.Trees.{Mark}
-use Rattle.gms_eval.specs.Nodes.{Step, joined}
+use Rattle.gms_eval.specs.Nodes.{ValueStep, joined}
 use Rattle.gms_eval.specs.Faults.{Answer, nothing}
 use Rattle.gms_eval.proofs.Chains.{from_here, chain-end}
 use Rattle.gms_eval.proofs.Marks.{value_or}
 
-joined-none : (step : Step) (o : Option Extended) → joined step (Ok nothing) o [] ≡ Ok (unwrap_or o nothing)
+joined-none : (step : ValueStep) (o : Option Extended) → joined step (Ok nothing) o [] ≡ Ok (unwrap_or o nothing)
 joined-none step None = refl
 joined-none step (Some x) = refl
 
-joined-some : (step : Step) (empty : Answer Extended) (o : Option Extended) (x : Extended) → o ≡ Some x → joined step empty o [] ≡ Ok x
+joined-some : (step : ValueStep) (empty : Answer Extended) (o : Option Extended) (x : Extended) → o ≡ Some x → joined step empty o [] ≡ Ok x
 joined-some step empty o x e = ap (λ p. joined step empty p []) e
 
-joined-empty : (step : Step) (empty : Answer Extended) (o : Option Extended) → o ≡ None → joined step empty o [] ≡ empty
+joined-empty : (step : ValueStep) (empty : Answer Extended) (o : Option Extended) → o ≡ None → joined step empty o [] ≡ empty
 joined-empty step empty o e = ap (λ p. joined step empty p []) e
 
-module _ {F X : Type 0} (v : F → Number) (step : Step) (mark : X → Mark) (answer : X → Answer Extended) where
+module _ {F X : Type 0} (v : F → Number) (step : ValueStep) (mark : X → Mark) (answer : X → Answer Extended) where
   -- the value of a chain at its end
   pub chain-result : (whole : Answer Extended) (so_far : Option (Ext F)) (z : Ext F) (xs : List X) (i : ℕ) → whole ≡ from_here step (Ok nothing) mark answer (option_map (extended v) so_far) (drop i xs) → length xs ≤ i → extended v z ≡ nothing → whole ≡ Ok (extended v (unwrap_or so_far z))
   chain-result whole so_far z xs i so all zero =

@@ -21,7 +21,7 @@ use Rattle.gms_eval.specs.Holds.{holds}
 use Rattle.gms_eval.specs.declared.walk.Walk.{Walk}
 use Rattle.gms_eval.specs.Faults.{Answer, ◌and_then◌}
 use Rattle.gms_eval.specs.InnerLeading.{walked, both, Leads, IsScan, plain_so, tuple_answer, entry_holds, expression_holds, all_hold_in_turn, guards_hold}
-use Rattle.gms_eval.specs.References.{entry_of}
+use Rattle.gms_eval.specs.References.{entry_or_zero}
 use Rattle.gms_eval.specs.Value.{when_so}
 use Rattle.gms_eval.specs.declared.leading.Scan.{Scan}
 use Rattle.gms_eval.proofs.NodeValues.{value-Ref}
@@ -30,7 +30,7 @@ use Rattle.gms_eval.proofs.Simple.{elements-ordered}
 use Rattle.gms_eval.proofs.Thinning.{walk-thinned}
 
 module _ {F : Type 0} (v : F → Number) (limit : ℕ) (state : State) (binding : Pairs) (sets : List ℕ) where
-  so-entry : (b : Pairs) (at : Place) (name : ℕ) (a : Answer (Option (List ℕ))) → when_so (a and_then entry_of limit state b at name suffix.None) ≡ (a and_then λ tuple. Ok (plain_so state name tuple))
+  so-entry : (b : Pairs) (at : Place) (name : ℕ) (a : Answer (Option (List ℕ))) → when_so (a and_then entry_or_zero limit state b at name suffix.None) ≡ (a and_then λ tuple. Ok (plain_so state name tuple))
   so-entry b at name (Ok None) = refl
   so-entry b at name (Ok (Some tuple)) = refl
   so-entry b at name (Err fault) = refl

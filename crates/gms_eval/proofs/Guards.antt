@@ -8,7 +8,7 @@ use Rattle.gms_eval.specs.declared.stop.ExecStopOrMemory.{ExecStopOrMemory}
 use Rattle.gms_eval.specs.declared.stop.ExecStopOrMemory.TheVariants.{Memory, Fault as Stop}
 use Rattle.gms_eval.specs.Nodes.{each_holds, is_so}
 use Rattle.gms_eval.specs.Faults.{Answer, Fault, nothing, ◌and_then◌}
-use Rattle.gms_eval.specs.Gives.{fault_of, Stops}
+use Rattle.gms_eval.specs.Gives.{fault_of, ShowsStop}
 
 -- whether a guard holds, where the guards after it do
 abbrev pub and_this : Answer Extended → Bool → Answer Bool
@@ -57,7 +57,7 @@ module _ {X : Type 0} (answer : X → Answer Extended) where
   one-fails xs n b off e = holds-false n (map answer xs) (ap each_holds (drop-map answer n xs) ∙ e ∙ ap Ok off)
 
   -- one of them is a fault
-  pub guard-stops : {F : Type 0} (v : F → Number) (stop : ExecStopOrMemory F) (xs : List X) (p : ℕ) (x : X) → 0 < p → p ≤ length xs → x ≡ get_or xs (p - 1) x → hold_all (drop p xs) ≡ Ok true → Stops v stop (answer x) → Stops v stop (hold_all xs)
+  pub guard-stops : {F : Type 0} (v : F → Number) (stop : ExecStopOrMemory F) (xs : List X) (p : ℕ) (x : X) → 0 < p → p ≤ length xs → x ≡ get_or xs (p - 1) x → hold_all (drop p xs) ≡ Ok true → ShowsStop v stop (answer x) → ShowsStop v stop (hold_all xs)
   guard-stops v Memory xs p x some within at e s = tt
   guard-stops v (Stop stop) xs p x some within at e s =
       let n : p - 1 + 1 ≡ p = omega arith in

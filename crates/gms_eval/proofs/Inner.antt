@@ -9,7 +9,7 @@ use Rattle.gms_eval.specs.declared.stop.ExecStopOrMemory.{ExecStopOrMemory}
 use Rattle.gms_eval.specs.Nodes.{is_so}
 use Rattle.gms_eval.specs.Bindings.{Pairs, paired, controlled}
 use Rattle.gms_eval.specs.Faults.{◌and_then◌}
-use Rattle.gms_eval.specs.Gives.{Stops}
+use Rattle.gms_eval.specs.Gives.{ShowsStop}
 use Rattle.gms_eval.specs.Holds.{holds}
 use Rattle.gms_eval.specs.Value.{value}
 use Rattle.gms_eval.proofs.Answering.{stops-same, stops-then}
@@ -36,7 +36,7 @@ module _ {F : Type 0} (v : F → Number) (limit : ℕ) (state : State) (next con
   inner-value x g = ap (λ pairs. value v limit state pairs e) (sym is) ∙ g
 
   -- its stop
-  pub inner-stops : (stop : ExecStopOrMemory F) → Stops v stop (value v limit state next e) → Stops v stop (value v limit state controlling e)
+  pub inner-stops : (stop : ExecStopOrMemory F) → ShowsStop v stop (value v limit state next e) → ShowsStop v stop (value v limit state controlling e)
   inner-stops stop s =
       stops-same v stop (value v limit state controlling e) (value v limit state next e) (ap (λ pairs. value v limit state pairs e) (sym is)) s
 
@@ -45,5 +45,5 @@ module _ {F : Type 0} (v : F → Number) (limit : ℕ) (state : State) (next con
   inner-holds x so g told =
       ap (λ a. a and_then λ y. Ok (is_so y)) (inner-value x g) ∙ ap Ok (sym told)
 
-  pub inner-holds-stops : (stop : ExecStopOrMemory F) → Stops v stop (value v limit state next e) → Stops v stop (holds v limit state controlling e)
+  pub inner-holds-stops : (stop : ExecStopOrMemory F) → ShowsStop v stop (value v limit state next e) → ShowsStop v stop (holds v limit state controlling e)
   inner-holds-stops stop s = stops-then v stop (value v limit state controlling e) (λ y. Ok (is_so y)) (inner-stops stop s)

@@ -3,7 +3,7 @@ use Rattle.std.proofs.Common.{◌≡◌, ℕ, ◌+◌, ◌<◌, Bool, true, fals
 use Rattle.gms_labels.specs.declared.place.Place.{Place}
 use Rattle.gq_extended.specs.Extended.{Extended}
 use Rattle.gms_ast.specs.Trees as tree
-use Rattle.gms_eval.specs.Nodes.{is_so, truth, either, all_step, one_step, signed_step}
+use Rattle.gms_eval.specs.Nodes.{is_so, truth, exclusive_or, all_step, one_step, signed_step}
 use Rattle.gms_eval.specs.Bindings.{Pairs}
 use Rattle.gms_eval.specs.Faults.{Answer, Fault, nothing, ◌and_then◌}
 use Rattle.gms_eval.specs.InnerSteps.{is_left_by_and, is_left_by_or}
@@ -45,4 +45,4 @@ module _ {X : Type 0} (mark : X → tree.Mark) (answer : X → Answer Extended) 
   pub or-left : (exclusive : Bool) (o : Option Extended) (xs : List X) (i : ℕ) (x : X) → mark x ≡ tree.chosen exclusive → i < length xs → x ≡ get_or xs i x → is_left_by_or exclusive o ≡ true → from_here one_step (Ok nothing) mark answer o (drop i xs) ≡ from_here one_step (Ok nothing) mark answer (Some (truth true)) (drop (i + 1) xs)
   or-left exclusive None xs i x is l at left = absurd (cc)
   or-left exclusive (Some y) xs i x is l at left =
-      chain-left one_step (Ok nothing) mark answer (Some y) xs i x y (truth true) l at refl (ap (λ m. one_step m y (answer x)) is ∙ ap (λ b. if b then Ok (truth true) else (answer x and_then λ z. Ok (truth (either y z)))) left)
+      chain-left one_step (Ok nothing) mark answer (Some y) xs i x y (truth true) l at refl (ap (λ m. one_step m y (answer x)) is ∙ ap (λ b. if b then Ok (truth true) else (answer x and_then λ z. Ok (truth (exclusive_or y z)))) left)

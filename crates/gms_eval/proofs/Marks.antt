@@ -14,7 +14,7 @@ use Rattle.gms_eval.specs.declared.stop.ExecStopOrMemory.{ExecStopOrMemory}
 use Rattle.gms_eval.specs.declared.stop.ExecStopOrMemory.TheVariants.{Memory, Fault as Stop}
 use Rattle.gms_eval.specs.Bindings.{Pairs}
 use Rattle.gms_eval.specs.Faults.{Answer, Fault, nothing}
-use Rattle.gms_eval.specs.Gives.{Stops, Shows}
+use Rattle.gms_eval.specs.Gives.{ShowsStop, Shows}
 use Rattle.gms_eval.proofs.NodeValues.{of_expr}
 
 module _ {F : Type 0} where
@@ -52,7 +52,7 @@ value_or v None z e = e
 value_or v (Some x) z e = refl
 
 -- a stop that shows a fault stops an answer that is it
-pub stops-shown : {F A : Type 0} (v : F → Number) (stop : ExecStopOrMemory F) (fault : Fault) (a : Answer A) → a ≡ Err fault → Shows v stop fault → Stops v stop a
+pub stops-shown : {F A : Type 0} (v : F → Number) (stop : ExecStopOrMemory F) (fault : Fault) (a : Answer A) → a ≡ Err fault → Shows v stop fault → ShowsStop v stop a
 stops-shown v Memory fault a e s = tt
 stops-shown v (Stop stop) fault a e s = e ∙ ap Err s
 

@@ -18,7 +18,7 @@ use Rattle.gms_store.specs.State.{State}
 use Rattle.gms_eval.specs.Nodes.{chain, sum_step, product_step, power_step, relation_step, all_step, one_step, in_order, called, folded, each_holds, is_so, truth}
 use Rattle.gms_eval.specs.Bindings.{Pairs, controlled}
 use Rattle.gms_eval.specs.Faults.{Answer, nothing, ◌and_then◌}
-use Rattle.gms_eval.specs.References.{tuple_of, entry_of}
+use Rattle.gms_eval.specs.References.{tuple_of, entry_or_zero}
 use Rattle.gms_eval.specs.Value.{value, domain, sets_of, label_answer}
 use Rattle.gms_eval.proofs.Answering.{and_then_assoc}
 use Rattle.gms_eval.proofs.TreeValues.{values-parts_of, unmarked-parts_of, labels-indices_of}
@@ -28,11 +28,11 @@ module _ {F : Type 0} (v : F → Number) (limit : ℕ) (state : State) (b : Pair
   abbrev pub of_expr : Expr F → Answer Extended
   of_expr e = value v limit state b (tree_of e)
 
-  pub value-Ref : (at : Place) (name : ℕ) (suffix : Suffix) (indices : Vec (Index F) Global) → of_expr (Ref at name suffix indices) ≡ ((in_order (map (label_answer v limit state b) indices.items) and_then λ those. Ok (tuple_of those)) and_then entry_of limit state b at name suffix)
+  pub value-Ref : (at : Place) (name : ℕ) (suffix : Suffix) (indices : Vec (Index F) Global) → of_expr (Ref at name suffix indices) ≡ ((in_order (map (label_answer v limit state b) indices.items) and_then λ those. Ok (tuple_of those)) and_then entry_or_zero limit state b at name suffix)
   value-Ref at name suffix indices =
       ap (value v limit state b) (tree_of-Ref at name suffix indices)
-      ∙ ap (λ labels. in_order labels and_then λ those. entry_of limit state b at name suffix (tuple_of those)) (labels-indices_of v limit state b indices.items)
-      ∙ sym (and_then_assoc (in_order (map (label_answer v limit state b) indices.items)) (λ those. Ok (tuple_of those)) (entry_of limit state b at name suffix))
+      ∙ ap (λ labels. in_order labels and_then λ those. entry_or_zero limit state b at name suffix (tuple_of those)) (labels-indices_of v limit state b indices.items)
+      ∙ sym (and_then_assoc (in_order (map (label_answer v limit state b) indices.items)) (λ those. Ok (tuple_of those)) (entry_or_zero limit state b at name suffix))
 
   pub value-Call : (at : Place) (function : Function) (args : Vec (Expr F) Global) → of_expr (Call at function args) ≡ (in_order (map of_expr args.items) and_then λ xs. called limit b at function xs)
   value-Call at function args =

@@ -6,12 +6,12 @@ use Rattle.std.proofs.lemmas.List.Elements.{All-get_or}
 use Rattle.std.proofs.lemmas.Option.{slice_get_within, get_or_from_slice_get}
 use Rattle.std.specs.declared.cmp.Ordering.TheVariants.{Less}
 use Rattle.gms_tuple.specs.TupleOrder.{tuple_cmp, same_tuple, IsOrdered}
-use Rattle.gms_tuple.specs.TupleSet.{has, place_of}
+use Rattle.gms_tuple.specs.TupleSet.{has, place_of_tuple}
 use Rattle.gms_tuple.proofs.Members.{has-place}
 use Rattle.gms_tuple.proofs.Ordered.{same_tuple_refl, same_tuple-Less, first-before, rest-ordered}
 
 -- a tuple that is no member has no place
-pub place-none : (xs : List (List ℕ)) (t : List ℕ) → has xs t ≡ false → place_of xs t ≡ None
+pub place-none : (xs : List (List ℕ)) (t : List ℕ) → has xs t ≡ false → place_of_tuple xs t ≡ None
 place-none xs t absent =
     let m : ℕ = position_or_len (λ member. same_tuple member t) xs in
     elim (ltb m (length xs)) as (λ b. ltb m (length xs) ≡ b → cond b (Some m) None ≡ None) [
@@ -20,7 +20,7 @@ place-none xs t absent =
     ] refl
 
 -- the place of a member is one of the set's
-pub place-below : (xs : List (List ℕ)) (t : List ℕ) (n : ℕ) → place_of xs t ≡ Some n → n < length xs
+pub place-below : (xs : List (List ℕ)) (t : List ℕ) (n : ℕ) → place_of_tuple xs t ≡ Some n → n < length xs
 place-below xs t n found =
     let m : ℕ = position_or_len (λ member. same_tuple member t) xs in
     elim (ltb m (length xs)) as (λ b. ltb m (length xs) ≡ b → cond b (Some m) None ≡ Some n → n < length xs) [
@@ -40,7 +40,7 @@ first-at (x ∷ xs) t (suc n) ordered within at =
     rw (same_tuple-Less x t before) (omega (arith, rest))
 
 -- a tuple that an ordered list has at a place has that place
-pub place-at : (xs : List (List ℕ)) (t : List ℕ) (n : ℕ) → IsOrdered xs → slice_get xs n ≡ Some t → place_of xs t ≡ Some n
+pub place-at : (xs : List (List ℕ)) (t : List ℕ) (n : ℕ) → IsOrdered xs → slice_get xs n ≡ Some t → place_of_tuple xs t ≡ Some n
 place-at xs t n ordered at =
     let within : n < length xs = slice_get_within xs n t at in
     let first = first-at xs t n ordered within (get_or_from_slice_get xs n t [] at) in

@@ -3,7 +3,7 @@ use Rattle.std.proofs.Common.{◌≡◌, ℕ, zero, suc, ◌+◌, ◌*◌, ◌/�
 use Rattle.std.specs.List.{flat_map}
 use Rattle.std.proofs.lemmas.List.{length-map, get_or-map, get_or_append_left, get_or-append-add}
 use Rattle.std.proofs.lemmas.Nat.{div-add-mod', div_below, mod_below}
-use Rattle.gms_tuple.specs.Products.{product}
+use Rattle.gms_tuple.specs.Products.{tuple_product}
 
 -- a factor of a product that is not 0 is not 0
 pub pos_of_product : (a b n : ℕ) → n < a * b → 0 < b
@@ -28,17 +28,17 @@ at_place m f (x ∷ xs) (suc a) b same l k =
     ∙ at_place m f xs a b same (omega arith) k
 
 -- a product has as many elements as the lengths multiply to
-pub length-product : (xs : List ℕ) (rest : List (List ℕ)) → length (product (xs ∷ rest)) ≡ length xs * length (product rest)
+pub length-product : (xs : List ℕ) (rest : List (List ℕ)) → length (tuple_product (xs ∷ rest)) ≡ length xs * length (tuple_product rest)
 length-product xs rest =
-    length-each (length (product rest)) (λ label. map (λ element. label ∷ element) (product rest)) xs (λ x. length-map (product rest) (λ element. x ∷ element))
+    length-each (length (tuple_product rest)) (λ label. map (λ element. label ∷ element) (tuple_product rest)) xs (λ x. length-map (tuple_product rest) (λ element. x ∷ element))
 
 -- the element of a number: a label by division, and the rest of it by the remainder
-pub get_or-product : (xs : List ℕ) (rest : List (List ℕ)) (n : ℕ) → n < length xs * length (product rest) → get_or (product (xs ∷ rest)) n [] ≡ get_or xs (n / length (product rest)) 0 ∷ get_or (product rest) (n % length (product rest)) []
+pub get_or-product : (xs : List ℕ) (rest : List (List ℕ)) (n : ℕ) → n < length xs * length (tuple_product rest) → get_or (tuple_product (xs ∷ rest)) n [] ≡ get_or xs (n / length (tuple_product rest)) 0 ∷ get_or (tuple_product rest) (n % length (tuple_product rest)) []
 get_or-product xs rest n below =
-    let m : ℕ = length (product rest) in
+    let m : ℕ = length (tuple_product rest) in
     let some : 0 < m = pos_of_product (length xs) m n below in
     let a : n / m < length xs = div_below n m (length xs) some below in
     let b : n % m < m = mod_below n m some in
-    ap (λ k. get_or (product (xs ∷ rest)) k []) (sym (div-add-mod' n m))
-    ∙ at_place m (λ label. map (λ element. label ∷ element) (product rest)) xs (n / m) (n % m) (λ x. length-map (product rest) (λ element. x ∷ element)) a b
-    ∙ get_or-map (λ element. get_or xs (n / m) 0 ∷ element) (product rest) (n % m) [] [] b
+    ap (λ k. get_or (tuple_product (xs ∷ rest)) k []) (sym (div-add-mod' n m))
+    ∙ at_place m (λ label. map (λ element. label ∷ element) (tuple_product rest)) xs (n / m) (n % m) (λ x. length-map (tuple_product rest) (λ element. x ∷ element)) a b
+    ∙ get_or-map (λ element. get_or xs (n / m) 0 ∷ element) (tuple_product rest) (n % m) [] [] b

@@ -13,14 +13,14 @@ use Rattle.gms_ast.specs.declared.expression.Index.{Index, Label, Set}
 use Rattle.gms_ast.specs.declared.expression.Index.TheVariants.{rolls-Label, rolls-Set}
 use Rattle.gms_ast.specs.Trees as tree
 use Rattle.gms_ast.specs.TreeView.{tree_step, index_step, control_step, tree_of, index_tree}
-use Rattle.gms_tuple.specs.Products.{product}
+use Rattle.gms_tuple.specs.Products.{tuple_product}
 use Rattle.gms_tuple.specs.TupleOrder.{begins_with}
 use Rattle.gms_tuple.specs.TupleSet.{those_with, count_with}
 use Rattle.gms_store.specs.State.{State, given_of}
 use Rattle.gms_eval.specs.Bindings.{Pairs, label_of}
 use Rattle.gms_eval.specs.Domain.{most_elements, elements, labels_of}
 use Rattle.gms_eval.specs.InnerLeading.{indices_tree}
-use Rattle.gms_eval.specs.Leaders.{before_others, without_lags, index_count, front_of, is_index, is_told, free_behind, reach}
+use Rattle.gms_eval.specs.Leaders.{before_others, without_lags, number_of_indices, front_of, is_plain_index, is_told, free_behind, reach}
 use Rattle.gms_eval.proofs.Sizes.{size_from, length-size_of, elements-few}
 
 pub mul-le : (n a b : ℕ) → a ≤ b → n * a ≤ n * b
@@ -50,17 +50,17 @@ module _ {F : Type 0} where
   tree-lagged name lag rest =
       ap (λ i. index_tree {F = F} i rest) (sym (rolls-Set name (Some lag))) ∙ ap (λ (f : tree.Indices F → tree.Indices F). f rest) (fold-roll-Index F (tree.Tree F) (tree.Indices F → tree.Indices F) (tree.Control F) tree_step index_step control_step (Index-F.Set name (Some lag)))
 
-  step-count : (index : Index-F F (tree.Tree F) (tree.Indices F → tree.Indices F) (tree.Control F)) (rest : tree.Indices F) → index_count (index_step index rest) ≡ suc (index_count rest)
+  step-count : (index : Index-F F (tree.Tree F) (tree.Indices F → tree.Indices F) (tree.Control F)) (rest : tree.Indices F) → number_of_indices (index_step index rest) ≡ suc (number_of_indices rest)
   step-count (Index-F.Label n) rest = refl
   step-count (Index-F.Set name None) rest = refl
   step-count (Index-F.Set name (Some lag)) rest = refl
 
-  count-index : (index : Index F) (rest : tree.Indices F) → index_count (index_tree index rest) ≡ suc (index_count rest)
+  count-index : (index : Index F) (rest : tree.Indices F) → number_of_indices (index_tree index rest) ≡ suc (number_of_indices rest)
   count-index index rest =
       rw (fold_out-Index F (tree.Tree F) (tree.Indices F → tree.Indices F) (tree.Control F) tree_step index_step control_step index) (step-count _ rest)
 
   -- a tree has as many indices as the reference
-  pub count-indices : (indices : List (Index F)) → index_count (indices_tree indices) ≡ length indices
+  pub count-indices : (indices : List (Index F)) → number_of_indices (indices_tree indices) ≡ length indices
   count-indices [] = refl
   count-indices (index ∷ indices) = count-index index (indices_tree indices) ∙ ap suc (count-indices indices)
 
@@ -111,41 +111,41 @@ module _ {F : Type 0} where
   -- ---- sets among indices
 
   module _ (set : ℕ) (index : Index F) where
-    pub index-Label : (n : ℕ) → index ≡ Label n → (rest : tree.Indices F) → is_index set (index_tree index rest) ≡ (false || is_index set rest)
-    index-Label n is rest = ap (λ i. is_index set (index_tree i rest)) is ∙ ap (is_index set) (tree-Label n rest)
+    pub index-Label : (n : ℕ) → index ≡ Label n → (rest : tree.Indices F) → is_plain_index set (index_tree index rest) ≡ (false || is_plain_index set rest)
+    index-Label n is rest = ap (λ i. is_plain_index set (index_tree i rest)) is ∙ ap (is_plain_index set) (tree-Label n rest)
 
-    index-by : (name : ℕ) (lag : Option (LagOp × Place × Box (Expr F) Global)) → index ≡ Set name lag → (rest : tree.Indices F) → is_index set (index_tree index rest) ≡ ((name == set && is_none lag) || is_index set rest)
+    index-by : (name : ℕ) (lag : Option (LagOp × Place × Box (Expr F) Global)) → index ≡ Set name lag → (rest : tree.Indices F) → is_plain_index set (index_tree index rest) ≡ ((name == set && is_none lag) || is_plain_index set rest)
     index-by name None is rest =
-        ap (λ i. is_index set (index_tree i rest)) is
-        ∙ ap (is_index set) (tree-Set name rest)
-        ∙ ap (λ t. t || is_index set rest) (sym (and-true (name == set)))
+        ap (λ i. is_plain_index set (index_tree i rest)) is
+        ∙ ap (is_plain_index set) (tree-Set name rest)
+        ∙ ap (λ t. t || is_plain_index set rest) (sym (and-true (name == set)))
     index-by name (Some lag) is rest =
-        ap (λ i. is_index set (index_tree i rest)) is
-        ∙ ap (is_index set) (tree-lagged name lag rest)
-        ∙ ap (λ t. t || is_index set rest) (sym (and-false (name == set)))
+        ap (λ i. is_plain_index set (index_tree i rest)) is
+        ∙ ap (is_plain_index set) (tree-lagged name lag rest)
+        ∙ ap (λ t. t || is_plain_index set rest) (sym (and-false (name == set)))
 
-    pub index-Set : (name : ℕ) (lag : Option (LagOp × Place × Box (Expr F) Global)) (result : Bool) → index ≡ Set name lag → result ≡ (name == set && is_none lag) → (rest : tree.Indices F) → is_index set (index_tree index rest) ≡ (result || is_index set rest)
-    index-Set name lag result is so rest = index-by name lag is rest ∙ ap (λ t. t || is_index set rest) (sym so)
+    pub index-Set : (name : ℕ) (lag : Option (LagOp × Place × Box (Expr F) Global)) (result : Bool) → index ≡ Set name lag → result ≡ (name == set && is_none lag) → (rest : tree.Indices F) → is_plain_index set (index_tree index rest) ≡ (result || is_plain_index set rest)
+    index-Set name lag result is so rest = index-by name lag is rest ∙ ap (λ t. t || is_plain_index set rest) (sym so)
 
   module _ (set : ℕ) (indices : List (Index F)) (i : ℕ) where
-    index-at : (index : Index F) (here : Bool) → i < length indices → index ≡ get_or indices i index → ((rest : tree.Indices F) → is_index set (index_tree index rest) ≡ (here || is_index set rest)) → is_index set (indices_tree (drop i indices)) ≡ (here || is_index set (indices_tree (drop (i + 1) indices)))
+    index-at : (index : Index F) (here : Bool) → i < length indices → index ≡ get_or indices i index → ((rest : tree.Indices F) → is_plain_index set (index_tree index rest) ≡ (here || is_plain_index set rest)) → is_plain_index set (indices_tree (drop i indices)) ≡ (here || is_plain_index set (indices_tree (drop (i + 1) indices)))
     index-at index here l at told =
-        at_drop_more (λ those. is_index set (indices_tree those)) indices i index l
-        ∙ ap (λ x. is_index set (index_tree x (indices_tree (drop (i + 1) indices)))) (sym at)
+        at_drop_more (λ those. is_plain_index set (indices_tree those)) indices i index l
+        ∙ ap (λ x. is_plain_index set (index_tree x (indices_tree (drop (i + 1) indices)))) (sym at)
         ∙ told (indices_tree (drop (i + 1) indices))
 
     -- it is no index here
-    pub index-more : (index : Index F) (here whole : Bool) → here ≡ false → i < length indices → index ≡ get_or indices i index → ((rest : tree.Indices F) → is_index set (index_tree index rest) ≡ (here || is_index set rest)) → is_index set (indices_tree (drop i indices)) ≡ whole → is_index set (indices_tree (drop (i + 1) indices)) ≡ whole
+    pub index-more : (index : Index F) (here whole : Bool) → here ≡ false → i < length indices → index ≡ get_or indices i index → ((rest : tree.Indices F) → is_plain_index set (index_tree index rest) ≡ (here || is_plain_index set rest)) → is_plain_index set (indices_tree (drop i indices)) ≡ whole → is_plain_index set (indices_tree (drop (i + 1) indices)) ≡ whole
     index-more index here whole off l at told known =
-        ap (λ t. t || is_index set (indices_tree (drop (i + 1) indices))) (sym off) ∙ sym (index-at index here l at told) ∙ known
+        ap (λ t. t || is_plain_index set (indices_tree (drop (i + 1) indices))) (sym off) ∙ sym (index-at index here l at told) ∙ known
 
     -- it is one here
-    pub index-here : (index : Index F) (here whole : Bool) → here ≡ true → i < length indices → index ≡ get_or indices i index → ((rest : tree.Indices F) → is_index set (index_tree index rest) ≡ (here || is_index set rest)) → is_index set (indices_tree (drop i indices)) ≡ whole → true ≡ whole
+    pub index-here : (index : Index F) (here whole : Bool) → here ≡ true → i < length indices → index ≡ get_or indices i index → ((rest : tree.Indices F) → is_plain_index set (index_tree index rest) ≡ (here || is_plain_index set rest)) → is_plain_index set (indices_tree (drop i indices)) ≡ whole → true ≡ whole
     index-here index here whole on l at told known =
-        ap (λ t. t || is_index set (indices_tree (drop (i + 1) indices))) (sym on) ∙ sym (index-at index here l at told) ∙ known
+        ap (λ t. t || is_plain_index set (indices_tree (drop (i + 1) indices))) (sym on) ∙ sym (index-at index here l at told) ∙ known
 
-    pub index-none : (whole : Bool) → length indices ≤ i → is_index set (indices_tree (drop i indices)) ≡ whole → false ≡ whole
-    index-none whole all known = sym (at_drop_all (λ those. is_index set (indices_tree those)) indices i all) ∙ known
+    pub index-none : (whole : Bool) → length indices ≤ i → is_plain_index set (indices_tree (drop i indices)) ≡ whole → false ≡ whole
+    index-none whole all known = sym (at_drop_all (λ those. is_plain_index set (indices_tree those)) indices i all) ∙ known
 
   -- ---- lags
 
@@ -254,7 +254,7 @@ size-elements state sets few = ap length (elements-few state sets few) ∙ lengt
 pub no-elements : (state : State) (sets : List ℕ) → 10 < length sets → length (elements state sets) ≡ 0
 no-elements state sets many = by (nat_le (length sets) 10) refl
   where
-    by : (b : Bool) → nat_le (length sets) 10 ≡ b → length (if b then product (map (labels_of state) sets) else []) ≡ 0
+    by : (b : Bool) → nat_le (length sets) 10 ≡ b → length (if b then tuple_product (map (labels_of state) sets) else []) ≡ 0
     by true e = absurd (let le : length sets ≤ 10 = leb-true (length sets) 10 e in omega (arith, le, many))
     by false e = refl
 

@@ -18,13 +18,13 @@ use Rattle.gms_ast.specs.TreeView.{control_of, tree_step, index_step, control_st
 use Rattle.gms_store.specs.State.{State, members_of}
 use Rattle.gms_eval.specs.declared.elements.Elements.{Elements}
 use Rattle.gms_eval.specs.declared.stop.ExecStopOrMemory.{ExecStopOrMemory}
-use Rattle.gms_eval.specs.Nodes.{counted, folded, truth}
+use Rattle.gms_eval.specs.Nodes.{count_value, folded, truth}
 use Rattle.gms_eval.specs.Bindings.{Pairs, label_of, controlled}
 use Rattle.gms_eval.specs.Domain.{elements, sized, those_where}
 use Rattle.gms_eval.specs.Faults.{◌and_then◌}
-use Rattle.gms_eval.specs.Gives.{Stops}
+use Rattle.gms_eval.specs.Gives.{ShowsStop}
 use Rattle.gms_eval.specs.Holds.{holds}
-use Rattle.gms_eval.specs.References.{place_in_set, reached}
+use Rattle.gms_eval.specs.References.{place_in_set, reached_label}
 use Rattle.gms_eval.specs.Value.{value, domain, sets_of, first_label, label_answer}
 use Rattle.gms_eval.specs.InnerWalks.{those_of, IsCounted}
 use Rattle.gms_eval.proofs.Answering.{stops-then, then-value}
@@ -75,11 +75,11 @@ module _ {F : Type 0} (v : F → Number) (limit : ℕ) (state : State) (b : Pair
   value-No =
       ap (of_expr v limit state b) (sym rolls-No) ∙ ap (value v limit state b) (fold-roll-Expr F (tree.Tree F) (tree.Indices F → tree.Indices F) (tree.Control F) tree_step index_step control_step Expr-F.No)
 
-  pub value-Ord : (at : Place) (set : ℕ) → of_expr v limit state b (Ord at set) ≡ counted limit b at (place_in_set state b set)
+  pub value-Ord : (at : Place) (set : ℕ) → of_expr v limit state b (Ord at set) ≡ count_value limit b at (place_in_set state b set)
   value-Ord at set =
       ap (of_expr v limit state b) (sym (rolls-Ord at set)) ∙ ap (value v limit state b) (fold-roll-Expr F (tree.Tree F) (tree.Indices F → tree.Indices F) (tree.Control F) tree_step index_step control_step (Expr-F.Ord at set))
 
-  pub value-Card : (at : Place) (set : ℕ) → of_expr v limit state b (Card at set) ≡ counted limit b at (length (members_of state set))
+  pub value-Card : (at : Place) (set : ℕ) → of_expr v limit state b (Card at set) ≡ count_value limit b at (length (members_of state set))
   value-Card at set =
       ap (of_expr v limit state b) (sym (rolls-Card at set)) ∙ ap (value v limit state b) (fold-roll-Expr F (tree.Tree F) (tree.Indices F → tree.Indices F) (tree.Control F) tree_step index_step control_step (Expr-F.Card at set))
 
@@ -93,22 +93,22 @@ module _ {F : Type 0} (v : F → Number) (limit : ℕ) (state : State) (b : Pair
   label-alone n =
       ap (λ i. first_label v limit state b (index_tree {F = F} i tree.no_index)) (sym (rolls-Set n None)) ∙ ap (λ f. first_label v limit state b (f tree.no_index)) (fold-roll-Index F (tree.Tree F) (tree.Indices F → tree.Indices F) (tree.Control F) tree_step index_step control_step (Index-F.Set n None))
 
-  pub label-lagged : (n : ℕ) (lag : LagOp × Place × Box (Expr F) Global) → label_answer v limit state b (Set n (Some lag)) ≡ (of_expr v limit state b lag.2.value and_then λ x. reached state b n lag.0 lag.1 x)
+  pub label-lagged : (n : ℕ) (lag : LagOp × Place × Box (Expr F) Global) → label_answer v limit state b (Set n (Some lag)) ≡ (of_expr v limit state b lag.2.value and_then λ x. reached_label state b n lag.0 lag.1 x)
   label-lagged n lag =
       ap (λ i. first_label v limit state b (index_tree {F = F} i tree.no_index)) (sym (rolls-Set n (Some lag))) ∙ ap (λ f. first_label v limit state b (f tree.no_index)) (fold-roll-Index F (tree.Tree F) (tree.Indices F → tree.Indices F) (tree.Control F) tree_step index_step control_step (Index-F.Set n (Some lag)))
 
   -- ---- domains
 
-  stops-control_of : (stop : ExecStopOrMemory F) (at : Place) (sets : List ℕ) (condition : Option (Box (tree.Tree F) Global)) → Stops v stop (sized at b (elements state sets)) → Stops v stop (domain v limit state b at (control_of sets condition))
+  stops-control_of : (stop : ExecStopOrMemory F) (at : Place) (sets : List ℕ) (condition : Option (Box (tree.Tree F) Global)) → ShowsStop v stop (sized at b (elements state sets)) → ShowsStop v stop (domain v limit state b at (control_of sets condition))
   stops-control_of stop at sets None s = s
   stops-control_of stop at sets (Some condition) s =
       stops-then v stop (sized at b (elements state sets)) (λ all. those_where (λ element. holds v limit state (controlled b sets element) condition.value) all) s
 
   module _ (at : Place) (control : ControlNode F) (sets : List ℕ) (is : sets ≡ (out-Control F control).sets) where
     -- the product of the sets is too large
-    pub size-stops : (stop : ExecStopOrMemory F) → Stops v stop (sized at b (elements state sets)) → Stops v stop (domain v limit state b at (control_tree control))
+    pub size-stops : (stop : ExecStopOrMemory F) → ShowsStop v stop (sized at b (elements state sets)) → ShowsStop v stop (domain v limit state b at (control_tree control))
     size-stops stop s =
-        rw (fold_out-Control F (tree.Tree F) (tree.Indices F → tree.Indices F) (tree.Control F) tree_step index_step control_step control) (stops-control_of stop at (out-Control F control).sets _ (subst (λ sets. Stops v stop (sized at b (elements state sets))) is s))
+        rw (fold_out-Control F (tree.Tree F) (tree.Indices F → tree.Indices F) (tree.Control F) tree_step index_step control_step control) (stops-control_of stop at (out-Control F control).sets _ (subst (λ sets. ShowsStop v stop (sized at b (elements state sets))) is s))
 
     -- the elements are those of the sets' product
     pub domain-alone : (out-Control F control).condition ≡ None → sized at b (elements state sets) ≡ Ok (elements state sets) → domain v limit state b at (control_tree control) ≡ Ok (elements state (out-Control F control).sets)

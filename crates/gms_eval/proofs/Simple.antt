@@ -5,11 +5,11 @@ use Rattle.std.proofs.lemmas.List.{drop_more, drop_all, length-map, length_push,
 use Rattle.std.proofs.lemmas.List.Elements.{All-map, All-weaker}
 use Rattle.gms_tuple.specs.TupleOrder.{same_tuple, IsOrdered}
 use Rattle.gms_tuple.specs.TupleSet.{has}
-use Rattle.gms_tuple.specs.Products.{product}
+use Rattle.gms_tuple.specs.Products.{tuple_product}
 use Rattle.gms_tuple.proofs.Ordered.{same_tuple-Decides, same_tuple_refl, ordered-nil}
 use Rattle.gms_store.specs.State.{State, Content, undeclared, alias_of, set_of, parameter_of, variable_of, equation_of, model_with, members_in, members_of, given_in}
 use Rattle.gms_eval.specs.Domain.{elements, labels_of, IsSimple}
-use Rattle.gms_eval.specs.Lag.{label_in}
+use Rattle.gms_eval.specs.Lag.{label_of_element}
 use Rattle.gms_eval.specs.InnerLeading.{picked, spread_over}
 use Rattle.gms_eval.proofs.Ascents.{all_in, has-product, all_in-length, AreAscending, ordered-product}
 use Rattle.gms_eval.proofs.Sizes.{elements-few}
@@ -28,16 +28,16 @@ or-true false = refl
 single-rest : (x : List ℕ) (members : List (List ℕ)) → AreSingle (x ∷ members) → AreSingle members
 single-rest x members single t there = single t (ap (λ b. same_tuple x t || b) there ∙ or-true (same_tuple x t))
 
-only-label : (x : List ℕ) → length x ≡ 1 → label_in x ∷ [] ≡ x
+only-label : (x : List ℕ) → length x ≡ 1 → label_of_element x ∷ [] ≡ x
 only-label [] e = absurd (omega arith)
 only-label (l ∷ []) e = refl
 only-label (l ∷ m ∷ x) e = absurd (omega arith)
 
 -- such tuples are those of their labels
-singles : (members : List (List ℕ)) → AreSingle members → map (λ label. label ∷ []) (map label_in members) ≡ members
+singles : (members : List (List ℕ)) → AreSingle members → map (λ label. label ∷ []) (map label_of_element members) ≡ members
 singles [] single = refl
 singles (x ∷ members) single =
-    ap (λ y. y ∷ map (λ label. label ∷ []) (map label_in members)) (only-label x (single-first x members single))
+    ap (λ y. y ∷ map (λ label. label ∷ []) (map label_of_element members)) (only-label x (single-first x members single))
     ∙ ap (λ ys. x ∷ ys) (singles members (single-rest x members single))
 
 one_label : (m l : ℕ) → (nat_eq m l && true) ≡ nat_eq m l
@@ -57,7 +57,7 @@ module _ (state : State) where
   has-label set l simple =
       any-label (labels_of state set) l ∙ ap (λ members. has members (l ∷ [])) (singles (members_of state set) simple.1)
 
-  ordered-few : (sets : List ℕ) (b : Bool) → All (IsSimple state) sets → IsOrdered (if b then product (map (labels_of state) sets) else [])
+  ordered-few : (sets : List ℕ) (b : Bool) → All (IsSimple state) sets → IsOrdered (if b then tuple_product (map (labels_of state) sets) else [])
   ordered-few sets true simple =
       ordered-product (map (labels_of state) sets) (All-map AreAscending (labels_of state) sets (All-weaker (IsSimple state) (λ set. AreAscending (labels_of state set)) (λ set simple. labels-ascending set simple) sets simple))
   ordered-few sets false simple = ordered-nil
@@ -70,7 +70,7 @@ module _ (state : State) where
   pub element-length : (sets x : List ℕ) → has (elements state sets) x ≡ true → length x ≡ length sets
   element-length sets x there = by (nat_le (length sets) 10) there
     where
-      by : (b : Bool) → has (if b then product (map (labels_of state) sets) else []) x ≡ true → length x ≡ length sets
+      by : (b : Bool) → has (if b then tuple_product (map (labels_of state) sets) else []) x ≡ true → length x ≡ length sets
       by true e =
           all_in-length (map (labels_of state) sets) x (sym (has-product (map (labels_of state) sets) x) ∙ e)
           ∙ length-map sets (labels_of state)
@@ -149,7 +149,7 @@ module _ (state : State) where
   element-all_in : (sets x : List ℕ) → has (elements state sets) x ≡ true → all_in (map (labels_of state) sets) x ≡ true
   element-all_in sets x there = by (nat_le (length sets) 10) there
     where
-      by : (b : Bool) → has (if b then product (map (labels_of state) sets) else []) x ≡ true → all_in (map (labels_of state) sets) x ≡ true
+      by : (b : Bool) → has (if b then tuple_product (map (labels_of state) sets) else []) x ≡ true → all_in (map (labels_of state) sets) x ≡ true
       by true e = sym (has-product (map (labels_of state) sets) x) ∙ e
       by false e = absurd cc
 

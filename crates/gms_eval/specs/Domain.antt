@@ -6,16 +6,16 @@ use Rattle.std.specs.Prelude.{◌≡◌, ℕ, nat_lt, nat_le, min, Bool, true, L
 use Rattle.gms_labels.specs.declared.place.Place.{Place}
 use Rattle.gms_tuple.specs.TupleOrder.{IsOrdered}
 use Rattle.gms_tuple.specs.TupleSet.{has}
-use Rattle.gms_tuple.specs.Products.{product}
+use Rattle.gms_tuple.specs.Products.{tuple_product}
 use Rattle.gms_store.specs.State.{State, members_of}
 use Rattle.gms_eval.specs.Bindings.{Pairs}
 use Rattle.gms_eval.specs.Faults.{Answer, Fault, nothing, ◌and_then◌}
-use Rattle.gms_eval.specs.Lag.{label_in}
+use Rattle.gms_eval.specs.Lag.{label_of_element}
 use Rattle.gms_eval.specs.declared.stop.StopKind.TheVariants.{DomainSize}
 
 -- the labels of a set of one dimension
 abbrev pub labels_of : State → ℕ → List ℕ
-labels_of state set = map label_in (members_of state set)
+labels_of state set = map label_of_element (members_of state set)
 
 -- the members of a set have one label each, and are in order
 abbrev pub IsSimple : State → ℕ → Type 0
@@ -25,7 +25,7 @@ IsSimple state set =
 -- the elements of the product of sets; an element has at most 10 labels, so the product of more
 -- sets is empty
 abbrev pub elements : State → List ℕ → List (List ℕ)
-elements state sets = if nat_le (length sets) 10 then product (map (labels_of state) sets) else []
+elements state sets = if nat_le (length sets) 10 then tuple_product (map (labels_of state) sets) else []
 
 -- how many elements the product of the sets of a domain may have
 abbrev pub most_elements : ℕ

@@ -10,13 +10,13 @@ use Rattle.gms_eval.specs.Faults.{Fault, Answer}
 
 module _ {F : Type 0} (number_of : F → Number) where
   -- the fault that a stop shows
-  abbrev pub shown_by : ExecStop F → Fault
-  shown_by stop =
+  abbrev pub fault_of_stop : ExecStop F → Fault
+  fault_of_stop stop =
       record { kind = stop.kind; at = stop.at; binding = stop.binding; left = extended number_of stop.left; right = extended number_of stop.right; count = stop.count }
 
   -- the fault of a stop on the heap
   abbrev pub fault_of : Box (ExecStop F) Global → Fault
-  fault_of stop = shown_by stop.value
+  fault_of stop = fault_of_stop stop.value
 
   -- a stop shows this fault; out of memory makes no claim
   abbrev pub Shows : ExecStopOrMemory F → Fault → Type 0
@@ -24,11 +24,11 @@ module _ {F : Type 0} (number_of : F → Number) where
   Shows (Stop stop) fault = fault ≡ fault_of stop
 
   -- the answer is exactly the fault of a stop; out of memory makes no claim
-  abbrev pub Stops : {A : Type 0} → ExecStopOrMemory F → Answer A → Type 0
-  Stops Memory answer = Unit {0}
-  Stops (Stop stop) answer = answer ≡ Err (fault_of stop)
+  abbrev pub ShowsStop : {A : Type 0} → ExecStopOrMemory F → Answer A → Type 0
+  ShowsStop Memory answer = Unit {0}
+  ShowsStop (Stop stop) answer = answer ≡ Err (fault_of stop)
 
   -- an answer agrees with a result: the same value, or exactly the same fault
   abbrev pub Gives : {A R : Type 0} → (R → A) → Result R (ExecStopOrMemory F) → Answer A → Type 0
   Gives shown (Ok x) answer = answer ≡ Ok (shown x)
-  Gives shown (Err stop) answer = Stops stop answer
+  Gives shown (Err stop) answer = ShowsStop stop answer

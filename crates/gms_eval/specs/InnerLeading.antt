@@ -14,7 +14,7 @@ use Rattle.gms_eval.specs.Bindings.{Pairs, controlled}
 use Rattle.gms_eval.specs.Domain.{elements}
 use Rattle.gms_eval.specs.Faults.{Answer, nothing, ◌and_then◌}
 use Rattle.gms_eval.specs.Holds.{holds}
-use Rattle.gms_eval.specs.Leaders.{without_lags, index_count, reach}
+use Rattle.gms_eval.specs.Leaders.{without_lags, number_of_indices, reach}
 use Rattle.gms_eval.specs.References.{tuple_of, plain_value}
 use Rattle.gms_eval.specs.Value.{value, label_answer}
 use Rattle.gms_eval.specs.declared.walk.Walk.{Walk}
@@ -101,7 +101,7 @@ parts_tree conditions = parts_of (map (λ condition. (tree.plain, tree_of condit
 -- the one reference that may lead, where the condition is a reference without a suffix
 abbrev pub IsBareReference : {F : Type 0} → ℕ → tree.Indices F → Leading F
 IsBareReference other those name indices =
-    (without_lags those ≡ true) × (index_count those ≤ 10) × (other ≡ name) × (those ≡ indices)
+    (without_lags those ≡ true) × (number_of_indices those ≤ 10) × (other ≡ name) × (those ≡ indices)
 
 -- the traversal of the second of two conditions, or else that of the first
 abbrev pub later_walk : Option Walk → Option Walk → Option Walk

@@ -2,13 +2,13 @@
 use Rattle.std.specs.Prelude.{ℕ, Bool, false, not, ◌&&◌, Option, Some, None, Ok, if◌then◌else◌}
 use Rattle.gq_extended.specs.Extended.{Extended, Outcome, sum, difference, product, quotient}
 use Rattle.gms_ast.specs.Trees.{Mark}
-use Rattle.gms_eval.specs.Nodes.{Step, is_so}
+use Rattle.gms_eval.specs.Nodes.{ValueStep, is_so}
 use Rattle.gms_eval.specs.Faults.{Answer}
 use Rattle.gms_eval.specs.declared.steps.Signed.{Signed}
 use Rattle.gms_eval.specs.declared.steps.Signed.TheVariants as signed
 
 -- the value so far joined with that of the next part, which gives the first value
-abbrev pub after : Step → Mark → Option Extended → Extended → Answer Extended
+abbrev pub after : ValueStep → Mark → Option Extended → Extended → Answer Extended
 after step mark None y = Ok y
 after step mark (Some x) y = step mark x (Ok y)
 

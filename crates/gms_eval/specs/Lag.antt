@@ -5,15 +5,15 @@ use Rattle.std.specs.Int.{int_rem_euclid}
 use Rattle.gq_extended.specs.Extended.{Extended, number}
 use Rattle.gms_ast.specs.declared.expression.LagOp.{LagOp}
 use Rattle.gms_ast.specs.declared.expression.LagOp.TheVariants.{Lead, Lag, CircularLead, CircularLag}
-use Rattle.gms_tuple.specs.TupleSet.{place_of}
+use Rattle.gms_tuple.specs.TupleSet.{place_of_tuple}
 
 -- the label of an element of a set of one dimension
-abbrev pub label_in : List ℕ → ℕ
-label_in element = unwrap_or (slice_get element 0) 0
+abbrev pub label_of_element : List ℕ → ℕ
+label_of_element element = unwrap_or (slice_get element 0) 0
 
 -- the label at a place of a set, where the place is an integer: from 0 up to the number of labels
 abbrev pub label_at : List (List ℕ) → ℤ → Option ℕ
-label_at members (pos place) = option_map label_in (slice_get members place)
+label_at members (pos place) = option_map label_of_element (slice_get members place)
 label_at members (negsuc n) = None
 
 -- a place modulo how many elements there are
@@ -32,7 +32,7 @@ moved members CircularLag amount place = label_at members (around members (place
 -- reaches none
 abbrev pub lagged_label : List (List ℕ) → LagOp → ℤ → ℕ → Option ℕ
 lagged_label members op amount label =
-    option_and_then (λ place. moved members op amount (pos place)) (place_of members (label ∷ []))
+    option_and_then (λ place. moved members op amount (pos place)) (place_of_tuple members (label ∷ []))
 
 -- the integer that a value is, if it is one
 abbrev pub whole_number : Extended → Option ℤ

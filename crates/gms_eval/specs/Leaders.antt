@@ -26,11 +26,11 @@ module _ {F : Type 0} where
   without_lags (tree.lagged name op at amount rest) = false
 
   -- how many indices there are
-  abbrev pub index_count : tree.Indices F → ℕ
-  index_count tree.no_index = 0
-  index_count (tree.label label rest) = suc (index_count rest)
-  index_count (tree.set name rest) = suc (index_count rest)
-  index_count (tree.lagged name op at amount rest) = suc (index_count rest)
+  abbrev pub number_of_indices : tree.Indices F → ℕ
+  number_of_indices tree.no_index = 0
+  number_of_indices (tree.label label rest) = suc (number_of_indices rest)
+  number_of_indices (tree.set name rest) = suc (number_of_indices rest)
+  number_of_indices (tree.lagged name op at amount rest) = suc (number_of_indices rest)
 
   -- a reference has neither a suffix nor a lag
   abbrev pub is_bare : Suffix → tree.Indices F → Bool
@@ -60,7 +60,7 @@ module _ {F : Type 0} where
       -- they guard, from the last to the first.
       pub MayLead : tree.Tree F → Type 0
       MayLead (tree.reference at other suffix those) =
-          (is_bare suffix those ≡ true) × (index_count those ≤ 10) × (other ≡ name) × (those ≡ indices)
+          (is_bare suffix those ≡ true) × (number_of_indices those ≤ 10) × (other ≡ name) × (those ≡ indices)
       MayLead (tree.all_of parts) = OneMayLead parts
       MayLead (tree.guarded operand guards) = LastMayLead guards ⊎ ((none_fails guards ≡ true) × MayLead operand)
       MayLead other = ⊥
@@ -84,18 +84,18 @@ module _ {F : Type 0} where
   front_of binding (tree.lagged name op at amount rest) = []
 
   -- a set occurs among indices without a lag
-  abbrev pub is_index : ℕ → tree.Indices F → Bool
-  is_index name tree.no_index = false
-  is_index name (tree.label label rest) = is_index name rest
-  is_index name (tree.set other rest) = other == name || is_index name rest
-  is_index name (tree.lagged other op at amount rest) = is_index name rest
+  abbrev pub is_plain_index : ℕ → tree.Indices F → Bool
+  is_plain_index name tree.no_index = false
+  is_plain_index name (tree.label label rest) = is_plain_index name rest
+  is_plain_index name (tree.set other rest) = other == name || is_plain_index name rest
+  is_plain_index name (tree.lagged other op at amount rest) = is_plain_index name rest
 
   -- The tuple of a reference determines the label of a set of a control, where these sets come
   -- before it in the control: the set is an index, it stands for no label outside, and it is not
   -- among those before.
   abbrev pub is_told : Pairs → tree.Indices F → List ℕ → ℕ → Bool
   is_told binding indices before name =
-      not (is_some (label_of binding name) || list_any (λ other. other == name) before) && is_index name indices
+      not (is_some (label_of binding name) || list_any (λ other. other == name) before) && is_plain_index name indices
 
   -- the sets of a control, after these, whose labels the tuple of a reference does not determine
   abbrev pub free_behind : Pairs → tree.Indices F → List ℕ → List ℕ → List ℕ

@@ -53,19 +53,19 @@ abbrev pub unmarked : Marked → List (Answer Extended)
 unmarked parts = map (λ part. part.1) parts
 
 -- a step: from the mark of a part, the value so far and the answer of the part
-abbrev pub Step : Type 0
-Step = Mark → Extended → Answer Extended → Answer Extended
+abbrev pub ValueStep : Type 0
+ValueStep = Mark → Extended → Answer Extended → Answer Extended
 
 -- the parts joined in sequence to the value so far. Without such a value the first part gives it;
 -- without parts either the answer is that for nothing.
-abbrev pub joined : Step → Answer Extended → Option Extended → Marked → Answer Extended
+abbrev pub joined : ValueStep → Answer Extended → Option Extended → Marked → Answer Extended
 joined step empty None [] = empty
 joined step empty (Some x) [] = Ok x
 joined step empty None (part ∷ parts) = part.1 and_then λ x. joined step empty (Some x) parts
 joined step empty (Some x) (part ∷ parts) = step part.0 x part.1 and_then λ y. joined step empty (Some y) parts
 
 -- the first part joined with the others
-abbrev pub chain : Step → Marked → Answer Extended
+abbrev pub chain : ValueStep → Marked → Answer Extended
 chain step parts = joined step (Ok nothing) None parts
 
 -- the values of answers in order, or the first fault
@@ -96,46 +96,46 @@ start_of Smax = None
 -- ---- steps that have no fault
 
 -- a relation compares the value so far; the result of an earlier relation is 1 or 0
-abbrev pub relation_step : Step
+abbrev pub relation_step : ValueStep
 relation_step (related op) x answer = answer and_then λ y. Ok (truth (holds_between op x y))
 relation_step mark x answer = answer
 
 -- `and` does not evaluate its right operand if the left is 0
-abbrev pub all_step : Step
+abbrev pub all_step : ValueStep
 all_step mark x answer = if is_so x then answer and_then (λ y. Ok (truth (is_so y))) else Ok (truth false)
 
 -- the result of `xor` on two values
-abbrev pub either : Extended → Extended → Bool
-either x y = if is_so x then not (is_so y) else is_so y
+abbrev pub exclusive_or : Extended → Extended → Bool
+exclusive_or x y = if is_so x then not (is_so y) else is_so y
 
 -- `or` does not evaluate its right operand if the left is not 0; `xor` evaluates both
-abbrev pub one_step : Step
+abbrev pub one_step : ValueStep
 one_step (chosen exclusive) x answer =
-    if not exclusive && is_so x then Ok (truth true) else answer and_then λ y. Ok (truth (either x y))
+    if not exclusive && is_so x then Ok (truth true) else answer and_then λ y. Ok (truth (exclusive_or x y))
 one_step mark x answer = answer
 
 -- ---- steps under a limit, at a place and under a binding
 
 module _ (limit : ℕ) (binding : Pairs) where
   -- a sum or a difference, by the sign before the right operand
-  abbrev pub sum_step : Step
+  abbrev pub sum_step : ValueStep
   sum_step (signed at subtracts) x answer =
       answer and_then λ y. taken at binding x y (if subtracts then difference limit x y else sum limit x y)
   sum_step mark x answer = answer
 
   -- a product or a quotient
-  abbrev pub product_step : Step
+  abbrev pub product_step : ValueStep
   product_step (signed at divides) x answer =
       answer and_then λ y. taken at binding x y (if divides then quotient limit x y else product limit x y)
   product_step mark x answer = answer
 
   -- the step of a sum, and that of a product
-  abbrev pub signed_step : Signed → Step
+  abbrev pub signed_step : Signed → ValueStep
   signed_step signs.Sum = sum_step
   signed_step signs.Product = product_step
 
   -- a power
-  abbrev pub power_step : Step
+  abbrev pub power_step : ValueStep
   power_step (placed at) x answer = answer and_then λ y. taken at binding x y (power limit x y)
   power_step mark x answer = answer
 
@@ -156,10 +156,10 @@ module _ (limit : ℕ) (binding : Pairs) where
   of_one at function x = Ok nothing
 
   -- a function of two values
-  abbrev pub of_two : Place → Function → Extended → Extended → Answer Extended
-  of_two at function.Mod x y = remainder_of at x y
-  of_two at function.Power x y = taken at binding x y (power limit x y)
-  of_two at function x y = Ok nothing
+  abbrev pub called_with_two : Place → Function → Extended → Extended → Answer Extended
+  called_with_two at function.Mod x y = remainder_of at x y
+  called_with_two at function.Power x y = taken at binding x y (power limit x y)
+  called_with_two at function x y = Ok nothing
 
   -- a function of its arguments' values; with another number of arguments its value is 0, as for a
   -- function that the language leaves out
@@ -167,12 +167,12 @@ module _ (limit : ℕ) (binding : Pairs) where
   called at function.Max xs = Ok (extreme greater xs)
   called at function.Min xs = Ok (extreme lesser xs)
   called at function (x ∷ []) = of_one at function x
-  called at function (x ∷ y ∷ []) = of_two at function x y
+  called at function (x ∷ y ∷ []) = called_with_two at function x y
   called at function xs = Ok nothing
 
   -- a count, if it fits
-  abbrev pub counted : Place → ℕ → Answer Extended
-  counted at n = taken at binding nothing nothing (number_if (fits limit (whole (pos n))) (whole (pos n)))
+  abbrev pub count_value : Place → ℕ → Answer Extended
+  count_value at n = taken at binding nothing nothing (number_if (fits limit (whole (pos n))) (whole (pos n)))
 
   -- a step of a fold: the value so far with that of the next body
   abbrev pub fold_join : FoldOp → Place → Extended → Extended → Answer Extended
@@ -182,7 +182,7 @@ module _ (limit : ℕ) (binding : Pairs) where
   fold_join Smax at x y = Ok (greater x y)
 
   -- a step of a fold
-  abbrev pub fold_step : FoldOp → Place → Step
+  abbrev pub fold_step : FoldOp → Place → ValueStep
   fold_step op at mark x answer = answer and_then λ y. fold_join op at x y
 
   -- the values of a fold's bodies, joined in sequence; each step is at the place of the fold and

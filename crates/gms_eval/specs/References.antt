@@ -2,14 +2,14 @@
 -- "Model and Solve Statements").
 use Rattle.std.specs.Prelude.{ℕ, ◌+◌, nat_le, List, [], ◌∷◌, length, Option, Some, None, unwrap_or, option_map, option_and_then, ok_or, Ok, if◌then◌else◌}
 use Rattle.gms_labels.specs.declared.place.Place.{Place}
-use Rattle.gms_tuple.specs.TupleSet.{has, place_of}
+use Rattle.gms_tuple.specs.TupleSet.{has, place_of_tuple}
 use Rattle.gq_number.specs.Number.{Number}
 use Rattle.gq_extended.specs.Extended.{Extended, number, plus_infinity, minus_infinity}
 use Rattle.gms_ast.specs.declared.expression.LagOp.{LagOp}
 use Rattle.gms_ast.specs.declared.expression.Suffix.{Suffix}
 use Rattle.gms_ast.specs.declared.expression.Suffix.TheVariants as suffix
 use Rattle.gms_store.specs.State.{State, Content, set_of, symbol_of, members_of, value_of, attributes_of, statuses_in}
-use Rattle.gms_eval.specs.Nodes.{truth, counted}
+use Rattle.gms_eval.specs.Nodes.{truth, count_value}
 use Rattle.gms_eval.specs.Bindings.{Pairs, label_of}
 use Rattle.gms_eval.specs.Faults.{Answer, nothing, faulted, ◌and_then◌}
 use Rattle.gms_eval.specs.Lag.{lagged_label, whole_number}
@@ -18,8 +18,8 @@ use Rattle.gms_eval.specs.declared.stop.StopKind.TheVariants.{LagNotWhole}
 -- ---- indices
 
 -- the label that a lag of an amount reaches from the label of its set; none if the set has no label
-abbrev pub reached : State → Pairs → ℕ → LagOp → Place → Extended → Answer (Option ℕ)
-reached state binding set op at amount =
+abbrev pub reached_label : State → Pairs → ℕ → LagOp → Place → Extended → Answer (Option ℕ)
+reached_label state binding set op at amount =
     ok_or (whole_number amount) (faulted LagNotWhole at binding amount nothing) and_then λ places. Ok (option_and_then (λ label. lagged_label (members_of state set) op places label) (label_of binding set))
 
 -- the labels of indices, if each has one
@@ -35,7 +35,7 @@ tuple_of labels = if nat_le (length labels) 10 then all_there labels else None
 -- the place of a set's label in the set, from 1; 0 if it has none
 abbrev pub place_in_set : State → Pairs → ℕ → ℕ
 place_in_set state binding set =
-    unwrap_or (option_map (λ place. place + 1) (option_and_then (λ label. place_of (members_of state set) (label ∷ [])) (label_of binding set))) 0
+    unwrap_or (option_map (λ place. place + 1) (option_and_then (λ label. place_of_tuple (members_of state set) (label ∷ [])) (label_of binding set))) 0
 
 -- ---- entries
 
@@ -56,17 +56,17 @@ plain_value state name content tuple = value_of state name tuple
 
 module _ (limit : ℕ) (state : State) (binding : Pairs) where
   -- what a reference reads at a tuple
-  abbrev pub entry_at : Place → ℕ → Suffix → List ℕ → Answer Extended
-  entry_at at name suffix.None tuple = Ok (plain_value state name (symbol_of state name).content tuple)
-  entry_at at name suffix.Lo tuple = Ok (lower_value (attributes_of state name tuple).lower)
-  entry_at at name suffix.Up tuple = Ok (upper_value (attributes_of state name tuple).upper)
-  entry_at at name suffix.L tuple = Ok (number (attributes_of state name tuple).level)
-  entry_at at name suffix.M tuple = Ok (number (attributes_of state name tuple).marginal)
-  entry_at at name suffix.Fx tuple = Ok nothing
-  entry_at at name suffix.ModelStat tuple = counted limit binding at (statuses_in (symbol_of state name).content).0
-  entry_at at name suffix.SolveStat tuple = counted limit binding at (statuses_in (symbol_of state name).content).1
+  abbrev pub read_entry : Place → ℕ → Suffix → List ℕ → Answer Extended
+  read_entry at name suffix.None tuple = Ok (plain_value state name (symbol_of state name).content tuple)
+  read_entry at name suffix.Lo tuple = Ok (lower_value (attributes_of state name tuple).lower)
+  read_entry at name suffix.Up tuple = Ok (upper_value (attributes_of state name tuple).upper)
+  read_entry at name suffix.L tuple = Ok (number (attributes_of state name tuple).level)
+  read_entry at name suffix.M tuple = Ok (number (attributes_of state name tuple).marginal)
+  read_entry at name suffix.Fx tuple = Ok nothing
+  read_entry at name suffix.ModelStat tuple = count_value limit binding at (statuses_in (symbol_of state name).content).0
+  read_entry at name suffix.SolveStat tuple = count_value limit binding at (statuses_in (symbol_of state name).content).1
 
   -- what a reference reads; without a tuple of its indices, 0
-  abbrev pub entry_of : Place → ℕ → Suffix → Option (List ℕ) → Answer Extended
-  entry_of at name suffix None = Ok nothing
-  entry_of at name suffix (Some tuple) = entry_at at name suffix tuple
+  abbrev pub entry_or_zero : Place → ℕ → Suffix → Option (List ℕ) → Answer Extended
+  entry_or_zero at name suffix None = Ok nothing
+  entry_or_zero at name suffix (Some tuple) = read_entry at name suffix tuple

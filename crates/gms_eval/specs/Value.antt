@@ -9,11 +9,11 @@ use Rattle.gms_ast.specs.declared.expression.Index.{Index}
 use Rattle.gms_ast.specs.TreeView.{index_tree}
 use Rattle.gms_ast.specs.Trees as tree
 use Rattle.gms_store.specs.State.{State, members_of}
-use Rattle.gms_eval.specs.Nodes.{Marked, unmarked, is_so, truth, chain, sum_step, product_step, power_step, relation_step, all_step, one_step, called, counted, folded, in_order, each_holds}
+use Rattle.gms_eval.specs.Nodes.{Marked, unmarked, is_so, truth, chain, sum_step, product_step, power_step, relation_step, all_step, one_step, called, count_value, folded, in_order, each_holds}
 use Rattle.gms_eval.specs.Bindings.{Pairs, label_of, controlled}
 use Rattle.gms_eval.specs.Domain.{elements, sized, those_where}
 use Rattle.gms_eval.specs.Faults.{Answer, nothing, ◌and_then◌}
-use Rattle.gms_eval.specs.References.{reached, tuple_of, place_in_set, entry_of}
+use Rattle.gms_eval.specs.References.{reached_label, tuple_of, place_in_set, entry_or_zero}
 
 -- the sets of a control
 abbrev pub sets_of : {F : Type 0} → tree.Control F → List ℕ
@@ -39,9 +39,9 @@ module _ {F : Type 0} (number_of : F → Number) (limit : ℕ) (state : State) w
     value binding tree.yes = Ok (truth true)
     value binding tree.no = Ok (truth false)
     value binding (tree.reference at name suffix indices) =
-        in_order (labels binding indices) and_then λ those. entry_of limit state binding at name suffix (tuple_of those)
-    value binding (tree.place_in_set at set) = counted limit binding at (place_in_set state binding set)
-    value binding (tree.size_of_set at set) = counted limit binding at (length (members_of state set))
+        in_order (labels binding indices) and_then λ those. entry_or_zero limit state binding at name suffix (tuple_of those)
+    value binding (tree.place_in_set at set) = count_value limit binding at (place_in_set state binding set)
+    value binding (tree.size_of_set at set) = count_value limit binding at (length (members_of state set))
     value binding (tree.call at function args) =
         in_order (unmarked (values binding args)) and_then λ xs. called limit binding at function xs
     value binding (tree.fold_over at op control body) =
@@ -68,7 +68,7 @@ module _ {F : Type 0} (number_of : F → Number) (limit : ℕ) (state : State) w
     labels binding (tree.label label rest) = Ok (Some label) ∷ labels binding rest
     labels binding (tree.set set rest) = Ok (label_of binding set) ∷ labels binding rest
     labels binding (tree.lagged set op at amount rest) =
-        (value binding amount and_then λ x. reached state binding set op at x) ∷ labels binding rest
+        (value binding amount and_then λ x. reached_label state binding set op at x) ∷ labels binding rest
 
     -- the elements of a control: those of the product of its sets whose condition holds under the
     -- binding with the element
@@ -82,7 +82,7 @@ module _ {F : Type 0} (number_of : F → Number) (limit : ℕ) (state : State) w
   first_label binding tree.no_index = Ok None
   first_label binding (tree.label n rest) = Ok (Some n)
   first_label binding (tree.set name rest) = Ok (label_of binding name)
-  first_label binding (tree.lagged name op at amount rest) = value binding amount and_then λ x. reached state binding name op at x
+  first_label binding (tree.lagged name op at amount rest) = value binding amount and_then λ x. reached_label state binding name op at x
 
   -- the label of an index
   abbrev pub label_answer : Pairs → Index F → Answer (Option ℕ)

@@ -10,7 +10,7 @@ ghost use Rattle.gms_eval.specs.Domain.{those_where};
 ghost use Rattle.gms_eval.specs.Faults.{◌and_then◌};
 ghost use Rattle.gms_eval.specs.Gives.{Gives};
 ghost use Rattle.gms_eval.specs.Holds.{holds};
-ghost use Rattle.gms_eval.specs.References.{tuple_of, entry_of};
+ghost use Rattle.gms_eval.specs.References.{tuple_of, entry_or_zero};
 ghost use Rattle.gms_eval.specs.Value.{value, domain, control_over, label_answer};
 ghost use Rattle.gms_eval.specs.InnerWalks.{those_of, IsCounted};
 
@@ -119,7 +119,7 @@ fn referred<F: ExactField>(
     b: &Binding,
 ) -> Result<Ext<F>, ExecStopOrMemory<F>>
     ensures { Gives F.value (extended F.value) result
-        ((in_order (map (λ index. label_answer F.value F.limit store.now b.now index) indices.now) and_then λ those. Ok (tuple_of those)) and_then entry_of F.limit store.now b.now at name suffix) }
+        ((in_order (map (λ index. label_answer F.value F.limit store.now b.now index) indices.now) and_then λ those. Ok (tuple_of those)) and_then entry_or_zero F.limit store.now b.now at name suffix) }
 {
     let tuple = tuple_of(alloc, store, indices, b)?;
     entry_of(alloc, store, at, name, suffix, tuple, b)

@@ -2,7 +2,7 @@
 ghost use Rattle.std.specs.Prelude.{◌≡◌, map, fold};
 ghost use Rattle.gq_extended.specs.Meaning.{extended};
 ghost use Rattle.gq_extended.specs.ExtendedOrder.{lesser, greater};
-ghost use Rattle.gms_eval.specs.Nodes.{called, of_one, of_two, remainder_of, extreme};
+ghost use Rattle.gms_eval.specs.Nodes.{called, of_one, called_with_two, remainder_of, extreme};
 ghost use Rattle.gms_eval.specs.Gives.{Gives};
 
 use crate::binding::Binding;
@@ -72,7 +72,7 @@ fn of_two<F: ExactField>(
     b: &Binding,
 ) -> Result<Ext<F>, ExecStopOrMemory<F>>
     ensures { Gives F.value (extended F.value) result
-        (of_two F.limit b.now at function (extended F.value x) (extended F.value y)) }
+        (called_with_two F.limit b.now at function (extended F.value x) (extended F.value y)) }
 {
     match function {
         Function::Mod => remainder(alloc, at, x, y, b),

@@ -2,10 +2,10 @@
 ghost use Rattle.std.specs.Prelude.{◌≡◌, ◌<◌, ◌^◌, ◌∷◌, [], map, pos, ◌+ℤ◌, length, nat_abs, slice_get, slice_index, Some, IsTrue, IfOk, IfSome};
 ghost use Rattle.std.specs.Int.{int_rem_euclid};
 ghost use Rattle.gq_extended.specs.Meaning.{extended};
-ghost use Rattle.gms_tuple.specs.TupleSet.{place_of};
+ghost use Rattle.gms_tuple.specs.TupleSet.{place_of_tuple};
 ghost use Rattle.gms_eval.specs.Gives.{Gives};
-ghost use Rattle.gms_eval.specs.Lag.{label_in, lagged_label, whole_number};
-ghost use Rattle.gms_eval.specs.References.{place_in_set, reached};
+ghost use Rattle.gms_eval.specs.Lag.{label_of_element, lagged_label, whole_number};
+ghost use Rattle.gms_eval.specs.References.{place_in_set, reached_label};
 ghost use Rattle.gms_eval.specs.InnerWalks.{within, moved_place, with_label};
 
 use crate::binding::Binding;
@@ -22,7 +22,7 @@ use std::alloc::{AllocError, Global};
 /// The label at a place of a set of one dimension.
 pub(crate) fn label_at(members: &TupleSet, place: usize) -> u32
     requires { place < length members.now }
-    ensures { result ≡ slice_index (map label_in members.now) place }
+    ensures { result ≡ slice_index (map label_of_element members.now) place }
 {
     match members.get(place).as_slice().first() {
         Some(label) => *label,
@@ -53,7 +53,7 @@ fn is_at(members: &TupleSet, place: usize, label: u32) -> bool
 /// The place of a label in a set of one dimension. The likely place is tried before the set is
 /// searched.
 fn place_in(alloc: Global, members: &TupleSet, label: u32) -> Result<Option<usize>, AllocError>
-    ensures value { IfOk result (λ place. place ≡ place_of members.now (label ∷ [])) }
+    ensures value { IfOk result (λ place. place ≡ place_of_tuple members.now (label ∷ [])) }
     ensures within { IfOk result (λ place. IfSome place (λ n. n < length members.now)) }
 {
     let _count = members.len();
@@ -180,7 +180,7 @@ pub(crate) fn reached<F: ExactField>(
     amount: Ext<F>,
     b: &Binding,
 ) -> Result<Option<u32>, ExecStopOrMemory<F>>
-    ensures { Gives F.value (λ label. label) result (reached store.now b.now set op at (extended F.value amount)) }
+    ensures { Gives F.value (λ label. label) result (reached_label store.now b.now set op at (extended F.value amount)) }
 {
     let Some(places) = whole_number(amount) else {
         return Err(ExecStopOrMemory::at_step(alloc, StopKind::LagNotWhole, at, amount, zero(), b));

@@ -11,7 +11,7 @@ ghost use Rattle.gms_eval.specs.Bindings.{Pairs, label_of, controlled};
 ghost use Rattle.gms_eval.specs.Domain.{most_elements, elements, those_where};
 ghost use Rattle.gms_eval.specs.Holds.{holds};
 ghost use Rattle.gms_eval.specs.InnerLeading.{Condition, both, Leads, IsScan, IsReaching, IsShort, IsBareReference, later_walk, indices_tree, parts_tree, spread_over, label_answers, tuple_answer, entry_holds, expression_holds, all_hold_in_turn, guards_hold};
-ghost use Rattle.gms_eval.specs.Leaders.{before_others, without_lags, never_fails, none_fails, MayLead, OneMayLead, LastMayLead, front_of, is_index, is_told, free_behind, reach};
+ghost use Rattle.gms_eval.specs.Leaders.{before_others, without_lags, never_fails, none_fails, MayLead, OneMayLead, LastMayLead, front_of, is_plain_index, is_told, free_behind, reach};
 ghost use Rattle.gms_eval.specs.InnerWalks.{those_of, IsCounted};
 ghost use Rattle.gms_eval.specs.Value.{label_answer};
 
@@ -67,7 +67,7 @@ fn prefix<F: ExactField>(
 fn is_set<F: ExactField>(index: &Index<F>, set: u32) -> bool
     ensures label { IsTrue result → (state : State) (binding : Pairs) →
         label_answer F.value F.limit state binding index.now ≡ Ok (label_of binding set) }
-    ensures index { (rest : Indices F) → is_index set (index_tree index.now rest) ≡ (result || is_index set rest) }
+    ensures index { (rest : Indices F) → is_plain_index set (index_tree index.now rest) ≡ (result || is_plain_index set rest) }
 {
     match index {
         Index::Label(_) => false,
@@ -80,7 +80,7 @@ fn place_of<F: ExactField>(indices: &[Index<F>], set: u32) -> Option<usize>
     ensures within { IfSome result (λ place. place < length indices.now) }
     ensures label { IfSome result (λ place. (state : State) (binding : Pairs) →
         slice_index_or (label_answers F.value F.limit state indices.now binding) place (Ok None) ≡ Ok (label_of binding set)) }
-    ensures index { is_some result ≡ is_index set (indices_tree indices.now) }
+    ensures index { is_some result ≡ is_plain_index set (indices_tree indices.now) }
 {
     for place in 0..indices.len() {
         if is_set(&indices[place], set) {

@@ -3,7 +3,7 @@ ghost use Rattle.std.specs.Prelude.{◌≡◌, option_map};
 ghost use Rattle.gq_extended.specs.Meaning.{extended};
 ghost use Rattle.gms_store.specs.State.{symbol_of};
 ghost use Rattle.gms_eval.specs.Gives.{Gives};
-ghost use Rattle.gms_eval.specs.References.{lower_value, upper_value, plain_value, entry_of, entry_at};
+ghost use Rattle.gms_eval.specs.References.{lower_value, upper_value, plain_value, entry_or_zero, read_entry};
 
 use crate::binding::Binding;
 use crate::steps::{counted, truth, zero};
@@ -58,7 +58,7 @@ fn entry_at<F: ExactField>(
     tuple: &Tuple,
     b: &Binding,
 ) -> Result<Ext<F>, ExecStopOrMemory<F>>
-    ensures { Gives F.value (extended F.value) result (entry_at F.limit store.now b.now at name suffix tuple.now) }
+    ensures { Gives F.value (extended F.value) result (read_entry F.limit store.now b.now at name suffix tuple.now) }
 {
     match suffix {
         Suffix::None => Ok(plain_value(store, name, tuple)),
@@ -83,7 +83,7 @@ pub(crate) fn entry_of<F: ExactField>(
     tuple: Option<Tuple>,
     b: &Binding,
 ) -> Result<Ext<F>, ExecStopOrMemory<F>>
-    ensures { Gives F.value (extended F.value) result (entry_of F.limit store.now b.now at name suffix tuple) }
+    ensures { Gives F.value (extended F.value) result (entry_or_zero F.limit store.now b.now at name suffix tuple) }
 {
     match tuple {
         Some(tuple) => entry_at(alloc, store, at, name, suffix, &tuple, b),

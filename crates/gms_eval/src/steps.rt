@@ -3,7 +3,7 @@ ghost use Rattle.std.specs.Prelude.{◌≡◌, ◌||◌, not, true, option_map, 
 ghost use Rattle.gq_extended.specs.Meaning.{extended, outcome};
 ghost use Rattle.gms_ast.specs.Trees.{signed, placed, related, chosen, plain};
 ghost use Rattle.gms_eval.specs.Faults.{nothing};
-ghost use Rattle.gms_eval.specs.Nodes.{is_so, truth, holds_between, counted, start_of, fold_step, power_step, relation_step, all_step, one_step, signed_step};
+ghost use Rattle.gms_eval.specs.Nodes.{is_so, truth, holds_between, count_value, start_of, fold_step, power_step, relation_step, all_step, one_step, signed_step};
 ghost use Rattle.gms_eval.specs.Gives.{Gives};
 ghost use Rattle.gms_eval.specs.InnerSteps.{after, signed_outcome, is_left_by_and, is_left_by_or};
 
@@ -200,7 +200,7 @@ pub(crate) fn counted<F: ExactField>(
     count: usize,
     b: &Binding,
 ) -> Result<Ext<F>, ExecStopOrMemory<F>>
-    ensures { Gives F.value (extended F.value) result (counted F.limit b.now at count) }
+    ensures { Gives F.value (extended F.value) result (count_value F.limit b.now at count) }
 {
     match F::from_parts(count as i128, 1) {
         Ok(number) => Ok(Ext::Number(number)),

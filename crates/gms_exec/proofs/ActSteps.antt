@@ -26,7 +26,7 @@ use Rattle.gms_store.specs.State.{with_settings}
 use Rattle.gms_eval.specs.Bindings.{Pairs}
 use Rattle.gms_exec.specs.Assignment.{target_of, after_assignment}
 use Rattle.gms_exec.specs.Options.{after_options}
-use Rattle.gms_exec.specs.Run.{Course, World, OfStatement, OfAct, labels_in, in_state, with_value, display, abort_where, over_elements, solve, act_step, statement_step, of_statement}
+use Rattle.gms_exec.specs.Run.{Course, World, OfStatement, OfAct, labels_in, in_state, with_evaluated, display, abort_where, over_elements, solve, act_step, statement_step, of_statement}
 
 module _ {F : Type 0} (value : F → Number) (limit : ℕ) (world : World F) where
   -- what an act does to a run
@@ -39,7 +39,7 @@ module _ {F : Type 0} (value : F → Number) (limit : ℕ) (world : World F) whe
     by-act act e =
         ap (λ (f : OfStatement). f binding course) (fold_out-Stmt F OfAct OfStatement (act_step value limit world) (statement_step value limit) s) ∙ ap (λ (act : Act F). of_act act s.at binding course) e
 
-    pub on-Assign : (target : Target F) (condition : Option (Expr F)) (right_at : Place) (right : Expr F) → s.act ≡ Assign target condition right_at (Value right) → of_statement value limit world s binding course ≡ with_value (after_assignment value limit course.state s.at binding (target_of target) (option_map tree_of condition) right_at (tree_of right)) (in_state course) course
+    pub on-Assign : (target : Target F) (condition : Option (Expr F)) (right_at : Place) (right : Expr F) → s.act ≡ Assign target condition right_at (Value right) → of_statement value limit world s binding course ≡ with_evaluated (after_assignment value limit course.state s.at binding (target_of target) (option_map tree_of condition) right_at (tree_of right)) (in_state course) course
     on-Assign target condition right_at right e =
         by-act (Assign target condition right_at (Value right)) e ∙ ap (λ (act : Act F). of_act act s.at binding course) (sym (rolls-Assign target condition right_at (Value right))) ∙ ap (λ (f : OfAct). f s.at binding course) (fold-roll-Act F OfAct OfStatement (act_step value limit world) (statement_step value limit) (Act-F.Assign target condition right_at (Value right)))
 

@@ -24,9 +24,9 @@ use Rattle.lp_core.specs.declared.answer.Answer.{Answer}
 use Rattle.gms_exec.specs.Assignment.{target_of, after_assignment}
 use Rattle.gms_exec.specs.Dimensions.{AreOneDimensional}
 use Rattle.gms_exec.specs.Options.{after_options}
-use Rattle.gms_exec.specs.Run.{Course, World, labels_in, in_state, with_value, display, abort_where, solve, of_statement}
+use Rattle.gms_exec.specs.Run.{Course, World, labels_in, in_state, with_evaluated, display, abort_where, solve, of_statement}
 use Rattle.gms_exec.specs.InnerWalks.{Assigns, IsOnce, AsksNoSolver}
-use Rattle.gms_exec.specs.Stepping.{Seen, come_to, Runs, AreKept, UnlessMemory}
+use Rattle.gms_exec.specs.Stepping.{RunView, come_to, Runs, AreValidSettings, UnlessMemory}
 use Rattle.gms_exec.proofs.ActSteps.{on-Assign, on-Display, on-Options, on-Abort, on-Solve, on-Declare, on-Alias, on-Define, on-Model}
 use Rattle.gms_exec.proofs.Arms.{runs-alike, runs-assigned, runs-nothing, runs-state, unless-both}
 use Rattle.gms_exec.proofs.Keeping.{Keeps, run-keeps}
@@ -45,10 +45,10 @@ module _ {F : Type 0} (value : F → Number) (limit : ℕ) (world : World F) (s 
       (λ left.
       let course = come_to value (record { state = old; events = events; answers = answers }) left in
       on-Assign value limit world s binding course target condition right_at e is
-      ∙ ap (λ (c : Option (Expr F)). with_value (after_assignment value limit old s.at binding (target_of target) (option_map tree_of c) right_at (tree_of e)) (in_state course) course) (sym same))
+      ∙ ap (λ (c : Option (Expr F)). with_evaluated (after_assignment value limit old s.at binding (target_of target) (option_map tree_of c) right_at (tree_of e)) (in_state course) course) (sym same))
       (assigns e refl)
 
-  pub ran-Display : {A : Type 0} (result : Result A (ExecStopOrMemory F)) (items shown : List Show) (labels : ℕ) (old new : Seen F) → s.act ≡ Display items → shown ≡ items → labels ≡ labels_in world → Runs value result (display value limit labels shown s.at binding) old new → Runs value result does old new
+  pub ran-Display : {A : Type 0} (result : Result A (ExecStopOrMemory F)) (items shown : List Show) (labels : ℕ) (old new : RunView F) → s.act ≡ Display items → shown ≡ items → labels ≡ labels_in world → Runs value result (display value limit labels shown s.at binding) old new → Runs value result does old new
   ran-Display result items shown labels old new is same counted runs =
       runs-alike value result does (display value limit labels shown s.at binding) old new
       (λ left.
@@ -67,7 +67,7 @@ module _ {F : Type 0} (value : F → Number) (limit : ℕ) (world : World F) (s 
       ∙ ap (λ (xs : List (Word × Setting F)). in_state course (with_settings old (after_options value world.solvers old.settings xs))) (sym same)
       ∙ ap (in_state course) (sym put))
 
-  pub ran-Abort : {A : Type 0} (result : Result A (ExecStopOrMemory F)) (condition own : Option (Expr F)) (items shown : List Show) (labels : ℕ) (old new : Seen F) → s.act ≡ Abort condition items → own ≡ condition → shown ≡ items → labels ≡ labels_in world → Runs value result (abort_where value limit labels (option_map tree_of own) shown s.at binding) old new → Runs value result does old new
+  pub ran-Abort : {A : Type 0} (result : Result A (ExecStopOrMemory F)) (condition own : Option (Expr F)) (items shown : List Show) (labels : ℕ) (old new : RunView F) → s.act ≡ Abort condition items → own ≡ condition → shown ≡ items → labels ≡ labels_in world → Runs value result (abort_where value limit labels (option_map tree_of own) shown s.at binding) old new → Runs value result does old new
   ran-Abort result condition own items shown labels old new is same_condition same counted runs =
       runs-alike value result does (abort_where value limit labels (option_map tree_of own) shown s.at binding) old new
       (λ left.
@@ -78,7 +78,7 @@ module _ {F : Type 0} (value : F → Number) (limit : ℕ) (world : World F) (s 
       ∙ ap (λ (xs : List Show). abort_where value limit labels (option_map tree_of own) xs s.at binding course) (sym same))
       runs
 
-  pub ran-Solve : {A : Type 0} (result : Result A (ExecStopOrMemory F)) (model : Named) (method : Word) (objective : Named) (maximize : Bool) (old new : Seen F) → s.act ≡ Solve model method objective maximize → Runs value result (solve value limit world.solvers world.program.statements.items model.name objective.name maximize s.at binding) old new → Runs value result does old new
+  pub ran-Solve : {A : Type 0} (result : Result A (ExecStopOrMemory F)) (model : Named) (method : Word) (objective : Named) (maximize : Bool) (old new : RunView F) → s.act ≡ Solve model method objective maximize → Runs value result (solve value limit world.solvers world.program.statements.items model.name objective.name maximize s.at binding) old new → Runs value result does old new
   ran-Solve result model method objective maximize old new is runs =
       runs-alike value result does (solve value limit world.solvers world.program.statements.items model.name objective.name maximize s.at binding) old new (λ left. on-Solve value limit world s binding (come_to value old left) model method objective maximize is) runs
 
@@ -98,26 +98,26 @@ module _ {F : Type 0} (value : F → Number) (limit : ℕ) (world : World F) (s 
     other-act course (Act-F.Options settings) e = absurd (no_options settings (e ∙ rolls-Options settings))
     other-act course (Act-F.Abort condition items) e = absurd (no_abort condition items (e ∙ rolls-Abort condition items))
 
-    pub ran-nothing : {A : Type 0} (x : A) (seen : Seen F) → Runs value {A = A} (Ok x) does seen seen
+    pub ran-nothing : {A : Type 0} (x : A) (seen : RunView F) → Runs value {A = A} (Ok x) does seen seen
     ran-nothing x seen = runs-nothing value x does seen (λ left. other-act (come_to value seen left) (out-Act F s.act) (sym (roll-out-Act F s.act)))
 
 -- ---- solvers that were lent
 
-pub lent-runs : {S F A : Type 0} (value : F → Number) (limit : ℕ) (name : S → List ℕ) (program : Program F) (lent solvers : List S) (result : Result A (ExecStopOrMemory F)) (s : Stmt F) (binding : Pairs) (old new : Seen F) → lent ≡ solvers → Runs value result (of_statement value limit (record { program = program; solvers = map name lent }) s binding) old new → Runs value result (of_statement value limit (record { program = program; solvers = map name solvers }) s binding) old new
+pub lent-runs : {S F A : Type 0} (value : F → Number) (limit : ℕ) (name : S → List ℕ) (program : Program F) (lent solvers : List S) (result : Result A (ExecStopOrMemory F)) (s : Stmt F) (binding : Pairs) (old new : RunView F) → lent ≡ solvers → Runs value result (of_statement value limit (record { program = program; solvers = map name lent }) s binding) old new → Runs value result (of_statement value limit (record { program = program; solvers = map name solvers }) s binding) old new
 lent-runs value limit name program lent solvers result s binding old new e runs =
     subst (λ xs. Runs value result (of_statement value limit (record { program = program; solvers = map name xs }) s binding) old new) e runs
 
 -- ---- what it kept
 
-module _ {S F A : Type 0} (value : F → Number) (limit : ℕ) (name : S → List ℕ) (program : Program F) (solvers : List S) (result : Result A (ExecStopOrMemory F)) (s : Stmt F) (binding : Pairs) (old new : Seen F) (once : IsOnce s.act) (runs : Runs value result (of_statement value limit (record { program = program; solvers = map name solvers }) s binding) old new) (few : old.state.settings.decimals ≤ 8) (chosen : 0 < length solvers → old.state.settings.solver < length solvers) (plain : AreOneDimensional old.state program.statements.items) where
+module _ {S F A : Type 0} (value : F → Number) (limit : ℕ) (name : S → List ℕ) (program : Program F) (solvers : List S) (result : Result A (ExecStopOrMemory F)) (s : Stmt F) (binding : Pairs) (old new : RunView F) (once : IsOnce s.act) (runs : Runs value result (of_statement value limit (record { program = program; solvers = map name solvers }) s binding) old new) (few : old.state.settings.decimals ≤ 8) (chosen : 0 < length solvers → old.state.settings.solver < length solvers) (plain : AreOneDimensional old.state program.statements.items) where
   kept : UnlessMemory result (Keeps (length solvers) program.statements.items new.state)
   kept =
       subst (λ (n : ℕ). UnlessMemory result (Keeps n program.statements.items new.state)) (as-long name solvers)
       (run-keeps value limit (record { program = program; solvers = map name solvers }) result s binding old new once runs
       (subst (λ (n : ℕ). Keeps n program.statements.items old.state) (sym (as-long name solvers)) (record { settings = record { decimals = few; chosen = chosen }; plain = plain })))
 
-  pub kept-settings : UnlessMemory result (AreKept (length solvers) new.state.settings)
-  kept-settings = unless-both result (Keeps (length solvers) program.statements.items new.state) (AreKept (length solvers) new.state.settings) (λ k. k.settings) kept
+  pub kept-settings : UnlessMemory result (AreValidSettings (length solvers) new.state.settings)
+  kept-settings = unless-both result (Keeps (length solvers) program.statements.items new.state) (AreValidSettings (length solvers) new.state.settings) (λ k. k.settings) kept
 
   pub kept-plain : UnlessMemory result (AreOneDimensional new.state program.statements.items)
   kept-plain = unless-both result (Keeps (length solvers) program.statements.items new.state) (AreOneDimensional new.state program.statements.items) (λ k. k.plain) kept

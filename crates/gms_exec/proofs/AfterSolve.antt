@@ -5,14 +5,14 @@ use Rattle.std.proofs.lemmas.List.{length-set, map-append}
 use Rattle.std.proofs.lemmas.Option.{slice_get-map}
 use Rattle.gq_number.specs.Number.{Number, whole}
 use Rattle.gms_tuple.specs.TupleOrder.{same_tuple}
-use Rattle.gms_store.specs.State.{Attributes, Content, undeclared, alias_of, set_of, parameter_of, variable_of, equation_of, model_with, Symbol, State, behind, base_of, symbol_at, symbol_of, with_content, with_symbol, if_fits, with_attributes, with_statuses, attributes_in, attributes_of, statuses_in, after_statuses, with_level, with_marginal, has_attributes}
+use Rattle.gms_store.specs.State.{Attributes, Content, undeclared, alias_of, set_of, parameter_of, variable_of, equation_of, model_with, Symbol, State, alias_target, base_of, symbol_at, symbol_of, with_content, with_symbol, if_fits, with_attributes, with_statuses, attributes_in, attributes_of, statuses_in, after_statuses, with_level, with_marginal, has_attributes}
 use Rattle.gms_store.proofs.Writes.{symbol-after, symbol-changed, reads-same, attributes_after, attributes_elsewhere}
 use Rattle.lp_core.specs.declared.program.Lp.{Lp}
 use Rattle.lp_core.specs.declared.answer.End.{End}
 use Rattle.lp_core.specs.declared.answer.End.TheVariants.{Optimal, Infeasible, Unbounded, Interrupted, Refused}
 use Rattle.lp_form.specs.declared.key.Key.{Key}
-use Rattle.gms_exec.specs.Solved.{first_or_zero, behind_first, Point, points, with_point, column_keys, row_keys, points_of, statuses_of, after_end}
-use Rattle.gms_exec.specs.Elements.{IsElement, IsNot, AreElements, elements, feasible_levels, has_no_point}
+use Rattle.gms_exec.specs.Solved.{first_or_zero, behind_first, Point, points, with_point, keys_of_columns, row_keys, points_of, statuses_of, after_end}
+use Rattle.gms_exec.specs.Elements.{IsElement, IsNot, AreElements, program_elements, feasible_levels, has_no_point}
 use Rattle.gms_exec.proofs.Symbols.{base-after, symbol-elsewhere}
 use Rattle.gms_exec.proofs.Levels.{behind-fitted, fits-either}
 
@@ -93,7 +93,7 @@ module _ (state : State) (p : Point) where
   abbrev new : Symbol
   new = if_fits symbol p.key.tuple (with_attributes symbol.content p.key.tuple put)
 
-  alike : (n : ℕ) → behind n new.content ≡ behind n symbol.content
+  alike : (n : ℕ) → alias_target n new.content ≡ alias_target n symbol.content
   alike n = behind-fitted symbol p.key.tuple put n
 
   base-point : (other : ℕ) → base_of (with_point state p) other ≡ base_of state other
@@ -180,7 +180,7 @@ settings-all (p ∷ ps) state = settings-all ps (with_point state p)
 
 -- ---- the statuses
 
-behind-statuses : (c : Content) (model solver n : ℕ) → behind n (with_statuses c model solver) ≡ behind n c
+behind-statuses : (c : Content) (model solver n : ℕ) → alias_target n (with_statuses c model solver) ≡ alias_target n c
 behind-statuses undeclared model solver n = refl
 behind-statuses (alias_of base) model solver n = refl
 behind-statuses (set_of members) model solver n = refl
@@ -223,7 +223,7 @@ module _ (state : State) (model m s : ℕ) where
   abbrev changed : Symbol
   changed = with_content (symbol_of state model) (with_statuses (symbol_of state model).content m s)
 
-  alike-statuses : (n : ℕ) → behind n changed.content ≡ behind n (symbol_of state model).content
+  alike-statuses : (n : ℕ) → alias_target n changed.content ≡ alias_target n (symbol_of state model).content
   alike-statuses n = behind-statuses (symbol_of state model).content m s n
 
   base-begun : (other : ℕ) → base_of begun other ≡ base_of state other
@@ -274,51 +274,51 @@ module _ (state : State) (model m s : ℕ) where
 
 module _ (lp : Lp Number) where
   -- the points of columns and rows have the elements of the program
-  both-keys : (levels marginals row_levels row_marginals : List Number) → map key_of (points (column_keys lp) levels marginals ++ points (row_keys lp) row_levels row_marginals) ≡ elements lp
+  both-keys : (levels marginals row_levels row_marginals : List Number) → map key_of (points (keys_of_columns lp) levels marginals ++ points (row_keys lp) row_levels row_marginals) ≡ program_elements lp
   both-keys levels marginals row_levels row_marginals =
-      map-append key_of (points (column_keys lp) levels marginals) (points (row_keys lp) row_levels row_marginals)
-      ∙ ap (λ ks. ks ++ map key_of (points (row_keys lp) row_levels row_marginals)) (points-keys (column_keys lp) levels marginals)
-      ∙ ap (λ ks. column_keys lp ++ ks) (points-keys (row_keys lp) row_levels row_marginals)
+      map-append key_of (points (keys_of_columns lp) levels marginals) (points (row_keys lp) row_levels row_marginals)
+      ∙ ap (λ ks. ks ++ map key_of (points (row_keys lp) row_levels row_marginals)) (points-keys (keys_of_columns lp) levels marginals)
+      ∙ ap (λ ks. keys_of_columns lp ++ ks) (points-keys (row_keys lp) row_levels row_marginals)
 
-  row-place : (levels marginals row_levels row_marginals : List Number) (i : ℕ) (p : Point) → slice_get (points (row_keys lp) row_levels row_marginals) i ≡ Some p → slice_get (points (column_keys lp) levels marginals ++ points (row_keys lp) row_levels row_marginals) (length (points (column_keys lp) levels marginals) + i) ≡ Some p
+  row-place : (levels marginals row_levels row_marginals : List Number) (i : ℕ) (p : Point) → slice_get (points (row_keys lp) row_levels row_marginals) i ≡ Some p → slice_get (points (keys_of_columns lp) levels marginals ++ points (row_keys lp) row_levels row_marginals) (length (points (keys_of_columns lp) levels marginals) + i) ≡ Some p
   row-place levels marginals row_levels row_marginals i p at =
-      get-right (points (column_keys lp) levels marginals) (points (row_keys lp) row_levels row_marginals) (length (points (column_keys lp) levels marginals) + i) i refl ∙ at
+      get-right (points (keys_of_columns lp) levels marginals) (points (row_keys lp) row_levels row_marginals) (length (points (keys_of_columns lp) levels marginals) + i) i refl ∙ at
 
-  module _ (state : State) (model m s : ℕ) (are : AreElements state (elements lp)) where
+  module _ (state : State) (model m s : ℕ) (are : AreElements state (program_elements lp)) where
     module _ (levels marginals row_levels row_marginals : List Number) where
       abbrev all : List Point
-      all = points (column_keys lp) levels marginals ++ points (row_keys lp) row_levels row_marginals
+      all = points (keys_of_columns lp) levels marginals ++ points (row_keys lp) row_levels row_marginals
 
-      column-put : (j : ℕ) (key : Key) (x d : Number) → slice_get (column_keys lp) j ≡ Some key → slice_get levels j ≡ Some x → IsMarginal marginals j d → attributes_of (fold with_point (after_statuses state model m s) all) key.symbol key.tuple ≡ with_marginal (with_level (attributes_of state key.symbol key.tuple) x) d
+      column-put : (j : ℕ) (key : Key) (x d : Number) → slice_get (keys_of_columns lp) j ≡ Some key → slice_get levels j ≡ Some x → IsMarginal marginals j d → attributes_of (fold with_point (after_statuses state model m s) all) key.symbol key.tuple ≡ with_marginal (with_level (attributes_of state key.symbol key.tuple) x) d
       column-put j key x d at at_level at_marginal =
-          element-put state model m s all (elements lp) (both-keys levels marginals row_levels row_marginals) are j (record { key = key; level = x; marginal = d }) (get-left (points (column_keys lp) levels marginals) (points (row_keys lp) row_levels row_marginals) j (record { key = key; level = x; marginal = d }) (point-at (column_keys lp) levels marginals j key x d at at_level at_marginal))
+          element-put state model m s all (program_elements lp) (both-keys levels marginals row_levels row_marginals) are j (record { key = key; level = x; marginal = d }) (get-left (points (keys_of_columns lp) levels marginals) (points (row_keys lp) row_levels row_marginals) j (record { key = key; level = x; marginal = d }) (point-at (keys_of_columns lp) levels marginals j key x d at at_level at_marginal))
 
       row-put : (i : ℕ) (key : Key) (x d : Number) → slice_get (row_keys lp) i ≡ Some key → slice_get row_levels i ≡ Some x → IsMarginal row_marginals i d → attributes_of (fold with_point (after_statuses state model m s) all) key.symbol key.tuple ≡ with_marginal (with_level (attributes_of state key.symbol key.tuple) x) d
       row-put i key x d at at_level at_marginal =
-          element-put state model m s all (elements lp) (both-keys levels marginals row_levels row_marginals) are (length (points (column_keys lp) levels marginals) + i) (record { key = key; level = x; marginal = d }) (row-place levels marginals row_levels row_marginals i (record { key = key; level = x; marginal = d }) (point-at (row_keys lp) row_levels row_marginals i key x d at at_level at_marginal))
+          element-put state model m s all (program_elements lp) (both-keys levels marginals row_levels row_marginals) are (length (points (keys_of_columns lp) levels marginals) + i) (record { key = key; level = x; marginal = d }) (row-place levels marginals row_levels row_marginals i (record { key = key; level = x; marginal = d }) (point-at (row_keys lp) row_levels row_marginals i key x d at at_level at_marginal))
 
 -- the points of an end have the elements of the program, or there are none
-either-keys : (lp : Lp Number) (end : End Number) → (map key_of (points_of lp end) ≡ elements lp) ⊎ (points_of lp end ≡ [])
+either-keys : (lp : Lp Number) (end : End Number) → (map key_of (points_of lp end) ≡ program_elements lp) ⊎ (points_of lp end ≡ [])
 either-keys lp (Optimal levels row_levels duals reduced) = inl (both-keys lp levels reduced row_levels duals)
 either-keys lp (Unbounded levels row_levels ray) = inl (both-keys lp levels [] row_levels [])
 either-keys lp (Infeasible duals crossed) = inr refl
 either-keys lp (Interrupted phase levels row_levels) = by (phase == 2)
   where
-    by : (b : Bool) → (map key_of (cond b (points (column_keys lp) levels [] ++ points (row_keys lp) row_levels []) []) ≡ elements lp) ⊎ (cond b (points (column_keys lp) levels [] ++ points (row_keys lp) row_levels []) [] ≡ [])
+    by : (b : Bool) → (map key_of (cond b (points (keys_of_columns lp) levels [] ++ points (row_keys lp) row_levels []) []) ≡ program_elements lp) ⊎ (cond b (points (keys_of_columns lp) levels [] ++ points (row_keys lp) row_levels []) [] ≡ [])
     by true = inl (both-keys lp levels [] row_levels [])
     by false = inr refl
 either-keys lp (Refused name) = inr refl
 
 -- what an end with a feasible point writes, and what one without writes
-feasible-points : (lp : Lp Number) (end : End Number) (levels row_levels : List Number) → feasible_levels end ≡ Some (levels, row_levels) → points_of lp end ≡ points (column_keys lp) levels [] ++ points (row_keys lp) row_levels []
+feasible-points : (lp : Lp Number) (end : End Number) (levels row_levels : List Number) → feasible_levels end ≡ Some (levels, row_levels) → points_of lp end ≡ points (keys_of_columns lp) levels [] ++ points (row_keys lp) row_levels []
 feasible-points lp (Optimal ls rs duals reduced) levels row_levels e = absurd cc
 feasible-points lp (Unbounded ls rs ray) levels row_levels e =
-    ap (λ (both : List Number × List Number). points (column_keys lp) both.0 [] ++ points (row_keys lp) both.1 []) (some-same (ls, rs) (levels, row_levels) e)
+    ap (λ (both : List Number × List Number). points (keys_of_columns lp) both.0 [] ++ points (row_keys lp) both.1 []) (some-same (ls, rs) (levels, row_levels) e)
 feasible-points lp (Infeasible duals crossed) levels row_levels e = absurd cc
 feasible-points lp (Interrupted phase ls rs) levels row_levels e = by (phase == 2) e
   where
-    by : (b : Bool) → cond {A = Option (List Number × List Number)} b (Some (ls, rs)) None ≡ Some (levels, row_levels) → cond b (points (column_keys lp) ls [] ++ points (row_keys lp) rs []) [] ≡ points (column_keys lp) levels [] ++ points (row_keys lp) row_levels []
-    by true e = ap (λ (both : List Number × List Number). points (column_keys lp) both.0 [] ++ points (row_keys lp) both.1 []) (some-same (ls, rs) (levels, row_levels) e)
+    by : (b : Bool) → cond {A = Option (List Number × List Number)} b (Some (ls, rs)) None ≡ Some (levels, row_levels) → cond b (points (keys_of_columns lp) ls [] ++ points (row_keys lp) rs []) [] ≡ points (keys_of_columns lp) levels [] ++ points (row_keys lp) row_levels []
+    by true e = ap (λ (both : List Number × List Number). points (keys_of_columns lp) both.0 [] ++ points (row_keys lp) both.1 []) (some-same (ls, rs) (levels, row_levels) e)
     by false e = absurd cc
 feasible-points lp (Refused name) levels row_levels e = absurd cc
 
@@ -328,27 +328,27 @@ no-points lp (Unbounded levels row_levels ray) e = absurd cc
 no-points lp (Infeasible duals crossed) e = refl
 no-points lp (Interrupted phase levels row_levels) e = by (phase == 2) e
   where
-    by : (b : Bool) → not b ≡ true → cond b (points (column_keys lp) levels [] ++ points (row_keys lp) row_levels []) [] ≡ []
+    by : (b : Bool) → not b ≡ true → cond b (points (keys_of_columns lp) levels [] ++ points (row_keys lp) row_levels []) [] ≡ []
     by true e = absurd cc
     by false e = refl
 no-points lp (Refused name) e = refl
 
 -- ---- the laws
 
-pub optimal-column : (state : State) (model : ℕ) (lp : Lp Number) (levels row_levels duals reduced : List Number) (j : ℕ) (key : Key) (x d : Number) → AreElements state (elements lp) → slice_get (column_keys lp) j ≡ Some key → slice_get levels j ≡ Some x → slice_get reduced j ≡ Some d → attributes_of (after_end state model lp (Optimal levels row_levels duals reduced)) key.symbol key.tuple ≡ with_marginal (with_level (attributes_of state key.symbol key.tuple) x) d
+pub optimal-column : (state : State) (model : ℕ) (lp : Lp Number) (levels row_levels duals reduced : List Number) (j : ℕ) (key : Key) (x d : Number) → AreElements state (program_elements lp) → slice_get (keys_of_columns lp) j ≡ Some key → slice_get levels j ≡ Some x → slice_get reduced j ≡ Some d → attributes_of (after_end state model lp (Optimal levels row_levels duals reduced)) key.symbol key.tuple ≡ with_marginal (with_level (attributes_of state key.symbol key.tuple) x) d
 optimal-column state model lp levels row_levels duals reduced j key x d are at at_level at_marginal =
     column-put lp state model 1 1 are levels reduced row_levels duals j key x d at at_level (get-marginal reduced j d at_marginal)
 
-pub optimal-row : (state : State) (model : ℕ) (lp : Lp Number) (levels row_levels duals reduced : List Number) (i : ℕ) (key : Key) (x d : Number) → AreElements state (elements lp) → slice_get (row_keys lp) i ≡ Some key → slice_get row_levels i ≡ Some x → slice_get duals i ≡ Some d → attributes_of (after_end state model lp (Optimal levels row_levels duals reduced)) key.symbol key.tuple ≡ with_marginal (with_level (attributes_of state key.symbol key.tuple) x) d
+pub optimal-row : (state : State) (model : ℕ) (lp : Lp Number) (levels row_levels duals reduced : List Number) (i : ℕ) (key : Key) (x d : Number) → AreElements state (program_elements lp) → slice_get (row_keys lp) i ≡ Some key → slice_get row_levels i ≡ Some x → slice_get duals i ≡ Some d → attributes_of (after_end state model lp (Optimal levels row_levels duals reduced)) key.symbol key.tuple ≡ with_marginal (with_level (attributes_of state key.symbol key.tuple) x) d
 optimal-row state model lp levels row_levels duals reduced i key x d are at at_level at_marginal =
     row-put lp state model 1 1 are levels reduced row_levels duals i key x d at at_level (get-marginal duals i d at_marginal)
 
-pub feasible-column : (state : State) (model : ℕ) (lp : Lp Number) (end : End Number) (levels row_levels : List Number) (j : ℕ) (key : Key) (x : Number) → AreElements state (elements lp) → feasible_levels end ≡ Some (levels, row_levels) → slice_get (column_keys lp) j ≡ Some key → slice_get levels j ≡ Some x → attributes_of (after_end state model lp end) key.symbol key.tuple ≡ with_marginal (with_level (attributes_of state key.symbol key.tuple) x) (whole (pos 0))
+pub feasible-column : (state : State) (model : ℕ) (lp : Lp Number) (end : End Number) (levels row_levels : List Number) (j : ℕ) (key : Key) (x : Number) → AreElements state (program_elements lp) → feasible_levels end ≡ Some (levels, row_levels) → slice_get (keys_of_columns lp) j ≡ Some key → slice_get levels j ≡ Some x → attributes_of (after_end state model lp end) key.symbol key.tuple ≡ with_marginal (with_level (attributes_of state key.symbol key.tuple) x) (whole (pos 0))
 feasible-column state model lp end levels row_levels j key x are is at at_level =
     ap (λ ps. attributes_of (fold with_point (after_statuses state model (statuses_of end).0 (statuses_of end).1) ps) key.symbol key.tuple) (feasible-points lp end levels row_levels is)
     ∙ column-put lp state model (statuses_of end).0 (statuses_of end).1 are levels [] row_levels [] j key x (whole (pos 0)) at at_level refl
 
-pub feasible-row : (state : State) (model : ℕ) (lp : Lp Number) (end : End Number) (levels row_levels : List Number) (i : ℕ) (key : Key) (x : Number) → AreElements state (elements lp) → feasible_levels end ≡ Some (levels, row_levels) → slice_get (row_keys lp) i ≡ Some key → slice_get row_levels i ≡ Some x → attributes_of (after_end state model lp end) key.symbol key.tuple ≡ with_marginal (with_level (attributes_of state key.symbol key.tuple) x) (whole (pos 0))
+pub feasible-row : (state : State) (model : ℕ) (lp : Lp Number) (end : End Number) (levels row_levels : List Number) (i : ℕ) (key : Key) (x : Number) → AreElements state (program_elements lp) → feasible_levels end ≡ Some (levels, row_levels) → slice_get (row_keys lp) i ≡ Some key → slice_get row_levels i ≡ Some x → attributes_of (after_end state model lp end) key.symbol key.tuple ≡ with_marginal (with_level (attributes_of state key.symbol key.tuple) x) (whole (pos 0))
 feasible-row state model lp end levels row_levels i key x are is at at_level =
     ap (λ ps. attributes_of (fold with_point (after_statuses state model (statuses_of end).0 (statuses_of end).1) ps) key.symbol key.tuple) (feasible-points lp end levels row_levels is)
     ∙ row-put lp state model (statuses_of end).0 (statuses_of end).1 are levels [] row_levels [] i key x (whole (pos 0)) at at_level refl
@@ -358,15 +358,15 @@ no-point state model lp end name t none =
     ap (λ ps. attributes_of (fold with_point (after_statuses state model (statuses_of end).0 (statuses_of end).1) ps) name t) (no-points lp end none)
     ∙ attributes-begun state model (statuses_of end).0 (statuses_of end).1 name t
 
-pub other-element : (state : State) (model : ℕ) (lp : Lp Number) (end : End Number) (name : ℕ) (t : List ℕ) → ((i : ℕ) (key : Key) → slice_get (elements lp) i ≡ Some key → IsNot state key name t) → attributes_of (after_end state model lp end) name t ≡ attributes_of state name t
+pub other-element : (state : State) (model : ℕ) (lp : Lp Number) (end : End Number) (name : ℕ) (t : List ℕ) → ((i : ℕ) (key : Key) → slice_get (program_elements lp) i ≡ Some key → IsNot state key name t) → attributes_of (after_end state model lp end) name t ≡ attributes_of state name t
 other-element state model lp end name t apart = elim (either-keys lp end) [
-  | inl are ↦ other-left state model (statuses_of end).0 (statuses_of end).1 (points_of lp end) (elements lp) are name t apart
+  | inl are ↦ other-left state model (statuses_of end).0 (statuses_of end).1 (points_of lp end) (program_elements lp) are name t apart
   | inr none ↦ ap (λ ps. attributes_of (fold with_point (after_statuses state model (statuses_of end).0 (statuses_of end).1) ps) name t) none ∙ attributes-begun state model (statuses_of end).0 (statuses_of end).1 name t
 ]
 
-pub other-name : (state : State) (model : ℕ) (lp : Lp Number) (end : End Number) (other : ℕ) → (base_of state other ≡ base_of state model → ⊥) → ((i : ℕ) (key : Key) → slice_get (elements lp) i ≡ Some key → base_of state other ≡ base_of state key.symbol → ⊥) → symbol_of (after_end state model lp end) other ≡ symbol_of state other
+pub other-name : (state : State) (model : ℕ) (lp : Lp Number) (end : End Number) (other : ℕ) → (base_of state other ≡ base_of state model → ⊥) → ((i : ℕ) (key : Key) → slice_get (program_elements lp) i ≡ Some key → base_of state other ≡ base_of state key.symbol → ⊥) → symbol_of (after_end state model lp end) other ≡ symbol_of state other
 other-name state model lp end other apart none = elim (either-keys lp end) [
-  | inl are ↦ name-left state model (statuses_of end).0 (statuses_of end).1 (points_of lp end) (elements lp) are other apart none
+  | inl are ↦ name-left state model (statuses_of end).0 (statuses_of end).1 (points_of lp end) (program_elements lp) are other apart none
   | inr empty ↦
       ap (λ ps. symbol_of (fold with_point (after_statuses state model (statuses_of end).0 (statuses_of end).1) ps) other) empty
       ∙ symbol-elsewhere state model (changed state model (statuses_of end).0 (statuses_of end).1) (alike-statuses state model (statuses_of end).0 (statuses_of end).1) other apart

@@ -5,7 +5,7 @@ use Rattle.std.proofs.lemmas.List.Elements.{All-nil, All-cons}
 use Rattle.gq_number.specs.Number.{Number}
 use Rattle.gms_store.specs.State.{State}
 use Rattle.gms_eval.specs.Faults.{Answer as Evaluated, Fault}
-use Rattle.gms_eval.specs.Gives.{fault_of, Shows, Stops}
+use Rattle.gms_eval.specs.Gives.{fault_of, Shows, ShowsStop}
 use Rattle.gms_eval.specs.declared.stop.ExecStopOrMemory.{ExecStopOrMemory}
 use Rattle.gms_eval.specs.declared.stop.ExecStopOrMemory.TheVariants.{Memory, Fault as Stop}
 use Rattle.gms_event.specs.EventView.{event_in, events_in}
@@ -16,14 +16,14 @@ use Rattle.lp_core.specs.declared.answer.Pivot.{Pivot}
 use Rattle.lp_slot.specs.declared.solver.SolverRule.{SolverRule}
 use Rattle.lp_core.specs.Numbers.{answer_numbers}
 use Rattle.gms_exec.specs.Answering.{IsAnswered, AreAnswered}
-use Rattle.gms_exec.specs.Run.{Course, stopped_by, with_value, with_event, in_state}
+use Rattle.gms_exec.specs.Run.{Course, stopped_by, with_evaluated, with_event, in_state}
 use Rattle.gms_exec.specs.InnerWalks.{Assigns, HasNoSolve, ShowsNoSolve}
-use Rattle.gms_exec.specs.Stepping.{Seen, come_to, Runs, Answered, paths_taken, UnlessMemory}
+use Rattle.gms_exec.specs.Stepping.{RunView, come_to, Runs, Answered, paths_taken, UnlessMemory}
 use Rattle.gms_exec.proofs.Joining.{grown-nothing}
 
 module _ {F : Type 0} (value : F → Number) where
   -- a call that does the same as another
-  pub runs-alike : {A : Type 0} (result : Result A (ExecStopOrMemory F)) (does other : Course → Course) (old new : Seen F) → ((left : List (Answer Number)) → does (come_to value old left) ≡ other (come_to value old left)) → Runs value result other old new → Runs value result does old new
+  pub runs-alike : {A : Type 0} (result : Result A (ExecStopOrMemory F)) (does other : Course → Course) (old new : RunView F) → ((left : List (Answer Number)) → does (come_to value old left) ≡ other (come_to value old left)) → Runs value result other old new → Runs value result does old new
   runs-alike (Ok x) does other old new same runs =
       record { shown = runs.shown; events = runs.events; fresh = runs.fresh; answers = runs.answers; comes = λ more. same (map (answer_numbers value) runs.fresh ++ more) ∙ runs.comes more }
   runs-alike (Err Memory) does other old new same runs =
@@ -32,7 +32,7 @@ module _ {F : Type 0} (value : F → Number) where
       record { shown = runs.shown; events = runs.events; fresh = runs.fresh; answers = runs.answers; comes = λ more. same (map (answer_numbers value) runs.fresh ++ more) ∙ runs.comes more }
 
   -- a call that changed nothing, where nothing was to be done
-  pub runs-nothing : {A : Type 0} (x : A) (does : Course → Course) (seen : Seen F) → ((left : List (Answer Number)) → does (come_to value seen left) ≡ come_to value seen left) → Runs value {A = A} (Ok x) does seen seen
+  pub runs-nothing : {A : Type 0} (x : A) (does : Course → Course) (seen : RunView F) → ((left : List (Answer Number)) → does (come_to value seen left) ≡ come_to value seen left) → Runs value {A = A} (Ok x) does seen seen
   runs-nothing x does seen same =
       record { shown = []; events = sym (append-nil seen.events); fresh = []; answers = sym (append-nil seen.answers); comes = same }
 
@@ -42,19 +42,19 @@ module _ {F : Type 0} (value : F → Number) where
       record { shown = []; events = sym (append-nil events); fresh = []; answers = sym (append-nil answers); comes = goes }
 
   -- out of memory makes no claim on the state: earlier events and answers remain as a prefix
-  pub runs-memory : {A : Type 0} (failed : ExecStopOrMemory F) (does : Course → Course) (old new : Seen F) (fresh : List (Answer F)) → failed ≡ Memory → new.events ≡ old.events → new.answers ≡ old.answers ++ fresh → Runs value {A = A} (Err failed) does old new
+  pub runs-memory : {A : Type 0} (failed : ExecStopOrMemory F) (does : Course → Course) (old new : RunView F) (fresh : List (Answer F)) → failed ≡ Memory → new.events ≡ old.events → new.answers ≡ old.answers ++ fresh → Runs value {A = A} (Err failed) does old new
   runs-memory {A} failed does old new fresh memory events answers =
       subst (λ failed. Runs value {A = A} (Err failed) does old new) (sym memory) (record { shown = []; events = events ∙ sym (append-nil old.events); fresh = fresh; answers = answers; comes = λ more. tt })
 
   -- a call that failed and changed nothing
-  pub runs-stopped : {A : Type 0} (failed : ExecStopOrMemory F) (does : Course → Course) (seen : Seen F) → ((stop : _) → failed ≡ Stop stop → (left : List (Answer Number)) → does (come_to value seen left) ≡ stopped_by (come_to value seen left) (fault_of value stop)) → Runs value {A = A} (Err failed) does seen seen
+  pub runs-stopped : {A : Type 0} (failed : ExecStopOrMemory F) (does : Course → Course) (seen : RunView F) → ((stop : _) → failed ≡ Stop stop → (left : List (Answer Number)) → does (come_to value seen left) ≡ stopped_by (come_to value seen left) (fault_of value stop)) → Runs value {A = A} (Err failed) does seen seen
   runs-stopped Memory does seen stops =
       record { shown = []; events = sym (append-nil seen.events); fresh = []; answers = sym (append-nil seen.answers); comes = λ more. tt }
   runs-stopped (Stop stop) does seen stops =
       record { shown = []; events = sym (append-nil seen.events); fresh = []; answers = sym (append-nil seen.answers); comes = λ more. stops stop refl more }
 
   -- where the first thing to do is a value that stops
-  pub runs-value_stops : {A B : Type 0} (failed : ExecStopOrMemory F) (does : Course → Course) (seen : Seen F) (answer : Evaluated B) (next : Course → B → Course) → Stops value {A = B} failed answer → ((left : List (Answer Number)) → does (come_to value seen left) ≡ with_value answer (next (come_to value seen left)) (come_to value seen left)) → Runs value {A = A} (Err failed) does seen seen
+  pub runs-value_stops : {A B : Type 0} (failed : ExecStopOrMemory F) (does : Course → Course) (seen : RunView F) (answer : Evaluated B) (next : Course → B → Course) → ShowsStop value {A = B} failed answer → ((left : List (Answer Number)) → does (come_to value seen left) ≡ with_evaluated answer (next (come_to value seen left)) (come_to value seen left)) → Runs value {A = A} (Err failed) does seen seen
   runs-value_stops Memory does seen answer next stops does_so = runs-stopped Memory does seen (λ stop e. absurd cc)
   runs-value_stops (Stop stop) does seen answer next stops does_so =
       record {
@@ -62,24 +62,24 @@ module _ {F : Type 0} (value : F → Number) where
         events = sym (append-nil seen.events);
         fresh = [];
         answers = sym (append-nil seen.answers);
-        comes = λ more. does_so more ∙ ap (λ answer. with_value answer (next (come_to value seen more)) (come_to value seen more)) stops;
+        comes = λ more. does_so more ∙ ap (λ answer. with_evaluated answer (next (come_to value seen more)) (come_to value seen more)) stops;
       }
 
   -- an assignment
-  pub runs-assigned : {A : Type 0} (result : Result A (ExecStopOrMemory F)) (does : Course → Course) (old new : State) (events : List (Event F)) (answers : List (Answer F)) (answer : Evaluated State) → ((left : List (Answer Number)) → does (come_to value (record { state = old; events = events; answers = answers }) left) ≡ with_value answer (in_state (come_to value (record { state = old; events = events; answers = answers }) left)) (come_to value (record { state = old; events = events; answers = answers }) left)) → Assigns value result old new answer → Runs value result does (record { state = old; events = events; answers = answers }) (record { state = new; events = events; answers = answers })
+  pub runs-assigned : {A : Type 0} (result : Result A (ExecStopOrMemory F)) (does : Course → Course) (old new : State) (events : List (Event F)) (answers : List (Answer F)) (answer : Evaluated State) → ((left : List (Answer Number)) → does (come_to value (record { state = old; events = events; answers = answers }) left) ≡ with_evaluated answer (in_state (come_to value (record { state = old; events = events; answers = answers }) left)) (come_to value (record { state = old; events = events; answers = answers }) left)) → Assigns value result old new answer → Runs value result does (record { state = old; events = events; answers = answers }) (record { state = new; events = events; answers = answers })
   runs-assigned (Ok x) does old new events answers answer does_so assigns =
-      let seen : Seen F = record { state = old; events = events; answers = answers } in
-      runs-state x does old new events answers (λ left. does_so left ∙ ap (λ answer. with_value answer (in_state (come_to value seen left)) (come_to value seen left)) assigns)
+      let seen : RunView F = record { state = old; events = events; answers = answers } in
+      runs-state x does old new events answers (λ left. does_so left ∙ ap (λ answer. with_evaluated answer (in_state (come_to value seen left)) (come_to value seen left)) assigns)
   runs-assigned (Err Memory) does old new events answers answer does_so assigns =
       record { shown = []; events = sym (append-nil events); fresh = []; answers = sym (append-nil answers); comes = λ more. tt }
   runs-assigned (Err (Stop stop)) does old new events answers answer does_so assigns =
-      let seen : Seen F = record { state = old; events = events; answers = answers } in
+      let seen : RunView F = record { state = old; events = events; answers = answers } in
       record {
         shown = [];
         events = sym (append-nil events);
         fresh = [];
         answers = sym (append-nil answers);
-        comes = λ more. does_so more ∙ ap (λ answer. with_value answer (in_state (come_to value seen more)) (come_to value seen more)) assigns.0 ∙ ap (λ state. stopped_by (come_to value (record { state = state; events = events; answers = answers }) more) (fault_of value stop)) (sym assigns.1);
+        comes = λ more. does_so more ∙ ap (λ answer. with_evaluated answer (in_state (come_to value seen more)) (come_to value seen more)) assigns.0 ∙ ap (λ state. stopped_by (come_to value (record { state = state; events = events; answers = answers }) more) (fault_of value stop)) (sym assigns.1);
       }
 
   -- one event more
@@ -133,7 +133,7 @@ quiet-paths k answers (event.Fault stop ∷ shown) quiet = quiet-paths k answers
 
 module _ {S F : Type 0} (value : F → Number) (limit : ℕ) (name : S → List ℕ) (rule : S → SolverRule) (paths : S → List (List Pivot)) where
   -- a call that asked no solver
-  pub answered-quiet : (solvers : List S) (old new : Seen F) → ShowsNoSolve old.events new.events → Answered value limit name rule paths solvers solvers old new
+  pub answered-quiet : (solvers : List S) (old new : RunView F) → ShowsNoSolve old.events new.events → Answered value limit name rule paths solvers solvers old new
   answered-quiet solvers old new shows =
       record {
         names = refl;

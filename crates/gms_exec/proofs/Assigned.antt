@@ -14,10 +14,10 @@ use Rattle.gms_ast.specs.declared.expression.Suffix.{Suffix}
 use Rattle.gms_ast.specs.declared.expression.Suffix.TheVariants as suffix
 use Rattle.gms_tuple.specs.TupleSet.{has}
 use Rattle.gms_tuple.proofs.Ordered.{filter_all}
-use Rattle.gms_store.specs.State.{Entries, Attributes, Content, undeclared, alias_of, set_of, parameter_of, variable_of, equation_of, model_with, Symbol, State, behind, base_of, symbol_of, with_content, value_in, attributes_in, members_in, value_of, attributes_of, members_of, is_given, has_attributes, same_number, same_bound, same_attributes, absent_variable, unbounded}
+use Rattle.gms_store.specs.State.{Entries, Attributes, Content, undeclared, alias_of, set_of, parameter_of, variable_of, equation_of, model_with, Symbol, State, alias_target, base_of, symbol_of, with_content, value_in, attributes_in, members_in, value_of, attributes_of, members_of, is_given, has_attributes, same_number, same_bound, same_attributes, absent_variable, unbounded}
 use Rattle.gms_store.specs.State as state_words
 use Rattle.gms_exec.specs.Given.{Given, AllGiven, values_given, members_given, with_attribute, attributes_given, with_given, fitting, after_given}
-use Rattle.gms_exec.specs.Reads.{last_at, value_at, membership_at, attributes_with}
+use Rattle.gms_exec.specs.Reads.{last_at, given_value, membership_at, attributes_with}
 use Rattle.gms_exec.proofs.Symbols.{symbol-here, symbol-elsewhere}
 use Rattle.gms_exec.proofs.Newest.{read-overlaid, last-made, has-with_members}
 
@@ -62,7 +62,7 @@ absent-not_given absent a e = sym (attributes-same a absent (holds-from_not (sam
 -- ---- contents
 
 -- elements that are given something leave what a name stands for
-pub behind-given : (kind : Suffix) (all : AllGiven) (content : Content) (n : ℕ) → behind n (with_given kind all content) ≡ behind n content
+pub behind-given : (kind : Suffix) (all : AllGiven) (content : Content) (n : ℕ) → alias_target n (with_given kind all content) ≡ alias_target n content
 behind-given kind all undeclared n = refl
 behind-given kind all (alias_of base) n = refl
 behind-given kind all (set_of members) n = refl
@@ -77,10 +77,10 @@ either-attributes kind a (Some x) = refl
 
 module _ (kind : Suffix) (all : AllGiven) (t : List ℕ) where
   -- what elements of a variable or an equation are given, at one of them
-  given-there : (content : Content) → last_at (attributes_given kind content all) t ≡ option_map (with_attribute kind (attributes_in content t)) (value_at all t)
+  given-there : (content : Content) → last_at (attributes_given kind content all) t ≡ option_map (with_attribute kind (attributes_in content t)) (given_value all t)
   given-there content = last-made (λ u x. with_attribute kind (attributes_in content u) x) t (values_given all)
 
-  pub attributes-given : (content : Content) → has_attributes content ≡ true → attributes_in (with_given kind all content) t ≡ attributes_with kind (attributes_in content t) (value_at all t)
+  pub attributes-given : (content : Content) → has_attributes content ≡ true → attributes_in (with_given kind all content) t ≡ attributes_with kind (attributes_in content t) (given_value all t)
   attributes-given undeclared has = absurd cc
   attributes-given (alias_of base) has = absurd cc
   attributes-given (set_of members) has = absurd cc
@@ -88,11 +88,11 @@ module _ (kind : Suffix) (all : AllGiven) (t : List ℕ) where
   attributes-given (variable_of type entries) has =
       read-overlaid (λ a. not (same_attributes a (absent_variable type))) (absent_variable type) (absent-not_given (absent_variable type)) (attributes_given kind (variable_of type entries) all) entries t
       ∙ ap (λ o. unwrap_or o (attributes_in (variable_of type entries) t)) (given-there (variable_of type entries))
-      ∙ either-attributes kind (attributes_in (variable_of type entries) t) (value_at all t)
+      ∙ either-attributes kind (attributes_in (variable_of type entries) t) (given_value all t)
   attributes-given (equation_of entries) has =
       read-overlaid (λ a. not (same_attributes a unbounded)) unbounded (absent-not_given unbounded) (attributes_given kind (equation_of entries) all) entries t
       ∙ ap (λ o. unwrap_or o (attributes_in (equation_of entries) t)) (given-there (equation_of entries))
-      ∙ either-attributes kind (attributes_in (equation_of entries) t) (value_at all t)
+      ∙ either-attributes kind (attributes_in (equation_of entries) t) (given_value all t)
   attributes-given (model_with model solver) has = absurd cc
 
 -- ---- states
@@ -125,11 +125,11 @@ module _ (state : State) (name : ℕ) (kind : Suffix) (all : AllGiven) where
         ∙ has-with_members (members_given all) members t
         ∙ ap (λ c. unwrap_or (membership_at all t) (has (members_in c) t)) (sym is)
 
-    pub attributes-after : (t : List ℕ) → has_attributes (symbol_of state name).content ≡ true → attributes_of (after_given kind name all state) name t ≡ attributes_with kind (attributes_of state name t) (value_at all t)
+    pub attributes-after : (t : List ℕ) → has_attributes (symbol_of state name).content ≡ true → attributes_of (after_given kind name all state) name t ≡ attributes_with kind (attributes_of state name t) (given_value all t)
     attributes-after t has = ap (λ c. attributes_in c t) content-given ∙ attributes-given kind all t (symbol_of state name).content has
 
-pub values-after : (state : State) (name : ℕ) (all : AllGiven) (entries : Entries extended.Extended) (t : List ℕ) → base_of state name < length state.symbols → (symbol_of state name).content ≡ parameter_of entries → All (λ given. length given.0 ≡ length (symbol_of state name).domain) all → value_of (after_given suffix.None name all state) name t ≡ unwrap_or (value_at all t) (value_of state name t)
+pub values-after : (state : State) (name : ℕ) (all : AllGiven) (entries : Entries extended.Extended) (t : List ℕ) → base_of state name < length state.symbols → (symbol_of state name).content ≡ parameter_of entries → All (λ given. length given.0 ≡ length (symbol_of state name).domain) all → value_of (after_given suffix.None name all state) name t ≡ unwrap_or (given_value all t) (value_of state name t)
 values-after state name all entries t within is fit =
     ap (λ c. value_in c t) (content-given state name suffix.None all within fit ∙ ap (with_given suffix.None all) is)
     ∙ read-overlaid is_given state_words.zero zero-not_given (values_given all) entries t
-    ∙ ap (λ c. unwrap_or (value_at all t) (value_in c t)) (sym is)
+    ∙ ap (λ c. unwrap_or (given_value all t) (value_in c t)) (sym is)

@@ -21,20 +21,20 @@ use Rattle.gms_eval.specs.declared.stop.StopKind.TheVariants.{Undefined}
 use Rattle.gms_eval.specs.Nodes.{in_order}
 use Rattle.gms_eval.specs.Bindings.{Pairs, controlled}
 use Rattle.gms_eval.specs.Faults.{Answer, nothing, faulted, ◌and_then◌}
-use Rattle.gms_eval.specs.Gives.{Stops}
+use Rattle.gms_eval.specs.Gives.{ShowsStop}
 use Rattle.gms_eval.specs.References.{tuple_of}
 use Rattle.gms_eval.specs.Value.{value, domain, control_over, label_answer}
 use Rattle.gms_eval.proofs.Answering.{and_then_assoc, then-value}
 use Rattle.gms_eval.proofs.TreeValues.{labels-indices_of}
 use Rattle.gms_exec.specs.Given.{Given, member, value_is, AllGiven}
 use Rattle.gms_exec.specs.Membership.{membership}
-use Rattle.gms_exec.specs.Assignment.{newly_controlled, takes, where_taken, is_set, target_of, given_under, element_under, those_there, given_by}
+use Rattle.gms_exec.specs.Assignment.{newly_controlled, takes_value, where_taken, is_set_content, target_of, given_under, element_under, given_elements, given_by}
 use Rattle.gms_exec.specs.InnerWalks.{behind_others, found_at, Assigns}
 
 -- ---- kinds
 
 -- a name that is declared as a set stands for one
-pub kind-set : (content : Content) (k : SymbolKind) → k ≡ kind_in content → k ≡ kind.Set → true ≡ is_set content
+pub kind-set : (content : Content) (k : SymbolKind) → k ≡ kind_in content → k ≡ kind.Set → true ≡ is_set_content content
 kind-set undeclared k e s = absurd cc
 kind-set (alias_of base) k e s = refl
 kind-set (set_of members) k e s = refl
@@ -43,7 +43,7 @@ kind-set (variable_of type entries) k e s = absurd cc
 kind-set (equation_of entries) k e s = absurd cc
 kind-set (model_with model solver) k e s = absurd cc
 
-pub kind-other : (content : Content) (k : SymbolKind) → k ≡ kind_in content → (k ≡ kind.Set → ⊥) → false ≡ is_set content
+pub kind-other : (content : Content) (k : SymbolKind) → k ≡ kind_in content → (k ≡ kind.Set → ⊥) → false ≡ is_set_content content
 kind-other undeclared k e other = refl
 kind-other (alias_of base) k e other = absurd (other e)
 kind-other (set_of members) k e other = absurd (other e)
@@ -64,10 +64,10 @@ behind-new done slice next n there same is so put =
 
 -- ---- what the right side gives
 
-pub taken-so : (s : Suffix) (at : Place) (b : Pairs) (x : Extended) (t : Bool) → t ≡ takes s x → t ≡ true → where_taken s at b x ≡ Ok (value_is x)
+pub taken-so : (s : Suffix) (at : Place) (b : Pairs) (x : Extended) (t : Bool) → t ≡ takes_value s x → t ≡ true → where_taken s at b x ≡ Ok (value_is x)
 taken-so s at b x t is so = ap (λ t. cond t (Ok (value_is x)) (Err (faulted Undefined at b x nothing))) (sym is ∙ so)
 
-pub taken-not : (s : Suffix) (at : Place) (b : Pairs) (x right : Extended) (t : Bool) → t ≡ takes s x → t ≡ false → right ≡ nothing → where_taken s at b x ≡ Err (faulted Undefined at b x right)
+pub taken-not : (s : Suffix) (at : Place) (b : Pairs) (x right : Extended) (t : Bool) → t ≡ takes_value s x → t ≡ false → right ≡ nothing → where_taken s at b x ≡ Err (faulted Undefined at b x right)
 taken-not s at b x right t is so none =
     ap (λ t. cond t (Ok (value_is x)) (Err (faulted Undefined at b x nothing))) (sym is ∙ so) ∙ ap (λ z. Err (faulted Undefined at b x z)) (sym none)
 
@@ -78,11 +78,11 @@ and_then-as (Err fault) f g same = refl
 
 module _ {F : Type 0} (v : F → Number) (limit : ℕ) (state : State) (target : TargetNode F) (right_at : Place) (right : Tree F) (b : Pairs) where
   -- what the right side gives of a set, and of another name
-  pub given-of-set : (s : Bool) → s ≡ is_set (symbol_of state target.name).content → s ≡ true → given_under v limit state (target_of target) right_at right b ≡ (membership v limit state b right and_then λ x. Ok (member x))
+  pub given-of-set : (s : Bool) → s ≡ is_set_content (symbol_of state target.name).content → s ≡ true → given_under v limit state (target_of target) right_at right b ≡ (membership v limit state b right and_then λ x. Ok (member x))
   given-of-set s is so =
       ap (λ s. cond s (membership v limit state b right and_then λ x. Ok (member x)) (value v limit state b right and_then where_taken target.suffix right_at b)) (sym is ∙ so)
 
-  pub given-of-value : (s : Bool) → s ≡ is_set (symbol_of state target.name).content → s ≡ false → given_under v limit state (target_of target) right_at right b ≡ (value v limit state b right and_then where_taken target.suffix right_at b)
+  pub given-of-value : (s : Bool) → s ≡ is_set_content (symbol_of state target.name).content → s ≡ false → given_under v limit state (target_of target) right_at right b ≡ (value v limit state b right and_then where_taken target.suffix right_at b)
   given-of-value s is so =
       ap (λ s. cond s (membership v limit state b right and_then λ x. Ok (member x)) (value v limit state b right and_then where_taken target.suffix right_at b)) (sym is ∙ so)
 
@@ -101,7 +101,7 @@ module _ {F : Type 0} (v : F → Number) (limit : ℕ) (state : State) (target :
 
   -- those of elements with what they are given
   abbrev pub each_of : List ℕ → List (List ℕ) → Answer AllGiven
-  each_of sets elements = in_order (map (λ element. element_under v limit state (target_of target) right_at right (controlled b sets element)) elements) and_then λ given. Ok (those_there v limit state given)
+  each_of sets elements = in_order (map (λ element. element_under v limit state (target_of target) right_at right (controlled b sets element)) elements) and_then λ given. Ok (given_elements v limit state given)
 
   pub given-by-sets : (at : Place) (condition : Option (Tree F)) (slice : List (Index F)) (items sets : List ℕ) → slice ≡ target.indices → items ≡ newly_controlled b (indices_of (map index_tree slice)) → sets ≡ items → given_by v limit state at b (target_of target) condition right_at right ≡ (domain v limit state b at (control_over sets condition) and_then each_of sets)
   given-by-sets at condition slice items sets same is as_items =
@@ -115,9 +115,9 @@ module _ {F : Type 0} (v : F → Number) (limit : ℕ) (state : State) (target :
 -- ---- the state
 
 -- a stop that is returned as it is leaves the state unchanged
-pub assigns-handed : {F A : Type 0} (v : F → Number) (r : Result A (ExecStopOrMemory F)) (stop : ExecStopOrMemory F) (state : State) (a : Answer State) → IsErrAnd r (λ e. e ≡ stop) → Stops v stop a → Assigns v r state state a
+pub assigns-handed : {F A : Type 0} (v : F → Number) (r : Result A (ExecStopOrMemory F)) (stop : ExecStopOrMemory F) (state : State) (a : Answer State) → IsErrAnd r (λ e. e ≡ stop) → ShowsStop v stop a → Assigns v r state state a
 assigns-handed {F = F} {A = A} v r stop state a h s = let p = err_from_is_err_and r h in rw (p.1, p.2) (by stop s)
   where
-    by : (stop : ExecStopOrMemory F) → Stops v stop a → Assigns v {A = A} (Err stop) state state a
+    by : (stop : ExecStopOrMemory F) → ShowsStop v stop a → Assigns v {A = A} (Err stop) state state a
     by Memory s = tt
     by (Stop one) s = (s, refl)

@@ -26,7 +26,7 @@ use Rattle.gms_exec.specs.Assignment.{target_of, after_assignment}
 use Rattle.gms_exec.specs.Showing.{all_shown}
 use Rattle.gms_exec.specs.Solved.{after_end}
 use Rattle.lp_core.specs.declared.answer.Answer.{Answer}
-use Rattle.gms_exec.specs.Run.{Course, Halt, World, OfAct, OfStatement, in_state, with_event, stopped_by, while_it_runs, with_value, one_after_another, for_each, display, abort, abort_where, over_elements, answered, solve, act_step, statement_step, of_statement, labels_in}
+use Rattle.gms_exec.specs.Run.{Course, Halt, World, OfAct, OfStatement, in_state, with_event, stopped_by, while_it_runs, with_evaluated, one_after_another, for_each, display, abort, abort_where, over_elements, answered, solve, act_step, statement_step, of_statement, labels_in}
 
 -- the run that showed these events before all others
 abbrev pub behind : List Event → Course → Course
@@ -44,7 +44,7 @@ behind_event : (front : List Event) (c : Course) (e : Event) → with_event (beh
 behind_event front c e = ap (λ (es : List Event). record { state = c.state; events = es; left = c.left; taken = c.taken; halted = c.halted }) (append_assoc front c.events (e ∷ []))
 
 -- a step with a value, or a stop by a fault
-behind_value : {A : Type 0} (front : List Event) (r : Evaluated A) (next other : A → Course) (c : Course) → ((x : A) → other x ≡ behind front (next x)) → with_value r other (behind front c) ≡ behind front (with_value r next c)
+behind_value : {A : Type 0} (front : List Event) (r : Evaluated A) (next other : A → Course) (c : Course) → ((x : A) → other x ≡ behind front (next x)) → with_evaluated r other (behind front c) ≡ behind front (with_evaluated r next c)
 behind_value front (Ok x) next other c same = same x
 behind_value front (Err fault) next other c same = refl
 
@@ -130,7 +130,7 @@ module _ {F : Type 0} (number_of : F → Number) (limit : ℕ) (world : World F)
   behind_nothing : IsBehindAct (λ at binding c. c)
   behind_nothing front at binding c = refl
 
-  behind_assign : (target : Target F) (condition : Option (Expr F)) (right_at : Place) (right : Expr F) → IsBehindAct (λ at binding c. with_value (after_assignment number_of limit c.state at binding (target_of target) (option_map tree_of condition) right_at (tree_of right)) (in_state c) c)
+  behind_assign : (target : Target F) (condition : Option (Expr F)) (right_at : Place) (right : Expr F) → IsBehindAct (λ at binding c. with_evaluated (after_assignment number_of limit c.state at binding (target_of target) (option_map tree_of condition) right_at (tree_of right)) (in_state c) c)
   behind_assign target condition right_at right front at binding c =
       behind_value front (after_assignment number_of limit c.state at binding (target_of target) (option_map tree_of condition) right_at (tree_of right)) (in_state c) (in_state (behind front c)) c (λ state. refl)
 

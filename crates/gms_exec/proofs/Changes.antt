@@ -1,7 +1,7 @@
 -- States in which what one name stands for is changed.
 use Rattle.std.proofs.Common.{◌≡◌, ◌⊎◌, ℕ, zero, suc, Bool, true, false, ◌==◌, List, [], ◌∷◌, set, slice_get, refl, ap, ◌∙◌, subst, Some, unwrap_or, inl, inr}
 use Rattle.std.proofs.lemmas.Bool.{eqb-true, eq-eqb, both_ways}
-use Rattle.gms_store.specs.State.{Symbol, State, no_symbol, symbol_at, behind, base_of, symbol_of, with_symbol}
+use Rattle.gms_store.specs.State.{Symbol, State, no_symbol, symbol_at, alias_target, base_of, symbol_of, with_symbol}
 
 -- ---- lists
 
@@ -39,7 +39,7 @@ changed f name state = with_symbol state name (f (symbol_of state name))
 
 -- a change after which a name stands for what it stood for
 abbrev pub KeepsBase : (Symbol → Symbol) → Type 0
-KeepsBase f = (s : Symbol) (n : ℕ) → behind n (f s).content ≡ behind n s.content
+KeepsBase f = (s : Symbol) (n : ℕ) → alias_target n (f s).content ≡ alias_target n s.content
 
 -- a change that changes nothing
 pub changed-same : (f : Symbol → Symbol) (name : ℕ) (state : State) → f (symbol_of state name) ≡ symbol_of state name → changed f name state ≡ state
@@ -57,12 +57,12 @@ module _ (f : Symbol → Symbol) (keeps : KeepsBase f) (name : ℕ) (state : Sta
     where
       by : (b : Bool) → (base_of state name == name) ≡ b → base_of (changed f name state) name ≡ base_of state name
       by false apart =
-          ap (λ s. behind name (unwrap_or s no_symbol).content) (read-set_other state.symbols (base_of state name) name (f (symbol_of state name)) (λ e. both_ways (base_of state name == name) apart (eq-eqb (base_of state name) name e)))
+          ap (λ s. alias_target name (unwrap_or s no_symbol).content) (read-set_other state.symbols (base_of state name) name (f (symbol_of state name)) (λ e. both_ways (base_of state name == name) apart (eq-eqb (base_of state name) name e)))
       by true same =
           let here : base_of state name ≡ name = eqb-true (base_of state name) name same in
           elim (read-set_or state.symbols (base_of state name) (f (symbol_of state name))) [
-            | inl old ↦ subst (λ n. behind name (unwrap_or (slice_get (set state.symbols (base_of state name) (f (symbol_of state name))) n) no_symbol).content ≡ behind name (unwrap_or (slice_get state.symbols n) no_symbol).content) here (ap (λ s. behind name (unwrap_or s no_symbol).content) old)
-            | inr put ↦ subst (λ n. behind name (unwrap_or (slice_get (set state.symbols (base_of state name) (f (symbol_of state name))) n) no_symbol).content ≡ behind name (unwrap_or (slice_get state.symbols n) no_symbol).content) here (ap (λ s. behind name (unwrap_or s no_symbol).content) put ∙ keeps (symbol_of state name) name)
+            | inl old ↦ subst (λ n. alias_target name (unwrap_or (slice_get (set state.symbols (base_of state name) (f (symbol_of state name))) n) no_symbol).content ≡ alias_target name (unwrap_or (slice_get state.symbols n) no_symbol).content) here (ap (λ s. alias_target name (unwrap_or s no_symbol).content) old)
+            | inr put ↦ subst (λ n. alias_target name (unwrap_or (slice_get (set state.symbols (base_of state name) (f (symbol_of state name))) n) no_symbol).content ≡ alias_target name (unwrap_or (slice_get state.symbols n) no_symbol).content) here (ap (λ s. alias_target name (unwrap_or s no_symbol).content) put ∙ keeps (symbol_of state name) name)
           ]
 
   -- a change after another is both of them

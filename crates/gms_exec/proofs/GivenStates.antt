@@ -18,9 +18,9 @@ use Rattle.gms_tuple.specs.TupleOrder.{tuple_cmp, IsOrdered}
 use Rattle.gms_tuple.specs.OrderLaws.{tuple_cmp-total}
 use Rattle.gms_tuple.specs.TupleSet.{has}
 use Rattle.gms_tuple.proofs.Ordered.{same_tuple_refl}
-use Rattle.gms_store.specs.State.{State, Entries, Attributes, Content, undeclared, alias_of, set_of, parameter_of, variable_of, equation_of, model_with, Symbol, symbol_of, behind, with_content, if_fits, after_write, with_value, with_attributes, with_membership, is_given, same_number, same_bound, same_attributes, absent_variable, unbounded, given_in, differs_in, attributes_in, after_value, after_attributes, after_membership, attributes_of}
+use Rattle.gms_store.specs.State.{State, Entries, Attributes, Content, undeclared, alias_of, set_of, parameter_of, variable_of, equation_of, model_with, Symbol, symbol_of, alias_target, with_content, if_fits, entries_after_write, with_value, with_attributes, with_membership, is_given, same_number, same_bound, same_attributes, absent_variable, unbounded, given_in, differs_in, attributes_in, after_value, after_attributes, after_membership, attributes_of}
 use Rattle.gms_store.specs.State as state_words
-use Rattle.gms_exec.specs.Given.{Given, member, value_is, AllGiven, members_given, values_given, plain_values, overlaid, with_members, number_of_value, bound_of_value, fixed, with_attribute, with_given, fitting, after_given}
+use Rattle.gms_exec.specs.Given.{Given, member, value_is, AllGiven, members_given, values_given, plain_values, overlaid_entries, with_members, number_of_value, bound_of_value, fixed, with_attribute, with_given, fitting, after_given}
 use Rattle.gms_exec.proofs.Changes.{changed, changed-same, changed-as, changed-twice}
 use Rattle.gms_exec.proofs.MemberSets.{with_members-append, with_members-none, with_members-one}
 use Rattle.gms_exec.proofs.Overlays.{same_map, same-tie, overlaid-append, overlaid-none, overlaid-one, overlaid-same, all-kept, IsAllKept, made_over, made-append}
@@ -107,18 +107,18 @@ with_given-append s one other (alias_of base) = refl
 with_given-append s one other (set_of members) =
     ap set_of (with_members-append (members_given one) (members_given other) members ∙ ap (λ given. with_members given members) (sym (flat_map-append _ one other)))
 with_given-append s one other (parameter_of entries) =
-    ap parameter_of (overlaid-append is_given (plain_values s one) (plain_values s other) entries ∙ ap (λ new. overlaid is_given new entries) (sym (plain_values-append s one other)))
+    ap parameter_of (overlaid-append is_given (plain_values s one) (plain_values s other) entries ∙ ap (λ new. overlaid_entries is_given new entries) (sym (plain_values-append s one other)))
 with_given-append s one other (variable_of type entries) =
-    ap (variable_of type) (made-append (differs_from (absent_variable type)) (absent_variable type) (nothing-differs (absent_variable type)) (with_attribute s) (with_attribute-over s) (values_given one) (values_given other) entries ∙ ap (λ vs. overlaid (differs_from (absent_variable type)) (made_over (differs_from (absent_variable type)) (absent_variable type) (nothing-differs (absent_variable type)) (with_attribute s) (with_attribute-over s) entries vs) entries) (sym (values_given-append one other)))
+    ap (variable_of type) (made-append (differs_from (absent_variable type)) (absent_variable type) (nothing-differs (absent_variable type)) (with_attribute s) (with_attribute-over s) (values_given one) (values_given other) entries ∙ ap (λ vs. overlaid_entries (differs_from (absent_variable type)) (made_over (differs_from (absent_variable type)) (absent_variable type) (nothing-differs (absent_variable type)) (with_attribute s) (with_attribute-over s) entries vs) entries) (sym (values_given-append one other)))
 with_given-append s one other (equation_of entries) =
-    ap equation_of (made-append (differs_from unbounded) unbounded (nothing-differs unbounded) (with_attribute s) (with_attribute-over s) (values_given one) (values_given other) entries ∙ ap (λ vs. overlaid (differs_from unbounded) (made_over (differs_from unbounded) unbounded (nothing-differs unbounded) (with_attribute s) (with_attribute-over s) entries vs) entries) (sym (values_given-append one other)))
+    ap equation_of (made-append (differs_from unbounded) unbounded (nothing-differs unbounded) (with_attribute s) (with_attribute-over s) (values_given one) (values_given other) entries ∙ ap (λ vs. overlaid_entries (differs_from unbounded) (made_over (differs_from unbounded) unbounded (nothing-differs unbounded) (with_attribute s) (with_attribute-over s) entries vs) entries) (sym (values_given-append one other)))
 with_given-append s one other (model_with model solver) = refl
 
 -- what a name is where its elements are given something
 abbrev given_to : Suffix → AllGiven → Symbol → Symbol
 given_to s all symbol = with_content symbol (with_given s (fitting symbol all) symbol.content)
 
-behind-given : (s : Suffix) (all : AllGiven) (content : Content) (n : ℕ) → behind n (with_given s all content) ≡ behind n content
+behind-given : (s : Suffix) (all : AllGiven) (content : Content) (n : ℕ) → alias_target n (with_given s all content) ≡ alias_target n content
 behind-given s all undeclared n = refl
 behind-given s all (alias_of base) n = refl
 behind-given s all (set_of members) n = refl
@@ -167,7 +167,7 @@ with_given-none s undeclared tidy = refl
 with_given-none s (alias_of base) tidy = refl
 with_given-none s (set_of members) tidy = ap set_of (with_members-none members tidy.is_ordered)
 with_given-none s (parameter_of entries) tidy =
-    ap parameter_of (ap (λ new. overlaid is_given new entries) (plain-none s) ∙ overlaid-none is_given entries (parameter-kept entries tidy))
+    ap parameter_of (ap (λ new. overlaid_entries is_given new entries) (plain-none s) ∙ overlaid-none is_given entries (parameter-kept entries tidy))
 with_given-none s (variable_of type entries) tidy =
     ap (variable_of type) (overlaid-none (differs_from (absent_variable type)) entries (variable-kept type entries tidy))
 with_given-none s (equation_of entries) tidy = ap equation_of (overlaid-none (differs_from unbounded) entries (equation-kept entries tidy))
@@ -193,7 +193,7 @@ member-does s t on undeclared tidy = refl
 member-does s t on (alias_of base) tidy = refl
 member-does s t on (set_of members) tidy = ap set_of (with_members-one t on members tidy.is_ordered)
 member-does s t on (parameter_of entries) tidy =
-    ap parameter_of (ap (λ new. overlaid is_given new entries) (none s) ∙ overlaid-none is_given entries (parameter-kept entries tidy))
+    ap parameter_of (ap (λ new. overlaid_entries is_given new entries) (none s) ∙ overlaid-none is_given entries (parameter-kept entries tidy))
   where
     none : (s : Suffix) → plain_values s ((t, member on) ∷ []) ≡ []
     none suffix.None = refl
@@ -233,11 +233,11 @@ status-does s none same t x undeclared tidy = refl
 status-does s none same t x (alias_of base) tidy = refl
 status-does s none same t x (set_of members) tidy = ap set_of (with_members-none members tidy.is_ordered)
 status-does s none same t x (parameter_of entries) tidy =
-    ap parameter_of (ap (λ new. overlaid is_given new entries) (none entries t x) ∙ overlaid-none is_given entries (parameter-kept entries tidy))
+    ap parameter_of (ap (λ new. overlaid_entries is_given new entries) (none entries t x) ∙ overlaid-none is_given entries (parameter-kept entries tidy))
 status-does s none same t x (variable_of type entries) tidy =
-    ap (variable_of type) (ap (λ a. overlaid (differs_from (absent_variable type)) ((t, a) ∷ []) entries) (same (attributes_in (variable_of type entries) t) x) ∙ overlaid-same (differs_from (absent_variable type)) (absent_variable type) (no_difference (absent_variable type)) t entries (variable-kept type entries tidy))
+    ap (variable_of type) (ap (λ a. overlaid_entries (differs_from (absent_variable type)) ((t, a) ∷ []) entries) (same (attributes_in (variable_of type entries) t) x) ∙ overlaid-same (differs_from (absent_variable type)) (absent_variable type) (no_difference (absent_variable type)) t entries (variable-kept type entries tidy))
 status-does s none same t x (equation_of entries) tidy =
-    ap equation_of (ap (λ a. overlaid (differs_from unbounded) ((t, a) ∷ []) entries) (same (attributes_in (equation_of entries) t) x) ∙ overlaid-same (differs_from unbounded) unbounded (no_difference unbounded) t entries (equation-kept entries tidy))
+    ap equation_of (ap (λ a. overlaid_entries (differs_from unbounded) ((t, a) ∷ []) entries) (same (attributes_in (equation_of entries) t) x) ∙ overlaid-same (differs_from unbounded) unbounded (no_difference unbounded) t entries (equation-kept entries tidy))
 status-does s none same t x (model_with model solver) tidy = refl
 
 status-given : (s : Suffix) → ((entries : Entries extended.Extended) (t : List ℕ) (x : extended.Extended) → plain_values s ((t, value_is x) ∷ []) ≡ []) → ((a : Attributes) (x : extended.Extended) → with_attribute s a x ≡ a) → (name : ℕ) (t : List ℕ) (x : extended.Extended) (state : State) → IsTidy (symbol_of state name).content → state ≡ after_given s name ((t, value_is x) ∷ []) state
@@ -265,7 +265,7 @@ attribute-does s none t x undeclared tidy = refl
 attribute-does s none t x (alias_of base) tidy = refl
 attribute-does s none t x (set_of members) tidy = ap set_of (with_members-none members tidy.is_ordered)
 attribute-does s none t x (parameter_of entries) tidy =
-    ap parameter_of (ap (λ new. overlaid is_given new entries) (none entries t x) ∙ overlaid-none is_given entries (parameter-kept entries tidy))
+    ap parameter_of (ap (λ new. overlaid_entries is_given new entries) (none entries t x) ∙ overlaid-none is_given entries (parameter-kept entries tidy))
 attribute-does s none t x (variable_of type entries) tidy =
     ap (variable_of type) (overlaid-one (differs_from (absent_variable type)) t (with_attribute s (attributes_in (variable_of type entries) t) x) entries (variable-kept type entries tidy))
 attribute-does s none t x (equation_of entries) tidy =
@@ -293,14 +293,14 @@ pub marginal-given : (name : ℕ) (t : List ℕ) (x : extended.Extended) (state 
 marginal-given = attribute-given suffix.M (λ entries t x. refl)
 
 -- what a map has after a write
-get-after : {X : Type 0} (b : Bool) (m : Entries X) (t : List ℕ) (x : X) (q : List ℕ) → finite.get (after_write b m t x) q ≡ cond (eq_by_cmp tuple_cmp q t) (cond b (Some x) None) (finite.get m q)
+get-after : {X : Type 0} (b : Bool) (m : Entries X) (t : List ℕ) (x : X) (q : List ℕ) → finite.get (entries_after_write b m t x) q ≡ cond (eq_by_cmp tuple_cmp q t) (cond b (Some x) None) (finite.get m q)
 get-after true m t x q = finite.get-insert tuple_cmp-total m t x q
 get-after false m t x q = finite.get-remove tuple_cmp-total m t q
 
 -- a write of an entry after another is the second alone
-write-twice : {X : Type 0} (b d : Bool) (m : Entries X) (t : List ℕ) (x y : X) → after_write d (after_write b m t x) t y ≡ after_write d m t y
-write-twice {X} b d m t x y = same_map (after_write d (after_write b m t x) t y) (after_write d m t y) (λ q.
-    get-after d (after_write b m t x) t y q
+write-twice : {X : Type 0} (b d : Bool) (m : Entries X) (t : List ℕ) (x y : X) → entries_after_write d (entries_after_write b m t x) t y ≡ entries_after_write d m t y
+write-twice {X} b d m t x y = same_map (entries_after_write d (entries_after_write b m t x) t y) (entries_after_write d m t y) (λ q.
+    get-after d (entries_after_write b m t x) t y q
     ∙ ap (cond (eq_by_cmp tuple_cmp q t) (cond d (Some y) None)) (get-after b m t x q)
     ∙ again (eq_by_cmp tuple_cmp q t) (cond d (Some y) None) (cond b (Some x) None) (finite.get m q)
     ∙ sym (get-after d m t y q))
@@ -310,7 +310,7 @@ write-twice {X} b d m t x y = same_map (after_write d (after_write b m t x) t y)
     again false o p r = refl
 
 -- what is read where an entry was written
-read-written : {X : Type 0} (differs : X → Bool) (absent : X) (nothing : (x : X) → differs x ≡ false → absent ≡ x) (m : Entries X) (t : List ℕ) (x : X) → unwrap_or (finite.get (after_write (differs x) m t x) t) absent ≡ x
+read-written : {X : Type 0} (differs : X → Bool) (absent : X) (nothing : (x : X) → differs x ≡ false → absent ≡ x) (m : Entries X) (t : List ℕ) (x : X) → unwrap_or (finite.get (entries_after_write (differs x) m t x) t) absent ≡ x
 read-written {X} differs absent nothing m t x =
     ap (λ o. unwrap_or o absent) (get-after (differs x) m t x t ∙ ap (λ b. cond b (cond (differs x) (Some x) None) (finite.get m t)) (sym (same-tie t t) ∙ same_tuple_refl t)) ∙ by (differs x) refl
   where
@@ -327,16 +327,16 @@ attributes-twice f g t (parameter_of entries) = refl
 attributes-twice f g t (variable_of type entries) =
     let differs : Attributes → Bool = differs_from (absent_variable type) in
     let a : Attributes = f (attributes_in (variable_of type entries) t) in
-    ap (λ z. variable_of type (after_write (differs (g z)) (after_write (differs a) entries t a) t (g z))) (read-written (differs_from (absent_variable type)) (absent_variable type) (nothing-differs (absent_variable type)) entries t a)
+    ap (λ z. variable_of type (entries_after_write (differs (g z)) (entries_after_write (differs a) entries t a) t (g z))) (read-written (differs_from (absent_variable type)) (absent_variable type) (nothing-differs (absent_variable type)) entries t a)
     ∙ ap (variable_of type) (write-twice (differs a) (differs (g a)) entries t a (g a))
 attributes-twice f g t (equation_of entries) =
     let differs : Attributes → Bool = differs_from unbounded in
     let a : Attributes = f (attributes_in (equation_of entries) t) in
-    ap (λ z. equation_of (after_write (differs (g z)) (after_write (differs a) entries t a) t (g z))) (read-written (differs_from unbounded) unbounded (nothing-differs unbounded) entries t a)
+    ap (λ z. equation_of (entries_after_write (differs (g z)) (entries_after_write (differs a) entries t a) t (g z))) (read-written (differs_from unbounded) unbounded (nothing-differs unbounded) entries t a)
     ∙ ap equation_of (write-twice (differs a) (differs (g a)) entries t a (g a))
 attributes-twice f g t (model_with model solver) = refl
 
-behind-attributes : (f : Attributes → Attributes) (t : List ℕ) (content : Content) (n : ℕ) → behind n (attributes_by f t content) ≡ behind n content
+behind-attributes : (f : Attributes → Attributes) (t : List ℕ) (content : Content) (n : ℕ) → alias_target n (attributes_by f t content) ≡ alias_target n content
 behind-attributes f t undeclared n = refl
 behind-attributes f t (alias_of base) n = refl
 behind-attributes f t (set_of members) n = refl
@@ -349,10 +349,10 @@ behind-attributes f t (model_with model solver) n = refl
 abbrev symbol_by : (Attributes → Attributes) → List ℕ → Symbol → Symbol
 symbol_by f t symbol = if_fits symbol t (attributes_by f t symbol.content)
 
-behind-symbol_by : (f : Attributes → Attributes) (t : List ℕ) (symbol : Symbol) (n : ℕ) → behind n (symbol_by f t symbol).content ≡ behind n symbol.content
+behind-symbol_by : (f : Attributes → Attributes) (t : List ℕ) (symbol : Symbol) (n : ℕ) → alias_target n (symbol_by f t symbol).content ≡ alias_target n symbol.content
 behind-symbol_by f t symbol n = by (length t == length symbol.domain)
   where
-    by : (b : Bool) → behind n (cond b (with_content symbol (attributes_by f t symbol.content)) symbol).content ≡ behind n symbol.content
+    by : (b : Bool) → alias_target n (cond b (with_content symbol (attributes_by f t symbol.content)) symbol).content ≡ alias_target n symbol.content
     by true = behind-attributes f t symbol.content n
     by false = refl
 

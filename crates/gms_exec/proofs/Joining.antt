@@ -16,7 +16,7 @@ use Rattle.lp_slot.specs.declared.solver.SolverRule.{SolverRule}
 use Rattle.lp_core.specs.Numbers.{answer_numbers}
 use Rattle.gms_exec.specs.Answering.{IsAnswered, AreAnswered}
 use Rattle.gms_exec.specs.Run.{Course, Halt, stopped, stopped_by, while_it_runs, OfStatement, one_after_another, for_each}
-use Rattle.gms_exec.specs.Stepping.{Seen, come_to, Runs, Answered, paths_taken}
+use Rattle.gms_exec.specs.Stepping.{RunView, come_to, Runs, Answered, paths_taken}
 
 -- ---- a run that is halted stays
 
@@ -46,7 +46,7 @@ behind-both old mid new first second a b = b ∙ ap (λ xs. xs ++ second) a ∙ 
 module _ {F : Type 0} (value : F → Number) where
   -- A run of `does` from an old point has reached a new one, where `rest` remains to be done. It
   -- showed events and took answers.
-  pub record Reaches (does rest : Course → Course) (old new : Seen F) : Type 0 where
+  pub record Reaches (does rest : Course → Course) (old new : RunView F) : Type 0 where
     pub shown : List (Event F)
     pub events : new.events ≡ old.events ++ shown
     pub fresh : List (Answer F)
@@ -55,13 +55,13 @@ module _ {F : Type 0} (value : F → Number) where
 
   -- what remains is the next step, followed by what remains after it
   abbrev pub GoesOn : (Course → Course) → (Course → Course) → (Course → Course) → Type 0
-  GoesOn rest first then = (seen : Seen F) (left : List (Answer Number)) → rest (come_to value seen left) ≡ then (first (come_to value seen left))
+  GoesOn rest first then = (seen : RunView F) (left : List (Answer Number)) → rest (come_to value seen left) ≡ then (first (come_to value seen left))
 
-  pub reaches-start : (does : Course → Course) (old : Seen F) → Reaches does does old old
+  pub reaches-start : (does : Course → Course) (old : RunView F) → Reaches does does old old
   reaches-start does old =
       record { shown = []; events = sym (append-nil old.events); fresh = []; answers = sym (append-nil old.answers); comes = λ more. refl }
 
-  module _ (does rest first then : Course → Course) (old mid new : Seen F) (reached : Reaches does rest old mid) (goes : GoesOn rest first then) where
+  module _ (does rest first then : Course → Course) (old mid new : RunView F) (reached : Reaches does rest old mid) (goes : GoesOn rest first then) where
     -- the next step, with its answers after those that were taken
     next-comes : (fresh : List (Answer F)) (more : List (Answer Number)) → does (come_to value old (map (answer_numbers value) (reached.fresh ++ fresh) ++ more)) ≡ then (first (come_to value mid (map (answer_numbers value) fresh ++ more)))
     next-comes fresh more =
@@ -100,17 +100,17 @@ module _ {F : Type 0} (value : F → Number) where
         }
 
   -- a run with nothing left to do
-  pub reaches-end : {A : Type 0} (x : A) (does rest : Course → Course) (old new : Seen F) → Reaches does rest old new → ((left : List (Answer Number)) → rest (come_to value new left) ≡ come_to value new left) → Runs value {A = A} (Ok x) does old new
+  pub reaches-end : {A : Type 0} (x : A) (does rest : Course → Course) (old new : RunView F) → Reaches does rest old new → ((left : List (Answer Number)) → rest (come_to value new left) ≡ come_to value new left) → Runs value {A = A} (Ok x) does old new
   reaches-end x does rest old new reached done =
       record { shown = reached.shown; events = reached.events; fresh = reached.fresh; answers = reached.answers; comes = λ more. reached.comes more ∙ done more }
 
   -- out of memory ends a run where it is
-  pub reaches-memory : {A : Type 0} (failed : ExecStopOrMemory F) (does rest : Course → Course) (old new : Seen F) → failed ≡ Memory → Reaches does rest old new → Runs value {A = A} (Err failed) does old new
+  pub reaches-memory : {A : Type 0} (failed : ExecStopOrMemory F) (does rest : Course → Course) (old new : RunView F) → failed ≡ Memory → Reaches does rest old new → Runs value {A = A} (Err failed) does old new
   reaches-memory {A} failed does rest old new memory reached =
       subst (λ failed. Runs value {A = A} (Err failed) does old new) (sym memory) (record { shown = reached.shown; events = reached.events; fresh = reached.fresh; answers = reached.answers; comes = λ more. tt })
 
   -- a run that a stop ends where it is
-  pub reaches-fault : {A : Type 0} (stop : _) (does rest : Course → Course) (old new : Seen F) → Reaches does rest old new → ((left : List (Answer Number)) → rest (come_to value new left) ≡ stopped_by (come_to value new left) (fault_of value stop)) → Runs value {A = A} (Err (Stop stop)) does old new
+  pub reaches-fault : {A : Type 0} (stop : _) (does rest : Course → Course) (old new : RunView F) → Reaches does rest old new → ((left : List (Answer Number)) → rest (come_to value new left) ≡ stopped_by (come_to value new left) (fault_of value stop)) → Runs value {A = A} (Err (Stop stop)) does old new
   reaches-fault stop does rest old new reached done =
       record { shown = reached.shown; events = reached.events; fresh = reached.fresh; answers = reached.answers; comes = λ more. reached.comes more ∙ done more }
 
@@ -161,12 +161,12 @@ grown-both (Some before) first second = ap Some (append_assoc before first secon
 
 module _ {S F : Type 0} (value : F → Number) (limit : ℕ) (name : S → List ℕ) (rule : S → SolverRule) (paths : S → List (List Pivot)) where
   -- a call that shows nothing and asks no solver
-  pub answered-nothing : (solvers : List S) (seen : Seen F) → Answered value limit name rule paths solvers solvers seen seen
+  pub answered-nothing : (solvers : List S) (seen : RunView F) → Answered value limit name rule paths solvers solvers seen seen
   answered-nothing solvers seen =
       record { names = refl; rules = refl; shown = []; events = sym (append-nil seen.events); answered = λ k d within. absurd (omega arith); grown = λ k. grown-nothing (slice_get (map paths solvers) k) }
 
   -- a call after another, with further answers
-  pub answered-both : (old mid new : List S) (before between after : Seen F) (fresh : List (Answer F)) → after.answers ≡ between.answers ++ fresh → Answered value limit name rule paths old mid before between → Answered value limit name rule paths mid new between after → Answered value limit name rule paths old new before after
+  pub answered-both : (old mid new : List S) (before between after : RunView F) (fresh : List (Answer F)) → after.answers ≡ between.answers ++ fresh → Answered value limit name rule paths old mid before between → Answered value limit name rule paths mid new between after → Answered value limit name rule paths old new before after
   answered-both old mid new before between after fresh are first second =
       record {
         names = second.names ∙ first.names;

@@ -29,9 +29,9 @@ use Rattle.gms_exec.specs.Dimensions.{AreOverOne, AreOneDimensional}
 use Rattle.gms_exec.specs.Given.{AllGiven, after_given}
 use Rattle.gms_exec.specs.Options.{after_options}
 use Rattle.gms_exec.specs.Showing.{all_shown}
-use Rattle.gms_exec.specs.Run.{Course, World, with_value, in_state, abort, abort_where, answered, solve, of_statement, labels_in}
+use Rattle.gms_exec.specs.Run.{Course, World, with_evaluated, in_state, abort, abort_where, answered, solve, of_statement, labels_in}
 use Rattle.gms_exec.specs.InnerWalks.{IsOnce}
-use Rattle.gms_exec.specs.Stepping.{Seen, come_to, Runs, AreKept, UnlessMemory}
+use Rattle.gms_exec.specs.Stepping.{RunView, come_to, Runs, AreValidSettings, UnlessMemory}
 use Rattle.gms_exec.proofs.ActSteps.{on-Assign, on-Display, on-Options, on-Abort, on-Solve, on-Declare, on-Alias, on-Define, on-Model}
 use Rattle.gms_exec.proofs.KeptSettings.{kept-options}
 use Rattle.gms_exec.proofs.Staying.{Stays, follows-of, stays-itself, stays-given, stays-end, settings-end}
@@ -61,7 +61,7 @@ module _ {F : Type 0} (old new : State) (stays : Stays old new) where
 
 -- what a run keeps: settings, by how many solvers there are, and the definitions of its program
 pub record Keeps {F : Type 0} (solvers : ℕ) (statements : List (Stmt F)) (state : State) : Type 0 where
-  pub settings : AreKept solvers state.settings
+  pub settings : AreValidSettings solvers state.settings
   pub plain : AreOneDimensional state statements
 
 module _ {F : Type 0} (value : F → Number) (limit : ℕ) (world : World F) where
@@ -70,20 +70,20 @@ module _ {F : Type 0} (value : F → Number) (limit : ℕ) (world : World F) whe
 
   kept-stays : (old new : State) → Stays old new → new.settings ≡ old.settings → Kept old → Kept new
   kept-stays old new stays same kept =
-      record { settings = subst (AreKept (length world.solvers)) (sym same) kept.settings; plain = stay-one old new stays world.program.statements.items kept.plain }
+      record { settings = subst (AreValidSettings (length world.solvers)) (sym same) kept.settings; plain = stay-one old new stays world.program.statements.items kept.plain }
 
-  keeps-given : (course : Course) (suffix : Suffix) (name : ℕ) (given : Evaluated AllGiven) → Kept course.state → Kept (with_value (given and_then λ given. Ok (after_given suffix name given course.state)) (in_state course) course).state
+  keeps-given : (course : Course) (suffix : Suffix) (name : ℕ) (given : Evaluated AllGiven) → Kept course.state → Kept (with_evaluated (given and_then λ given. Ok (after_given suffix name given course.state)) (in_state course) course).state
   keeps-given course suffix name (Ok given) kept = kept-stays course.state (after_given suffix name given course.state) (stays-given suffix name given course.state) refl kept
   keeps-given course suffix name (Err fault) kept = kept
 
-  keeps-shown : (course : Course) (shown : Evaluated (List Shown)) (next : List Shown → Course) → ((shown : List Shown) → (next shown).state ≡ course.state) → Kept course.state → Kept (with_value shown next course).state
+  keeps-shown : (course : Course) (shown : Evaluated (List Shown)) (next : List Shown → Course) → ((shown : List Shown) → (next shown).state ≡ course.state) → Kept course.state → Kept (with_evaluated shown next course).state
   keeps-shown course (Ok shown) next same kept = subst Kept (sym (same shown)) kept
   keeps-shown course (Err fault) next same kept = kept
 
   keeps-abort : (course : Course) (labels : ℕ) (items : List Show) (at : Place) (binding : Pairs) → Kept course.state → Kept (abort value limit labels items at binding course).state
   keeps-abort course labels items at binding kept = keeps-shown course (all_shown labels course.state binding items) _ (λ shown. refl) kept
 
-  keeps-so : (course : Course) (labels : ℕ) (items : List Show) (at : Place) (binding : Pairs) (so : Evaluated Bool) → Kept course.state → Kept (with_value so (λ so. if so then abort value limit labels items at binding course else course) course).state
+  keeps-so : (course : Course) (labels : ℕ) (items : List Show) (at : Place) (binding : Pairs) (so : Evaluated Bool) → Kept course.state → Kept (with_evaluated so (λ so. if so then abort value limit labels items at binding course else course) course).state
   keeps-so course labels items at binding (Ok true) kept = keeps-abort course labels items at binding kept
   keeps-so course labels items at binding (Ok false) kept = kept
   keeps-so course labels items at binding (Err fault) kept = kept
@@ -97,7 +97,7 @@ module _ {F : Type 0} (value : F → Number) (limit : ℕ) (world : World F) whe
   keeps-answered course (answer ∷ left) solvers model equations objective at lp kept =
       kept-stays course.state _ (stays-end course.state model lp answer.end) (settings-end course.state model lp answer.end) kept
 
-  keeps-program : (course : Course) (program : Evaluated (Lp Number)) (solvers : List (List ℕ)) (model : ℕ) (equations : List ℕ) (objective : ℕ) (at : Place) → Kept course.state → Kept (with_value program (answered value limit solvers model equations objective at course) course).state
+  keeps-program : (course : Course) (program : Evaluated (Lp Number)) (solvers : List (List ℕ)) (model : ℕ) (equations : List ℕ) (objective : ℕ) (at : Place) → Kept course.state → Kept (with_evaluated program (answered value limit solvers model equations objective at course) course).state
   keeps-program course (Ok lp) solvers model equations objective at kept = keeps-answered course course.left solvers model equations objective at lp kept
   keeps-program course (Err fault) solvers model equations objective at kept = kept
 
@@ -132,7 +132,7 @@ module _ {F : Type 0} (value : F → Number) (limit : ℕ) (world : World F) whe
         moved _ (on-Abort value limit world s binding course condition items (e ∙ rolls-Abort condition items)) (keeps-abort_where course (labels_in world) (option_map tree_of condition) items s.at binding kept)
 
   -- what a call that did what a statement does has kept, unless memory ran out
-  pub run-keeps : {A : Type 0} (result : Result A (ExecStopOrMemory F)) (s : Stmt F) (binding : Pairs) (old new : Seen F) → IsOnce s.act → Runs value result (of_statement value limit world s binding) old new → Kept old.state → UnlessMemory result (Kept new.state)
+  pub run-keeps : {A : Type 0} (result : Result A (ExecStopOrMemory F)) (s : Stmt F) (binding : Pairs) (old new : RunView F) → IsOnce s.act → Runs value result (of_statement value limit world s binding) old new → Kept old.state → UnlessMemory result (Kept new.state)
   run-keeps (Ok x) s binding old new once runs kept =
       subst (λ (c : Course). Kept c.state) (runs.comes []) (keeps-act s binding (come_to value old _) kept (out-Act F s.act) (sym (roll-out-Act F s.act)) once)
   run-keeps (Err Memory) s binding old new once runs kept = tt

@@ -22,10 +22,10 @@ use Rattle.gms_eval.specs.declared.stop.ExecStopOrMemory.TheVariants.{Memory, Fa
 use Rattle.gms_eval.specs.Nodes.{in_order}
 use Rattle.gms_eval.specs.Bindings.{Pairs, label_of}
 use Rattle.gms_eval.specs.Faults.{Answer, Fault, ◌and_then◌}
-use Rattle.gms_eval.specs.Gives.{fault_of, Stops}
+use Rattle.gms_eval.specs.Gives.{fault_of, ShowsStop}
 use Rattle.gms_eval.proofs.Answering.{and_then_assoc}
 use Rattle.gms_rows.specs.Rows.{sets_among, each_once}
-use Rattle.gms_exec.specs.Assignment.{newly_controlled, those_there}
+use Rattle.gms_exec.specs.Assignment.{newly_controlled, given_elements}
 use Rattle.gms_exec.specs.Given.{Given, AllGiven}
 use Rattle.gms_exec.specs.InnerWalks.{first_set, behind_others, noted, with_found}
 
@@ -188,20 +188,20 @@ module _ (set : ℕ) (sets : List ℕ) (i : ℕ) where
 module _ {F : Type 0} (v : F → Number) (limit : ℕ) (state : State) {X : Type 0} (answer : X → Answer (Option (List ℕ × Given))) where
   -- the elements that are found, and those that will be
   abbrev pub finding : AllGiven → List X → Answer AllGiven
-  finding done xs = in_order (map answer xs) and_then λ given. Ok (done ++ those_there v limit state given)
+  finding done xs = in_order (map answer xs) and_then λ given. Ok (done ++ given_elements v limit state given)
 
-  pub finding-start : (xs : List X) → (in_order (map answer xs) and_then λ given. Ok (those_there v limit state given)) ≡ finding [] xs
+  pub finding-start : (xs : List X) → (in_order (map answer xs) and_then λ given. Ok (given_elements v limit state given)) ≡ finding [] xs
   finding-start xs = refl
 
   one_more : (done : AllGiven) (x : X) (xs : List X) (found : Option (List ℕ × Given)) → answer x ≡ Ok found → finding done (x ∷ xs) ≡ finding (with_found done found) xs
   one_more done x xs found e =
-      ap (λ a. (a and_then λ y. in_order (map answer xs) and_then λ ys. Ok (y ∷ ys)) and_then λ given. Ok (done ++ those_there v limit state given)) e
-      ∙ and_then_assoc (in_order (map answer xs)) (λ ys. Ok (found ∷ ys)) (λ given. Ok (done ++ those_there v limit state given))
+      ap (λ a. (a and_then λ y. in_order (map answer xs) and_then λ ys. Ok (y ∷ ys)) and_then λ given. Ok (done ++ given_elements v limit state given)) e
+      ∙ and_then_assoc (in_order (map answer xs)) (λ ys. Ok (found ∷ ys)) (λ given. Ok (done ++ given_elements v limit state given))
       ∙ there found (in_order (map answer xs))
     where
-      there : (found : Option (List ℕ × Given)) (a : Answer (List (Option (List ℕ × Given)))) → (a and_then λ ys. Ok (done ++ those_there v limit state (found ∷ ys))) ≡ (a and_then λ ys. Ok (with_found done found ++ those_there v limit state ys))
+      there : (found : Option (List ℕ × Given)) (a : Answer (List (Option (List ℕ × Given)))) → (a and_then λ ys. Ok (done ++ given_elements v limit state (found ∷ ys))) ≡ (a and_then λ ys. Ok (with_found done found ++ given_elements v limit state ys))
       there None a = refl
-      there (Some one) (Ok ys) = ap Ok (sym (append_assoc done (one ∷ []) (those_there v limit state ys)))
+      there (Some one) (Ok ys) = ap Ok (sym (append_assoc done (one ∷ []) (given_elements v limit state ys)))
       there (Some one) (Err fault) = refl
 
   next_one : (done : AllGiven) (xs : List X) (i : ℕ) (x : X) → i < length xs → x ≡ get_or xs i x → finding done (drop i xs) ≡ finding done (x ∷ drop (i + 1) xs)
@@ -215,11 +215,11 @@ module _ {F : Type 0} (v : F → Number) (limit : ℕ) (state : State) {X : Type
   finding-fault : (done : AllGiven) (xs : List X) (i : ℕ) (x : X) (fault : Fault) → i < length xs → x ≡ get_or xs i x → answer x ≡ Err fault → finding done (drop i xs) ≡ Err fault
   finding-fault done xs i x fault l at e =
       next_one done xs i x l at
-      ∙ ap (λ a. (a and_then λ y. in_order (map answer (drop (i + 1) xs)) and_then λ ys. Ok (y ∷ ys)) and_then λ given. Ok (done ++ those_there v limit state given)) e
+      ∙ ap (λ a. (a and_then λ y. in_order (map answer (drop (i + 1) xs)) and_then λ ys. Ok (y ∷ ys)) and_then λ given. Ok (done ++ given_elements v limit state given)) e
 
   pub finding-end : (whole : Answer AllGiven) (done : AllGiven) (xs : List X) (i : ℕ) → whole ≡ finding done (drop i xs) → length xs ≤ i → whole ≡ Ok done
   finding-end whole done xs i so all = so ∙ at_drop_all (finding done) xs i all ∙ ap Ok (append-nil done)
 
-  pub finding-stops : (stop : ExecStopOrMemory F) (whole : Answer AllGiven) (done : AllGiven) (xs : List X) (i : ℕ) (x : X) → whole ≡ finding done (drop i xs) → i < length xs → x ≡ get_or xs i x → Stops v stop (answer x) → Stops v stop whole
+  pub finding-stops : (stop : ExecStopOrMemory F) (whole : Answer AllGiven) (done : AllGiven) (xs : List X) (i : ℕ) (x : X) → whole ≡ finding done (drop i xs) → i < length xs → x ≡ get_or xs i x → ShowsStop v stop (answer x) → ShowsStop v stop whole
   finding-stops Memory whole done xs i x so l at s = tt
   finding-stops (Stop stop) whole done xs i x so l at s = so ∙ finding-fault done xs i x (fault_of v stop) l at s

@@ -10,13 +10,13 @@ use Rattle.gms_tuple.specs.TupleOrder.{tuple_cmp}
 use Rattle.gms_tuple.specs.OrderLaws.{tuple_cmp-total}
 use Rattle.gms_tuple.proofs.Ordered.{same_tuple_refl, tuple_cmp-Equal}
 use Rattle.lp_form.specs.declared.key.Key.{Key}
-use Rattle.gms_store.specs.State.{Entries, Attributes, Content, undeclared, alias_of, set_of, parameter_of, variable_of, equation_of, model_with, Symbol, State, behind, base_of, symbol_of, with_content, if_fits, after_write, with_attributes, attributes_in, attributes_of, after_attributes, with_level, with_marginal, same_attributes, absent_variable, unbounded}
+use Rattle.gms_store.specs.State.{Entries, Attributes, Content, undeclared, alias_of, set_of, parameter_of, variable_of, equation_of, model_with, Symbol, State, alias_target, base_of, symbol_of, with_content, if_fits, entries_after_write, with_attributes, attributes_in, attributes_of, after_attributes, with_level, with_marginal, same_attributes, absent_variable, unbounded}
 use Rattle.std.proofs.Math.ListN.{get_or-map, length-map}
 use Rattle.lp_core.specs.declared.program.Column.{Column}
 use Rattle.lp_core.specs.declared.program.Row.{Row}
 use Rattle.lp_core.specs.declared.program.Lp.{Lp}
 use Rattle.lp_core.specs.Numbers.{lp_numbers, column_numbers, row_numbers}
-use Rattle.gms_exec.specs.Solved.{first_or_zero, behind_first, Point, points, with_point, column_keys, row_keys}
+use Rattle.gms_exec.specs.Solved.{first_or_zero, behind_first, Point, points, with_point, keys_of_columns, row_keys}
 use Rattle.gms_exec.proofs.Symbols.{symbol-here, base-after}
 use Rattle.gms_exec.proofs.Newest.{tie-same}
 use Rattle.gms_exec.proofs.Assigned.{absent-not_given}
@@ -24,7 +24,7 @@ use Rattle.gms_exec.proofs.Assigned.{absent-not_given}
 -- ---- one write after another at one element
 
 -- what is read at each tuple after a write
-get-write : {X : Type 0} (b : Bool) (m : Entries X) (t : List ℕ) (x : X) (q : List ℕ) → finite.get (after_write b m t x) q ≡ cond (eq_by_cmp tuple_cmp q t) (cond b (Some x) None) (finite.get m q)
+get-write : {X : Type 0} (b : Bool) (m : Entries X) (t : List ℕ) (x : X) (q : List ℕ) → finite.get (entries_after_write b m t x) q ≡ cond (eq_by_cmp tuple_cmp q t) (cond b (Some x) None) (finite.get m q)
 get-write true m t x q = finite.get-insert tuple_cmp-total m t x q
 get-write false m t x q = finite.get-remove tuple_cmp-total m t q
 
@@ -33,16 +33,16 @@ cond-twice true x y z = refl
 cond-twice false x y z = refl
 
 -- of two writes at one tuple the later is left
-write-twice : {X : Type 0} (b d : Bool) (m : Entries X) (t : List ℕ) (x y : X) → after_write d (after_write b m t x) t y ≡ after_write d m t y
+write-twice : {X : Type 0} (b d : Bool) (m : Entries X) (t : List ℕ) (x y : X) → entries_after_write d (entries_after_write b m t x) t y ≡ entries_after_write d m t y
 write-twice b d m t x y =
-    finite.same_map tuple_cmp-total tuple_cmp-Equal (after_write d (after_write b m t x) t y) (after_write d m t y) (λ q.
-    get-write d (after_write b m t x) t y q
+    finite.same_map tuple_cmp-total tuple_cmp-Equal (entries_after_write d (entries_after_write b m t x) t y) (entries_after_write d m t y) (λ q.
+    get-write d (entries_after_write b m t x) t y q
     ∙ ap (cond (eq_by_cmp tuple_cmp q t) (cond d (Some y) None)) (get-write b m t x q)
     ∙ cond-twice (eq_by_cmp tuple_cmp q t) (cond d (Some y) None) (cond b (Some x) None) (finite.get m q)
     ∙ sym (get-write d m t y q))
 
 -- what is read where a write was
-read-written : {X : Type 0} (b : Bool) (m : Entries X) (t : List ℕ) (x absent : X) → (b ≡ false → absent ≡ x) → unwrap_or (finite.get (after_write b m t x) t) absent ≡ x
+read-written : {X : Type 0} (b : Bool) (m : Entries X) (t : List ℕ) (x absent : X) → (b ≡ false → absent ≡ x) → unwrap_or (finite.get (entries_after_write b m t x) t) absent ≡ x
 read-written b m t x absent agree =
     ap (λ o. unwrap_or o absent) (get-write b m t x t ∙ ap (λ tie. cond tie (cond b (Some x) None) (finite.get m t)) (tie-same t t ∙ same_tuple_refl t)) ∙ by b agree
   where
@@ -81,7 +81,7 @@ set-twice (x ∷ xs) zero v w = refl
 set-twice (x ∷ xs) (suc i) v w = ap (λ ys. x ∷ ys) (set-twice xs i v w)
 
 -- writing attributes does not change the set that a name stands for
-pub behind-put : (content : Content) (t : List ℕ) (a : Attributes) (n : ℕ) → behind n (with_attributes content t a) ≡ behind n content
+pub behind-put : (content : Content) (t : List ℕ) (a : Attributes) (n : ℕ) → alias_target n (with_attributes content t a) ≡ alias_target n content
 behind-put undeclared t a n = refl
 behind-put (alias_of base) t a n = refl
 behind-put (set_of members) t a n = refl
@@ -98,8 +98,8 @@ fits-either P s t new old changed = by (length t == length s.domain)
     by true = changed
     by false = old
 
-pub behind-fitted : (s : Symbol) (t : List ℕ) (a : Attributes) (n : ℕ) → behind n (if_fits s t (with_attributes s.content t a)).content ≡ behind n s.content
-behind-fitted s t a n = fits-either (λ c. behind n c ≡ behind n s.content) s t (with_attributes s.content t a) refl (behind-put s.content t a n)
+pub behind-fitted : (s : Symbol) (t : List ℕ) (a : Attributes) (n : ℕ) → alias_target n (if_fits s t (with_attributes s.content t a)).content ≡ alias_target n s.content
+behind-fitted s t a n = fits-either (λ c. alias_target n c ≡ alias_target n s.content) s t (with_attributes s.content t a) refl (behind-put s.content t a n)
 
 -- the state with other symbols
 abbrev with_symbols : State → List Symbol → State
@@ -117,7 +117,7 @@ module _ (t : List ℕ) (a : Attributes) (f : Attributes → Attributes) (state 
   abbrev next : Symbol → Symbol
   next s = if_fits s t (with_attributes s.content t (f (attributes_in s.content t)))
 
-  alike : (n : ℕ) → behind n new.content ≡ behind n (symbol_of state name).content
+  alike : (n : ℕ) → alias_target n new.content ≡ alias_target n (symbol_of state name).content
   alike n = behind-fitted (symbol_of state name) t a n
 
   put-twice_within : base_of state name < length state.symbols → after_attributes (after_attributes state name t a) name t (f (attributes_of (after_attributes state name t a) name t)) ≡ after_attributes state name t (f a)
@@ -185,7 +185,7 @@ module _ (keys : List Key) (levels marginals : List Number) where
 
 module _ {F : Type 0} (value : F → Number) (lp : Lp F) where
   -- a column at a place, and its element
-  pub column-at : (columns : List (Column F)) (i : ℕ) (column : Column F) → columns ≡ lp.columns → i < length columns → column ≡ get_or columns i column → (i < length (column_keys (lp_numbers value lp))) × (column.key ≡ get_or (column_keys (lp_numbers value lp)) i column.key)
+  pub column-at : (columns : List (Column F)) (i : ℕ) (column : Column F) → columns ≡ lp.columns → i < length columns → column ≡ get_or columns i column → (i < length (keys_of_columns (lp_numbers value lp))) × (column.key ≡ get_or (keys_of_columns (lp_numbers value lp)) i column.key)
   column-at columns i column are within is = (
     rw (length-map, length-map) (rw are at within),
     ap (λ (c : Column F). c.key) (is ∙ ap (λ (cs : List (Column F)). get_or cs i column) are)

@@ -15,7 +15,7 @@ use Rattle.lp_slot.specs.declared.solver.SolverRule.{SolverRule}
 use Rattle.gms_exec.specs.Dimensions.{AreOneDimensional}
 use Rattle.gms_exec.specs.Run.{Course, OfStatement, one_after_another, for_each, of_statement}
 use Rattle.gms_exec.specs.Standing.{ShowsStanding}
-use Rattle.gms_exec.specs.Stepping.{Seen, come_to, Runs, Answered, AreKept, UnlessMemory}
+use Rattle.gms_exec.specs.Stepping.{RunView, come_to, Runs, Answered, AreValidSettings, UnlessMemory}
 use Rattle.gms_exec.proofs.Arms.{unless-any}
 use Rattle.gms_exec.proofs.Joining.{Reaches, LeavesHalted, reaches-more, reaches-stop, reaches-end, statements-halted, each-halted}
 use Rattle.gms_exec.proofs.Keeping.{Keeps}
@@ -32,36 +32,36 @@ module _ {F : Type 0} (value : F → Number) (limit : ℕ) (program : Program F)
 
 module _ {S F : Type 0} (value : F → Number) (limit : ℕ) (name : S → List ℕ) (rule : S → SolverRule) (paths : S → List (List Pivot)) (program : Program F) where
   -- what holds after a call in addition to its run
-  abbrev pub LeftBy : List S → List S → Seen F → Seen F → Type 0
+  abbrev pub LeftBy : List S → List S → RunView F → RunView F → Type 0
   LeftBy old_solvers new_solvers old new = Left value limit name rule paths program.statements.items old_solvers new_solvers old new
 
-  pub left-many : (old_solvers new_solvers : List S) (old new : Seen F) → LeftBy old_solvers new_solvers old new → length new_solvers ≡ length old_solvers
+  pub left-many : (old_solvers new_solvers : List S) (old new : RunView F) → LeftBy old_solvers new_solvers old new → length new_solvers ≡ length old_solvers
   left-many old_solvers new_solvers old new left = sym (length-map new_solvers name) ∙ ap length left.answered.names ∙ length-map old_solvers name
 
   -- the clauses of a call on what holds after it
-  pub record Leaves {A : Type 0} (result : Result A (ExecStopOrMemory F)) (old_solvers new_solvers : List S) (old new : Seen F) : Type 0 where
+  pub record Leaves {A : Type 0} (result : Result A (ExecStopOrMemory F)) (old_solvers new_solvers : List S) (old new : RunView F) : Type 0 where
     pub solvers : UnlessMemory result (Answered value limit name rule paths old_solvers new_solvers old new)
     pub standing : UnlessMemory result (ShowsStanding value limit (map rule old_solvers) new.answers old.events new.events)
-    pub settings : UnlessMemory result (AreKept (length old_solvers) new.state.settings)
+    pub settings : UnlessMemory result (AreValidSettings (length old_solvers) new.state.settings)
     pub plain : UnlessMemory result (AreOneDimensional new.state program.statements.items)
 
-  pub leaves-of : {A : Type 0} (result : Result A (ExecStopOrMemory F)) (old_solvers new_solvers : List S) (old new : Seen F) → UnlessMemory result (LeftBy old_solvers new_solvers old new) → Leaves result old_solvers new_solvers old new
+  pub leaves-of : {A : Type 0} (result : Result A (ExecStopOrMemory F)) (old_solvers new_solvers : List S) (old new : RunView F) → UnlessMemory result (LeftBy old_solvers new_solvers old new) → Leaves result old_solvers new_solvers old new
   leaves-of (Ok x) old_solvers new_solvers old new left = record { solvers = left.answered; standing = left.standing; settings = left.kept.settings; plain = left.kept.plain }
   leaves-of (Err Memory) old_solvers new_solvers old new left = record { solvers = tt; standing = tt; settings = tt; plain = tt }
   leaves-of (Err (Stop stop)) old_solvers new_solvers old new left = record { solvers = left.answered; standing = left.standing; settings = left.kept.settings; plain = left.kept.plain }
 
   -- after a call that changed nothing all is as before
-  pub leaves-nothing : {A : Type 0} (result : Result A (ExecStopOrMemory F)) (solvers : List S) (seen : Seen F) → Keeps (length solvers) program.statements.items seen.state → Leaves result solvers solvers seen seen
+  pub leaves-nothing : {A : Type 0} (result : Result A (ExecStopOrMemory F)) (solvers : List S) (seen : RunView F) → Keeps (length solvers) program.statements.items seen.state → Leaves result solvers solvers seen seen
   leaves-nothing result solvers seen kept =
       leaves-of result solvers solvers seen seen (unless-any result (LeftBy solvers solvers seen seen) (left-start value limit name rule paths program.statements.items solvers seen kept))
 
   -- the clauses of a call, together
-  pub left-of : {A : Type 0} (result : Result A (ExecStopOrMemory F)) (old_solvers new_solvers : List S) (old new : Seen F) → UnlessMemory result (Answered value limit name rule paths old_solvers new_solvers old new) → UnlessMemory result (ShowsStanding value limit (map rule old_solvers) new.answers old.events new.events) → UnlessMemory result (AreKept (length old_solvers) new.state.settings) → UnlessMemory result (AreOneDimensional new.state program.statements.items) → UnlessMemory result (LeftBy old_solvers new_solvers old new)
+  pub left-of : {A : Type 0} (result : Result A (ExecStopOrMemory F)) (old_solvers new_solvers : List S) (old new : RunView F) → UnlessMemory result (Answered value limit name rule paths old_solvers new_solvers old new) → UnlessMemory result (ShowsStanding value limit (map rule old_solvers) new.answers old.events new.events) → UnlessMemory result (AreValidSettings (length old_solvers) new.state.settings) → UnlessMemory result (AreOneDimensional new.state program.statements.items) → UnlessMemory result (LeftBy old_solvers new_solvers old new)
   left-of (Ok x) old_solvers new_solvers old new answered standing settings plain = record { answered = answered; standing = standing; kept = record { settings = settings; plain = plain } }
   left-of (Err Memory) old_solvers new_solvers old new answered standing settings plain = tt
   left-of (Err (Stop stop)) old_solvers new_solvers old new answered standing settings plain = record { answered = answered; standing = standing; kept = record { settings = settings; plain = plain } }
 
-  module _ (does : Course → Course) (sets : List ℕ) (b : Pairs) (body : List (Stmt F)) (elements : List (List ℕ)) (solvers : List S) (old : Seen F) where
+  module _ (does : Course → Course) (sets : List ℕ) (b : Pairs) (body : List (Stmt F)) (elements : List (List ℕ)) (solvers : List S) (old : RunView F) where
     -- what a run does with the elements from a place on
     abbrev pub from_element : ℕ → Course → Course
     from_element i = for_each sets (map (step_of value limit program (map name solvers)) body) (drop i elements) b
@@ -71,13 +71,13 @@ module _ {S F : Type 0} (value : F → Number) (limit : ℕ) (name : S → List 
     from_statement i element left course = from_element (i + 1) (one_after_another (map (step_of value limit program (map name solvers)) left) (controlled b sets element) course)
 
     -- The loop is before element `i`.
-    pub record Between (i : ℕ) (inner : Pairs) (new_solvers : List S) (new : Seen F) : Type 0 where
+    pub record Between (i : ℕ) (inner : Pairs) (new_solvers : List S) (new : RunView F) : Type 0 where
       pub reached : Reaches value does (from_element i) old new
       pub left : LeftBy solvers new_solvers old new
       pub outer : take (length b) inner ≡ b
 
     -- The loop is at an element, before statement `k`.
-    pub record Within (i : ℕ) (element : List ℕ) (k : ℕ) (inner : Pairs) (new_solvers : List S) (new : Seen F) : Type 0 where
+    pub record Within (i : ℕ) (element : List ℕ) (k : ℕ) (inner : Pairs) (new_solvers : List S) (new : RunView F) : Type 0 where
       pub reached : Reaches value does (from_statement i element (drop k body)) old new
       pub left : LeftBy solvers new_solvers old new
       pub bound : inner ≡ controlled b sets element
@@ -92,7 +92,7 @@ module _ {S F : Type 0} (value : F → Number) (limit : ℕ) (name : S → List 
         }
 
     -- it reaches the first statement under an element
-    pub within-start : (i : ℕ) (x : List ℕ) (inner next own : Pairs) (new_solvers : List S) (new : Seen F) → Between i inner new_solvers new → i < length elements → x ≡ get_or elements i x → own ≡ controlled b sets x → own ≡ next → Within i (get_or elements i []) 0 next new_solvers new
+    pub within-start : (i : ℕ) (x : List ℕ) (inner next own : Pairs) (new_solvers : List S) (new : RunView F) → Between i inner new_solvers new → i < length elements → x ≡ get_or elements i x → own ≡ controlled b sets x → own ≡ next → Within i (get_or elements i []) 0 next new_solvers new
     within-start i x inner next own new_solvers new between in_it is e same =
         record {
           reached = subst (λ (left : List (List ℕ)). Reaches value does (for_each sets (map (step_of value limit program (map name solvers)) body) left b) old new) (at_drop_more (λ left. left) elements i [] in_it) between.reached;
@@ -101,18 +101,18 @@ module _ {S F : Type 0} (value : F → Number) (limit : ℕ) (name : S → List 
         }
 
     -- a statement is next
-    next-reached : (i : ℕ) (element : List ℕ) (k : ℕ) (s : Stmt F) (inner : Pairs) (mid_solvers : List S) (mid : Seen F) → Within i element k inner mid_solvers mid → k < length body → s ≡ get_or body k s → Reaches value does (from_statement i element (s ∷ drop (k + 1) body)) old mid
+    next-reached : (i : ℕ) (element : List ℕ) (k : ℕ) (s : Stmt F) (inner : Pairs) (mid_solvers : List S) (mid : RunView F) → Within i element k inner mid_solvers mid → k < length body → s ≡ get_or body k s → Reaches value does (from_statement i element (s ∷ drop (k + 1) body)) old mid
     next-reached i element k s inner mid_solvers mid within in_it is =
         subst (λ (left : List (Stmt F)). Reaches value does (from_statement i element left) old mid) (drop-at body k s in_it is) within.reached
 
     -- a call for it did what it does in this run
-    next-runs : {A : Type 0} (result : Result A (ExecStopOrMemory F)) (i : ℕ) (element : List ℕ) (k : ℕ) (s : Stmt F) (inner own : Pairs) (mid_solvers : List S) (mid new : Seen F) → Within i element k inner mid_solvers mid → own ≡ inner → Runs value result (step_of value limit program (map name mid_solvers) s own) mid new → Runs value result (step_of value limit program (map name solvers) s (controlled b sets element)) mid new
+    next-runs : {A : Type 0} (result : Result A (ExecStopOrMemory F)) (i : ℕ) (element : List ℕ) (k : ℕ) (s : Stmt F) (inner own : Pairs) (mid_solvers : List S) (mid new : RunView F) → Within i element k inner mid_solvers mid → own ≡ inner → Runs value result (step_of value limit program (map name mid_solvers) s own) mid new → Runs value result (step_of value limit program (map name solvers) s (controlled b sets element)) mid new
     next-runs result i element k s inner own mid_solvers mid new within same runs =
         subst (λ binding. Runs value result (step_of value limit program (map name solvers) s binding) mid new) (same ∙ within.bound)
         (subst (λ names. Runs value result (step_of value limit program names s own) mid new) within.left.answered.names runs)
 
     -- it reaches the place after the statement
-    pub within-more : {A : Type 0} (x : A) (i : ℕ) (element : List ℕ) (k : ℕ) (s : Stmt F) (inner own : Pairs) (mid_solvers new_solvers : List S) (mid new : Seen F) → Within i element k inner mid_solvers mid → k < length body → s ≡ get_or body k s → own ≡ inner → Runs value {A = A} (Ok x) (step_of value limit program (map name mid_solvers) s own) mid new → LeftBy mid_solvers new_solvers mid new → Within i element (k + 1) inner new_solvers new
+    pub within-more : {A : Type 0} (x : A) (i : ℕ) (element : List ℕ) (k : ℕ) (s : Stmt F) (inner own : Pairs) (mid_solvers new_solvers : List S) (mid new : RunView F) → Within i element k inner mid_solvers mid → k < length body → s ≡ get_or body k s → own ≡ inner → Runs value {A = A} (Ok x) (step_of value limit program (map name mid_solvers) s own) mid new → LeftBy mid_solvers new_solvers mid new → Within i element (k + 1) inner new_solvers new
     within-more {A} x i element k s inner own mid_solvers new_solvers mid new within in_it is same runs left =
         let does_so = next-runs {A = A} (Ok x) i element k s inner own mid_solvers mid new within same runs in
         record {
@@ -128,26 +128,26 @@ module _ {S F : Type 0} (value : F → Number) (limit : ℕ) (name : S → List 
         ∙ each-halted sets (map (step_of value limit program (map name solvers)) body) (drop (i + 1) elements) b course halt e
 
     -- a statement that failed ends the loop
-    pub within-failed : {A B : Type 0} (failed : ExecStopOrMemory F) (i : ℕ) (element : List ℕ) (k : ℕ) (s : Stmt F) (inner own : Pairs) (mid_solvers : List S) (mid new : Seen F) → Within i element k inner mid_solvers mid → k < length body → s ≡ get_or body k s → own ≡ inner → Runs value {A = A} (Err failed) (step_of value limit program (map name mid_solvers) s own) mid new → Runs value {A = B} (Err failed) does old new
+    pub within-failed : {A B : Type 0} (failed : ExecStopOrMemory F) (i : ℕ) (element : List ℕ) (k : ℕ) (s : Stmt F) (inner own : Pairs) (mid_solvers : List S) (mid new : RunView F) → Within i element k inner mid_solvers mid → k < length body → s ≡ get_or body k s → own ≡ inner → Runs value {A = A} (Err failed) (step_of value limit program (map name mid_solvers) s own) mid new → Runs value {A = B} (Err failed) does old new
     within-failed {A} failed i element k s inner own mid_solvers mid new within in_it is same runs =
         reaches-stop value does (from_statement i element (s ∷ drop (k + 1) body)) (step_of value limit program (map name solvers) s (controlled b sets element)) (from_statement i element (drop (k + 1) body)) old mid new (next-reached i element k s inner mid_solvers mid within in_it is) (λ seen left. refl) failed (leaves i element (drop (k + 1) body))
         (next-runs {A = A} (Err failed) i element k s inner own mid_solvers mid new within same runs)
 
     -- and what the calls before it, and it, give holds
-    within-left : {A : Type 0} (B : Type 0) (failed : ExecStopOrMemory F) (i : ℕ) (element : List ℕ) (k : ℕ) (inner : Pairs) (mid_solvers new_solvers : List S) (mid new : Seen F) (does_so : Course → Course) → Within i element k inner mid_solvers mid → Runs value {A = A} (Err failed) does_so mid new → UnlessMemory {A = A} (Err failed) (LeftBy mid_solvers new_solvers mid new) → UnlessMemory {A = B} (Err failed) (LeftBy solvers new_solvers old new)
+    within-left : {A : Type 0} (B : Type 0) (failed : ExecStopOrMemory F) (i : ℕ) (element : List ℕ) (k : ℕ) (inner : Pairs) (mid_solvers new_solvers : List S) (mid new : RunView F) (does_so : Course → Course) → Within i element k inner mid_solvers mid → Runs value {A = A} (Err failed) does_so mid new → UnlessMemory {A = A} (Err failed) (LeftBy mid_solvers new_solvers mid new) → UnlessMemory {A = B} (Err failed) (LeftBy solvers new_solvers old new)
     within-left B Memory i element k inner mid_solvers new_solvers mid new does_so within runs left = tt
     within-left B (Stop stop) i element k inner mid_solvers new_solvers mid new does_so within runs left =
         left-both value limit name rule paths program.statements.items solvers mid_solvers new_solvers old mid new runs.fresh runs.answers (left-many solvers mid_solvers old mid within.left) within.left left
 
-    pub within-leaves : {A : Type 0} (B : Type 0) (failed : ExecStopOrMemory F) (i : ℕ) (element : List ℕ) (k : ℕ) (inner : Pairs) (mid_solvers new_solvers : List S) (mid new : Seen F) (does_so : Course → Course) → Within i element k inner mid_solvers mid → Runs value {A = A} (Err failed) does_so mid new →
+    pub within-leaves : {A : Type 0} (B : Type 0) (failed : ExecStopOrMemory F) (i : ℕ) (element : List ℕ) (k : ℕ) (inner : Pairs) (mid_solvers new_solvers : List S) (mid new : RunView F) (does_so : Course → Course) → Within i element k inner mid_solvers mid → Runs value {A = A} (Err failed) does_so mid new →
         UnlessMemory {A = A} (Err failed) (Answered value limit name rule paths mid_solvers new_solvers mid new) → UnlessMemory {A = A} (Err failed) (ShowsStanding value limit (map rule mid_solvers) new.answers mid.events new.events) →
-        UnlessMemory {A = A} (Err failed) (AreKept (length mid_solvers) new.state.settings) → UnlessMemory {A = A} (Err failed) (AreOneDimensional new.state program.statements.items) → Leaves {A = B} (Err failed) solvers new_solvers old new
+        UnlessMemory {A = A} (Err failed) (AreValidSettings (length mid_solvers) new.state.settings) → UnlessMemory {A = A} (Err failed) (AreOneDimensional new.state program.statements.items) → Leaves {A = B} (Err failed) solvers new_solvers old new
     within-leaves {A} B failed i element k inner mid_solvers new_solvers mid new does_so within runs answered standing settings plain =
         leaves-of {A = B} (Err failed) solvers new_solvers old new
         (within-left {A = A} B failed i element k inner mid_solvers new_solvers mid new does_so within runs (left-of {A = A} (Err failed) mid_solvers new_solvers mid new answered standing settings plain))
 
     -- after the last statement it reaches the next element
-    pub within-end : (i : ℕ) (element : List ℕ) (k : ℕ) (inner own : Pairs) (new_solvers : List S) (new : Seen F) → Within i element k inner new_solvers new → length body ≤ k → own ≡ inner → Between (i + 1) own new_solvers new
+    pub within-end : (i : ℕ) (element : List ℕ) (k : ℕ) (inner own : Pairs) (new_solvers : List S) (new : RunView F) → Within i element k inner new_solvers new → length body ≤ k → own ≡ inner → Between (i + 1) own new_solvers new
     within-end i element k inner own new_solvers new within all same =
         record {
           reached = subst (λ (left : List (Stmt F)). Reaches value does (from_statement i element left) old new) (drop_all k body all) within.reached;
@@ -156,7 +156,7 @@ module _ {S F : Type 0} (value : F → Number) (limit : ℕ) (name : S → List 
         }
 
     -- after the last element nothing remains to be done
-    pub between-end : {A : Type 0} (x : A) (i : ℕ) (inner : Pairs) (new_solvers : List S) (new : Seen F) → Between i inner new_solvers new → length elements ≤ i → Runs value {A = A} (Ok x) does old new
+    pub between-end : {A : Type 0} (x : A) (i : ℕ) (inner : Pairs) (new_solvers : List S) (new : RunView F) → Between i inner new_solvers new → length elements ≤ i → Runs value {A = A} (Ok x) does old new
     between-end x i inner new_solvers new between all =
         reaches-end value x does (for_each sets (map (step_of value limit program (map name solvers)) body) [] b) old new
         (subst (λ (left : List (List ℕ)). Reaches value does (for_each sets (map (step_of value limit program (map name solvers)) body) left b) old new) (drop_all i elements all) between.reached)

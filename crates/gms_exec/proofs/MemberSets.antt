@@ -16,7 +16,7 @@ use Rattle.gms_tuple.specs.TupleSet.{has, inserted, removed}
 use Rattle.gms_tuple.proofs.Ordered.{tuple_cmp-Equal}
 use Rattle.gms_tuple.proofs.Members.{has-filter, has-inserted, has-removed, IsOrdered-inserted, IsOrdered-filter, same_from_members}
 use Rattle.gms_store.specs.State.{Entries}
-use Rattle.gms_exec.specs.Given.{is_among, ordered, with_members}
+use Rattle.gms_exec.specs.Given.{is_given_among, ordered_tuples, with_members}
 use Rattle.gms_exec.proofs.Overlays.{same-tie, has-keys, first_of, last_at, last_at-append}
 
 -- ---- the keys of a map are in order
@@ -56,13 +56,13 @@ marked-found (t ∷ ts) q = by (eq_by_cmp tuple_cmp q t) (marked-found ts q) ∙
     by true rest = refl
     by false rest = rest
 
-has-ordered : (ts : List (List ℕ)) (q : List ℕ) → has (ordered ts) q ≡ has ts q
+has-ordered : (ts : List (List ℕ)) (q : List ℕ) → has (ordered_tuples ts) q ≡ has ts q
 has-ordered ts q =
     has-keys (finite.from_entries {R = tuple_cmp} (map (λ t. (t, true)) ts)) q
     ∙ ap is_some (finite.get-from_entries tuple_cmp-total (map (λ t. (t, true)) ts) q)
     ∙ marked-found ts q
 
-ordered-ordered : (ts : List (List ℕ)) → IsOrdered (ordered ts)
+ordered-ordered : (ts : List (List ℕ)) → IsOrdered (ordered_tuples ts)
 ordered-ordered ts = keys-ordered (finite.from_entries {R = tuple_cmp} (map (λ t. (t, true)) ts))
 
 -- ---- members
@@ -80,7 +80,7 @@ found-among (e ∷ es) q = ap (λ b. b || list_any (λ one. same_tuple one.0 q) 
     by true rest = refl
     by false rest = rest
 
-is_among-last : (given : List (List ℕ × Bool)) (q : List ℕ) → is_among given q ≡ is_some (last_at given q)
+is_among-last : (given : List (List ℕ × Bool)) (q : List ℕ) → is_given_among given q ≡ is_some (last_at given q)
 is_among-last given q =
     list_any-IsPermutation (λ one. same_tuple one.0 q) given (reverse given) (IsPermutation-reverse given) ∙ found-among (reverse given) q
 
@@ -95,11 +95,11 @@ pub has-with_members : (given : List (List ℕ × Bool)) (members : List (List �
 has-with_members given members q =
     let last : Entries Bool = finite.from_entries {R = tuple_cmp} (reverse given) in
     let new : List (List ℕ) = finite.keys (finite.retain_keys last (λ t. unwrap_or (finite.get last t) false)) in
-    let old : List (List ℕ) = filter (λ t. not (is_among given t)) members in
+    let old : List (List ℕ) = filter (λ t. not (is_given_among given t)) members in
     has-ordered (new ++ old) q
     ∙ list_any-append (λ member. same_tuple member q) new old
     ∙ ap (λ b. b || has old q) (put-in given q)
-    ∙ ap (λ b. is_some (cond (unwrap_or (last_at given q) false) (last_at given q) None) || b) (has-filter (λ t. not (is_among given t)) members q ∙ ap (λ b. has members q && not b) (is_among-last given q))
+    ∙ ap (λ b. is_some (cond (unwrap_or (last_at given q) false) (last_at given q) None) || b) (has-filter (λ t. not (is_given_among given t)) members q ∙ ap (λ b. has members q && not b) (is_among-last given q))
     ∙ by (last_at given q) (has members q)
   where
     by : (o : Option Bool) (h : Bool) → (is_some (cond (unwrap_or o false) o None) || (h && not (is_some o))) ≡ now_in o h
@@ -112,7 +112,7 @@ has-with_members given members q =
 with_members-ordered : (given : List (List ℕ × Bool)) (members : List (List ℕ)) → IsOrdered (with_members given members)
 with_members-ordered given members =
     let last : Entries Bool = finite.from_entries {R = tuple_cmp} (reverse given) in
-    ordered-ordered (finite.keys (finite.retain_keys last (λ t. unwrap_or (finite.get last t) false)) ++ filter (λ t. not (is_among given t)) members)
+    ordered-ordered (finite.keys (finite.retain_keys last (λ t. unwrap_or (finite.get last t) false)) ++ filter (λ t. not (is_given_among given t)) members)
 
 -- elements that are given, and more of them
 pub with_members-append : (one other : List (List ℕ × Bool)) (members : List (List ℕ)) → with_members other (with_members one members) ≡ with_members (one ++ other) members

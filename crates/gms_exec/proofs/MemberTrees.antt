@@ -17,10 +17,10 @@ use Rattle.gms_eval.specs.declared.stop.ExecStopOrMemory.TheVariants.{Memory, Fa
 use Rattle.gms_eval.specs.Nodes.{each_holds}
 use Rattle.gms_eval.specs.Bindings.{Pairs}
 use Rattle.gms_eval.specs.Faults.{Answer, Fault, ◌and_then◌}
-use Rattle.gms_eval.specs.Gives.{fault_of, Stops}
+use Rattle.gms_eval.specs.Gives.{fault_of, ShowsStop}
 use Rattle.gms_eval.proofs.NodeValues.{of_expr}
 use Rattle.gms_eval.proofs.TreeValues.{unmarked-parts_of}
-use Rattle.gms_exec.specs.Membership.{Join, membership, memberships, joined, in_sum, in_product}
+use Rattle.gms_exec.specs.Membership.{MembershipJoin, membership, memberships, joined_membership, in_sum, in_product}
 
 module _ {F : Type 0} (v : F → Number) (limit : ℕ) (state : State) (b : Pairs) where
   -- whether an expression is in the set
@@ -50,15 +50,15 @@ module _ {F : Type 0} (v : F → Number) (limit : ℕ) (state : State) (b : Pair
   pub member-Not : (operand : Box (Expr F) Global) → member_expr (Not operand) ≡ (member_expr operand.value and_then λ x. Ok (not x))
   member-Not operand = ap (membership v limit state b) (tree_of-Not operand)
 
-  pub member-Plus : (parts : Vec (Place × Bool × Expr F) Global) → member_expr (Plus parts) ≡ joined in_sum false (map (λ p. (tree.signed p.0 p.1, member_expr p.2)) parts.items)
+  pub member-Plus : (parts : Vec (Place × Bool × Expr F) Global) → member_expr (Plus parts) ≡ joined_membership in_sum false (map (λ p. (tree.signed p.0 p.1, member_expr p.2)) parts.items)
   member-Plus parts =
       ap (membership v limit state b) (tree_of-Plus parts)
-      ∙ ap (joined in_sum false) (memberships-parts_of (λ (p : Place × Bool × Expr F). tree.signed p.0 p.1) (λ p. tree_of p.2) parts.items)
+      ∙ ap (joined_membership in_sum false) (memberships-parts_of (λ (p : Place × Bool × Expr F). tree.signed p.0 p.1) (λ p. tree_of p.2) parts.items)
 
-  pub member-Times : (parts : Vec (Place × Bool × Expr F) Global) → member_expr (Times parts) ≡ joined in_product true (map (λ p. (tree.signed p.0 p.1, member_expr p.2)) parts.items)
+  pub member-Times : (parts : Vec (Place × Bool × Expr F) Global) → member_expr (Times parts) ≡ joined_membership in_product true (map (λ p. (tree.signed p.0 p.1, member_expr p.2)) parts.items)
   member-Times parts =
       ap (membership v limit state b) (tree_of-Times parts)
-      ∙ ap (joined in_product true) (memberships-parts_of (λ (p : Place × Bool × Expr F). tree.signed p.0 p.1) (λ p. tree_of p.2) parts.items)
+      ∙ ap (joined_membership in_product true) (memberships-parts_of (λ (p : Place × Bool × Expr F). tree.signed p.0 p.1) (λ p. tree_of p.2) parts.items)
 
   pub member-Guard : (operand : Box (Expr F) Global) (guards : Vec (Expr F) Global) → member_expr (Guard operand guards) ≡ (each_holds (map (of_expr v limit state b) guards.items) and_then λ hold. if hold then member_expr operand.value else Ok false)
   member-Guard operand guards =
@@ -77,10 +77,10 @@ pub guarded-not : (a : Answer Bool) (hold : Bool) (x : Answer Bool) → a ≡ Ok
 guarded-not a hold x e so =
     ap (λ b. b and_then λ h. if h then x else Ok false) e ∙ ap (λ h. if h then x else Ok false) so
 
-module _ {X : Type 0} (join : Join) (mark : X → tree.Mark) (answer : X → Answer Bool) where
+module _ {X : Type 0} (join : MembershipJoin) (mark : X → tree.Mark) (answer : X → Answer Bool) where
   -- the parts from here on, joined to the result so far
   abbrev pub joined_on : Bool → List X → Answer Bool
-  joined_on so_far xs = joined join so_far (map (λ x. (mark x, answer x)) xs)
+  joined_on so_far xs = joined_membership join so_far (map (λ x. (mark x, answer x)) xs)
 
   next_part : (so_far : Bool) (xs : List X) (i : ℕ) (x : X) → i < length xs → x ≡ get_or xs i x → joined_on so_far (drop i xs) ≡ joined_on so_far (x ∷ drop (i + 1) xs)
   next_part so_far xs i x l at =
@@ -103,6 +103,6 @@ module _ {X : Type 0} (join : Join) (mark : X → tree.Mark) (answer : X → Ans
   joined_on-end whole so_far xs i so all = so ∙ at_drop_all (joined_on so_far) xs i all
 
   -- the stop of a part
-  pub joined_on-stops : {F : Type 0} (v : F → Number) (stop : ExecStopOrMemory F) (whole : Answer Bool) (so_far : Bool) (xs : List X) (i : ℕ) (x : X) → whole ≡ joined_on so_far (drop i xs) → i < length xs → x ≡ get_or xs i x → Stops v stop (answer x) → Stops v stop whole
+  pub joined_on-stops : {F : Type 0} (v : F → Number) (stop : ExecStopOrMemory F) (whole : Answer Bool) (so_far : Bool) (xs : List X) (i : ℕ) (x : X) → whole ≡ joined_on so_far (drop i xs) → i < length xs → x ≡ get_or xs i x → ShowsStop v stop (answer x) → ShowsStop v stop whole
   joined_on-stops v Memory whole so_far xs i x so l at s = tt
   joined_on-stops v (Stop stop) whole so_far xs i x so l at s = so ∙ joined_on-fault so_far xs i x (fault_of v stop) l at s

@@ -15,7 +15,7 @@ use Rattle.gms_tuple.specs.TupleSet.{has}
 use Rattle.gms_tuple.proofs.Ordered.{same_tuple-Decides, tuple_cmp-Equal}
 use Rattle.gms_tuple.proofs.Members.{has-filter}
 use Rattle.gms_store.specs.State.{Entries}
-use Rattle.gms_exec.specs.Given.{overlaid, ordered, is_among, with_members}
+use Rattle.gms_exec.specs.Given.{overlaid_entries, ordered_tuples, is_given_among, with_members}
 use Rattle.gms_exec.specs.Reads.{last_at}
 
 -- two tuples tie exactly where they are the same
@@ -66,7 +66,7 @@ module _ {X : Type 0} (differs : X → Bool) (absent : X) (agree : (x : X) → d
   either (Some x) p = refl
 
   -- what is read of a map in which some entries are new
-  pub read-overlaid : (new : List (List ℕ × X)) (entries : Entries X) (t : List ℕ) → unwrap_or (finite.get (overlaid differs new entries) t) absent ≡ unwrap_or (last_at new t) (unwrap_or (finite.get entries t) absent)
+  pub read-overlaid : (new : List (List ℕ × X)) (entries : Entries X) (t : List ℕ) → unwrap_or (finite.get (overlaid_entries differs new entries) t) absent ≡ unwrap_or (last_at new t) (unwrap_or (finite.get entries t) absent)
   read-overlaid new entries t =
       let all : Entries X = finite.from_entries {R = tuple_cmp} (reverse new ++ finite.entries entries) in
       ap (λ o. unwrap_or o absent) (finite.get-retain_keys all (λ u. unwrap_or (option_map differs (finite.get all u)) false) t (tied (λ u. unwrap_or (option_map differs (finite.get all u)) false) t))
@@ -117,7 +117,7 @@ found-marked (u ∷ ts) t =
     ∙ elim (same_tuple u t) as (λ b. is_some (cond b (Some true) (finite.find tuple_cmp t (map (λ u. (u, true)) ts))) ≡ (b || has ts t)) [ true ↦ refl | false ↦ found-marked ts t ]
 
 -- sorting tuples keeps their members
-pub has-ordered : (ts : List (List ℕ)) (t : List ℕ) → has (ordered ts) t ≡ has ts t
+pub has-ordered : (ts : List (List ℕ)) (t : List ℕ) → has (ordered_tuples ts) t ≡ has ts t
 has-ordered ts t =
     has-keys_of_map (finite.from_entries {R = tuple_cmp} (map (λ u. (u, true)) ts)) t
     ∙ ap is_some (finite.get-from_entries tuple_cmp-total (map (λ u. (u, true)) ts) t)
@@ -147,7 +147,7 @@ some-map f None = refl
 some-map f (Some x) = refl
 
 -- an element has some pair exactly where it has a last one
-pub last-there : (given : List (List ℕ × Bool)) (t : List ℕ) → is_among given t ≡ is_some (last_at given t)
+pub last-there : (given : List (List ℕ × Bool)) (t : List ℕ) → is_given_among given t ≡ is_some (last_at given t)
 last-there given t =
     sym (some-map (λ (p : List ℕ × Bool). p.1) (find (at_tuple t) (reverse given)) ∙ found-any (at_tuple t) (reverse given) ∙ any-reverse (at_tuple t) given)
 
@@ -156,10 +156,10 @@ pub has-with_members : (given : List (List ℕ × Bool)) (members : List (List �
 has-with_members given members t =
     let last : Entries Bool = finite.from_entries {R = tuple_cmp} (reverse given) in
     let on : List ℕ → Bool = λ u. unwrap_or (finite.get last u) false in
-    has-ordered (finite.keys (finite.retain_keys last on) ++ filter (λ u. not (is_among given u)) members) t
-    ∙ list_any-append (λ member. same_tuple member t) (finite.keys (finite.retain_keys last on)) (filter (λ u. not (is_among given u)) members)
-    ∙ ap (λ b. b || has (filter (λ u. not (is_among given u)) members) t) (has-keys_of_map (finite.retain_keys last on) t ∙ ap is_some (finite.get-retain_keys last on t (tied on t)) ∙ ap (λ o. is_some (cond (unwrap_or o false) o None)) (get-last given t))
-    ∙ ap (λ b. is_some (cond (unwrap_or (last_at given t) false) (last_at given t) None) || b) (has-filter (λ u. not (is_among given u)) members t ∙ ap (λ b. has members t && not b) (last-there given t))
+    has-ordered (finite.keys (finite.retain_keys last on) ++ filter (λ u. not (is_given_among given u)) members) t
+    ∙ list_any-append (λ member. same_tuple member t) (finite.keys (finite.retain_keys last on)) (filter (λ u. not (is_given_among given u)) members)
+    ∙ ap (λ b. b || has (filter (λ u. not (is_given_among given u)) members) t) (has-keys_of_map (finite.retain_keys last on) t ∙ ap is_some (finite.get-retain_keys last on t (tied on t)) ∙ ap (λ o. is_some (cond (unwrap_or o false) o None)) (get-last given t))
+    ∙ ap (λ b. is_some (cond (unwrap_or (last_at given t) false) (last_at given t) None) || b) (has-filter (λ u. not (is_given_among given u)) members t ∙ ap (λ b. has members t && not b) (last-there given t))
     ∙ by (last_at given t) (has members t)
   where
     by : (o : Option Bool) (old : Bool) → (is_some (cond (unwrap_or o false) o None) || (old && not (is_some o))) ≡ unwrap_or o old

@@ -20,7 +20,7 @@ use Rattle.gms_ast.specs.declared.expression.Suffix.TheVariants as suffix
 use Rattle.gms_ast.specs.StatementTrees.{Target}
 use Rattle.gms_ast.specs.Trees as tree
 use Rattle.gms_tuple.specs.TupleOrder.{tuple_cmp, same_tuple, IsOrdered}
-use Rattle.gms_tuple.specs.TupleSet.{has, place_of}
+use Rattle.gms_tuple.specs.TupleSet.{has, place_of_tuple}
 use Rattle.gms_tuple.proofs.Members.{after-first}
 use Rattle.gms_tuple.proofs.Ordered.{first-before, rest-ordered, same_tuple-Decides, same_tuple-Less, same_tuple_refl}
 use Rattle.gms_store.specs.State.{State, members_of}
@@ -28,17 +28,17 @@ use Rattle.gms_eval.specs.Nodes.{in_order}
 use Rattle.gms_eval.specs.Bindings.{Pairs, label_of, paired, controlled}
 use Rattle.gms_eval.specs.Domain.{elements, sized, those_where, too_large, IsSimple}
 use Rattle.gms_eval.specs.Faults.{Answer, Fault, nothing, faulted, ◌and_then◌}
-use Rattle.gms_eval.specs.Lag.{label_in, label_at, moved, lagged_label, whole_number}
-use Rattle.gms_eval.specs.References.{reached, tuple_of}
+use Rattle.gms_eval.specs.Lag.{label_of_element, label_at, moved, lagged_label, whole_number}
+use Rattle.gms_eval.specs.References.{reached_label, tuple_of}
 use Rattle.gms_eval.specs.Value.{value, labels, domain, control_over, when_so}
 use Rattle.gms_eval.specs.declared.stop.StopKind.TheVariants.{LagNotWhole}
 use Rattle.gms_eval.proofs.Entries.{there, tuple-labels, label-inside}
 use Rattle.gms_eval.proofs.Places.{place-below}
 use Rattle.gms_eval.proofs.Simple.{elements-ordered, element-length}
 use Rattle.gms_rows.specs.Rows.{sets_among, each_once}
-use Rattle.gms_exec.specs.Assignment.{newly_controlled, given_under, element_under, those_there, given_by}
+use Rattle.gms_exec.specs.Assignment.{newly_controlled, given_under, element_under, given_elements, given_by}
 use Rattle.gms_exec.specs.Given.{Given, AllGiven}
-use Rattle.gms_exec.specs.Once.{is_fixed, AreLeft, IsOnce}
+use Rattle.gms_exec.specs.Once.{is_constant_lag, AreLeft, IsOnce}
 
 -- ---- places of members
 
@@ -76,11 +76,11 @@ one-place (y ∷ ys) (suc i) zero x ordered at other =
 one-place (y ∷ ys) (suc i) (suc j) x ordered at other = ap suc (one-place ys i j x (rest-ordered y ys ordered) at other)
 
 -- the member at a place is the tuple that has it
-place-member : (xs : List (List ℕ)) (t : List ℕ) (n : ℕ) → place_of xs t ≡ Some n → get_or xs n [] ≡ t
+place-member : (xs : List (List ℕ)) (t : List ℕ) (n : ℕ) → place_of_tuple xs t ≡ Some n → get_or xs n [] ≡ t
 place-member xs t n found =
     (same_tuple-Decides (get_or xs n []) t).0 (position-Some (λ member. same_tuple member t) xs n [] found).1
 
-one-label : (m k : List ℕ) → length m ≡ 1 → length k ≡ 1 → label_in m ≡ label_in k → m ≡ k
+one-label : (m k : List ℕ) → length m ≡ 1 → length k ≡ 1 → label_of_element m ≡ label_of_element k → m ≡ k
 one-label [] k long same e = absurd (omega arith)
 one-label (x ∷ []) [] long same e = absurd (omega arith)
 one-label (x ∷ []) (y ∷ []) long same e = ap (λ n. n ∷ []) e
@@ -95,12 +95,12 @@ record AtPlace (members : List (List ℕ)) (z : ℤ) (h : ℕ) : Type 0 where
   is : z ≡ pos place
   member : List ℕ
   at : slice_get members place ≡ Some member
-  label : label_in member ≡ h
+  label : label_of_element member ≡ h
 
 at-place : (members : List (List ℕ)) (z : ℤ) (h : ℕ) → label_at members z ≡ Some h → AtPlace members z h
 at-place members (pos k) h e = by (slice_get members k) refl e
   where
-    by : (o : Option (List ℕ)) → slice_get members k ≡ o → option_map label_in o ≡ Some h → AtPlace members (pos k) h
+    by : (o : Option (List ℕ)) → slice_get members k ≡ o → option_map label_of_element o ≡ Some h → AtPlace members (pos k) h
     by (Some m) is e = record { place = k; is = refl; member = m; at = is; label = cc }
     by None is e = absurd cc
 at-place members (negsuc k) h e = absurd cc
@@ -177,16 +177,16 @@ record Reaches (state : State) (binding : Pairs) (set : ℕ) (op : LagOp) (x : E
   label : ℕ
   stands : label_of binding set ≡ Some label
   place : ℕ
-  at : place_of (members_of state set) (label ∷ []) ≡ Some place
+  at : place_of_tuple (members_of state set) (label ∷ []) ≡ Some place
   reaches : moved (members_of state set) op places (pos place) ≡ Some h
 
 ok-some : (x : Option ℕ) (h : ℕ) → ◌≡◌ {A = Answer (Option ℕ)} (Ok x) (Ok (Some h)) → x ≡ Some h
 ok-some x h e = cc
 
-reaches-from : (state : State) (binding : Pairs) (set : ℕ) (op : LagOp) (at : Place) (x : Extended) (h : ℕ) → reached state binding set op at x ≡ Ok (Some h) → Reaches state binding set op x h
+reaches-from : (state : State) (binding : Pairs) (set : ℕ) (op : LagOp) (at : Place) (x : Extended) (h : ℕ) → reached_label state binding set op at x ≡ Ok (Some h) → Reaches state binding set op x h
 reaches-from state binding set op at x h e = by (whole_number x) refl e
   where
-    third : (places : ℤ) → whole_number x ≡ Some places → (label : ℕ) → label_of binding set ≡ Some label → (o : Option ℕ) → place_of (members_of state set) (label ∷ []) ≡ o → option_and_then (λ place. moved (members_of state set) op places (pos place)) o ≡ Some h → Reaches state binding set op x h
+    third : (places : ℤ) → whole_number x ≡ Some places → (label : ℕ) → label_of binding set ≡ Some label → (o : Option ℕ) → place_of_tuple (members_of state set) (label ∷ []) ≡ o → option_and_then (λ place. moved (members_of state set) op places (pos place)) o ≡ Some h → Reaches state binding set op x h
     third places amount label stands None none e = absurd cc
     third places amount label stands (Some place) found e = record {
       places = places;
@@ -200,7 +200,7 @@ reaches-from state binding set op at x h e = by (whole_number x) refl e
 
     second : (places : ℤ) → whole_number x ≡ Some places → (o : Option ℕ) → label_of binding set ≡ o → option_and_then (λ label. lagged_label (members_of state set) op places label) o ≡ Some h → Reaches state binding set op x h
     second places amount None none e = absurd cc
-    second places amount (Some label) stands e = third places amount label stands (place_of (members_of state set) (label ∷ [])) refl e
+    second places amount (Some label) stands e = third places amount label stands (place_of_tuple (members_of state set) (label ∷ [])) refl e
 
     by : (o : Option ℤ) → whole_number x ≡ o → (ok_or o (faulted LagNotWhole at binding x nothing) and_then λ places. Ok (option_and_then (λ label. lagged_label (members_of state set) op places label) (label_of binding set))) ≡ Ok (Some h) → Reaches state binding set op x h
     by None none e = absurd cc
@@ -236,7 +236,7 @@ ok-same x y e = cc
 -- ---- the labels of indices
 
 module _ {F : Type 0} (v : F → Number) (limit : ℕ) (state : State) (one other : Pairs) where
-  fixed-value : (amount : tree.Tree F) → is_fixed amount ≡ true → value v limit state one amount ≡ value v limit state other amount
+  fixed-value : (amount : tree.Tree F) → is_constant_lag amount ≡ true → value v limit state one amount ≡ value v limit state other amount
   fixed-value (tree.number n) e = refl
   fixed-value (tree.reference at name suffix.None tree.no_index) e = refl
   fixed-value amount e = absurd cc
@@ -264,10 +264,10 @@ module _ {F : Type 0} (v : F → Number) (limit : ℕ) (state : State) (one othe
   labels-same (tree.lagged s op at amount rest) (l ∷ t) left e f set among =
       let a : labels v limit state one rest ≡ map there t = cc in
       let b : labels v limit state other rest ≡ map there t = cc in
-      let c : (value v limit state one amount and_then λ x. reached state one s op at x) ≡ Ok (Some l) = cc in
-      let d : (value v limit state other amount and_then λ x. reached state other s op at x) ≡ Ok (Some l) = cc in
-      let x = before (value v limit state one amount) (λ x. reached state one s op at x) (Some l) c in
-      let y = before (value v limit state other amount) (λ x. reached state other s op at x) (Some l) d in
+      let c : (value v limit state one amount and_then λ x. reached_label state one s op at x) ≡ Ok (Some l) = cc in
+      let d : (value v limit state other amount and_then λ x. reached_label state other s op at x) ≡ Ok (Some l) = cc in
+      let x = before (value v limit state one amount) (λ x. reached_label state one s op at x) (Some l) c in
+      let y = before (value v limit state other amount) (λ x. reached_label state other s op at x) (Some l) d in
       let same : x.found ≡ y.found = ok-same x.found y.found (sym x.is ∙ fixed-value amount left.1.0 ∙ y.is) in
       by (reaches-same state one other s op x.found y.found l left.0 same (reaches-from state one s op at x.found l x.goes) (reaches-from state other s op at y.found l y.goes)) (labels-same rest t left.1.1 a b set) (s == set) refl among
     where
@@ -432,20 +432,20 @@ module _ {F : Type 0} (v : F → Number) (limit : ℕ) (state : State) (answer :
             sym each.0.1 ∙ ap (has es) (sym e) ∙ none
         by false apart = refl
 
-    each-once : (es : List (List ℕ)) (ys : List (Option (List ℕ × Given))) → StandOnce es → in_order (map answer es) ≡ Ok ys → AllByRecursion (IsOf es) (those_there v limit state ys) × IsOnce (those_there v limit state ys)
+    each-once : (es : List (List ℕ)) (ys : List (Option (List ℕ × Given))) → StandOnce es → in_order (map answer es) ≡ Ok ys → AllByRecursion (IsOf es) (given_elements v limit state ys) × IsOnce (given_elements v limit state ys)
     unfolding IsDistinct
     each-once [] ys once e =
-        subst (λ ys. AllByRecursion (IsOf []) (those_there v limit state ys) × IsOnce (those_there v limit state ys)) (ok-same [] ys e) (tt, tt)
+        subst (λ ys. AllByRecursion (IsOf []) (given_elements v limit state ys) × IsOnce (given_elements v limit state ys)) (ok-same [] ys e) (tt, tt)
     each-once (x ∷ es) ys once e =
         let a = before (answer x) (λ y. in_order (map answer es) and_then λ zs. Ok (y ∷ zs)) ys e in
         let b = before (in_order (map answer es)) (λ zs. Ok (a.found ∷ zs)) ys a.goes in
         let rest = each-once es b.found once.1 b.is in
-        subst (λ ys. AllByRecursion (IsOf (x ∷ es)) (those_there v limit state ys) × IsOnce (those_there v limit state ys)) (ok-same (a.found ∷ b.found) ys b.goes) (by a.found a.is b.found rest.0 rest.1)
+        subst (λ ys. AllByRecursion (IsOf (x ∷ es)) (given_elements v limit state ys) × IsOnce (given_elements v limit state ys)) (ok-same (a.found ∷ b.found) ys b.goes) (by a.found a.is b.found rest.0 rest.1)
       where
-        by : (o : Option (List ℕ × Given)) → answer x ≡ Ok o → (zs : List (Option (List ℕ × Given))) → AllByRecursion (IsOf es) (those_there v limit state zs) → IsOnce (those_there v limit state zs) → AllByRecursion (IsOf (x ∷ es)) (those_there v limit state (o ∷ zs)) × IsOnce (those_there v limit state (o ∷ zs))
-        by None is zs each others = (weaker x es (those_there v limit state zs) each, others)
+        by : (o : Option (List ℕ × Given)) → answer x ≡ Ok o → (zs : List (Option (List ℕ × Given))) → AllByRecursion (IsOf es) (given_elements v limit state zs) → IsOnce (given_elements v limit state zs) → AllByRecursion (IsOf (x ∷ es)) (given_elements v limit state (o ∷ zs)) × IsOnce (given_elements v limit state (o ∷ zs))
+        by None is zs each others = (weaker x es (given_elements v limit state zs) each, others)
         by (Some a) is zs each others =
-            (((x, ap (λ b. b || has es x) (same_tuple_refl x), is), weaker x es (those_there v limit state zs) each), (others-apart x a es (those_there v limit state zs) is once.0 each, others))
+            (((x, ap (λ b. b || has es x) (same_tuple_refl x), is), weaker x es (given_elements v limit state zs) each), (others-apart x a es (given_elements v limit state zs) is once.0 each, others))
 
 -- ---- an assignment
 
@@ -543,9 +543,9 @@ module _ {F : Type 0} (v : F → Number) (limit : ℕ) (state : State) (binding 
 
     pub given-once : (at : Place) (condition : Option (tree.Tree F)) (given : AllGiven) → given_by v limit state at binding target condition right_at right ≡ Ok given → IsOnce given
     given-once at condition given e =
-        let a = before (domain v limit state binding at (control_over sets condition)) (λ elements. in_order (map (λ element. element_under v limit state target right_at right (controlled binding sets element)) elements) and_then λ given. Ok (those_there v limit state given)) given e in
-        let b = before (in_order (map (λ element. element_under v limit state target right_at right (controlled binding sets element)) a.found)) (λ given. Ok (those_there v limit state given)) given a.goes in
+        let a = before (domain v limit state binding at (control_over sets condition)) (λ elements. in_order (map (λ element. element_under v limit state target right_at right (controlled binding sets element)) elements) and_then λ given. Ok (given_elements v limit state given)) given e in
+        let b = before (in_order (map (λ element. element_under v limit state target right_at right (controlled binding sets element)) a.found)) (λ given. Ok (given_elements v limit state given)) given a.goes in
         let simple = All-from_recursion (IsSimple state) sets (all-simple sets (λ set among. sets-simple target.indices left set (newly set among).0)) in
         let some = domain-some v limit state binding at sets condition a.found (ordered-once (elements state sets) (elements-ordered state sets simple)) a.is in
         let long : in_order (map of_element a.found) ≡ Ok b.found = sym (ap in_order (all-long a.found (λ x there. element-length state sets x (some.among x there)))) ∙ b.is in
-        subst IsOnce (ok-same (those_there v limit state b.found) given b.goes) (each-once v limit state of_element of-injective a.found b.found some.once long).1
+        subst IsOnce (ok-same (given_elements v limit state b.found) given b.goes) (each-once v limit state of_element of-injective a.found b.found some.once long).1

@@ -12,8 +12,8 @@ use Rattle.gms_tuple.specs.TupleOrder.{tuple_cmp, same_tuple}
 use Rattle.gms_tuple.specs.TupleSet.{has}
 use Rattle.gms_tuple.specs.OrderLaws.{tuple_cmp-total, same_tuple-tuple_cmp}
 use Rattle.gms_tuple.proofs.Ordered.{tuple_cmp-Equal}
-use Rattle.gms_store.specs.State.{Entries, after_write}
-use Rattle.gms_exec.specs.Given.{overlaid}
+use Rattle.gms_store.specs.State.{Entries, entries_after_write}
+use Rattle.gms_exec.specs.Given.{overlaid_entries}
 
 -- two maps that have the same at each tuple are the same
 pub same_map : {X : Type 0} (m n : Entries X) → ((q : List ℕ) → finite.get m q ≡ finite.get n q) → m ≡ n
@@ -87,15 +87,15 @@ module _ {X : Type 0} (differs : X → Bool) where
       finite.get-retain_keys m (λ t. unwrap_or (option_map differs (finite.get m t)) false) q (λ x e. ap (λ t. unwrap_or (option_map differs (finite.get m t)) false) (sym (tuple_cmp-Equal q x e)))
 
   -- what a map has in which some entries are new
-  pub get-overlaid : (new : List (List ℕ × X)) (m : Entries X) (q : List ℕ) → finite.get (overlaid differs new m) q ≡ kept (first_of (last_at new q) (finite.get m q))
+  pub get-overlaid : (new : List (List ℕ × X)) (m : Entries X) (q : List ℕ) → finite.get (overlaid_entries differs new m) q ≡ kept (first_of (last_at new q) (finite.get m q))
   get-overlaid new m q =
       get-kept (finite.from_entries {R = tuple_cmp} (reverse new ++ finite.entries m)) q
       ∙ ap kept (finite.get-from_entries tuple_cmp-total (reverse new ++ finite.entries m) q ∙ find-append q (reverse new) (finite.entries m) ∙ ap (first_of (last_at new q)) (sym (finite.get-entries m q)))
 
   -- new entries, and more of them
-  pub overlaid-append : (one other : List (List ℕ × X)) (m : Entries X) → overlaid differs other (overlaid differs one m) ≡ overlaid differs (one ++ other) m
-  overlaid-append one other m = same_map (overlaid differs other (overlaid differs one m)) (overlaid differs (one ++ other) m) (λ q.
-      get-overlaid other (overlaid differs one m) q
+  pub overlaid-append : (one other : List (List ℕ × X)) (m : Entries X) → overlaid_entries differs other (overlaid_entries differs one m) ≡ overlaid_entries differs (one ++ other) m
+  overlaid-append one other m = same_map (overlaid_entries differs other (overlaid_entries differs one m)) (overlaid_entries differs (one ++ other) m) (λ q.
+      get-overlaid other (overlaid_entries differs one m) q
       ∙ ap (λ o. kept (first_of (last_at other q) o)) (get-overlaid one m q)
       ∙ again (last_at other q) (first_of (last_at one q) (finite.get m q))
       ∙ ap kept (sym (first_of-assoc (last_at other q) (last_at one q) (finite.get m q)))
@@ -110,11 +110,11 @@ module _ {X : Type 0} (differs : X → Bool) where
   abbrev pub IsAllKept : Entries X → Type 0
   IsAllKept m = (q : List ℕ) → kept (finite.get m q) ≡ finite.get m q
 
-  pub overlaid-none : (m : Entries X) → IsAllKept m → overlaid differs [] m ≡ m
-  overlaid-none m all = same_map (overlaid differs [] m) m (λ q. get-overlaid [] m q ∙ all q)
+  pub overlaid-none : (m : Entries X) → IsAllKept m → overlaid_entries differs [] m ≡ m
+  overlaid-none m all = same_map (overlaid_entries differs [] m) m (λ q. get-overlaid [] m q ∙ all q)
 
   -- one new entry is a write
-  pub overlaid-one : (t : List ℕ) (x : X) (m : Entries X) → IsAllKept m → overlaid differs ((t, x) ∷ []) m ≡ after_write (differs x) m t x
+  pub overlaid-one : (t : List ℕ) (x : X) (m : Entries X) → IsAllKept m → overlaid_entries differs ((t, x) ∷ []) m ≡ entries_after_write (differs x) m t x
   overlaid-one t x m all = by (differs x) refl
     where
       put_in : differs x ≡ true → (q : List ℕ) (b : Bool) → kept (first_of (cond b (Some x) None) (finite.get m q)) ≡ cond b (Some x) (finite.get m q)
@@ -125,9 +125,9 @@ module _ {X : Type 0} (differs : X → Bool) where
       taken_out e q true = kept-some x false e
       taken_out e q false = all q
 
-      by : (b : Bool) → differs x ≡ b → overlaid differs ((t, x) ∷ []) m ≡ after_write b m t x
-      by true e = same_map (overlaid differs ((t, x) ∷ []) m) (finite.insert m t x) (λ q. get-overlaid ((t, x) ∷ []) m q ∙ put_in e q (eq_by_cmp tuple_cmp q t) ∙ sym (finite.get-insert tuple_cmp-total m t x q))
-      by false e = same_map (overlaid differs ((t, x) ∷ []) m) (finite.remove m t) (λ q. get-overlaid ((t, x) ∷ []) m q ∙ taken_out e q (eq_by_cmp tuple_cmp q t) ∙ sym (finite.get-remove tuple_cmp-total m t q))
+      by : (b : Bool) → differs x ≡ b → overlaid_entries differs ((t, x) ∷ []) m ≡ entries_after_write b m t x
+      by true e = same_map (overlaid_entries differs ((t, x) ∷ []) m) (finite.insert m t x) (λ q. get-overlaid ((t, x) ∷ []) m q ∙ put_in e q (eq_by_cmp tuple_cmp q t) ∙ sym (finite.get-insert tuple_cmp-total m t x q))
+      by false e = same_map (overlaid_entries differs ((t, x) ∷ []) m) (finite.remove m t) (λ q. get-overlaid ((t, x) ∷ []) m q ∙ taken_out e q (eq_by_cmp tuple_cmp q t) ∙ sym (finite.get-remove tuple_cmp-total m t q))
 
   module _ (absent : X) (nothing : differs absent ≡ false) where
     -- all entries of a map are kept, if a tuple has an entry exactly where its value differs
@@ -139,8 +139,8 @@ module _ {X : Type 0} (differs : X → Bool) where
         by (Some x) e = kept-some x true (sym e)
 
     -- writing an entry that is as before changes nothing
-    pub overlaid-same : (t : List ℕ) (m : Entries X) → IsAllKept m → overlaid differs ((t, unwrap_or (finite.get m t) absent) ∷ []) m ≡ m
-    overlaid-same t m all = same_map (overlaid differs ((t, unwrap_or (finite.get m t) absent) ∷ []) m) m (λ q. get-overlaid ((t, unwrap_or (finite.get m t) absent) ∷ []) m q ∙ by q (eq_by_cmp tuple_cmp q t) refl)
+    pub overlaid-same : (t : List ℕ) (m : Entries X) → IsAllKept m → overlaid_entries differs ((t, unwrap_or (finite.get m t) absent) ∷ []) m ≡ m
+    overlaid-same t m all = same_map (overlaid_entries differs ((t, unwrap_or (finite.get m t) absent) ∷ []) m) m (λ q. get-overlaid ((t, unwrap_or (finite.get m t) absent) ∷ []) m q ∙ by q (eq_by_cmp tuple_cmp q t) refl)
       where
         as_it_was : (o : Option X) → kept o ≡ o → kept (Some (unwrap_or o absent)) ≡ o
         as_it_was None e = kept-some absent false nothing
@@ -205,15 +205,15 @@ module _ {X V : Type 0} (differs : X → Bool) (absent : X) (nothing : (x : X) �
       ap (λ z. kept differs (Some (with_one z y))) (read-kept (first_of (option_map (with_one (unwrap_or o absent)) a) o)) ∙ ap (λ z. kept differs (Some z)) (read-over a a o y)
 
   -- new entries made of the old ones, and more of them made of these
-  pub made-append : (one other : List (List ℕ × V)) (m : Entries X) → overlaid differs (made_over (overlaid differs (made_over m one) m) other) (overlaid differs (made_over m one) m) ≡ overlaid differs (made_over m (one ++ other)) m
+  pub made-append : (one other : List (List ℕ × V)) (m : Entries X) → overlaid_entries differs (made_over (overlaid_entries differs (made_over m one) m) other) (overlaid_entries differs (made_over m one) m) ≡ overlaid_entries differs (made_over m (one ++ other)) m
   made-append one other m =
-      let first : Entries X = overlaid differs (made_over m one) m in
-      same_map (overlaid differs (made_over first other) first) (overlaid differs (made_over m (one ++ other)) m) (λ q. made-at q (get-overlaid differs (made_over m one) m q ∙ ap (λ o. kept differs (first_of o (finite.get m q))) (last_at-made m one q)))
+      let first : Entries X = overlaid_entries differs (made_over m one) m in
+      same_map (overlaid_entries differs (made_over first other) first) (overlaid_entries differs (made_over m (one ++ other)) m) (λ q. made-at q (get-overlaid differs (made_over m one) m q ∙ ap (λ o. kept differs (first_of o (finite.get m q))) (last_at-made m one q)))
     where
-      made-at : (q : List ℕ) → finite.get (overlaid differs (made_over m one) m) q ≡ kept differs (first_of (option_map (with_one (read m q)) (last_at one q)) (finite.get m q)) → finite.get (overlaid differs (made_over (overlaid differs (made_over m one) m) other) (overlaid differs (made_over m one) m)) q ≡ finite.get (overlaid differs (made_over m (one ++ other)) m) q
+      made-at : (q : List ℕ) → finite.get (overlaid_entries differs (made_over m one) m) q ≡ kept differs (first_of (option_map (with_one (read m q)) (last_at one q)) (finite.get m q)) → finite.get (overlaid_entries differs (made_over (overlaid_entries differs (made_over m one) m) other) (overlaid_entries differs (made_over m one) m)) q ≡ finite.get (overlaid_entries differs (made_over m (one ++ other)) m) q
       made-at q first =
-          get-overlaid differs (made_over (overlaid differs (made_over m one) m) other) (overlaid differs (made_over m one) m) q
-          ∙ ap (λ o. kept differs (first_of o (finite.get (overlaid differs (made_over m one) m) q))) (last_at-made (overlaid differs (made_over m one) m) other q)
+          get-overlaid differs (made_over (overlaid_entries differs (made_over m one) m) other) (overlaid_entries differs (made_over m one) m) q
+          ∙ ap (λ o. kept differs (first_of o (finite.get (overlaid_entries differs (made_over m one) m) q))) (last_at-made (overlaid_entries differs (made_over m one) m) other q)
           ∙ ap (λ n. kept differs (first_of (option_map (with_one (unwrap_or n absent)) (last_at other q)) n)) first
           ∙ after-both (last_at one q) (last_at other q) (finite.get m q)
           ∙ ap (λ o. kept differs (first_of (option_map (with_one (read m q)) o) (finite.get m q))) (sym (last_at-append one other q))

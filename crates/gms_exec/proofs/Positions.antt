@@ -2,9 +2,9 @@
 use Rattle.std.proofs.Common.{◌≡◌, ℕ, zero, suc, ◌+◌, ◌*◌, ◌<◌, ◌≤◌, min, List, [], ◌∷◌, map, drop, get_or, length, Option, Some, refl, sym, ap, subst, ◌∙◌, inl, inr, arith, nat_le, true, false, if◌then◌else◌, le-leb, leb-true, mul_assoc, mul-one, one-mul, mul-zero, mul-suc}
 use Rattle.std.proofs.lemmas.Bool.{cases_lt}
 use Rattle.std.proofs.lemmas.List.{at_drop_more, at_drop_all, length-map}
-use Rattle.gms_tuple.specs.Products.{product}
+use Rattle.gms_tuple.specs.Products.{tuple_product}
 use Rattle.gms_store.specs.State.{State, members_of}
-use Rattle.gms_eval.specs.Lag.{label_in}
+use Rattle.gms_eval.specs.Lag.{label_of_element}
 use Rattle.gms_eval.proofs.Sizes.{size_of, length-size_of, IsMade}
 use Rattle.gms_exec.specs.Showing.{labels_at, elements_at}
 
@@ -35,7 +35,7 @@ module _ {X : Type 0} (list : X → List ℕ) where
       ∙ sym (cut (count * length (list x)) rest bound)
       ∙ ap (λ n. min (n * rest) bound) (sym is)
 
-  pub counted-start : (bound : ℕ) (xs : List X) → min (length (product (map list xs))) bound ≡ min (1 * size_from (drop 0 xs)) bound
+  pub counted-start : (bound : ℕ) (xs : List X) → min (length (tuple_product (map list xs))) bound ≡ min (1 * size_from (drop 0 xs)) bound
   counted-start bound xs = ap (λ n. min n bound) (length-size_of (map list xs) ∙ sym (one-mul (size_from xs)))
 
   pub counted-end : (count bound : ℕ) (xs : List X) (i : ℕ) → length xs ≤ i → count ≤ bound → min (count * size_from (drop i xs)) bound ≡ count
@@ -54,14 +54,14 @@ module _ {X : Type 0} (list : X → List ℕ) where
 
 module _ (labels : ℕ) (state : State) where
   -- of at most 10 positions the elements are those of the product
-  pub elements-few : (positions : List (Option ℕ)) → length positions ≤ 10 → elements_at labels state positions ≡ product (map (labels_at labels state) positions)
+  pub elements-few : (positions : List (Option ℕ)) → length positions ≤ 10 → elements_at labels state positions ≡ tuple_product (map (labels_at labels state) positions)
   elements-few positions few =
-      ap (λ b. if b then product (map (labels_at labels state) positions) else []) (le-leb (length positions) 10 few)
+      ap (λ b. if b then tuple_product (map (labels_at labels state) positions) else []) (le-leb (length positions) 10 few)
 
   -- of more there are none
   pub elements-many : (positions : List (Option ℕ)) (bound : ℕ) → 10 < length positions → 0 ≡ min (length (elements_at labels state positions)) bound
   elements-many positions bound many =
-      elim (nat_le (length positions) 10) as (λ b. nat_le (length positions) 10 ≡ b → 0 ≡ min (length (if b then product (map (labels_at labels state) positions) else [])) bound) [
+      elim (nat_le (length positions) 10) as (λ b. nat_le (length positions) 10 ≡ b → 0 ≡ min (length (if b then tuple_product (map (labels_at labels state) positions) else [])) bound) [
         | true ↦ λ few. absurd (let f = leb-true (length positions) 10 few in omega arith)
         | false ↦ λ _. omega arith
       ] refl
@@ -69,7 +69,7 @@ module _ (labels : ℕ) (state : State) where
   -- if there is an element there are at most 10 positions
   pub few-elements : (positions : List (Option ℕ)) (number size : ℕ) → size ≡ length (elements_at labels state positions) → number < size → length positions ≤ 10
   few-elements positions number size is below =
-      elim (nat_le (length positions) 10) as (λ b. nat_le (length positions) 10 ≡ b → size ≡ length (if b then product (map (labels_at labels state) positions) else []) → length positions ≤ 10) [
+      elim (nat_le (length positions) 10) as (λ b. nat_le (length positions) 10 ≡ b → size ≡ length (if b then tuple_product (map (labels_at labels state) positions) else []) → length positions ≤ 10) [
         | true ↦ λ few _. leb-true (length positions) 10 few
         | false ↦ λ _ none. absurd (omega arith)
       ] refl is
@@ -77,4 +77,4 @@ module _ (labels : ℕ) (state : State) where
   -- how many labels a set has
   pub count-set : (position : Option ℕ) (set n : ℕ) (members : List (List ℕ)) → position ≡ Some set → n ≡ length members → members ≡ members_of state set → n ≡ length (labels_at labels state position)
   count-set position set n members some e m =
-      e ∙ ap length m ∙ sym (length-map (members_of state set) label_in) ∙ ap (λ p. length (labels_at labels state p)) (sym some)
+      e ∙ ap length m ∙ sym (length-map (members_of state set) label_of_element) ∙ ap (λ p. length (labels_at labels state p)) (sym some)

@@ -27,7 +27,7 @@ use Rattle.gms_rows.specs.ProgramLp.{program_lp}
 use Rattle.gms_rows.specs.Rows.{equations_of}
 use Rattle.gms_exec.specs.Assignment.{target_of, after_assignment}
 use Rattle.gms_exec.specs.Showing.{all_shown}
-use Rattle.gms_exec.specs.Run.{Course, Halt, World, OfAct, OfStatement, in_state, with_event, stopped_by, while_it_runs, with_value, one_after_another, for_each, display, abort, abort_where, over_elements, answered, solve, act_step, statement_step, of_statement, labels_in}
+use Rattle.gms_exec.specs.Run.{Course, Halt, World, OfAct, OfStatement, in_state, with_event, stopped_by, while_it_runs, with_evaluated, one_after_another, for_each, display, abort, abort_where, over_elements, answered, solve, act_step, statement_step, of_statement, labels_in}
 
 -- an event that is no solve
 abbrev pub IsNoSolve : Event → Type 0
@@ -64,7 +64,7 @@ quiet_stop : (old c : Course) (fault : Fault) → Quiet old c → Quiet old (sto
 quiet_stop old c fault q = record { left = q.left; more = q.more; events = q.events; unsolved = q.unsolved }
 
 -- a step with a value, or a stop by a fault
-quiet_value : {A : Type 0} (r : Evaluated A) (next : A → Course) (c : Course) → c.left ≡ [] → ((x : A) → Quiet c (next x)) → Quiet c (with_value r next c)
+quiet_value : {A : Type 0} (r : Evaluated A) (next : A → Course) (c : Course) → c.left ≡ [] → ((x : A) → Quiet c (next x)) → Quiet c (with_evaluated r next c)
 quiet_value (Ok x) next c left go = go x
 quiet_value (Err fault) next c left go = quiet_stop c c fault (quiet_none c c left refl)
 
@@ -160,7 +160,7 @@ module _ {F : Type 0} (number_of : F → Number) (limit : ℕ) (world : World F)
   quiet_nothing : IsQuietAct (λ at binding c. c)
   quiet_nothing at binding c left = quiet_none c c left refl
 
-  quiet_assign : (target : Target F) (condition : Option (Expr F)) (right_at : Place) (right : Expr F) → IsQuietAct (λ at binding c. with_value (after_assignment number_of limit c.state at binding (target_of target) (option_map tree_of condition) right_at (tree_of right)) (in_state c) c)
+  quiet_assign : (target : Target F) (condition : Option (Expr F)) (right_at : Place) (right : Expr F) → IsQuietAct (λ at binding c. with_evaluated (after_assignment number_of limit c.state at binding (target_of target) (option_map tree_of condition) right_at (tree_of right)) (in_state c) c)
   quiet_assign target condition right_at right at binding c left =
       quiet_value (after_assignment number_of limit c.state at binding (target_of target) (option_map tree_of condition) right_at (tree_of right)) (in_state c) c left (λ state. quiet_none c (in_state c state) left refl)
 

@@ -29,11 +29,11 @@ use Rattle.lp_core.specs.declared.program.Lp.{Lp}
 use Rattle.lp_core.specs.Numbers.{lp_numbers, end_numbers, answer_numbers}
 use Rattle.lp_core.specs.WellFormed.{IsWellFormed}
 use Rattle.gms_exec.specs.Answering.{IsAnswered}
-use Rattle.gms_exec.specs.Run.{Course, stopped_by, with_value, answered, solve}
+use Rattle.gms_exec.specs.Run.{Course, stopped_by, with_evaluated, answered, solve}
 use Rattle.gms_exec.specs.Solved.{after_end}
 use Rattle.gms_exec.specs.InnerSolving.{Grown, ShowsSolve, Solves, AnswersAt, path_at}
 use Rattle.gms_exec.specs.Standing.{IsStanding, ShowsStanding}
-use Rattle.gms_exec.specs.Stepping.{Seen, come_to, Runs, Answered, paths_taken}
+use Rattle.gms_exec.specs.Stepping.{RunView, come_to, Runs, Answered, paths_taken}
 
 get-last : {A : Type 0} (xs : List A) (x : A) → slice_get (xs ++ x ∷ []) (length xs) ≡ Some x
 get-last [] x = refl
@@ -60,7 +60,7 @@ grown-one old new x e = record { fresh = x ∷ []; is = e }
 
 module _ {F : Type 0} (value : F → Number) (limit : ℕ) where
   -- what was read of the settings before is what a solve says of them
-  pub solves-of : (names : List (List ℕ)) (rules : List SolverRule) (old_paths new_paths : List (List (List Pivot))) (line model : ℕ) (equations : List ℕ) (objective : ℕ) (lp : Lp F) (old new : Seen F) (settings : Settings) (answer : Answer F) (solver : List ℕ) → settings ≡ old.state.settings → AnswersAt value limit rules settings.solver lp settings.iterlim answer → solver ≡ slice_index_or names settings.solver [] → new.state ≡ after_end old.state model (lp_numbers value lp) (end_numbers value answer.end) → ((k : ℕ) → slice_get new_paths k ≡ option_map (λ before. before ++ path_at settings.solver answer.pivots k) (slice_get old_paths k)) → ShowsSolve value (record { line = line; model = model; equations = equations; objective = objective; lp = lp; answer = answer; solver = solver; settings = settings }) new.state old.answers new.answers old.events new.events → Solves value limit names rules old_paths new_paths line model equations objective lp old new
+  pub solves-of : (names : List (List ℕ)) (rules : List SolverRule) (old_paths new_paths : List (List (List Pivot))) (line model : ℕ) (equations : List ℕ) (objective : ℕ) (lp : Lp F) (old new : RunView F) (settings : Settings) (answer : Answer F) (solver : List ℕ) → settings ≡ old.state.settings → AnswersAt value limit rules settings.solver lp settings.iterlim answer → solver ≡ slice_index_or names settings.solver [] → new.state ≡ after_end old.state model (lp_numbers value lp) (end_numbers value answer.end) → ((k : ℕ) → slice_get new_paths k ≡ option_map (λ before. before ++ path_at settings.solver answer.pivots k) (slice_get old_paths k)) → ShowsSolve value (record { line = line; model = model; equations = equations; objective = objective; lp = lp; answer = answer; solver = solver; settings = settings }) new.state old.answers new.answers old.events new.events → Solves value limit names rules old_paths new_paths line model equations objective lp old new
   solves-of names rules old_paths new_paths line model equations objective lp old new settings answer solver e is_answer named after paths shows =
       record {
         answer = answer;
@@ -72,7 +72,7 @@ module _ {F : Type 0} (value : F → Number) (limit : ℕ) where
             (subst (λ (n : List ℕ). ShowsSolve value (record { line = line; model = model; equations = equations; objective = objective; lp = lp; answer = answer; solver = n; settings = settings }) new.state old.answers new.answers old.events new.events) named shows);
       }
 
-  module _ (names : List (List ℕ)) (rules : List SolverRule) (old_paths new_paths : List (List (List Pivot))) (at : Place) (model : ℕ) (equations : List ℕ) (objective : ℕ) (lp : Lp F) (old new : Seen F) (is : Solves value limit names rules old_paths new_paths at.line model equations objective lp old new) where
+  module _ (names : List (List ℕ)) (rules : List SolverRule) (old_paths new_paths : List (List (List Pivot))) (at : Place) (model : ℕ) (equations : List ℕ) (objective : ℕ) (lp : Lp F) (old new : RunView F) (is : Solves value limit names rules old_paths new_paths at.line model equations objective lp old new) where
     -- the event that was shown
     abbrev shown_event : Event F
     shown_event = event.Solve at.line model equations lp (length old.answers) (slice_index_or names old.state.settings.solver []) old.state.settings is.shows.level
@@ -150,7 +150,7 @@ module _ {F : Type 0} (value : F → Number) (limit : ℕ) where
 
   -- ---- what a solve is, by whether there is a solver
 
-  pub solve-does : (names : List (List ℕ)) (statements : List (Stmt F)) (model objective : ℕ) (maximize : Bool) (at : Place) (binding : Pairs) (course : Course) → 0 < length names → solve value limit names statements model objective maximize at binding course ≡ with_value (program_lp value limit course.state statements model objective maximize at) (answered value limit names model (equations_of statements model) objective at course) course
+  pub solve-does : (names : List (List ℕ)) (statements : List (Stmt F)) (model objective : ℕ) (maximize : Bool) (at : Place) (binding : Pairs) (course : Course) → 0 < length names → solve value limit names statements model objective maximize at binding course ≡ with_evaluated (program_lp value limit course.state statements model objective maximize at) (answered value limit names model (equations_of statements model) objective at course) course
   solve-does [] statements model objective maximize at binding course some = absurd (omega arith)
   solve-does (n ∷ names) statements model objective maximize at binding course some = refl
 
@@ -162,7 +162,7 @@ module _ {F : Type 0} (value : F → Number) (limit : ℕ) where
 
 module _ {F : Type 0} (value : F → Number) where
   -- a call that failed with a fault, and changed nothing
-  pub runs-fault : {A : Type 0} (failed : ExecStopOrMemory F) (fault : Fault) (does : Course → Course) (seen : Seen F) → Shows value failed fault → ((left : List (Answer Number)) → does (come_to value seen left) ≡ stopped_by (come_to value seen left) fault) → Runs value {A = A} (Err failed) does seen seen
+  pub runs-fault : {A : Type 0} (failed : ExecStopOrMemory F) (fault : Fault) (does : Course → Course) (seen : RunView F) → Shows value failed fault → ((left : List (Answer Number)) → does (come_to value seen left) ≡ stopped_by (come_to value seen left) fault) → Runs value {A = A} (Err failed) does seen seen
   runs-fault Memory fault does seen shows goes =
       record { shown = []; events = sym (append-nil seen.events); fresh = []; answers = sym (append-nil seen.answers); comes = λ more. tt }
   runs-fault (Stop stop) fault does seen shows goes =
@@ -175,7 +175,7 @@ module _ {F : Type 0} (value : F → Number) where
       }
 
   -- a call that ran out of memory, after it had shown events and taken answers
-  pub runs-grown : {A : Type 0} (failed : ExecStopOrMemory F) (does : Course → Course) (old new : Seen F) → failed ≡ Memory → Grown old.events new.events → Grown old.answers new.answers → Runs value {A = A} (Err failed) does old new
+  pub runs-grown : {A : Type 0} (failed : ExecStopOrMemory F) (does : Course → Course) (old new : RunView F) → failed ≡ Memory → Grown old.events new.events → Grown old.answers new.answers → Runs value {A = A} (Err failed) does old new
   runs-grown {A} failed does old new memory events answers =
       subst (λ failed. Runs value {A = A} (Err failed) does old new) (sym memory) (record { shown = events.fresh; events = events.is; fresh = answers.fresh; answers = answers.is; comes = λ more. tt })
 

@@ -9,12 +9,12 @@ use Rattle.gms_ast.specs.declared.expression.Suffix.{Suffix}
 use Rattle.gms_tuple.specs.TupleOrder.{tuple_cmp, same_tuple, IsOrdered}
 use Rattle.gms_tuple.specs.TupleSet.{has}
 use Rattle.gms_tuple.proofs.Ordered.{same_tuple-Decides, same_tuple_refl}
-use Rattle.gms_store.specs.State.{State, Attributes, Content, undeclared, alias_of, set_of, parameter_of, variable_of, equation_of, model_with, Symbol, symbol_at, behind, base_of, symbol_of, members_in, with_symbol, with_content, if_fits, with_attributes, with_statuses, after_attributes, after_statuses}
+use Rattle.gms_store.specs.State.{State, Attributes, Content, undeclared, alias_of, set_of, parameter_of, variable_of, equation_of, model_with, Symbol, symbol_at, alias_target, base_of, symbol_of, members_in, with_symbol, with_content, if_fits, with_attributes, with_statuses, after_attributes, after_statuses}
 use Rattle.lp_core.specs.declared.program.Lp.{Lp}
 use Rattle.lp_core.specs.declared.answer.End.{End}
 use Rattle.gq_number.specs.Number.{Number}
 use Rattle.gms_store.proofs.Views.{keys-ordered}
-use Rattle.gms_exec.specs.Given.{member, value_is, AllGiven, members_given, is_among, with_members, with_given, fitting, after_given}
+use Rattle.gms_exec.specs.Given.{member, value_is, AllGiven, members_given, is_given_among, with_members, with_given, fitting, after_given}
 use Rattle.gms_exec.specs.Reads.{last_at}
 use Rattle.gms_exec.specs.Solved.{Point, with_point, statuses_of, points_of, after_end}
 use Rattle.gms_exec.proofs.Symbols.{at-after}
@@ -30,7 +30,7 @@ AreSingles tuples = All (λ (t : List ℕ). length t ≡ 1) tuples
 -- one label are kept.
 pub record Follows (old new : Symbol) : Type 0 where
   pub domain : new.domain ≡ old.domain
-  pub alike : (n : ℕ) → behind n new.content ≡ behind n old.content
+  pub alike : (n : ℕ) → alias_target n new.content ≡ alias_target n old.content
   pub singles : length old.domain ≡ 1 → AreSingles (members_in old.content) → AreSingles (members_in new.content)
   pub ordered : IsOrdered (members_in old.content) → IsOrdered (members_in new.content)
 
@@ -96,7 +96,7 @@ stays-put state name t a =
       ordered = λ up. fits-either (λ c. IsOrdered (members_in c)) s t (with_attributes s.content t a) up (subst IsOrdered (sym (members-put s.content t a)) up);
     })
 
-behind-statuses : (content : Content) (model solver n : ℕ) → behind n (with_statuses content model solver) ≡ behind n content
+behind-statuses : (content : Content) (model solver n : ℕ) → alias_target n (with_statuses content model solver) ≡ alias_target n content
 behind-statuses undeclared model solver n = refl
 behind-statuses (alias_of base) model solver n = refl
 behind-statuses (set_of members) model solver n = refl
@@ -163,11 +163,11 @@ singles-from_has (u ∷ tuples) one =
 abbrev OneLabel : List ℕ × Bool → Type 0
 OneLabel given = length given.0 ≡ 1
 
-given-label : (given : List (List ℕ × Bool)) (t : List ℕ) → All OneLabel given → is_among given t ≡ true → length t ≡ 1
+given-label : (given : List (List ℕ × Bool)) (t : List ℕ) → All OneLabel given → is_given_among given t ≡ true → length t ≡ 1
 given-label [] t are there = absurd cc
 given-label (one ∷ given) t are there = by (given-label given t (All-tail OneLabel one given are)) (same_tuple one.0 t) refl there
   where
-    by : (is_among given t ≡ true → length t ≡ 1) → (b : Bool) → same_tuple one.0 t ≡ b → (b || is_among given t) ≡ true → length t ≡ 1
+    by : (is_given_among given t ≡ true → length t ≡ 1) → (b : Bool) → same_tuple one.0 t ≡ b → (b || is_given_among given t) ≡ true → length t ≡ 1
     by rest true same there = ap length (sym ((same_tuple-Decides one.0 t).0 same)) ∙ All-head OneLabel one given are
     by rest false other there = rest there
 
@@ -188,7 +188,7 @@ singles-members : (given : List (List ℕ × Bool)) (members : List (List ℕ)) 
 singles-members given members given_one are =
     singles-from_has (with_members given members) (λ t there. by t (last_at given t) (last-there given t) (sym (has-with_members given members t) ∙ there))
   where
-    by : (t : List ℕ) (o : Option Bool) → is_among given t ≡ is_some o → unwrap_or o (has members t) ≡ true → length t ≡ 1
+    by : (t : List ℕ) (o : Option Bool) → is_given_among given t ≡ is_some o → unwrap_or o (has members t) ≡ true → length t ≡ 1
     by t None among there = one-label members t are there
     by t (Some on) among there = given-label given t given_one among
 
@@ -205,7 +205,7 @@ singles-given s kind all one (model_with model solver) are = are
 pub members-ordered : (given : List (List ℕ × Bool)) (members : List (List ℕ)) → IsOrdered (with_members given members)
 members-ordered given members =
     let last = finite.from_entries {R = tuple_cmp} (reverse given) in
-    keys-ordered (finite.from_entries {R = tuple_cmp} (map (λ t. (t, true)) (finite.keys (finite.retain_keys last (λ t. unwrap_or (finite.get last t) false)) ++ filter (λ t. not (is_among given t)) members)))
+    keys-ordered (finite.from_entries {R = tuple_cmp} (map (λ t. (t, true)) (finite.keys (finite.retain_keys last (λ t. unwrap_or (finite.get last t) false)) ++ filter (λ t. not (is_given_among given t)) members)))
 
 ordered-given : (kind : Suffix) (all : AllGiven) (content : Content) → IsOrdered (members_in content) → IsOrdered (members_in (with_given kind all content))
 ordered-given kind all undeclared up = up

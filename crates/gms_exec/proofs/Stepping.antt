@@ -7,7 +7,7 @@ use Rattle.lp_core.specs.declared.answer.Answer.{Answer}
 use Rattle.lp_core.specs.declared.answer.Pivot.{Pivot}
 use Rattle.lp_slot.specs.declared.solver.SolverRule.{SolverRule}
 use Rattle.gms_exec.specs.Standing.{ShowsStanding}
-use Rattle.gms_exec.specs.Stepping.{Seen, Answered}
+use Rattle.gms_exec.specs.Stepping.{RunView, Answered}
 use Rattle.gms_exec.proofs.Joining.{answered-nothing, answered-both}
 use Rattle.gms_exec.proofs.Keeping.{Keeps}
 use Rattle.gms_exec.proofs.Standings.{standing-nothing, standing-both}
@@ -15,12 +15,12 @@ use Rattle.gms_exec.proofs.Standings.{standing-nothing, standing-both}
 module _ {S F : Type 0} (value : F → Number) (limit : ℕ) (name : S → List ℕ) (rule : S → SolverRule) (paths : S → List (List Pivot)) (statements : List (Stmt F)) where
   -- what calls did from an old point to a new one, apart from the run: what solvers answered, that
   -- what was shown is valid, and what is kept
-  pub record Left (old_solvers new_solvers : List S) (old new : Seen F) : Type 0 where
+  pub record Left (old_solvers new_solvers : List S) (old new : RunView F) : Type 0 where
     pub answered : Answered value limit name rule paths old_solvers new_solvers old new
     pub standing : ShowsStanding value limit (map rule old_solvers) new.answers old.events new.events
     pub kept : Keeps (length old_solvers) statements new.state
 
-  pub left-start : (solvers : List S) (old : Seen F) → Keeps (length solvers) statements old.state → Left solvers solvers old old
+  pub left-start : (solvers : List S) (old : RunView F) → Keeps (length solvers) statements old.state → Left solvers solvers old old
   left-start solvers old kept =
       record {
         answered = answered-nothing value limit name rule paths solvers old;
@@ -29,7 +29,7 @@ module _ {S F : Type 0} (value : F → Number) (limit : ℕ) (name : S → List 
       }
 
   -- one call after others
-  pub left-both : (old_solvers mid_solvers new_solvers : List S) (old mid new : Seen F) (fresh : List (Answer F)) → new.answers ≡ mid.answers ++ fresh → length mid_solvers ≡ length old_solvers → Left old_solvers mid_solvers old mid → Left mid_solvers new_solvers mid new → Left old_solvers new_solvers old new
+  pub left-both : (old_solvers mid_solvers new_solvers : List S) (old mid new : RunView F) (fresh : List (Answer F)) → new.answers ≡ mid.answers ++ fresh → length mid_solvers ≡ length old_solvers → Left old_solvers mid_solvers old mid → Left mid_solvers new_solvers mid new → Left old_solvers new_solvers old new
   left-both old_solvers mid_solvers new_solvers old mid new fresh are many first second =
       record {
         answered = answered-both value limit name rule paths old_solvers mid_solvers new_solvers old mid new fresh are first.answered second.answered;

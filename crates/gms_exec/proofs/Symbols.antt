@@ -1,7 +1,7 @@
 -- A state in which one name stands for another symbol: what each name stands for there.
 use Rattle.std.proofs.Common.{◌≡◌, ◌⊎◌, ℕ, zero, suc, ◌<◌, Bool, true, false, ◌==◌, List, [], ◌∷◌, length, set, slice_get, refl, sym, ap, ◌∙◌, Some, unwrap_or, subst, arith, inl, inr}
 use Rattle.std.proofs.lemmas.Bool.{eqb-true, eq-eqb, both_ways}
-use Rattle.gms_store.specs.State.{Symbol, State, no_symbol, symbol_at, behind, base_of, symbol_of, with_symbol}
+use Rattle.gms_store.specs.State.{Symbol, State, no_symbol, symbol_at, alias_target, base_of, symbol_of, with_symbol}
 
 -- what is read of a list after a write at a place: there the new element, elsewhere the old one
 get-set_here : (xs : List Symbol) (i : ℕ) (v : Symbol) → i < length xs → slice_get (set xs i v) i ≡ Some v
@@ -35,12 +35,12 @@ module _ (state : State) (name : ℕ) (new : Symbol) where
             | inr changed ↦ inr (sym here, subst (λ n. unwrap_or (slice_get (set state.symbols (base_of state name) new) n) no_symbol ≡ new) here (ap (λ s. unwrap_or s no_symbol) changed))
           ]
 
-  module _ (alike : (n : ℕ) → behind n new.content ≡ behind n (symbol_of state name).content) where
+  module _ (alike : (n : ℕ) → alias_target n new.content ≡ alias_target n (symbol_of state name).content) where
     -- which name each name stands for stays
     pub base-after : (other : ℕ) → base_of (with_symbol state name new) other ≡ base_of state other
     base-after other = elim (at-after other) [
-      | inl same ↦ ap (λ (s : Symbol). behind other s.content) same
-      | inr changed ↦ ap (λ (s : Symbol). behind other s.content) changed.1 ∙ alike other ∙ ap (λ n. behind other (symbol_at state n).content) (sym changed.0)
+      | inl same ↦ ap (λ (s : Symbol). alias_target other s.content) same
+      | inr changed ↦ ap (λ (s : Symbol). alias_target other s.content) changed.1 ∙ alike other ∙ ap (λ n. alias_target other (symbol_at state n).content) (sym changed.0)
     ]
 
     -- a name that stands for another one is as before

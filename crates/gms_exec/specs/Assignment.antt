@@ -34,29 +34,29 @@ newly_controlled binding indices = filter (λ set. is_none (label_of binding set
 -- whether a name takes a value with a suffix: a lower bound is a number or minus infinity, an upper
 -- bound a number or infinity; a level, a marginal and the value that fixes a variable are numbers;
 -- a parameter takes any value
-abbrev pub takes : Suffix → Extended → Bool
-takes suffix.Lo plus_infinity = false
-takes suffix.Lo na = false
-takes suffix.Up minus_infinity = false
-takes suffix.Up na = false
-takes suffix.L (number x) = true
-takes suffix.L x = false
-takes suffix.M (number x) = true
-takes suffix.M x = false
-takes suffix.Fx (number x) = true
-takes suffix.Fx x = false
-takes other x = true
+abbrev pub takes_value : Suffix → Extended → Bool
+takes_value suffix.Lo plus_infinity = false
+takes_value suffix.Lo na = false
+takes_value suffix.Up minus_infinity = false
+takes_value suffix.Up na = false
+takes_value suffix.L (number x) = true
+takes_value suffix.L x = false
+takes_value suffix.M (number x) = true
+takes_value suffix.M x = false
+takes_value suffix.Fx (number x) = true
+takes_value suffix.Fx x = false
+takes_value other x = true
 
 -- the value, if the name takes it; otherwise Undefined at the right side
 abbrev pub where_taken : Suffix → Place → Pairs → Extended → Answer Given
 where_taken suffix right_at binding x =
-    if takes suffix x then Ok (value_is x) else Err (faulted Undefined right_at binding x nothing)
+    if takes_value suffix x then Ok (value_is x) else Err (faulted Undefined right_at binding x nothing)
 
 -- whether a content is that of a set, or of an alias of one
-abbrev pub is_set : Content → Bool
-is_set (set_of members) = true
-is_set (alias_of base) = true
-is_set content = false
+abbrev pub is_set_content : Content → Bool
+is_set_content (set_of members) = true
+is_set_content (alias_of base) = true
+is_set_content content = false
 
 -- what is assigned, as a tree
 abbrev pub target_of : {F : Type 0} → TargetNode F → Target F
@@ -67,7 +67,7 @@ module _ {F : Type 0} (number_of : F → Number) (limit : ℕ) (state : State) w
   -- what the right side gives under a binding
   abbrev pub given_under : Target F → Place → tree.Tree F → Pairs → Answer Given
   given_under target right_at right binding =
-      if is_set (symbol_of state target.name).content then
+      if is_set_content (symbol_of state target.name).content then
       membership number_of limit state binding right and_then (λ x. Ok (member x)) else
       value number_of limit state binding right and_then where_taken target.suffix right_at binding
 
@@ -79,10 +79,10 @@ module _ {F : Type 0} (number_of : F → Number) (limit : ℕ) (state : State) w
       elim (tuple_of those) [ None ↦ Ok None | Some t ↦ given_under target right_at right binding and_then λ given. Ok (Some (t, given)) ]
 
   -- the elements that exist
-  abbrev pub those_there : List (Option (List ℕ × Given)) → AllGiven
-  those_there [] = []
-  those_there (None ∷ rest) = those_there rest
-  those_there (Some given ∷ rest) = given ∷ those_there rest
+  abbrev pub given_elements : List (Option (List ℕ × Given)) → AllGiven
+  given_elements [] = []
+  given_elements (None ∷ rest) = given_elements rest
+  given_elements (Some given ∷ rest) = given ∷ given_elements rest
 
   -- the elements that an assignment gives something, in the order of the left side's sets, all in
   -- the old state; or the first fault: of the left side's domain, and then, for each element, of a
@@ -91,7 +91,7 @@ module _ {F : Type 0} (number_of : F → Number) (limit : ℕ) (state : State) w
   given_by at binding target condition right_at right =
       let sets = newly_controlled binding target.indices in
       domain number_of limit state binding at (control_over sets condition) and_then λ elements.
-      in_order (map (λ element. element_under target right_at right (controlled binding sets element)) elements) and_then λ given. Ok (those_there given)
+      in_order (map (λ element. element_under target right_at right (controlled binding sets element)) elements) and_then λ given. Ok (given_elements given)
 
   -- the state after an assignment, or its fault
   abbrev pub after_assignment : Place → Pairs → Target F → Option (tree.Tree F) → Place → tree.Tree F → Answer State

@@ -8,7 +8,7 @@ use Rattle.lp_core.specs.declared.program.Lp.{Lp}
 use Rattle.lp_core.specs.declared.answer.End.{End}
 use Rattle.lp_core.specs.declared.answer.End.TheVariants.{Infeasible, Unbounded, Interrupted, Refused}
 use Rattle.lp_form.specs.declared.key.Key.{Key}
-use Rattle.gms_exec.specs.Solved.{column_keys, row_keys}
+use Rattle.gms_exec.specs.Solved.{keys_of_columns, row_keys}
 
 -- An element of a state: of a declared variable or equation, with as many labels as it has
 -- positions.
@@ -27,8 +27,8 @@ pub record AreElements (state : State) (keys : List Key) : Type 0 where
   pub differ : (i j : ℕ) (key other : Key) → slice_get keys i ≡ Some key → slice_get keys j ≡ Some other → (i ≡ j → ⊥) → IsNot state key other.symbol other.tuple
 
 -- the elements of a program: of its columns, and then of its rows
-abbrev pub elements : Lp Number → List Key
-elements lp = column_keys lp ++ row_keys lp
+abbrev pub program_elements : Lp Number → List Key
+program_elements lp = keys_of_columns lp ++ row_keys lp
 
 -- the levels of columns and of rows at the feasible point of an end that is not optimal, if it has
 -- one

@@ -34,19 +34,19 @@ abbrev pub members_given : AllGiven → List (List ℕ × Bool)
 members_given all = flat_map member_given all
 
 -- whether an element is one of those that are made members or not
-abbrev pub is_among : List (List ℕ × Bool) → List ℕ → Bool
-is_among given t = list_any (λ one. same_tuple one.0 t) given
+abbrev pub is_given_among : List (List ℕ × Bool) → List ℕ → Bool
+is_given_among given t = list_any (λ one. same_tuple one.0 t) given
 
 -- tuples in ascending order, without repetition
-abbrev pub ordered : List (List ℕ) → List (List ℕ)
-ordered tuples = finite.keys (finite.from_entries {R = tuple_cmp} (map (λ t. (t, true)) tuples))
+abbrev pub ordered_tuples : List (List ℕ) → List (List ℕ)
+ordered_tuples tuples = finite.keys (finite.from_entries {R = tuple_cmp} (map (λ t. (t, true)) tuples))
 
 -- The members of a set of which some elements are made members or not; the others stay as they
 -- were. If an element is given twice, which no accepted program does, the later counts.
 abbrev pub with_members : List (List ℕ × Bool) → List (List ℕ) → List (List ℕ)
 with_members given members =
     let last = finite.from_entries {R = tuple_cmp} (reverse given) in
-    ordered (finite.keys (finite.retain_keys last (λ t. unwrap_or (finite.get last t) false)) ++ filter (λ t. not (is_among given t)) members)
+    ordered_tuples (finite.keys (finite.retain_keys last (λ t. unwrap_or (finite.get last t) false)) ++ filter (λ t. not (is_given_among given t)) members)
 
 -- ---- values
 
@@ -62,8 +62,8 @@ values_given all = flat_map value_given all
 -- A map in which some entries are new: each of their tuples has the new entry, and every other
 -- tuple its old one. Only entries that differ from an absent one are kept. Of two new entries at
 -- one tuple, which no accepted program has, the later counts.
-abbrev pub overlaid : {X : Type 0} → (X → Bool) → List (List ℕ × X) → Entries X → Entries X
-overlaid differs new entries =
+abbrev pub overlaid_entries : {X : Type 0} → (X → Bool) → List (List ℕ × X) → Entries X → Entries X
+overlaid_entries differs new entries =
     let all = finite.from_entries {R = tuple_cmp} (reverse new ++ finite.entries entries) in
     finite.retain_keys all (λ t. unwrap_or (option_map differs (finite.get all t)) false)
 
@@ -107,11 +107,11 @@ plain_values other all = []
 -- the content of a name after its elements were given something
 abbrev pub with_given : Suffix → AllGiven → Content → Content
 with_given suffix all (set_of members) = set_of (with_members (members_given all) members)
-with_given suffix all (parameter_of entries) = parameter_of (overlaid is_given (plain_values suffix all) entries)
+with_given suffix all (parameter_of entries) = parameter_of (overlaid_entries is_given (plain_values suffix all) entries)
 with_given suffix all (variable_of type entries) =
-    variable_of type (overlaid (λ a. not (same_attributes a (absent_variable type))) (attributes_given suffix (variable_of type entries) all) entries)
+    variable_of type (overlaid_entries (λ a. not (same_attributes a (absent_variable type))) (attributes_given suffix (variable_of type entries) all) entries)
 with_given suffix all (equation_of entries) =
-    equation_of (overlaid (λ a. not (same_attributes a unbounded)) (attributes_given suffix (equation_of entries) all) entries)
+    equation_of (overlaid_entries (λ a. not (same_attributes a unbounded)) (attributes_given suffix (equation_of entries) all) entries)
 with_given suffix all content = content
 
 -- those elements that have as many labels as a name has positions, which in an accepted program are

@@ -12,7 +12,7 @@ use Rattle.lp_core.specs.declared.program.Lp.{Lp}
 use Rattle.lp_slot.specs.Under.{IsAnswerUnder}
 use Rattle.lp_core.specs.Numbers.{lp_numbers, end_numbers}
 use Rattle.gms_exec.specs.Solved.{after_end}
-use Rattle.gms_exec.specs.Stepping.{Seen}
+use Rattle.gms_exec.specs.Stepping.{RunView}
 
 -- A list that was extended at its end.
 pub record Grown {A : Type 0} (old new : List A) : Type 0 where
@@ -53,7 +53,7 @@ module _ {F : Type 0} (value : F → Number) where
 module _ {F : Type 0} (value : F → Number) (limit : ℕ) where
   -- A linear program was solved: the chosen solver answered it, its answer was put into the state,
   -- and the solve was shown.
-  pub record Solves (names : List (List ℕ)) (rules : List SolverRule) (old_paths new_paths : List (List (List Pivot))) (line model : ℕ) (equations : List ℕ) (objective : ℕ) (lp : Lp F) (old new : Seen F) : Type 0 where
+  pub record Solves (names : List (List ℕ)) (rules : List SolverRule) (old_paths new_paths : List (List (List Pivot))) (line model : ℕ) (equations : List ℕ) (objective : ℕ) (lp : Lp F) (old new : RunView F) : Type 0 where
     pub answer : Answer F
     pub is_answer : AnswersAt value limit rules old.state.settings.solver lp old.state.settings.iterlim answer
     pub after : new.state ≡ after_end old.state model (lp_numbers value lp) (end_numbers value answer.end)

@@ -12,22 +12,22 @@ use Rattle.gms_eval.specs.Holds.{holds}
 use Rattle.gms_eval.specs.Value.{values}
 
 -- how the next part of a chain is joined to the result so far
-abbrev pub Join : Type 0
-Join = Mark → Bool → Bool → Bool
+abbrev pub MembershipJoin : Type 0
+MembershipJoin = Mark → Bool → Bool → Bool
 
 -- `+` is in either, `-` in the left and not in the right; before the first part nothing is
-abbrev pub in_sum : Join
+abbrev pub in_sum : MembershipJoin
 in_sum (signed at true) x y = x && not y
 in_sum mark x y = x || y
 
 -- `*` is in both; before the first part all is
-abbrev pub in_product : Join
+abbrev pub in_product : MembershipJoin
 in_product mark x y = x && y
 
 -- parts joined to the result so far, from the left; each is evaluated
-abbrev pub joined : Join → Bool → List (Mark × Answer Bool) → Answer Bool
-joined join so_far [] = Ok so_far
-joined join so_far (part ∷ parts) = part.1 and_then λ x. joined join (join part.0 so_far x) parts
+abbrev pub joined_membership : MembershipJoin → Bool → List (Mark × Answer Bool) → Answer Bool
+joined_membership join so_far [] = Ok so_far
+joined_membership join so_far (part ∷ parts) = part.1 and_then λ x. joined_membership join (join part.0 so_far x) parts
 
 module _ {F : Type 0} (number_of : F → Number) (limit : ℕ) (state : State) (binding : Pairs) where
   abbrev mutual
@@ -39,8 +39,8 @@ module _ {F : Type 0} (number_of : F → Number) (limit : ℕ) (state : State) (
     membership tree.no = Ok false
     membership (tree.negated operand) = membership operand
     membership (tree.not_so operand) = membership operand and_then λ x. Ok (not x)
-    membership (tree.sum parts) = joined in_sum false (memberships parts)
-    membership (tree.product parts) = joined in_product true (memberships parts)
+    membership (tree.sum parts) = joined_membership in_sum false (memberships parts)
+    membership (tree.product parts) = joined_membership in_product true (memberships parts)
     membership (tree.guarded operand guards) =
         each_holds (unmarked (values number_of limit state binding guards)) and_then λ hold. if hold then membership operand else Ok false
     membership other = holds number_of limit state binding other

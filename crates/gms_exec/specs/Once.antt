@@ -11,10 +11,10 @@ use Rattle.gms_eval.specs.Domain.{IsSimple}
 use Rattle.gms_exec.specs.Given.{Given, AllGiven}
 
 -- whether an amount of a lag is a number or a scalar, which does not depend on what sets stand for
-abbrev pub is_fixed : {F : Type 0} → tree.Tree F → Bool
-is_fixed (tree.number n) = true
-is_fixed (tree.reference at name suffix.None tree.no_index) = true
-is_fixed e = false
+abbrev pub is_constant_lag : {F : Type 0} → tree.Tree F → Bool
+is_constant_lag (tree.number n) = true
+is_constant_lag (tree.reference at name suffix.None tree.no_index) = true
+is_constant_lag e = false
 
 -- The indices of a left side as they are in an accepted program: each set has one dimension, and
 -- the amount of each lag is a number or a scalar.
@@ -22,7 +22,7 @@ abbrev pub AreLeft : {F : Type 0} → State → tree.Indices F → Type 0
 AreLeft state tree.no_index = Unit {0}
 AreLeft state (tree.label label rest) = AreLeft state rest
 AreLeft state (tree.set set rest) = IsSimple state set × AreLeft state rest
-AreLeft state (tree.lagged set op at amount rest) = IsSimple state set × ((is_fixed amount ≡ true) × AreLeft state rest)
+AreLeft state (tree.lagged set op at amount rest) = IsSimple state set × ((is_constant_lag amount ≡ true) × AreLeft state rest)
 
 -- no element is given twice
 abbrev pub IsOnce : AllGiven → Type 0

@@ -9,13 +9,13 @@ use Rattle.gms_ast.specs.declared.program.Setting.TheVariants as setting
 use Rattle.gms_store.specs.declared.settings.Settings.{Settings}
 
 -- whether a word is another, letter case ignored
-abbrev pub is_word : List ℕ → List ℕ → Bool
-is_word word text = str_eq_ignore_ascii_case text word
+abbrev pub is_same_word : List ℕ → List ℕ → Bool
+is_same_word word text = str_eq_ignore_ascii_case text word
 
 -- the magnitude of a whole number; 0 for one below 0
-abbrev pub size_of : ℤ → ℕ
-size_of (pos n) = n
-size_of (negsuc n) = 0
+abbrev pub whole_magnitude : ℤ → ℕ
+whole_magnitude (pos n) = n
+whole_magnitude (negsuc n) = 0
 
 -- whether an integer is from 0 to `most`
 abbrev pub is_from_zero : ℕ → ℤ → Bool
@@ -30,30 +30,30 @@ is_count most x = (x.denominator == 1) && is_from_zero most x.numerator
 -- set to anything else, which is an error of the program
 abbrev pub count_set : {F : Type 0} → (F → Number) → ℕ → ℕ → Setting F → ℕ
 count_set value most old (setting.Number at x) =
-    if is_count most (value x) then size_of (value x).numerator else old
+    if is_count most (value x) then whole_magnitude (value x).numerator else old
 count_set value most old (setting.Name word) = old
 
 -- whether a switch is set on or off; it stays if it is set to anything else
 abbrev pub switch_set : {F : Type 0} → Bool → Setting F → Bool
 switch_set old (setting.Number at x) = old
 switch_set old (setting.Name word) =
-    if is_word (codes "on") word.text then true else if is_word (codes "off") word.text then false else old
+    if is_same_word (codes "on") word.text then true else if is_same_word (codes "off") word.text then false else old
 
 -- the place of the first solver with a name, letter case ignored; without one the choice stays
 abbrev pub solver_set : {F : Type 0} → List (List ℕ) → ℕ → Setting F → ℕ
 solver_set solvers old (setting.Number at x) = old
-solver_set solvers old (setting.Name word) = unwrap_or (position (is_word word.text) solvers) old
+solver_set solvers old (setting.Name word) = unwrap_or (position (is_same_word word.text) solvers) old
 
 module _ {F : Type 0} (value : F → Number) (solvers : List (List ℕ)) where
   -- the settings after one option; a word that is accepted without effect changes nothing
   abbrev pub after_option : Settings → Word × Setting F → Settings
   after_option s (word, set) =
-      if is_word (codes "limrow") word.text then record s { limrow = count_set value 2147483647 s.limrow set } else
-      if is_word (codes "limcol") word.text then record s { limcol = count_set value 2147483647 s.limcol set } else
-      if is_word (codes "iterlim") word.text then record s { iterlim = count_set value 2147483647 s.iterlim set } else
-      if is_word (codes "decimals") word.text then record s { decimals = count_set value 8 s.decimals set } else
-      if is_word (codes "solprint") word.text then record s { solprint = switch_set s.solprint set } else
-      if is_word (codes "lp") word.text then record s { solver = solver_set solvers s.solver set } else
+      if is_same_word (codes "limrow") word.text then record s { limrow = count_set value 2147483647 s.limrow set } else
+      if is_same_word (codes "limcol") word.text then record s { limcol = count_set value 2147483647 s.limcol set } else
+      if is_same_word (codes "iterlim") word.text then record s { iterlim = count_set value 2147483647 s.iterlim set } else
+      if is_same_word (codes "decimals") word.text then record s { decimals = count_set value 8 s.decimals set } else
+      if is_same_word (codes "solprint") word.text then record s { solprint = switch_set s.solprint set } else
+      if is_same_word (codes "lp") word.text then record s { solver = solver_set solvers s.solver set } else
       s
 
   -- the settings after options, in order

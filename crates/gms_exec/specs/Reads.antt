@@ -11,8 +11,8 @@ abbrev pub last_at : {A : Type 0} → List (List ℕ × A) → List ℕ → Opti
 last_at {A} pairs t = option_map (λ (p : List ℕ × A). p.1) (find (λ (p : List ℕ × A). same_tuple p.0 t) (reverse pairs))
 
 -- the value that an element is given, if any
-abbrev pub value_at : AllGiven → List ℕ → Option Extended
-value_at all t = last_at (values_given all) t
+abbrev pub given_value : AllGiven → List ℕ → Option Extended
+given_value all t = last_at (values_given all) t
 
 -- whether an element is made a member or not, if it is given that
 abbrev pub membership_at : AllGiven → List ℕ → Option Bool

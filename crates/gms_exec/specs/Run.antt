@@ -64,9 +64,9 @@ abbrev pub while_it_runs : (Course → Course) → Course → Course
 while_it_runs next course = elim course.halted [ None ↦ next course | Some halt ↦ course ]
 
 -- a run continues with a value, and is stopped by a fault
-abbrev pub with_value : {A : Type 0} → Evaluated A → (A → Course) → Course → Course
-with_value (Ok x) next course = next x
-with_value (Err fault) next course = stopped_by course fault
+abbrev pub with_evaluated : {A : Type 0} → Evaluated A → (A → Course) → Course → Course
+with_evaluated (Ok x) next course = next x
+with_evaluated (Err fault) next course = stopped_by course fault
 
 -- ---- statements
 
@@ -101,24 +101,24 @@ module _ {F : Type 0} (number_of : F → Number) (limit : ℕ) where
   -- a display shows its items as they are at that point
   abbrev pub display : ℕ → List Show → OfAct
   display labels items at binding course =
-      with_value (all_shown labels course.state binding items) (λ shown. with_event course (displays at.line shown)) course
+      with_evaluated (all_shown labels course.state binding items) (λ shown. with_event course (displays at.line shown)) course
 
   -- an abort shows its items and stops the run
   abbrev pub abort : ℕ → List Show → OfAct
   abort labels items at binding course =
-      with_value (all_shown labels course.state binding items)
+      with_evaluated (all_shown labels course.state binding items)
       (λ shown. stopped_by (with_event course (aborts at.line shown)) (faulted Aborted at binding nothing nothing)) course
 
   -- an abort acts if it has no condition, or its condition holds
   abbrev pub abort_where : ℕ → Option (tree.Tree F) → List Show → OfAct
   abort_where labels None items at binding course = abort labels items at binding course
   abort_where labels (Some condition) items at binding course =
-      with_value (holds number_of limit course.state binding condition) (λ so. if so then abort labels items at binding course else course) course
+      with_evaluated (holds number_of limit course.state binding condition) (λ so. if so then abort labels items at binding course else course) course
 
   -- a loop runs its body for each element that its domain has where it begins
   abbrev pub over_elements : tree.Control F → List OfStatement → OfAct
   over_elements control body at binding course =
-      with_value (domain number_of limit course.state binding at control) (λ elements. for_each (sets_of control) body elements binding course) course
+      with_evaluated (domain number_of limit course.state binding at control) (λ elements. for_each (sets_of control) body elements binding course) course
 
   -- a solve takes the next answer for its linear program; if none remains the run waits
   abbrev pub answered : List (List ℕ) → ℕ → List ℕ → ℕ → Place → Course → Lp Number → Course
@@ -149,12 +149,12 @@ module _ {F : Type 0} (number_of : F → Number) (limit : ℕ) where
   abbrev pub solve : List (List ℕ) → List (Stmt F) → ℕ → ℕ → Bool → OfAct
   solve [] statements model objective maximize at binding course = stopped_by course (faulted NoSolver at binding nothing nothing)
   solve (solver ∷ solvers) statements model objective maximize at binding course =
-      with_value (program_lp number_of limit course.state statements model objective maximize at) (answered (solver ∷ solvers) model (equations_of statements model) objective at course) course
+      with_evaluated (program_lp number_of limit course.state statements model objective maximize at) (answered (solver ∷ solvers) model (equations_of statements model) objective at course) course
 
   -- one act, where the statements of a loop's body are already given by what they do to a run
   abbrev pub act_step : World F → Act-F F OfAct OfStatement → OfAct
   act_step world (Act-F.Assign target condition right_at (Value right)) at binding course =
-      with_value (after_assignment number_of limit course.state at binding (target_of target) (option_map tree_of condition) right_at (tree_of right)) (in_state course) course
+      with_evaluated (after_assignment number_of limit course.state at binding (target_of target) (option_map tree_of condition) right_at (tree_of right)) (in_state course) course
   act_step world (Act-F.Display items) at binding course = display (labels_in world) items at binding course
   act_step world (Act-F.Loop control body) at binding course =
       over_elements (control_tree control) body.items at binding course

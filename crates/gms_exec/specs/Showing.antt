@@ -10,7 +10,7 @@ use Rattle.gms_ast.specs.declared.program.Show.{Show}
 use Rattle.gms_ast.specs.declared.program.Show.TheVariants as show
 use Rattle.gms_ast.specs.declared.expression.Suffix.{Suffix}
 use Rattle.gms_ast.specs.declared.expression.Suffix.TheVariants as suffix
-use Rattle.gms_tuple.specs.Products.{product}
+use Rattle.gms_tuple.specs.Products.{tuple_product}
 use Rattle.gms_store.specs.declared.kind.SymbolKind.TheVariants.{Undeclared}
 use Rattle.gms_store.specs.State.{State, symbol_at, symbol_of, attributes_of, given_of, statuses_in}
 use Rattle.gms_store.specs.Declarations.{kind_in}
@@ -51,7 +51,7 @@ labels_at labels state (Some set) = labels_of state set
 -- the elements of a domain; an element has at most 10 labels, so a domain with more positions,
 -- which no accepted program has, has none
 abbrev pub elements_at : ℕ → State → List (Option ℕ) → List (List ℕ)
-elements_at labels state positions = if nat_le (length positions) 10 then product (map (labels_at labels state) positions) else []
+elements_at labels state positions = if nat_le (length positions) 10 then tuple_product (map (labels_at labels state) positions) else []
 
 -- whether a name has indices
 abbrev pub is_indexed : State → ℕ → Bool

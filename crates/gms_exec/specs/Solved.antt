@@ -41,8 +41,8 @@ points (key ∷ keys) levels marginals =
     record { key = key; level = first_or_zero levels; marginal = first_or_zero marginals } ∷ points keys (behind_first levels) (behind_first marginals)
 
 -- the elements of the columns
-abbrev pub column_keys : Lp Number → List Key
-column_keys lp = map (λ (column : Column Number). column.key) lp.columns
+abbrev pub keys_of_columns : Lp Number → List Key
+keys_of_columns lp = map (λ (column : Column Number). column.key) lp.columns
 
 -- the elements of the rows
 abbrev pub row_keys : Lp Number → List Key
@@ -51,10 +51,10 @@ row_keys lp = map (λ (row : Row Number). row.key) lp.rows
 -- what an answer writes: levels and marginals of all columns and rows if it is optimal, their
 -- levels with marginals 0 if it has a feasible point that is not optimal, and otherwise nothing
 abbrev pub points_of : Lp Number → End Number → List Point
-points_of lp (Optimal levels row_levels duals reduced) = points (column_keys lp) levels reduced ++ points (row_keys lp) row_levels duals
-points_of lp (Unbounded levels row_levels ray) = points (column_keys lp) levels [] ++ points (row_keys lp) row_levels []
+points_of lp (Optimal levels row_levels duals reduced) = points (keys_of_columns lp) levels reduced ++ points (row_keys lp) row_levels duals
+points_of lp (Unbounded levels row_levels ray) = points (keys_of_columns lp) levels [] ++ points (row_keys lp) row_levels []
 points_of lp (Interrupted phase levels row_levels) =
-    if phase == 2 then points (column_keys lp) levels [] ++ points (row_keys lp) row_levels [] else []
+    if phase == 2 then points (keys_of_columns lp) levels [] ++ points (row_keys lp) row_levels [] else []
 points_of lp end = []
 
 -- the state in which an element has a level and a marginal

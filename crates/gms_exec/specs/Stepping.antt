@@ -19,7 +19,7 @@ use Rattle.gms_exec.specs.Answering.{AreAnswered}
 use Rattle.gms_exec.specs.Run.{Course, stopped_by}
 
 -- The view of a run: its state, what it showed, and the answers that its solves took.
-pub record Seen (F : Type 0) : Type 0 where
+pub record RunView (F : Type 0) : Type 0 where
   pub state : State
   pub events : List (Event F)
   pub answers : List (Answer F)
@@ -34,7 +34,7 @@ UnlessMemory (Err (Stop stop)) P = P
 
 module _ {F : Type 0} (value : F → Number) where
   -- the view of a run as a course, with these answers remaining
-  abbrev pub come_to : Seen F → List (Answer Number) → Course
+  abbrev pub come_to : RunView F → List (Answer Number) → Course
   come_to seen left =
       record { state = seen.state; events = events_in value seen.events; left = left; taken = length seen.answers; halted = None }
 
@@ -46,7 +46,7 @@ module _ {F : Type 0} (value : F → Number) where
 
   -- A call did to a run what statements do. It appended events and answers, and reached the state
   -- and the end that the statements lead to with these answers, whichever answers follow them.
-  pub record Runs {A : Type 0} (result : Result A (ExecStopOrMemory F)) (does : Course → Course) (old new : Seen F) : Type 0 where
+  pub record Runs {A : Type 0} (result : Result A (ExecStopOrMemory F)) (does : Course → Course) (old new : RunView F) : Type 0 where
     pub shown : List (Event F)
     pub events : new.events ≡ old.events ++ shown
     pub fresh : List (Answer F)
@@ -64,7 +64,7 @@ paths_taken {F} k answers (other ∷ events) = paths_taken k answers events
 
 -- Solvers after a call: their number, order, names and rules are unchanged, and to the paths of
 -- each the pivots of the answers that it gave are appended. Each solve that was shown is answered.
-pub record Answered {S F : Type 0} (value : F → Number) (limit : ℕ) (name : S → List ℕ) (rule : S → SolverRule) (paths : S → List (List Pivot)) (old new : List S) (before after : Seen F) : Type 0 where
+pub record Answered {S F : Type 0} (value : F → Number) (limit : ℕ) (name : S → List ℕ) (rule : S → SolverRule) (paths : S → List (List Pivot)) (old new : List S) (before after : RunView F) : Type 0 where
   pub names : map name new ≡ map name old
   pub rules : map rule new ≡ map rule old
   pub shown : List (Event F)
@@ -75,6 +75,6 @@ pub record Answered {S F : Type 0} (value : F → Number) (limit : ℕ) (name : 
 -- ---- what stays
 
 -- the settings show at most 8 decimals, and choose one of `solvers` solvers, if there are any
-pub record AreKept (solvers : ℕ) (settings : Settings) : Type 0 where
+pub record AreValidSettings (solvers : ℕ) (settings : Settings) : Type 0 where
   pub decimals : settings.decimals ≤ 8
   pub chosen : 0 < solvers → settings.solver < solvers

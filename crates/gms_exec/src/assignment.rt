@@ -10,7 +10,7 @@ ghost use Rattle.gms_eval.specs.Nodes.{in_order};
 ghost use Rattle.gms_eval.specs.Bindings.{controlled};
 ghost use Rattle.gms_eval.specs.Faults.{nothing, ◌and_then◌};
 ghost use Rattle.gms_eval.specs.Gives.{Gives};
-ghost use Rattle.gms_exec.specs.Assignment.{newly_controlled, takes, where_taken, is_set, target_of, given_under, element_under, those_there, given_by, after_assignment};
+ghost use Rattle.gms_exec.specs.Assignment.{newly_controlled, takes_value, where_taken, is_set_content, target_of, given_under, element_under, given_elements, given_by, after_assignment};
 ghost use Rattle.gms_exec.specs.InnerWalks.{given_in, all_given_in, Assigns, first_set, behind_others, noted, with_found, found_in, found_at};
 
 use crate::given::{Given, put_all};
@@ -98,9 +98,9 @@ fn newly_controlled<F: ExactField>(
 
 /// Whether a value is a number, as a level, a marginal and the value that fixes a variable are.
 fn is_number<F: ExactField>(value: Ext<F>) -> bool
-    ensures level { result ≡ takes L (extended F.value value) }
-    ensures marginal { result ≡ takes M (extended F.value value) }
-    ensures fixed { result ≡ takes Fx (extended F.value value) }
+    ensures level { result ≡ takes_value L (extended F.value value) }
+    ensures marginal { result ≡ takes_value M (extended F.value value) }
+    ensures fixed { result ≡ takes_value Fx (extended F.value value) }
 {
     match value {
         Ext::Number(_) => true,
@@ -112,7 +112,7 @@ fn is_number<F: ExactField>(value: Ext<F>) -> bool
 
 /// Whether a value is a number or minus infinity, as a lower bound is.
 fn is_lower<F: ExactField>(value: Ext<F>) -> bool
-    ensures { result ≡ takes Lo (extended F.value value) }
+    ensures { result ≡ takes_value Lo (extended F.value value) }
 {
     match value {
         Ext::Number(_) => true,
@@ -124,7 +124,7 @@ fn is_lower<F: ExactField>(value: Ext<F>) -> bool
 
 /// Whether a value is a number or infinity, as an upper bound is.
 fn is_upper<F: ExactField>(value: Ext<F>) -> bool
-    ensures { result ≡ takes Up (extended F.value value) }
+    ensures { result ≡ takes_value Up (extended F.value value) }
 {
     match value {
         Ext::Number(_) => true,
@@ -136,7 +136,7 @@ fn is_upper<F: ExactField>(value: Ext<F>) -> bool
 
 /// Whether a name takes a value with a suffix; a parameter takes any value.
 fn takes<F: ExactField>(suffix: Suffix, value: Ext<F>) -> bool
-    ensures { result ≡ takes suffix (extended F.value value) }
+    ensures { result ≡ takes_value suffix (extended F.value value) }
 {
     match suffix {
         Suffix::None => true,
@@ -176,7 +176,7 @@ fn where_taken<F: ExactField>(
 
 /// Whether a name stands for a set.
 fn is_set<F: ExactField>(store: &Store<F>, name: u32) -> bool
-    ensures { result ≡ is_set (symbol_of store.now name).content }
+    ensures { result ≡ is_set_content (symbol_of store.now name).content }
 {
     let kind = store.kind_of(store.base(name));
     match kind {
@@ -279,7 +279,7 @@ impl<'s, F: ExactField> Assignment<'s, F> {
     ) -> Result<Vec<(Tuple, Given<F>)>, ExecStopOrMemory<F>>
         ensures { Gives F.value (λ all. all_given_in F.value all.items) result
             (in_order (map (λ element. element_under F.value F.limit store.now (target_of self.now.target.now) self.now.right_at (tree_of self.now.right.now) (controlled b.now sets.now element)) elements.now)
-            and_then λ given. Ok (those_there F.value F.limit store.now given)) }
+            and_then λ given. Ok (given_elements F.value F.limit store.now given)) }
     {
         let mut all = Vec::new(alloc);
         let mut inner = b.copy(alloc)?;

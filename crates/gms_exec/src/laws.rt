@@ -18,9 +18,9 @@ ghost use Rattle.gms_eval.specs.Bindings.{Pairs};
 ghost use Rattle.gms_exec.specs.Assignment.{given_by};
 ghost use Rattle.gms_exec.specs.Given.{AllGiven, after_given};
 ghost use Rattle.gms_exec.specs.Once.{AreLeft, IsOnce};
-ghost use Rattle.gms_exec.specs.Reads.{value_at, membership_at, attributes_with};
-ghost use Rattle.gms_exec.specs.Solved.{column_keys, row_keys, statuses_of, after_end};
-ghost use Rattle.gms_exec.specs.Elements.{AreElements, IsNot, elements, feasible_levels, has_no_point};
+ghost use Rattle.gms_exec.specs.Reads.{given_value, membership_at, attributes_with};
+ghost use Rattle.gms_exec.specs.Solved.{keys_of_columns, row_keys, statuses_of, after_end};
+ghost use Rattle.gms_exec.specs.Elements.{AreElements, IsNot, program_elements, feasible_levels, has_no_point};
 
 use gq_field::ExactField;
 
@@ -33,7 +33,7 @@ pub fn assignment_laws()
         base_of state name < length state.symbols →
         (symbol_of state name).content ≡ parameter_of entries →
         All (λ given. length given.0 ≡ length (symbol_of state name).domain) all →
-        value_of (after_given suffix.None name all state) name t ≡ unwrap_or (value_at all t) (value_of state name t) }
+        value_of (after_given suffix.None name all state) name t ≡ unwrap_or (given_value all t) (value_of state name t) }
     ensures members { (state : State) (name : ℕ) (kind : Suffix) (all : AllGiven) (members : List (List ℕ)) (t : List ℕ) →
         base_of state name < length state.symbols →
         (symbol_of state name).content ≡ set_of members →
@@ -44,7 +44,7 @@ pub fn assignment_laws()
         has_attributes (symbol_of state name).content ≡ true →
         All (λ given. length given.0 ≡ length (symbol_of state name).domain) all →
         attributes_of (after_given kind name all state) name t
-        ≡ attributes_with kind (attributes_of state name t) (value_at all t) }
+        ≡ attributes_with kind (attributes_of state name t) (given_value all t) }
     ensures others { (state : State) (name other : ℕ) (kind : Suffix) (all : AllGiven) →
         (base_of state other ≡ base_of state name → ⊥) →
         symbol_of (after_given kind name all state) other ≡ symbol_of state other }
@@ -70,23 +70,23 @@ pub fn once_laws<F: ExactField>()
 /// they were, and so do the settings (GAMS User's Guide, "Model and Solve Statements").
 pub fn solve_laws()
     ensures optimal_column { (state : State) (model : ℕ) (lp : Lp Number) (levels row_levels duals reduced : List Number) (j : ℕ) (key : Key) (x d : Number) →
-        AreElements state (elements lp) →
-        slice_get (column_keys lp) j ≡ Some key → slice_get levels j ≡ Some x → slice_get reduced j ≡ Some d →
+        AreElements state (program_elements lp) →
+        slice_get (keys_of_columns lp) j ≡ Some key → slice_get levels j ≡ Some x → slice_get reduced j ≡ Some d →
         attributes_of (after_end state model lp (Optimal levels row_levels duals reduced)) key.symbol key.tuple
         ≡ with_marginal (with_level (attributes_of state key.symbol key.tuple) x) d }
     ensures optimal_row { (state : State) (model : ℕ) (lp : Lp Number) (levels row_levels duals reduced : List Number) (i : ℕ) (key : Key) (x d : Number) →
-        AreElements state (elements lp) →
+        AreElements state (program_elements lp) →
         slice_get (row_keys lp) i ≡ Some key → slice_get row_levels i ≡ Some x → slice_get duals i ≡ Some d →
         attributes_of (after_end state model lp (Optimal levels row_levels duals reduced)) key.symbol key.tuple
         ≡ with_marginal (with_level (attributes_of state key.symbol key.tuple) x) d }
     ensures feasible_column { (state : State) (model : ℕ) (lp : Lp Number) (end : End Number) (levels row_levels : List Number) (j : ℕ) (key : Key) (x : Number) →
-        AreElements state (elements lp) →
+        AreElements state (program_elements lp) →
         feasible_levels end ≡ Some (levels, row_levels) →
-        slice_get (column_keys lp) j ≡ Some key → slice_get levels j ≡ Some x →
+        slice_get (keys_of_columns lp) j ≡ Some key → slice_get levels j ≡ Some x →
         attributes_of (after_end state model lp end) key.symbol key.tuple
         ≡ with_marginal (with_level (attributes_of state key.symbol key.tuple) x) (whole (pos 0)) }
     ensures feasible_row { (state : State) (model : ℕ) (lp : Lp Number) (end : End Number) (levels row_levels : List Number) (i : ℕ) (key : Key) (x : Number) →
-        AreElements state (elements lp) →
+        AreElements state (program_elements lp) →
         feasible_levels end ≡ Some (levels, row_levels) →
         slice_get (row_keys lp) i ≡ Some key → slice_get row_levels i ≡ Some x →
         attributes_of (after_end state model lp end) key.symbol key.tuple
@@ -95,11 +95,11 @@ pub fn solve_laws()
         has_no_point end ≡ true →
         attributes_of (after_end state model lp end) name t ≡ attributes_of state name t }
     ensures other_elements { (state : State) (model : ℕ) (lp : Lp Number) (end : End Number) (name : ℕ) (t : List ℕ) →
-        ((i : ℕ) (key : Key) → slice_get (elements lp) i ≡ Some key → IsNot state key name t) →
+        ((i : ℕ) (key : Key) → slice_get (program_elements lp) i ≡ Some key → IsNot state key name t) →
         attributes_of (after_end state model lp end) name t ≡ attributes_of state name t }
     ensures other_names { (state : State) (model : ℕ) (lp : Lp Number) (end : End Number) (other : ℕ) →
         (base_of state other ≡ base_of state model → ⊥) →
-        ((i : ℕ) (key : Key) → slice_get (elements lp) i ≡ Some key → base_of state other ≡ base_of state key.symbol → ⊥) →
+        ((i : ℕ) (key : Key) → slice_get (program_elements lp) i ≡ Some key → base_of state other ≡ base_of state key.symbol → ⊥) →
         symbol_of (after_end state model lp end) other ≡ symbol_of state other }
     ensures statuses { (state : State) (model : ℕ) (lp : Lp Number) (end : End Number) (status solver : ℕ) →
         base_of state model < length state.symbols →

@@ -4,7 +4,7 @@ ghost use Rattle.gms_labels.specs.declared.place.Place.{Place};
 ghost use Rattle.gms_ast.specs.TreeView.{tree_of};
 ghost use Rattle.gms_ast.specs.Trees.{signed};
 ghost use Rattle.gms_eval.specs.Gives.{Gives};
-ghost use Rattle.gms_exec.specs.Membership.{membership, joined, in_sum, in_product};
+ghost use Rattle.gms_exec.specs.Membership.{membership, joined_membership, in_sum, in_product};
 
 use gms_ast::Expr;
 use gms_eval::{Binding, ExecStopOrMemory, all_hold, holds};
@@ -64,7 +64,7 @@ fn in_sum<F: ExactField>(
     parts: &[(Place, bool, Expr<F>)],
     b: &Binding,
 ) -> Result<bool, ExecStopOrMemory<F>>
-    ensures { Gives F.value (λ holds. holds) result (joined in_sum false
+    ensures { Gives F.value (λ holds. holds) result (joined_membership in_sum false
         (map (λ part. (signed part.0 part.1, membership F.value F.limit store.now b.now (tree_of part.2))) parts.now)) }
 {
     let mut so_far = false;
@@ -83,7 +83,7 @@ fn in_product<F: ExactField>(
     parts: &[(Place, bool, Expr<F>)],
     b: &Binding,
 ) -> Result<bool, ExecStopOrMemory<F>>
-    ensures { Gives F.value (λ holds. holds) result (joined in_product true
+    ensures { Gives F.value (λ holds. holds) result (joined_membership in_product true
         (map (λ part. (signed part.0 part.1, membership F.value F.limit store.now b.now (tree_of part.2))) parts.now)) }
 {
     let mut so_far = true;

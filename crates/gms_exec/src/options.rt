@@ -1,6 +1,6 @@
 //! Option statements.
 ghost use Rattle.std.specs.Prelude.{◌≡◌, ◌<◌, ◌^◌, length, map};
-ghost use Rattle.gms_exec.specs.Options.{is_word, count_set, switch_set, solver_set, after_option, after_options};
+ghost use Rattle.gms_exec.specs.Options.{is_same_word, count_set, switch_set, solver_set, after_option, after_options};
 
 use gms_ast::{Setting, Word};
 use gms_store::Settings;
@@ -15,7 +15,7 @@ const MOST_DECIMALS: u32 = 8;
 
 /// Whether a text is this word, letter case ignored.
 fn is_word(word: &str, text: &[u8]) -> bool
-    ensures { result ≡ is_word word.now text.now }
+    ensures { result ≡ is_same_word word.now text.now }
 {
     text.eq_ignore_ascii_case(word.as_bytes())
 }
@@ -55,7 +55,7 @@ fn switch<F>(old: bool, setting: &Setting<F>) -> bool
 
 /// Whether a solver has this name, letter case ignored.
 fn has_name(solver: &Box<dyn LpSolver>, word: &[u8]) -> bool
-    ensures { result ≡ is_word word.now (name solver.now) }
+    ensures { result ≡ is_same_word word.now (name solver.now) }
 {
     solver.name().as_bytes().eq_ignore_ascii_case(word)
 }

@@ -10,7 +10,7 @@ ghost use Rattle.lp_core.specs.Numbers.{lp_numbers, end_numbers};
 ghost use Rattle.gms_rows.specs.Plain.{HasPlainDefinitions};
 ghost use Rattle.gms_rows.specs.Rows.{equations_of};
 ghost use Rattle.gms_exec.specs.Run.{solve};
-ghost use Rattle.gms_exec.specs.Solved.{statuses_of, with_point, points, column_keys, row_keys, after_end};
+ghost use Rattle.gms_exec.specs.Solved.{statuses_of, with_point, points, keys_of_columns, row_keys, after_end};
 ghost use Rattle.gms_exec.specs.InnerSolving.{Grown, ShowsSolve, Solves, AnswersAt, path_at};
 ghost use Rattle.gms_exec.specs.Standing.{ShowsStanding};
 ghost use Rattle.gms_exec.specs.Stepping.{Runs, Answered, UnlessMemory};
@@ -83,7 +83,7 @@ fn put_columns<F: ExactField>(
     levels: &[F],
     marginals: &[F],
 ) -> Result<(), AllocError>
-    ensures { OnOk result (store.new ≡ fold with_point store.old (points (column_keys (lp_numbers F.value lp.now)) (map F.value levels.now) (map F.value marginals.now))) }
+    ensures { OnOk result (store.new ≡ fold with_point store.old (points (keys_of_columns (lp_numbers F.value lp.now)) (map F.value levels.now) (map F.value marginals.now))) }
 {
     for (place, column) in lp.columns.as_slice().iter().enumerate() {
         let level = number_at(levels, place);

@@ -15,7 +15,7 @@ ghost use Rattle.gms_exec.specs.Run.{of_statement, display, abort, abort_where};
 ghost use Rattle.lp_slot.specs.declared.solver.SolverRule.{SolverRule};
 ghost use Rattle.gms_exec.specs.Standing.{ShowsStanding};
 ghost use Rattle.gms_exec.specs.InnerWalks.{Assigns, IsOnce, AsksNoSolver, ShowsNoSolve};
-ghost use Rattle.gms_exec.specs.Stepping.{Runs, Answered, AreKept, UnlessMemory};
+ghost use Rattle.gms_exec.specs.Stepping.{Runs, Answered, AreValidSettings, UnlessMemory};
 
 use crate::assignment::Assignment;
 use crate::options::after_options;
@@ -64,7 +64,7 @@ pub fn step(
         (record { state = store.old; events = events.old.items; answers = answers.old.items })
         (record { state = store.new; events = events.new.items; answers = answers.new.items })) }
     ensures standing { UnlessMemory result (ShowsStanding frac_value (2 ^ 127 - 1) (map rule solvers.old.items) answers.new.items events.old.items events.new.items) }
-    ensures settings { UnlessMemory result (AreKept (length solvers.old.items) store.new.settings) }
+    ensures settings { UnlessMemory result (AreValidSettings (length solvers.old.items) store.new.settings) }
     ensures plain { UnlessMemory result (AreOneDimensional store.new program.now.statements.items) }
 {
     let Act::Loop { control, body } = &s.act else {
@@ -106,7 +106,7 @@ fn once(
         (record { state = store.old; events = events.old.items; answers = answers.old.items })
         (record { state = store.new; events = events.new.items; answers = answers.new.items })) }
     ensures standing { UnlessMemory result (ShowsStanding frac_value (2 ^ 127 - 1) (map rule solvers.old.items) answers.new.items events.old.items events.new.items) }
-    ensures settings { UnlessMemory result (AreKept (length solvers.old.items) store.new.settings) }
+    ensures settings { UnlessMemory result (AreValidSettings (length solvers.old.items) store.new.settings) }
     ensures plain { UnlessMemory result (AreOneDimensional store.new program.now.statements.items) }
 {
     let Act::Solve {

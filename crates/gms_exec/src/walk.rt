@@ -2,7 +2,7 @@
 ghost use Rattle.std.specs.Prelude.{◌≡◌, ◌<◌, [], map, length, min, slice_index_or, IfOk};
 ghost use Rattle.gms_store.specs.State.{symbol_of};
 ghost use Rattle.gms_eval.specs.Domain.{most_counted};
-ghost use Rattle.gms_eval.specs.Lag.{label_in};
+ghost use Rattle.gms_eval.specs.Lag.{label_of_element};
 ghost use Rattle.gms_exec.specs.Showing.{labels_at, elements_at};
 
 use gms_store::Store;
@@ -13,7 +13,7 @@ use std::alloc::{AllocError, Global};
 /// The label at a place of a set of one dimension.
 fn label_of(members: &TupleSet, place: usize) -> u32
     requires { place < length members.now }
-    ensures { result ≡ slice_index_or (map label_in members.now) place 0 }
+    ensures { result ≡ slice_index_or (map label_of_element members.now) place 0 }
 {
     match members.get(place).as_slice().first() {
         Some(label) => *label,

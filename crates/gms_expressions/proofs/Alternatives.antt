@@ -10,7 +10,7 @@ use Rattle.gms_ast.specs.TreeView.{tree_step, index_step, control_step, tree_of,
 use Rattle.gms_grammar.specs.declared.terminal.Terminal.TheVariants.{Name, Suffix, LeftParen, Dollar}
 use Rattle.gms_grammar.specs.Grammar.{the, ◌∣◌, right}
 use Rattle.gms_grammar.specs.Reading.{leads}
-use Rattle.gms_grammar.specs.Terminals.{is, is_among}
+use Rattle.gms_grammar.specs.Terminals.{is, is_terminal_among}
 use Rattle.gms_grammar.specs.GamsGrammar.{Control, Condition, NameList, productions, token, name, bracketed}
 use Rattle.gms_grammar.specs.GamsLookAhead.{look_ahead}
 use Rattle.gms_expressions.specs.declared.fault.SyntaxFaultOrMemory.{SyntaxFaultOrMemory}
@@ -18,8 +18,8 @@ use Rattle.gms_expressions.specs.declared.reader.Reader.{Reader}
 use Rattle.gms_expressions.specs.declared.reader.Tables.{Tables}
 use Rattle.gms_expressions.specs.ExpressionTrees.{condition as condition_in_tree}
 use Rattle.gms_ast.specs.Numbers.{control_in_numbers}
-use Rattle.gms_expressions.specs.Nodes.{view}
-use Rattle.gms_expressions.specs.Readings.{Seen, Derivation, GamsPart, Sense, IsGot, IsAnswer, IsMeant, AreSets, IsControl, seen_from}
+use Rattle.gms_expressions.specs.InnerNodes.{view}
+use Rattle.gms_expressions.specs.InnerReadings.{Seen, Derivation, GamsPart, Sense, IsGot, IsAnswer, IsMeant, AreSets, IsControl, seen_from}
 use Rattle.gms_expressions.proofs.TokenKinds.{also, leads_by_kind}
 use Rattle.gms_expressions.proofs.Steps.{got_by, gives_both, gives_the, gives_none, gives_some, gives_right, refuses_right}
 use Rattle.gms_expressions.proofs.Nexts.{earlier}
@@ -31,7 +31,7 @@ off {b = true} h = cc
 
 -- where a parenthesis opens no name stands
 pub no_name : (ts : List Seen) → leads productions look_ahead (token LeftParen) ts ≡ true → leads productions look_ahead name ts ≡ false
-no_name ts h = leads_by_kind name ts refl ∙ off (also (is LeftParen) (λ k. if is_among (Name ∷ Suffix ∷ []) k then false else true) refl _ (sym (leads_by_kind (token LeftParen) ts refl) ∙ h))
+no_name ts h = leads_by_kind name ts refl ∙ off (also (is LeftParen) (λ k. if is_terminal_among (Name ∷ Suffix ∷ []) k then false else true) refl _ (sym (leads_by_kind (token LeftParen) ts refl) ∙ h))
 
 -- what was read or refused as the second alternative
 pub right_answer : {T : Type 0} (limit : ℕ) {Means : Sense → Derivation → T → Type 0} (p q : GamsPart) (reader : Reader) (at : ℕ) (old new : Tables) (r : Result (T × ℕ) SyntaxFaultOrMemory) → leads productions look_ahead p (seen_from reader at) ≡ false →

@@ -21,8 +21,8 @@ use Rattle.gms_expressions.specs.declared.reader.Reader.{Reader}
 use Rattle.gms_expressions.specs.declared.reader.Tables.{Tables}
 use Rattle.gms_expressions.specs.ExpressionTrees.{or_alone, first_place, place_in}
 use Rattle.gms_expressions.specs.Outcomes.{next_place}
-use Rattle.gms_expressions.specs.Nodes.{view}
-use Rattle.gms_expressions.specs.Readings.{Seen, Derivation, GamsPart, Meaning, Gives, Refuses, Sense, IsGot, IsMeant, IsNext, seen_from, walk_of}
+use Rattle.gms_expressions.specs.InnerNodes.{view}
+use Rattle.gms_expressions.specs.InnerReadings.{Seen, Derivation, GamsPart, Meaning, Gives, Refuses, Sense, IsGot, IsMeant, IsNext, seen_from, walk_of}
 use Rattle.gms_expressions.proofs.TokenKinds.{is_plain, implies}
 use Rattle.gms_expressions.proofs.Steps.{Within, within_the, within_second, within_then, gives_both, refuses_second}
 use Rattle.gms_expressions.proofs.Nexts.{gives_next, leads_next, unled_next}
@@ -36,7 +36,7 @@ place_begun source p {ts = ts} rest tree some found = go (yield tree) (starts pr
     go [] s e = cc
     go (t ∷ u) s e = sym (ap (next_place source) e)
 
-pub place_read : {W E R : Type 0} {rule : ℕ × List ℕ → rules.Rule Token W E R} {limit : ℕ} {source : List ℕ} (p : GamsPart) {w v : W} {ts rest : List Seen} {tree : Derivation} → may_be_empty look_ahead p ≡ false → rules.Gives rule (limit, source) p w ts tree v rest → place_in tree ≡ next_place source ts
+pub place_read : {W E R : Type 0} {rule : ℕ × List ℕ → rules.Rule Token W E R} {limit : ℕ} {source : List ℕ} (p : GamsPart) {w v : W} {ts rest : List Seen} {tree : Derivation} → may_be_empty look_ahead p ≡ false → rules.IsPartRead rule (limit, source) p w ts tree v rest → place_in tree ≡ next_place source ts
 place_read {source = source} p some g = place_begun source p _ _ some (sound productions look_ahead g.reads)
 
 -- parts before others

@@ -18,8 +18,8 @@ use Rattle.gms_expressions.specs.declared.fault.SyntaxFaultOrMemory.{SyntaxFault
 use Rattle.gms_expressions.specs.declared.reader.Reader.{Reader}
 use Rattle.gms_expressions.specs.declared.reader.Tables.{Tables}
 use Rattle.gms_expressions.specs.ExpressionTrees.{arguments}
-use Rattle.gms_expressions.specs.Nodes.{plain_views}
-use Rattle.gms_expressions.specs.Readings.{Seen, Derivation, GamsPart, Refuses, Sense, IsGot, IsAnswer, IsNext, IsLacking, IsBefore, IsOpened, inside, seen_from, walk_of}
+use Rattle.gms_expressions.specs.InnerNodes.{plain_views}
+use Rattle.gms_expressions.specs.InnerReadings.{Seen, Derivation, GamsPart, Refuses, Sense, IsGot, IsAnswer, IsNext, IsLacking, IsBefore, IsOpened, inside, seen_from, walk_of}
 use Rattle.gms_expressions.proofs.Steps.{got_by, refuses_second}
 use Rattle.gms_expressions.proofs.Nexts.{gives_bracketed, refuses_unclosed, gives_next, leads_next, unled_next}
 use Rattle.gms_expressions.proofs.Loops.{loop_got, loop_refuses}

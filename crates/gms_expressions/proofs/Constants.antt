@@ -12,16 +12,16 @@ use Rattle.gms_ast.specs.Trees.{Tree, Indices, Control, number as number_node, p
 use Rattle.gms_ast.specs.TreeView.{tree_step, index_step, control_step, tree_of}
 use Rattle.gms_grammar.specs.declared.terminal.Terminal.{Terminal}
 use Rattle.gms_grammar.specs.declared.terminal.Terminal.TheVariants.{Number, Infinity, NotAvailable, YesNo}
-use Rattle.gms_grammar.specs.Terminals.{is_among}
+use Rattle.gms_grammar.specs.Terminals.{is_terminal_among}
 use Rattle.gms_grammar.specs.GamsGrammar.{any_of}
-use Rattle.gms_expressions.specs.Valuations.{number_in as number_meant}
+use Rattle.gms_expressions.specs.Valuations.{number_meant}
 use Rattle.gms_expressions.proofs.Valued.{number_in_is}
 use Rattle.gms_expressions.specs.declared.fault.SyntaxFaultOrMemory.{SyntaxFaultOrMemory}
 use Rattle.gms_expressions.specs.declared.reader.Reader.{Reader}
 use Rattle.gms_expressions.specs.declared.reader.Tables.{Tables}
-use Rattle.gms_expressions.specs.Nodes.{view}
+use Rattle.gms_expressions.specs.InnerNodes.{view}
 use Rattle.gms_expressions.specs.ExpressionTrees.{constant_in, constant_of, is_word}
-use Rattle.gms_expressions.specs.Readings.{Refuses, IsGot, IsNext, IsMeant, IsValue, IsOutOfRange, kind_of, seen_from, walk_of}
+use Rattle.gms_expressions.specs.InnerReadings.{Refuses, IsGot, IsNext, IsMeant, IsValue, IsOutOfRange, kind_of, seen_from, walk_of}
 use Rattle.gms_expressions.proofs.TokenKinds.{is_plain}
 use Rattle.gms_expressions.proofs.Walks.{plain_after, plain_sound}
 use Rattle.gms_expressions.proofs.Steps.{got_by, gives_one}
@@ -32,7 +32,7 @@ abbrev constants : List Terminal
 constants = Number ∷ Infinity ∷ NotAvailable ∷ YesNo ∷ []
 
 -- a constant of no other kind is a number
-number_left : (kind : Terminal) → is_among constants kind ≡ true → (kind ≡ Infinity → ⊥) → (kind ≡ NotAvailable → ⊥) → (kind ≡ YesNo → ⊥) → kind ≡ Number
+number_left : (kind : Terminal) → is_terminal_among constants kind ≡ true → (kind ≡ Infinity → ⊥) → (kind ≡ NotAvailable → ⊥) → (kind ≡ YesNo → ⊥) → kind ≡ Number
 number_left Number h a b c = refl
 number_left Infinity h a b c = absurd (a refl)
 number_left NotAvailable h a b c = absurd (b refl)
@@ -56,7 +56,7 @@ module _ {F : Type 0} where
   pub tree_of-No : tree_of {F = F} No ≡ no
   tree_of-No = ap (tree_of {F = F}) (sym rolls-No) ∙ fold-roll-Expr F (Tree F) (Indices F → Indices F) (Control F) tree_step index_step control_step Expr-F.No
 
-module _ {reader : Reader} {at behind : ℕ} {token : Token} (tables : Tables) (kind : Terminal) (next : kind ≡ kind_of (seen_from reader at)) (n : IsNext (is_among constants) reader at token behind) where
+module _ {reader : Reader} {at behind : ℕ} {token : Token} (tables : Tables) (kind : Terminal) (next : kind ≡ kind_of (seen_from reader at)) (n : IsNext (is_terminal_among constants) reader at token behind) where
   there : n.kind ≡ kind
   there = sym (kind_next n) ∙ sym next
 
@@ -71,7 +71,7 @@ module _ {reader : Reader} {at behind : ℕ} {token : Token} (tables : Tables) (
 
   module _ (not_infinity : kind ≡ Infinity → ⊥) (not_na : kind ≡ NotAvailable → ⊥) (not_yes : kind ≡ YesNo → ⊥) where
     is_number : n.kind ≡ Number
-    is_number = there ∙ number_left kind (ap (is_among constants) (sym there) ∙ n.passes) not_infinity not_na not_yes
+    is_number = there ∙ number_left kind (ap (is_terminal_among constants) (sym there) ∙ n.passes) not_infinity not_na not_yes
 
     number_there : seen_from reader at ≡ (Number, token) ∷ seen_from reader behind
     number_there = n.is ∙ ap (λ t. (t, token) ∷ seen_from reader behind) is_number

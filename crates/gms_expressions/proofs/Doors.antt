@@ -9,12 +9,12 @@ use Rattle.gms_expressions.specs.declared.fault.SyntaxFaultOrMemory.TheVariants.
 use Rattle.gms_expressions.specs.declared.reader.Reader.{Reader}
 use Rattle.gms_expressions.specs.declared.reader.Tables.{Tables}
 use Rattle.gms_expressions.specs.ExpressionTrees.{no_token}
-use Rattle.gms_expressions.specs.Outcomes.{Walk}
-use Rattle.gms_expressions.specs.Calls.{IsRead, IsRefusal}
-use Rattle.gms_expressions.specs.Readings.{Seen, Derivation, Refuses, Sense, IsGot, seen_from, walk_of}
+use Rattle.gms_expressions.specs.Outcomes.{ExpressionState}
+use Rattle.gms_expressions.specs.Calls.{IsRead, IsSyntaxRefusal}
+use Rattle.gms_expressions.specs.InnerReadings.{Seen, Derivation, Refuses, Sense, IsGot, seen_from, walk_of}
 
 -- what was refused
-pub refusal_of : {limit : ℕ} {source : List ℕ} {n : Nonterminal} {w : Walk} {ts : List Seen} {tables : Tables} (e : SyntaxFaultOrMemory) → Refuses limit source (the n) tables w ts e → IsRefusal limit source n w ts e
+pub refusal_of : {limit : ℕ} {source : List ℕ} {n : Nonterminal} {w : ExpressionState} {ts : List Seen} {tables : Tables} (e : SyntaxFaultOrMemory) → Refuses limit source (the n) tables w ts e → IsSyntaxRefusal limit source n w ts e
 refusal_of Memory r = tt
 refusal_of {n = n} (Fault fault) r =
     elim (r.why.why fault refl) [ inl s ↦ stuck_refused no_token (λ front rest. Derives productions (the n) front → ⊥) s (λ h. h) | inr s ↦ wrong_refused no_token (λ front rest. Derives productions (the n) front → ⊥) s ]

@@ -9,7 +9,7 @@ use Rattle.gms_lex.specs.TokenTexts.{token_text, unquoted}
 use Rattle.gms_grammar.specs.declared.terminal.Terminal.{Terminal}
 use Rattle.gms_grammar.specs.declared.terminal.Terminal.TheVariants.{Name, Suffix, Text, Number}
 use Rattle.gms_grammar.specs.Grammar.{one, leaf}
-use Rattle.gms_grammar.specs.Terminals.{is, is_among}
+use Rattle.gms_grammar.specs.Terminals.{is, is_terminal_among}
 use Rattle.gms_grammar.specs.GamsGrammar.{name, token}
 use Rattle.gms_expressions.proofs.Valued.{number_in_is}
 use Rattle.gms_expressions.specs.declared.fault.SyntaxFault.{SyntaxFault}
@@ -20,10 +20,10 @@ use Rattle.gms_expressions.specs.declared.reader.Reader.{Reader}
 use Rattle.gms_expressions.specs.declared.reader.Tables.{Tables}
 use Rattle.gms_ast.specs.declared.expression.Expr.{Expr}
 use Rattle.gms_ast.specs.Trees.{number as number_node}
-use Rattle.gms_expressions.specs.Nodes.{view}
-use Rattle.gms_expressions.specs.ExpressionTrees.{or_0, number_in}
-use Rattle.gms_expressions.specs.Outcomes.{Walk, walk_after, is_name, IsFaulty, deep, out_of_range, many_names, many_labels}
-use Rattle.gms_expressions.specs.Readings.{Gives, Went, Refuses, IsGot, IsName, IsLabel, IsNext, IsMeant, IsValue, IsOutOfRange, seen_from, walk_of}
+use Rattle.gms_expressions.specs.InnerNodes.{view}
+use Rattle.gms_expressions.specs.ExpressionTrees.{or_0, number_tree}
+use Rattle.gms_expressions.specs.Outcomes.{ExpressionState, state_after_token, is_name_token, IsFaultyInExpression, deep, out_of_range, many_names, many_labels}
+use Rattle.gms_expressions.specs.InnerReadings.{Gives, Went, Refuses, IsGot, IsName, IsLabel, IsNext, IsMeant, IsValue, IsOutOfRange, seen_from, walk_of}
 use Rattle.gms_labels.specs.declared.fault.LabelFault.{LabelFault}
 use Rattle.gms_labels.specs.declared.fault.LabelFault.TheVariants as label_fault
 use Rattle.gms_expressions.specs.Faults.{not_entered}
@@ -32,7 +32,7 @@ use Rattle.gms_expressions.proofs.Going.{went_same, went_are}
 use Rattle.gms_expressions.proofs.Nexts.{exact}
 
 abbrev is_named : Terminal → Bool
-is_named = is_among (Name ∷ Suffix ∷ [])
+is_named = is_terminal_among (Name ∷ Suffix ∷ [])
 
 same_walk : (unclosed : ℕ) (new : Tables) (names labels : List (List ℕ)) → new.names ≡ names → new.labels ≡ labels →
     walk_of unclosed new ≡ record { open_count = unclosed; names = names; labels = labels; dotted = false }
@@ -40,19 +40,19 @@ same_walk unclosed new names labels e f =
     ap (λ (ns : List (List ℕ)). walk_of unclosed (record { names = ns; labels = new.labels })) e ∙ ap (λ (ls : List (List ℕ)). walk_of unclosed (record { names = names; labels = ls })) f
 
 name_after : (source : List ℕ) (unclosed : ℕ) (old new : Tables) (kind : Terminal) (token : Token) → is_named kind ≡ true → new.names ≡ entered old.names (token_text source token) → new.labels ≡ old.labels →
-    walk_of unclosed new ≡ walk_after source (walk_of unclosed old) (kind, token)
+    walk_of unclosed new ≡ state_after_token source (walk_of unclosed old) (kind, token)
 name_after source unclosed old new Name token h e f = same_walk unclosed new _ _ e f
 name_after source unclosed old new Suffix token h e f = same_walk unclosed new _ _ e f
 name_after source unclosed old new _ token h e f = cc
 
-name_sound : (limit : ℕ) (source : List ℕ) (w : Walk) (kind : Terminal) (token : Token) → is_named kind ≡ true → (IsFullFor w.names (token_text source token) → ⊥) → (fault : SyntaxFault) → IsFaulty limit source w (kind, token) fault → ⊥
+name_sound : (limit : ℕ) (source : List ℕ) (w : ExpressionState) (kind : Terminal) (token : Token) → is_named kind ≡ true → (IsFullFor w.names (token_text source token) → ⊥) → (fault : SyntaxFault) → IsFaultyInExpression limit source w (kind, token) fault → ⊥
 name_sound limit source w kind token h room fault (deep e d) = let f : is_named kind ≡ false = ap is_named e in cc
 name_sound limit source w kind token h room fault (out_of_range e d) = let f : is_named kind ≡ false = ap is_named e in cc
 name_sound limit source w kind token h room fault (many_names n full) = room full
 name_sound limit source w kind token h room fault (many_labels e d) = let f : is_named kind ≡ false = ap is_named e in cc
 
 -- it is a name if no dot precedes it
-name_there : (unclosed : ℕ) (tables : Tables) (kind : Terminal) → is_named kind ≡ true → is_name (walk_of unclosed tables) kind ≡ true
+name_there : (unclosed : ℕ) (tables : Tables) (kind : Terminal) → is_named kind ≡ true → is_name_token (walk_of unclosed tables) kind ≡ true
 name_there unclosed tables Name h = refl
 name_there unclosed tables Suffix h = refl
 name_there unclosed tables _ h = cc
@@ -80,7 +80,7 @@ module _ {limit : ℕ} {reader : Reader} {at behind : ℕ} {token : Token} (old 
   name_not_entered text same label_fault.Memory e full is new f g = refuses_memory (went_are old new f g) is
 
 module _ {limit : ℕ} {reader : Reader} {at behind : ℕ} {quoted : Token} (old : Tables) (n : IsNext (is Text) reader at quoted behind) where
-  label_sound : (IsFullFor old.labels (unquoted (token_text reader.source.now quoted)) → ⊥) → (fault : SyntaxFault) → IsFaulty limit reader.source.now (walk_of reader.unclosed old) (Text, quoted) fault → ⊥
+  label_sound : (IsFullFor old.labels (unquoted (token_text reader.source.now quoted)) → ⊥) → (fault : SyntaxFault) → IsFaultyInExpression limit reader.source.now (walk_of reader.unclosed old) (Text, quoted) fault → ⊥
   label_sound room fault (deep e d) = cc
   label_sound room fault (out_of_range e d) = cc
   label_sound room fault (many_names n d) = cc
@@ -106,7 +106,7 @@ module _ {limit : ℕ} {reader : Reader} {at behind : ℕ} {quoted : Token} (old
   label_not_entered text same label_fault.Memory e full is new f g = refuses_memory (went_are old new f g) is
 
 -- a number that is within its range has no error
-number_sound : (limit : ℕ) (source : List ℕ) (unclosed : ℕ) (tables : Tables) (numeral : Token) (x : Rational) → MeansNumber (token_text source numeral) x → FitsLiteral limit x → (fault : SyntaxFault) → IsFaulty limit source (walk_of unclosed tables) (Number, numeral) fault → ⊥
+number_sound : (limit : ℕ) (source : List ℕ) (unclosed : ℕ) (tables : Tables) (numeral : Token) (x : Rational) → MeansNumber (token_text source numeral) x → FitsLiteral limit x → (fault : SyntaxFault) → IsFaultyInExpression limit source (walk_of unclosed tables) (Number, numeral) fault → ⊥
 number_sound limit source unclosed tables numeral x means fits fault (deep e d) = cc
 number_sound limit source unclosed tables numeral x means fits fault (out_of_range e none) = none x means fits
 number_sound limit source unclosed tables numeral x means fits fault (many_names n d) = cc
@@ -124,6 +124,6 @@ number_refused {limit = limit} reader at behind tables there h o = refuses_token
 
 -- a number, as an expression
 pub number_got : {F : Type 0} {value : F → Rational} {limit : ℕ} (reader : Reader) (at behind : ℕ) {numeral : Token} (tables : Tables) (v : F) → IsNext (is Number) reader at numeral behind → IsValue limit value (token_text reader.source.now numeral) v →
-    (e : Expr F) → view value e ≡ number_node (value v) → IsGot limit (IsMeant value reader.source.now number_in) (token Number) reader at tables tables e behind
+    (e : Expr F) → view value e ≡ number_node (value v) → IsGot limit (IsMeant value reader.source.now number_tree) (token Number) reader at tables tables e behind
 number_got {value = value} reader at behind {numeral = numeral} tables v n within e is = got_by (number_gives reader at behind tables (value v) (exact n) refl within.0 within.1)
     (λ sense s. record { is = is ∙ ap number_node (sym (number_in_is (token_text reader.source.now numeral) (value v) within.0)) }) (let g = n.further in omega arith)

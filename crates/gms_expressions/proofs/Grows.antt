@@ -6,7 +6,7 @@ use Rattle.gms_grammar.specs.Reading.{leads}
 use Rattle.gms_grammar.specs.GamsGrammar.{productions}
 use Rattle.gms_grammar.specs.GamsLookAhead.{look_ahead}
 use Rattle.gms_grammar.proofs.Basics.{or_left}
-use Rattle.gms_expressions.specs.Readings.{Seen, GamsPart}
+use Rattle.gms_expressions.specs.InnerReadings.{Seen, GamsPart}
 
 -- the test answered no
 pub none_led : {b : Bool} {x : Bool} → b ≡ x → b ≡ false → x ≡ false

@@ -4,7 +4,7 @@ use Rattle.gq_number.specs.Number.{Number}
 use Rattle.gms_ast.specs.declared.expression.Expr.{Expr}
 use Rattle.gms_expressions.specs.declared.reader.Reader.{Reader}
 use Rattle.gms_expressions.specs.declared.reader.Tables.{Tables}
-use Rattle.gms_expressions.specs.Nodes.{view, plain_views}
+use Rattle.gms_expressions.specs.InnerNodes.{view, plain_views}
 use Rattle.gms_expressions.proofs.Sums.{Guards}
 
 pub not_begun : {X : Type 0} (xs : List X) (x : X) → xs ++ x ∷ [] ≡ [] → ⊥

@@ -15,7 +15,7 @@ use Rattle.gms_ast.specs.TreeView.{tree_step, index_step, control_step, tree_of,
 use Rattle.gms_grammar.specs.declared.terminal.Terminal.TheVariants.{Name, Suffix, Text, Sign, Circular, Comma}
 use Rattle.gms_grammar.specs.Grammar.{the, ◌·◌, opt, many, leaf, pair, none, some, more, node}
 use Rattle.gms_grammar.specs.Reading.{leads}
-use Rattle.gms_grammar.specs.Terminals.{is, is_among}
+use Rattle.gms_grammar.specs.Terminals.{is, is_terminal_among}
 use Rattle.gms_grammar.specs.LookAhead.{may_begin}
 use Rattle.gms_grammar.specs.GamsGrammar.{Index, IndexList, Lag, productions, token, name, any_of, bracketed}
 use Rattle.gms_grammar.specs.GamsLookAhead.{look_ahead}
@@ -24,7 +24,7 @@ use Rattle.gms_expressions.specs.declared.reader.Reader.{Reader}
 use Rattle.gms_expressions.specs.declared.reader.Tables.{Tables}
 use Rattle.gms_expressions.specs.ExpressionTrees.{index as index_in, indices as indices_in, more_indices, lag as lag_in_tree}
 use Rattle.gms_ast.specs.Numbers.{indices_in_numbers}
-use Rattle.gms_expressions.specs.Readings.{Seen, Derivation, GamsPart, Refuses, Sense, IsSense, IsGot, IsAnswer, IsNext, IsName, IsLabel, IsLag, IsIndex, AreIndices, seen_from, walk_of, kind_of}
+use Rattle.gms_expressions.specs.InnerReadings.{Seen, Derivation, GamsPart, Refuses, Sense, IsSense, IsGot, IsAnswer, IsNext, IsName, IsLabel, IsLag, IsIndex, AreIndices, seen_from, walk_of, kind_of}
 use Rattle.gms_expressions.proofs.TokenKinds.{leads_by_kind, same_test}
 use Rattle.gms_expressions.proofs.Steps.{got_by, Within, within_the, within_second, within_then, within_again, gives_both, gives_the, gives_left, gives_right, gives_none, gives_some, gives_no_more, refuses_the, refuses_right, refuses_second, refuses_some, refuses_again}
 use Rattle.gms_expressions.proofs.Nexts.{gives_next, leads_next, unled_next, earlier}
@@ -45,7 +45,7 @@ module _ {F : Type 0} where
 
 -- a sign leads into a lag
 pub leads_lag : (ts : List Seen) → leads productions look_ahead (the Lag) ts ≡ leads productions look_ahead (any_of (Sign ∷ Circular ∷ [])) ts
-leads_lag ts = leads_by_kind (the Lag) ts refl ∙ same_test (may_begin look_ahead (the Lag)) (is_among (Sign ∷ Circular ∷ [])) refl (kind_of ts) ∙ sym (leads_by_kind (any_of (Sign ∷ Circular ∷ [])) ts refl)
+leads_lag ts = leads_by_kind (the Lag) ts refl ∙ same_test (may_begin look_ahead (the Lag)) (is_terminal_among (Sign ∷ Circular ∷ [])) refl (kind_of ts) ∙ sym (leads_by_kind (any_of (Sign ∷ Circular ∷ [])) ts refl)
 
 module _ {F : Type 0} (value : F → Number) {limit : ℕ} {reader : Reader} {at next : ℕ} {old middle : Tables} {n : ℕ} where
   -- a label
@@ -57,14 +57,14 @@ module _ {F : Type 0} (value : F → Number) {limit : ℕ} {reader : Reader} {at
     pub set_got : leads productions look_ahead (token Text) (seen_from reader at) ≡ false → IsGot limit (IsName reader.source.now) name reader at old middle (n, place) next → leads productions look_ahead (any_of (Sign ∷ Circular ∷ [])) (seen_from reader next) ≡ false →
         IsGot limit (IsIndex {F = F} value reader.source.now) (the Index) reader at old middle (Set n None) next
     set_got other got unled = got_by
-        (gives_the Index (gives_right other (some_led (is_among (Name ∷ Suffix ∷ [])) (opt (the Lag)) (seen_from reader at) (sym (led_given got.gives)) refl) (gives_both got.gives (gives_none (leads_lag (seen_from reader next) ∙ unled)))))
+        (gives_the Index (gives_right other (some_led (is_terminal_among (Name ∷ Suffix ∷ [])) (opt (the Lag)) (seen_from reader at) (sym (led_given got.gives)) refl) (gives_both got.gives (gives_none (leads_lag (seen_from reader next) ∙ unled)))))
         (λ sense s rest. ap (indices_in_numbers value) (index_tree-alone n rest) ∙ ap (λ m. set m (indices_in_numbers value rest)) (got.means sense s).0) got.further
 
     -- a set, with a lag
     pub lagged_got : {new : Tables} {behind : ℕ} {lag : LagOp × Place × Box (Expr F) Global} → leads productions look_ahead (token Text) (seen_from reader at) ≡ false → IsGot limit (IsName reader.source.now) name reader at old middle (n, place) next →
         leads productions look_ahead (any_of (Sign ∷ Circular ∷ [])) (seen_from reader next) ≡ true → IsGot limit (IsLag value reader.source.now) (the Lag) reader next middle new lag behind → IsGot limit (IsIndex value reader.source.now) (the Index) reader at old new (Set n (Some lag)) behind
     lagged_got {lag = lag} other got led lags = got_by
-        (gives_the Index (gives_right other (some_led (is_among (Name ∷ Suffix ∷ [])) (opt (the Lag)) (seen_from reader at) (sym (led_given got.gives)) refl) (gives_both got.gives (gives_some (leads_lag (seen_from reader next) ∙ led) lags.gives))))
+        (gives_the Index (gives_right other (some_led (is_terminal_among (Name ∷ Suffix ∷ [])) (opt (the Lag)) (seen_from reader at) (sym (led_given got.gives)) refl) (gives_both got.gives (gives_some (leads_lag (seen_from reader next) ∙ led) lags.gives))))
         (λ sense s rest. ap (indices_in_numbers value) (index_tree-lagged n lag rest) ∙ lags.means sense s n (indices_in_numbers value rest)
         ∙ ap (λ m. lag_in_tree reader.source.now sense.names sense.labels m lags.tree (indices_in_numbers value rest)) (got.means sense (earlier lags.gives s)).0)
         (let f = got.further in let g = lags.further in omega arith)
@@ -72,7 +72,7 @@ module _ {F : Type 0} (value : F → Number) {limit : ℕ} {reader : Reader} {at
     -- the lag of a set is refused
     pub lag_refuses : {last : Tables} {e : SyntaxFaultOrMemory} → leads productions look_ahead (token Text) (seen_from reader at) ≡ false → IsGot limit (IsName reader.source.now) name reader at old middle (n, place) next → leads productions look_ahead (any_of (Sign ∷ Circular ∷ [])) (seen_from reader next) ≡ true →
         Refuses limit reader.source.now (the Lag) last (walk_of reader.unclosed middle) (seen_from reader next) e → Refuses limit reader.source.now (the Index) last (walk_of reader.unclosed old) (seen_from reader at) e
-    lag_refuses other got led r = refuses_the Index (refuses_right other (some_led (is_among (Name ∷ Suffix ∷ [])) (opt (the Lag)) (seen_from reader at) (sym (led_given got.gives)) refl) (refuses_second got.gives (refuses_some (leads_lag (seen_from reader next) ∙ led) r)))
+    lag_refuses other got led r = refuses_the Index (refuses_right other (some_led (is_terminal_among (Name ∷ Suffix ∷ [])) (opt (the Lag)) (seen_from reader at) (sym (led_given got.gives)) refl) (refuses_second got.gives (refuses_some (leads_lag (seen_from reader next) ∙ led) r)))
 
 -- indices put before others
 abbrev pub put_before : {F : Type 0} → List (IndexNode F) → Indices F → Indices F

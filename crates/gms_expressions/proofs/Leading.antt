@@ -8,8 +8,8 @@ use Rattle.gms_grammar.specs.Reading.{leads}
 use Rattle.gms_grammar.specs.GamsGrammar.{productions}
 use Rattle.gms_grammar.specs.LookAhead.{may_begin}
 use Rattle.gms_grammar.specs.GamsLookAhead.{look_ahead}
-use Rattle.gms_expressions.specs.Readings.{Seen, GamsPart, kind_of}
-use Rattle.gms_grammar.specs.Terminals.{is, is_among}
+use Rattle.gms_expressions.specs.InnerReadings.{Seen, GamsPart, kind_of}
+use Rattle.gms_grammar.specs.Terminals.{is, is_terminal_among}
 use Rattle.gms_expressions.proofs.TokenKinds.{leads_by_kind, implies, also, same_number}
 
 -- a token of this kind comes next
@@ -40,15 +40,15 @@ neither true b f h = absurd (f refl)
 neither false b f h = h
 
 -- such a kind is not among them
-pub not_among : (ks : List Terminal) (kind : Terminal) → IsNone ks kind → is_among ks kind ≡ false
+pub not_among : (ks : List Terminal) (kind : Terminal) → IsNone ks kind → is_terminal_among ks kind ≡ false
 not_among [] kind d = refl
-not_among (k ∷ ks) kind d = neither (is kind k) (is_among ks kind) (λ e. d.0 (same_number kind k (eqb-true _ _ e))) (not_among ks kind d.1)
+not_among (k ∷ ks) kind d = neither (is kind k) (is_terminal_among ks kind) (λ e. d.0 (same_number kind k (eqb-true _ _ e))) (not_among ks kind d.1)
 
 pub unless : (a b : Bool) → (a ≡ true → b ≡ true) → b ≡ false → a ≡ false
 unless true b f h = let e = f refl in cc
 unless false b f h = refl
 
 -- a token of another kind than those that may begin a part comes next
-pub leads_of_none : (part : GamsPart) (ts : List Seen) (ks : List Terminal) {k : Terminal} → may_begin look_ahead part End ≡ false → implies (may_begin look_ahead part) (is_among ks) ≡ true → k ≡ kind_of ts → IsNone ks k → leads productions look_ahead part ts ≡ false
+pub leads_of_none : (part : GamsPart) (ts : List Seen) (ks : List Terminal) {k : Terminal} → may_begin look_ahead part End ≡ false → implies (may_begin look_ahead part) (is_terminal_among ks) ≡ true → k ≡ kind_of ts → IsNone ks k → leads productions look_ahead part ts ≡ false
 leads_of_none part ts ks {k} closed among seen d =
-    leads_by_kind part ts closed ∙ ap (may_begin look_ahead part) (sym seen) ∙ unless (may_begin look_ahead part k) (is_among ks k) (also (may_begin look_ahead part) (is_among ks) among k) (not_among ks k d)
+    leads_by_kind part ts closed ∙ ap (may_begin look_ahead part) (sym seen) ∙ unless (may_begin look_ahead part k) (is_terminal_among ks k) (also (may_begin look_ahead part) (is_terminal_among ks) among k) (not_among ks k d)

@@ -17,8 +17,8 @@ use Rattle.gms_expressions.specs.declared.fault.SyntaxFaultOrMemory.{SyntaxFault
 use Rattle.gms_expressions.specs.declared.reader.Reader.{Reader}
 use Rattle.gms_expressions.specs.declared.reader.Tables.{Tables}
 use Rattle.gms_expressions.specs.ExpressionTrees.{names_in, names_behind, arguments, more_arguments, expression}
-use Rattle.gms_expressions.specs.Nodes.{view}
-use Rattle.gms_expressions.specs.Readings.{Derivation, Refuses, Sense, IsGot, IsMeant, IsName, AreNames, IsNext, seen_from, walk_of}
+use Rattle.gms_expressions.specs.InnerNodes.{view}
+use Rattle.gms_expressions.specs.InnerReadings.{Derivation, Refuses, Sense, IsGot, IsMeant, IsName, AreNames, IsNext, seen_from, walk_of}
 use Rattle.gms_expressions.proofs.Steps.{within_the, within_second, within_then, gives_both, refuses_second}
 use Rattle.gms_expressions.proofs.Nexts.{gives_next, leads_next, unled_next}
 use Rattle.gms_expressions.proofs.Loops.{Looping, loop_on, loop_got, loop_refuses}

@@ -8,7 +8,7 @@ use Rattle.gms_expressions.specs.declared.fault.SyntaxFaultOrMemory.{SyntaxFault
 use Rattle.gms_expressions.specs.declared.fault.SyntaxFaultOrMemory.TheVariants.{Memory}
 use Rattle.gms_expressions.specs.declared.reader.Reader.{Reader}
 use Rattle.gms_expressions.specs.declared.reader.Tables.{Tables}
-use Rattle.gms_expressions.specs.Readings.{Seen, Derivation, GamsPart, Gives, Refuses, Sense, IsSense, IsGot, seen_from, walk_of}
+use Rattle.gms_expressions.specs.InnerReadings.{Seen, Derivation, GamsPart, Gives, Refuses, Sense, IsSense, IsGot, seen_from, walk_of}
 use Rattle.gms_expressions.proofs.Steps.{got_by, Within, within_then, within_again, gives_no_more, refuses_again, refuses_memory}
 use Rattle.gms_expressions.proofs.Going.{went_by}
 use Rattle.gms_expressions.proofs.Nexts.{earlier}

@@ -8,7 +8,7 @@ use Rattle.gms_expressions.specs.declared.fault.SyntaxFaultOrMemory.{SyntaxFault
 use Rattle.gms_expressions.specs.declared.reader.Reader.{Reader}
 use Rattle.gms_expressions.specs.declared.reader.Tables.{Tables}
 use Rattle.gms_expressions.specs.declared.grammar.Inner.{Inner}
-use Rattle.gms_expressions.specs.Readings.{CanReadFrom, CanRead, CanReadHere, IsReady, IsOpened, IsExpression, inside, meaning_of, nonterminal_of}
+use Rattle.gms_expressions.specs.InnerReadings.{CanReadFrom, CanRead, CanReadHere, IsReady, IsOpened, IsExpression, inside, meaning_of, nonterminal_of}
 
 -- a reader is as ready inside parentheses, where there are not too many
 pub ready_inside : {reader : Reader} (unclosed : ℕ) → unclosed ≤ 100 → IsReady reader → IsReady (inside reader unclosed)

@@ -4,7 +4,7 @@ use Rattle.gms_grammar.specs.declared.terminal.Terminal.{Terminal}
 use Rattle.gms_grammar.specs.declared.terminal.Terminal.TheVariants.{LeftParen, RightParen}
 use Rattle.gms_grammar.specs.Grammar.{one, ◌·◌, leaf, pair, yield}
 use Rattle.gms_grammar.specs.Reading.{leads, refused}
-use Rattle.gms_grammar.specs.Terminals.{is, number_of}
+use Rattle.gms_grammar.specs.Terminals.{is, terminal_number}
 use Rattle.std.proofs.lemmas.Bool.{eqb-true}
 use Rattle.gms_grammar.specs.GamsGrammar.{productions, token, bracketed}
 use Rattle.gms_grammar.specs.GamsLookAhead.{look_ahead}
@@ -16,8 +16,8 @@ use Rattle.gms_expressions.specs.declared.fault.SyntaxFault.{SyntaxFault}
 use Rattle.gms_expressions.specs.declared.fault.SyntaxFaultOrMemory.{SyntaxFaultOrMemory}
 use Rattle.gms_expressions.specs.declared.reader.Reader.{Reader}
 use Rattle.gms_expressions.specs.declared.reader.Tables.{Tables}
-use Rattle.gms_expressions.specs.Outcomes.{Walk, IsFaulty, deep, out_of_range, many_names, many_labels}
-use Rattle.gms_expressions.specs.Readings.{Seen, Derivation, GamsPart, Gives, Went, Refuses, Sense, IsSense, IsNext, IsLacking, IsOpened, IsUnopened, seen_from, walk_of, kind_of}
+use Rattle.gms_expressions.specs.Outcomes.{ExpressionState, IsFaultyInExpression, deep, out_of_range, many_names, many_labels}
+use Rattle.gms_expressions.specs.InnerReadings.{Seen, Derivation, GamsPart, Gives, Went, Refuses, Sense, IsSense, IsNext, IsLacking, IsOpened, IsUnopened, seen_from, walk_of, kind_of}
 use Rattle.gms_expressions.proofs.TokenKinds.{is_plain, implies, also, same_number}
 use Rattle.gms_expressions.proofs.Walks.{plain_after, plain_sound, names_kept, labels_kept}
 use Rattle.gms_expressions.proofs.Going.{went_same}
@@ -35,7 +35,7 @@ gives_next {limit = limit} {test = test} {reader = reader} {token = token} table
     gives_one n.is n.passes (plain_sound limit reader.source.now (walk_of reader.unclosed tables) n.kind token k) (sym (plain_after reader.source.now reader.unclosed tables n.kind token k))
 
 -- another token is expected
-pub lacking_behind : {limit : ℕ} {test : Terminal → Bool} {reader : Reader} {at : ℕ} {tables : Tables} {w : Walk} {e : SyntaxFaultOrMemory} → Went w tables → IsLacking test reader at e → Refuses limit reader.source.now (one test) tables w (seen_from reader at) e
+pub lacking_behind : {limit : ℕ} {test : Terminal → Bool} {reader : Reader} {at : ℕ} {tables : Tables} {w : ExpressionState} {e : SyntaxFaultOrMemory} → Went w tables → IsLacking test reader at e → Refuses limit reader.source.now (one test) tables w (seen_from reader at) e
 lacking_behind went l = refuses_at went (refused l.not_led) l.is
 
 pub refuses_lacking : {limit : ℕ} {test : Terminal → Bool} {reader : Reader} {at unclosed : ℕ} {tables : Tables} {e : SyntaxFaultOrMemory} → IsLacking test reader at e → Refuses limit reader.source.now (one test) tables (walk_of unclosed tables) (seen_from reader at) e
@@ -52,14 +52,14 @@ led_next {test = test} n = ap (leads productions look_ahead (one test)) n.is ∙
 pub earlier : {limit : ℕ} {source : List ℕ} {part : GamsPart} {unclosed : ℕ} {old new : Tables} {ts rest : List Seen} {tree : Derivation} {sense : Sense} →
     Gives limit source part (walk_of unclosed old) ts tree (walk_of unclosed new) rest → IsSense new sense → IsSense old sense
 earlier {source = source} {unclosed = unclosed} {old = old} {rest = rest} {tree = tree} g s = record {
-  names = λ text n h. s.names text n (subst (λ (w : Walk). place_of w.names text ≡ Some n) (sym g.leaves) (names_kept source (walk_of unclosed old) (yield tree) (kind_of rest) text n h));
-  labels = λ text n h. s.labels text n (subst (λ (w : Walk). place_of w.labels text ≡ Some n) (sym g.leaves) (labels_kept source (walk_of unclosed old) (yield tree) (kind_of rest) text n h));
+  names = λ text n h. s.names text n (subst (λ (w : ExpressionState). place_of w.names text ≡ Some n) (sym g.leaves) (names_kept source (walk_of unclosed old) (yield tree) (kind_of rest) text n h));
+  labels = λ text n h. s.labels text n (subst (λ (w : ExpressionState). place_of w.labels text ≡ Some n) (sym g.leaves) (labels_kept source (walk_of unclosed old) (yield tree) (kind_of rest) text n h));
 }
 
 -- the next token, of a kind that is known
 pub exact : {kind : Terminal} {reader : Reader} {at behind : ℕ} {token : Token} → IsNext (is kind) reader at token behind → seen_from reader at ≡ (kind, token) ∷ seen_from reader behind
 exact {kind = kind} {reader = reader} {behind = behind} {token = token} n =
-    let k : kind ≡ n.kind = same_number kind n.kind (eqb-true (number_of kind) (number_of n.kind) n.passes) in
+    let k : kind ≡ n.kind = same_number kind n.kind (eqb-true (terminal_number kind) (terminal_number n.kind) n.passes) in
     n.is ∙ ap (λ (k : Terminal). (k, token) ∷ seen_from reader behind) (sym k)
 
 -- the parenthesis opens
@@ -67,7 +67,7 @@ gives_open : {limit : ℕ} {reader : Reader} {at behind : ℕ} {inner : Reader} 
     Gives limit reader.source.now (one (is LeftParen)) (walk_of reader.unclosed tables) (seen_from reader at) (leaf (LeftParen, o.token)) (walk_of (reader.unclosed + 1) tables) (seen_from reader behind)
 gives_open {limit = limit} {reader = reader} tables o = gives_one (exact o.next) refl sound refl
   where
-    sound : (fault : SyntaxFault) → IsFaulty limit reader.source.now (walk_of reader.unclosed tables) (LeftParen, o.token) fault → ⊥
+    sound : (fault : SyntaxFault) → IsFaultyInExpression limit reader.source.now (walk_of reader.unclosed tables) (LeftParen, o.token) fault → ⊥
     sound fault (deep e d) = let room = o.room in absurd (omega (arith, d))
     sound fault (out_of_range e d) = cc
     sound fault (many_names n d) = cc
@@ -78,7 +78,7 @@ gives_close : {limit : ℕ} {reader : Reader} {at behind : ℕ} {token : Token} 
     Gives limit reader.source.now (one (is RightParen)) (walk_of (reader.unclosed + 1) tables) (seen_from reader at) (leaf (RightParen, token)) (walk_of reader.unclosed tables) (seen_from reader behind)
 gives_close {limit = limit} {reader = reader} {token = token} tables n = gives_one (exact n) refl sound (ap (λ k. walk_of k tables) (let e : reader.unclosed ≡ reader.unclosed + 1 - 1 = omega arith in e))
   where
-    sound : (fault : SyntaxFault) → IsFaulty limit reader.source.now (walk_of (reader.unclosed + 1) tables) (RightParen, token) fault → ⊥
+    sound : (fault : SyntaxFault) → IsFaultyInExpression limit reader.source.now (walk_of (reader.unclosed + 1) tables) (RightParen, token) fault → ⊥
     sound fault (deep e d) = cc
     sound fault (out_of_range e d) = cc
     sound fault (many_names n d) = cc

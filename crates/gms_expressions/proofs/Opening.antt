@@ -2,15 +2,15 @@
 use Rattle.std.proofs.Common.{◌≡◌, ℕ, ◌+◌, ◌-◌, List, [], ◌∷◌, ◌++◌, length, slice_index_or, Result, Ok, Err, MatchResult, refl, sym, ap, ◌∙◌, subst, arith}
 use Rattle.std.proofs.lemmas.List.{get_or_push}
 use Rattle.gms_lex.specs.declared.token.Token.{Token}
-use Rattle.gms_lex.specs.Places.{place_of}
+use Rattle.gms_lex.specs.Places.{place_of_byte}
 use Rattle.gms_lex.specs.Tokens.{IsTokens, tokens_of, end_token}
 use Rattle.gms_grammar.specs.Grammar.{the}
 use Rattle.gms_grammar.specs.GamsGrammar.{Nonterminal}
 use Rattle.gms_expressions.specs.declared.fault.SyntaxFaultOrMemory.{SyntaxFaultOrMemory}
 use Rattle.gms_expressions.specs.declared.reader.Reader.{Reader}
 use Rattle.gms_expressions.specs.declared.reader.Tables.{Tables}
-use Rattle.gms_expressions.specs.Calls.{IsRead, IsRefusal, GoesOn, walk_from, tokens_from}
-use Rattle.gms_expressions.specs.Readings.{Derivation, GamsPart, Sense, IsAnswer, Went, walk_of}
+use Rattle.gms_expressions.specs.Calls.{IsRead, IsSyntaxRefusal, IsTablePrefix, walk_from, tokens_from}
+use Rattle.gms_expressions.specs.InnerReadings.{Derivation, GamsPart, Sense, IsAnswer, Went, walk_of}
 use Rattle.gms_expressions.proofs.Going.{went_by}
 use Rattle.gms_expressions.proofs.Doors.{read_of, refusal_of}
 
@@ -24,7 +24,7 @@ less_one (x ∷ xs) y = let e = less_one_more xs y in omega (arith, e)
     less_one_more (x ∷ xs) y = let e = less_one_more xs y in omega (arith, e)
 
 -- the last token of a source is at its end
-pub ends_at : (source : List ℕ) (tokens : List Token) (other : Token) → IsTokens source tokens → (slice_index_or tokens (length tokens - 1) other).at ≡ place_of source (length source)
+pub ends_at : (source : List ℕ) (tokens : List Token) (other : Token) → IsTokens source tokens → (slice_index_or tokens (length tokens - 1) other).at ≡ place_of_byte source (length source)
 ends_at source tokens other h =
     ap (λ (ts : List Token). (slice_index_or ts (length ts - 1) other).at) h.has.tokens_are
     ∙ ap (λ (t : Token). t.at) (get_or_push (tokens_of source 0 h.has.pieces) (end_token source) other (length (tokens_of source 0 h.has.pieces ++ end_token source ∷ []) - 1) (less_one (tokens_of source 0 h.has.pieces) (end_token source)))
@@ -34,7 +34,7 @@ abbrev IsSaid : {T : Type 0} → ℕ → Nonterminal → (List ℕ → List (Lis
 IsSaid limit n Says at result source tokens unclosed old_names old_labels new_names new_labels =
     MatchResult result
     (λ r. IsRead limit source n (Says source) (walk_from unclosed old_names old_labels) (walk_from unclosed new_names new_labels) (tokens_from source tokens at) (tokens_from source tokens r.1) r.0)
-    (λ e. IsRefusal limit source n (walk_from unclosed old_names old_labels) (tokens_from source tokens at) e)
+    (λ e. IsSyntaxRefusal limit source n (walk_from unclosed old_names old_labels) (tokens_from source tokens at) e)
 
 module _ {T : Type 0} (limit : ℕ) (Means : List ℕ → Sense → Derivation → T → Type 0) (n : Nonterminal) (Says : List ℕ → List (List ℕ) → List (List ℕ) → Derivation → T → Type 0)
     (says : (source : List ℕ) (names labels : List (List ℕ)) (tree : Derivation) (x : T) → Means source (record { names = names; labels = labels }) tree x → Says source names labels tree x) where
@@ -64,7 +64,7 @@ went limit Means part reader at old new (Ok r) got = went_by got.gives
 went limit Means part reader at old new (Err e) refused = refused.went
 
 pub went_on : {T : Type 0} (limit : ℕ) (Means : Sense → Derivation → T → Type 0) (part : GamsPart) {old_names old_labels new_names new_labels : List (List ℕ)} (reader : Reader) (at : ℕ) (old new : Tables) (result : Result (T × ℕ) SyntaxFaultOrMemory) →
-    old.names ≡ old_names → old.labels ≡ old_labels → new_names ≡ new.names → new_labels ≡ new.labels → IsAnswer limit Means part reader at old new result → GoesOn old_names new_names × GoesOn old_labels new_labels
+    old.names ≡ old_names → old.labels ≡ old_labels → new_names ≡ new.names → new_labels ≡ new.labels → IsAnswer limit Means part reader at old new result → IsTablePrefix old_names new_names × IsTablePrefix old_labels new_labels
 went_on limit Means part {old_names} {old_labels} {new_names} {new_labels} reader at old new result a b c d answer =
     let w = went limit Means part reader at old new result answer in
-    (subst (λ ns. GoesOn ns new_names) a (subst (λ ns. GoesOn old.names ns) (sym c) w.0), subst (λ ls. GoesOn ls new_labels) b (subst (λ ls. GoesOn old.labels ls) (sym d) w.1))
+    (subst (λ ns. IsTablePrefix ns new_names) a (subst (λ ns. IsTablePrefix old.names ns) (sym c) w.0), subst (λ ls. IsTablePrefix ls new_labels) b (subst (λ ls. IsTablePrefix old.labels ls) (sym d) w.1))

@@ -25,8 +25,8 @@ use Rattle.gms_expressions.specs.declared.reader.Reader.{Reader}
 use Rattle.gms_expressions.specs.declared.reader.Tables.{Tables}
 use Rattle.gms_expressions.specs.ExpressionTrees.{is_word, token_of, name_in, function_of, fold_op_of, function_call, set_call, fold_of, scalar, target as target_in_tree, expression}
 use Rattle.gms_ast.specs.Numbers.{in_numbers, indices_in_numbers, control_in_numbers}
-use Rattle.gms_expressions.specs.Nodes.{view}
-use Rattle.gms_expressions.specs.Readings.{Derivation, GamsPart, Refuses, Sense, IsGot, IsMeant, IsNext, IsBefore, IsOpened, IsName, IsSuffix, AreSets, AreArguments, AreIndices, IsControl, IsTarget, inside, seen_from, walk_of}
+use Rattle.gms_expressions.specs.InnerNodes.{view}
+use Rattle.gms_expressions.specs.InnerReadings.{Derivation, GamsPart, Refuses, Sense, IsGot, IsMeant, IsNext, IsBefore, IsOpened, IsName, IsSuffix, AreSets, AreArguments, AreIndices, IsControl, IsTarget, inside, seen_from, walk_of}
 use Rattle.gms_expressions.proofs.Made.{numbers_in_parts}
 use Rattle.gms_expressions.proofs.Steps.{got_by, gives_both, gives_the, gives_left}
 use Rattle.gms_expressions.proofs.Nexts.{gives_next, gives_bracketed, earlier}

@@ -15,8 +15,8 @@ use Rattle.gms_grammar.specs.GamsGrammar.{Nonterminal, productions, token}
 use Rattle.gms_expressions.specs.declared.reader.Reader.{Reader}
 use Rattle.gms_expressions.specs.declared.reader.Tables.{Tables}
 use Rattle.gms_expressions.specs.ExpressionTrees.{with_sign, negated_by}
-use Rattle.gms_expressions.specs.Nodes.{view}
-use Rattle.gms_expressions.specs.Readings.{GamsPart, Meaning, Sense, IsGot, IsMeant, IsSigned, IsNegated, IsNext, seen_from}
+use Rattle.gms_expressions.specs.InnerNodes.{view}
+use Rattle.gms_expressions.specs.InnerReadings.{GamsPart, Meaning, Sense, IsGot, IsMeant, IsSigned, IsNegated, IsNext, seen_from}
 use Rattle.gms_expressions.proofs.Steps.{got_by, gives_both, gives_the, gives_left, gives_right}
 use Rattle.gms_expressions.proofs.TokenKinds.{is_plain, implies}
 use Rattle.gms_expressions.proofs.Nexts.{gives_next}

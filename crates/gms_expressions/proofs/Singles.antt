@@ -3,7 +3,7 @@ use Rattle.std.proofs.Common.{◌≡◌, ℕ, ◌≤◌, Bool, true, false, cond
 use Rattle.gq_number.specs.Number.{Number}
 use Rattle.gq_text.specs.declared.fault.NumberFault.{NumberFault}
 use Rattle.gq_text.specs.declared.fault.NumberFault.TheVariants.{Shape, Limit}
-use Rattle.gq_text.specs.Literal.{FitsLiteral, Reads}
+use Rattle.gq_text.specs.Literal.{FitsLiteral, ReadsLiteral}
 use Rattle.gq_text.specs.Decimal.{MeansNumber}
 use Rattle.gq_text.proofs.Splits.{one_number}
 use Rattle.gms_ast.specs.declared.expression.Suffix.{Suffix as SuffixNode}
@@ -14,7 +14,7 @@ use Rattle.gms_lex.specs.TokenTexts.{token_text}
 use Rattle.gms_grammar.specs.declared.terminal.Terminal.TheVariants.{LeftParen, Sign, Not, Dot, Suffix}
 use Rattle.gms_grammar.specs.Grammar.{the, opt, leaf, none, some}
 use Rattle.gms_grammar.specs.Reading.{leads}
-use Rattle.gms_grammar.specs.Terminals.{is, is_among}
+use Rattle.gms_grammar.specs.Terminals.{is, is_terminal_among}
 use Rattle.gms_grammar.specs.GamsGrammar.{Attribute, productions, token}
 use Rattle.gms_grammar.specs.GamsLookAhead.{look_ahead}
 use Rattle.gms_expressions.specs.declared.fault.SyntaxFault.{SyntaxFault}
@@ -24,8 +24,8 @@ use Rattle.gms_expressions.specs.declared.fault.SyntaxFaultOrMemory.TheVariants.
 use Rattle.gms_expressions.specs.declared.reader.Reader.{Reader}
 use Rattle.gms_expressions.specs.declared.reader.Tables.{Tables}
 use Rattle.gms_expressions.specs.ExpressionTrees.{is_minus, suffix_of}
-use Rattle.gms_expressions.specs.Outcomes.{Walk, IsFaulty, deep, out_of_range, many_names, many_labels}
-use Rattle.gms_expressions.specs.Readings.{Seen, Gives, Refuses, IsGot, IsNext, IsLacking, IsUnopened, IsSigned, IsNegated, IsSuffix, seen_from, walk_of, kind_of}
+use Rattle.gms_expressions.specs.Outcomes.{ExpressionState, IsFaultyInExpression, deep, out_of_range, many_names, many_labels}
+use Rattle.gms_expressions.specs.InnerReadings.{Seen, Gives, Refuses, IsGot, IsNext, IsLacking, IsUnopened, IsSigned, IsNegated, IsSuffix, seen_from, walk_of, kind_of}
 use Rattle.gms_expressions.proofs.TokenKinds.{leads_by_kind, same_test}
 use Rattle.gms_expressions.proofs.Steps.{got_by, gives_one, gives_the, gives_both, gives_none, gives_some, refuses_the, refuses_second, refuses_some, refuses_token, takes_next}
 use Rattle.gms_expressions.proofs.Nexts.{gives_next, led_next, exact, lacking_behind, refuses_lacking}
@@ -63,7 +63,7 @@ pub unopened_deep : {reader : Reader} {at behind : ℕ} {t : Token} {e : SyntaxF
 unopened_deep n many is = record { refuses = λ limit tables. refuses_token (went_same tables) (takes_next (exact n) refl) (deep refl many) is }
 
 -- the state after a dot
-dotted : ℕ → Tables → Walk
+dotted : ℕ → Tables → ExpressionState
 dotted unclosed tables = record { open_count = unclosed; names = tables.names; labels = tables.labels; dotted = true }
 
 gives_dot : {limit : ℕ} {reader : Reader} {at behind : ℕ} {t : Token} (tables : Tables) → IsNext (is Dot) reader at t behind →
@@ -71,7 +71,7 @@ gives_dot : {limit : ℕ} {reader : Reader} {at behind : ℕ} {t : Token} (table
 unfolding dotted
 gives_dot {limit = limit} {reader = reader} {t = t} tables n = gives_one (exact n) refl sound refl
   where
-    sound : (fault : SyntaxFault) → IsFaulty limit reader.source.now (walk_of reader.unclosed tables) (Dot, t) fault → ⊥
+    sound : (fault : SyntaxFault) → IsFaultyInExpression limit reader.source.now (walk_of reader.unclosed tables) (Dot, t) fault → ⊥
     sound fault (deep e d) = cc
     sound fault (out_of_range e d) = cc
     sound fault (many_names n d) = cc
@@ -82,14 +82,14 @@ gives_suffix : {limit : ℕ} {reader : Reader} {at behind : ℕ} {t : Token} (ta
 unfolding dotted
 gives_suffix {limit = limit} {reader = reader} {t = t} tables n = gives_one (exact n) refl sound refl
   where
-    sound : (fault : SyntaxFault) → IsFaulty limit reader.source.now (dotted reader.unclosed tables) (Suffix, t) fault → ⊥
+    sound : (fault : SyntaxFault) → IsFaultyInExpression limit reader.source.now (dotted reader.unclosed tables) (Suffix, t) fault → ⊥
     sound fault (deep e d) = cc
     sound fault (out_of_range e d) = cc
     sound fault (many_names n d) = cc
     sound fault (many_labels e d) = cc
 
 pub leads_attribute : (ts : List Seen) → leads productions look_ahead (the Attribute) ts ≡ leads productions look_ahead (token Dot) ts
-leads_attribute ts = leads_by_kind (the Attribute) ts refl ∙ same_test (is_among (Dot ∷ [])) (is Dot) refl (kind_of ts) ∙ sym (leads_by_kind (token Dot) ts refl)
+leads_attribute ts = leads_by_kind (the Attribute) ts refl ∙ same_test (is_terminal_among (Dot ∷ [])) (is Dot) refl (kind_of ts) ∙ sym (leads_by_kind (token Dot) ts refl)
 
 -- no suffix
 pub suffix_none : (limit : ℕ) (tables : Tables) (reader : Reader) (at : ℕ) → leads productions look_ahead (token Dot) (seen_from reader at) ≡ false → IsGot limit (IsSuffix reader.source.now) (opt (the Attribute)) reader at tables tables suffix.None at
@@ -108,6 +108,6 @@ unfolding dotted
 suffix_refused limit tables {reader = reader} {at = at} n l = refuses_some (leads_attribute (seen_from reader at) ∙ led_next n) (refuses_the Attribute (refuses_second (gives_dot tables n) (lacking_behind (went_same tables) l)))
 
 -- a number that was not read fits no literal
-pub none_fits : {F : Type 0} (limit : ℕ) (value : F → Number) (text : List ℕ) (e : NumberFault) → Reads {F = F} limit value text (Err e) → (x : Number) → MeansNumber text x → FitsLiteral limit x → ⊥
+pub none_fits : {F : Type 0} (limit : ℕ) (value : F → Number) (text : List ℕ) (e : NumberFault) → ReadsLiteral {F = F} limit value text (Err e) → (x : Number) → MeansNumber text x → FitsLiteral limit x → ⊥
 none_fits limit value text Shape r x m f = r x m
 none_fits limit value text Limit r x m f = r.2 (subst (λ (y : Number). FitsLiteral limit y) (one_number text x r.0 m r.1) f)

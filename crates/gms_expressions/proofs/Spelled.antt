@@ -2,23 +2,23 @@
 use Rattle.std.proofs.Common.{◌≡◌, ℕ, ◌≤◌, Bool, true, false, cond, ltb, List, [], ◌∷◌, length, refl, sym, ap, ◌∙◌, arith}
 use Rattle.std.proofs.lemmas.Bool.{ltb-false, eqb-true}
 use Rattle.std.specs.Str.{IsAscii}
-use Rattle.gms_lexemes.specs.declared.kind.Kind.{Kind}
-use Rattle.gms_lexemes.specs.declared.kind.Kind.TheVariants as kind
-use Rattle.gms_lexemes.specs.declared.kind.Sym.{Sym}
-use Rattle.gms_lexemes.specs.declared.kind.Sym.TheVariants as sym_kind
+use Rattle.gms_lines.specs.declared.kind.Kind.{Kind}
+use Rattle.gms_lines.specs.declared.kind.Kind.TheVariants as kind
+use Rattle.gms_lines.specs.declared.kind.Sym.{Sym}
+use Rattle.gms_lines.specs.declared.kind.Sym.TheVariants as sym_kind
 use Rattle.gms_lex.specs.declared.token.Token.{Token}
 use Rattle.gms_lex.specs.TokenTexts.{IsSpelled, token_text, unquoted}
 use Rattle.gms_lex.proofs.UnquotedLemmas.{unquoted-le, unquoted_ascii, unquoted_short}
 use Rattle.gms_grammar.specs.declared.terminal.Terminal.{Terminal}
 use Rattle.gms_grammar.specs.declared.terminal.Terminal.TheVariants.{Name, Suffix, Text, LongText}
-use Rattle.gms_grammar.specs.Terminals.{is, is_among, number_of}
+use Rattle.gms_grammar.specs.Terminals.{is, is_terminal_among, terminal_number}
 use Rattle.gms_expressions.specs.Words.{terminal_of, terminal_of_symbol}
 use Rattle.gms_expressions.specs.declared.reader.Reader.{Reader}
-use Rattle.gms_expressions.specs.Readings.{IsNext}
+use Rattle.gms_expressions.specs.InnerReadings.{IsNext}
 use Rattle.gms_expressions.proofs.TokenKinds.{same_number}
 
 abbrev pub is_named : Terminal → Bool
-is_named = is_among (Name ∷ Suffix ∷ [])
+is_named = is_terminal_among (Name ∷ Suffix ∷ [])
 
 symbol_named : (s : Sym) → is_named (terminal_of_symbol s) ≡ true → ⊥
 symbol_named sym_kind.EqE h = cc
@@ -56,6 +56,6 @@ name_spelled {reader = reader} {t = t} n = named_spelled t.kind (token_text read
 pub label_spelled : {reader : Reader} {at behind : ℕ} {t : Token} → IsNext (is Text) reader at t behind → IsAscii (unquoted (token_text reader.source.now t)) × (length (unquoted (token_text reader.source.now t)) ≤ 63)
 label_spelled {reader = reader} {t = t} n =
     let text = token_text reader.source.now t in
-    let k : Text ≡ n.kind = same_number Text n.kind (eqb-true (number_of Text) (number_of n.kind) n.passes) in
+    let k : Text ≡ n.kind = same_number Text n.kind (eqb-true (terminal_number Text) (terminal_number n.kind) n.passes) in
     let s = text_spelled t.kind text (sym n.kind_is ∙ sym k) n.placed.spelled in
     (unquoted_ascii text s.0, s.1)

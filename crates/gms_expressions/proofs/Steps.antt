@@ -12,15 +12,15 @@ pub use Rattle.gms_grammar.proofs.Rules.{gives_both, gives_the, gives_left, give
 use Rattle.gms_expressions.specs.declared.fault.SyntaxFault.{SyntaxFault}
 use Rattle.gms_expressions.specs.declared.fault.SyntaxFaultOrMemory.{SyntaxFaultOrMemory}
 use Rattle.gms_expressions.specs.declared.fault.SyntaxFaultOrMemory.TheVariants.{Fault, Memory}
-use Rattle.gms_expressions.specs.Outcomes.{Walk, syntax_rule, walk_after, IsFaulty, unexpected}
+use Rattle.gms_expressions.specs.Outcomes.{ExpressionState, syntax_rule, state_after_token, IsFaultyInExpression, unexpected_token}
 use Rattle.gms_expressions.specs.declared.reader.Reader.{Reader}
 use Rattle.gms_expressions.specs.declared.reader.Tables.{Tables}
-use Rattle.gms_expressions.specs.Readings.{Seen, Derivation, GamsPart, Gives, Went, Refuses, Sense, IsSense, IsGot, seen_from, walk_of}
+use Rattle.gms_expressions.specs.InnerReadings.{Seen, Derivation, GamsPart, Gives, Went, Refuses, Sense, IsSense, IsGot, seen_from, walk_of}
 use Rattle.gms_expressions.proofs.Going.{went_then}
 
 -- where a part is to be read within a larger one, and the tree around its tree
-pub record Within (limit : ℕ) (source : List ℕ) (part : GamsPart) (w : Walk) (ts : List Seen) (inner : GamsPart) (v : Walk) (rest : List Seen) (context : Derivation → Derivation) : Type 0 where
-  pub gives : (a : Derivation) (x : Walk) (last : List Seen) → Gives limit source inner v rest a x last → Gives limit source part w ts (context a) x last
+pub record Within (limit : ℕ) (source : List ℕ) (part : GamsPart) (w : ExpressionState) (ts : List Seen) (inner : GamsPart) (v : ExpressionState) (rest : List Seen) (context : Derivation → Derivation) : Type 0 where
+  pub gives : (a : Derivation) (x : ExpressionState) (last : List Seen) → Gives limit source inner v rest a x last → Gives limit source part w ts (context a) x last
   pub refuses : (tables : Tables) (e : SyntaxFaultOrMemory) → Refuses limit source inner tables v rest e → Refuses limit source part tables w ts e
 
 -- a fault that is told is the one that was told
@@ -29,28 +29,28 @@ told_once is fault k = cc
 
 module _ {limit : ℕ} {source : List ℕ} where
   -- one token was read
-  pub gives_one : {test : Terminal → Bool} {w v : Walk} {ts rest : List Seen} {token : Seen} → ts ≡ token ∷ rest → test token.0 ≡ true →
-      ((fault : SyntaxFault) → IsFaulty limit source w token fault → ⊥) → v ≡ walk_after source w token → Gives limit source (one test) w ts (leaf token) v rest
+  pub gives_one : {test : Terminal → Bool} {w v : ExpressionState} {ts rest : List Seen} {token : Seen} → ts ≡ token ∷ rest → test token.0 ≡ true →
+      ((fault : SyntaxFault) → IsFaultyInExpression limit source w token fault → ⊥) → v ≡ state_after_token source w token → Gives limit source (one test) w ts (leaf token) v rest
   gives_one is h sound l = steps.gives_one {rules = syntax_rule} {key = (limit, source)} is h sound l
 
   -- nothing of a part was read, since the next token is unexpected
-  pub refuses_at : {p : GamsPart} {tables : Tables} {w : Walk} {ts : List Seen} {e : SyntaxFaultOrMemory} → Went w tables → Reads productions look_ahead p ts (stuck [] ts) → e ≡ Fault (unexpected source ts) → Refuses limit source p tables w ts e
+  pub refuses_at : {p : GamsPart} {tables : Tables} {w : ExpressionState} {ts : List Seen} {e : SyntaxFaultOrMemory} → Went w tables → Reads productions look_ahead p ts (stuck [] ts) → e ≡ Fault (unexpected_token source ts) → Refuses limit source p tables w ts e
   refuses_at went r is = record { why = steps.refuses_at {rules = syntax_rule} {key = (limit, source)} r (told_once is); went = went }
 
   -- the first token has a fault
-  pub refuses_token : {p : GamsPart} {tables : Tables} {w : Walk} {ts rest : List Seen} {token : Seen} {found : SyntaxFault} {e : SyntaxFaultOrMemory} → Went w tables → Takes productions look_ahead p ts (token ∷ []) rest →
-      IsFaulty limit source w token found → e ≡ Fault found → Refuses limit source p tables w ts e
+  pub refuses_token : {p : GamsPart} {tables : Tables} {w : ExpressionState} {ts rest : List Seen} {token : Seen} {found : SyntaxFault} {e : SyntaxFaultOrMemory} → Went w tables → Takes productions look_ahead p ts (token ∷ []) rest →
+      IsFaultyInExpression limit source w token found → e ≡ Fault found → Refuses limit source p tables w ts e
   refuses_token went t f is = record { why = steps.refuses_token {rules = syntax_rule} {key = (limit, source)} t f (told_once is); went = went }
 
   -- out of memory
-  pub refuses_memory : {p : GamsPart} {tables : Tables} {w : Walk} {ts : List Seen} {e : SyntaxFaultOrMemory} → Went w tables → e ≡ Memory → Refuses limit source p tables w ts e
+  pub refuses_memory : {p : GamsPart} {tables : Tables} {w : ExpressionState} {ts : List Seen} {e : SyntaxFaultOrMemory} → Went w tables → e ≡ Memory → Refuses limit source p tables w ts e
   refuses_memory {e = e} went h = record { why = record { why = λ fault k. let told : e ≡ Fault fault = k in cc }; went = went }
 
   -- what a part refuses, a larger one does
-  pub refuses_the : (n : Nonterminal) {tables : Tables} {w : Walk} {ts : List Seen} {e : SyntaxFaultOrMemory} → Refuses limit source (productions n) tables w ts e → Refuses limit source (the n) tables w ts e
+  pub refuses_the : (n : Nonterminal) {tables : Tables} {w : ExpressionState} {ts : List Seen} {e : SyntaxFaultOrMemory} → Refuses limit source (productions n) tables w ts e → Refuses limit source (the n) tables w ts e
   refuses_the n r = record { why = steps.refuses_the n r.why; went = r.went }
 
-  module _ {p : GamsPart} {tables : Tables} {w : Walk} {ts : List Seen} {e : SyntaxFaultOrMemory} where
+  module _ {p : GamsPart} {tables : Tables} {w : ExpressionState} {ts : List Seen} {e : SyntaxFaultOrMemory} where
     pub refuses_first : {q : GamsPart} → Refuses limit source p tables w ts e → Refuses limit source (p · q) tables w ts e
     refuses_first r = record { why = steps.refuses_first r.why; went = r.went }
 
@@ -66,14 +66,14 @@ module _ {limit : ℕ} {source : List ℕ} where
     pub refuses_again : leads productions look_ahead p ts ≡ true → Refuses limit source p tables w ts e → Refuses limit source (many p) tables w ts e
     refuses_again h r = record { why = steps.refuses_again h r.why; went = r.went }
 
-  module _ {test : Terminal → Bool} {tables : Tables} {w : Walk} {ts : List Seen} {e : SyntaxFaultOrMemory} where
+  module _ {test : Terminal → Bool} {tables : Tables} {w : ExpressionState} {ts : List Seen} {e : SyntaxFaultOrMemory} where
     pub refuses_either : {q : GamsPart} → leads productions look_ahead q ts ≡ false → Refuses limit source (one test) tables w ts e → Refuses limit source (one test ∣ q) tables w ts e
     refuses_either h r = record { why = eithers.refuses_either h r.why; went = r.went }
 
     pub refuses_or : {p q : GamsPart} → leads productions look_ahead p ts ≡ false → Refuses limit source (one test) tables w ts e → Refuses limit source (p ∣ one test · q) tables w ts e
     refuses_or h r = record { why = eithers.refuses_or h r.why; went = r.went }
 
-  module _ {p : GamsPart} {w v : Walk} {ts between : List Seen} {a : Derivation} (g : Gives limit source p w ts a v between) where
+  module _ {p : GamsPart} {w v : ExpressionState} {ts between : List Seen} {a : Derivation} (g : Gives limit source p w ts a v between) where
     pub refuses_second : {q : GamsPart} {tables : Tables} {e : SyntaxFaultOrMemory} → Refuses limit source q tables v between e → Refuses limit source (p · q) tables w ts e
     refuses_second r = record { why = steps.refuses_second g r.why; went = went_then g r.went }
 
@@ -81,13 +81,13 @@ module _ {limit : ℕ} {source : List ℕ} where
     pub within_second : {q : GamsPart} → Within limit source (p · q) w ts q v between (λ b. pair a b)
     within_second = record { gives = λ b x last h. gives_both g h; refuses = λ tables e r. refuses_second r }
 
-  pub within_again : {p : GamsPart} {w v : Walk} {ts between : List Seen} {a : Derivation} → leads productions look_ahead p ts ≡ true → Gives limit source p w ts a v between → Within limit source (many p) w ts (many p) v between (λ b. more a b)
+  pub within_again : {p : GamsPart} {w v : ExpressionState} {ts between : List Seen} {a : Derivation} → leads productions look_ahead p ts ≡ true → Gives limit source p w ts a v between → Within limit source (many p) w ts (many p) v between (λ b. more a b)
   within_again l g = record { gives = λ b x last h. gives_again l g h; refuses = λ tables e r. record { why = steps.refuses_later l g r.why; went = went_then g r.went } }
 
-  pub within_the : (n : Nonterminal) {w : Walk} {ts : List Seen} → Within limit source (the n) w ts (productions n) w ts node
+  pub within_the : (n : Nonterminal) {w : ExpressionState} {ts : List Seen} → Within limit source (the n) w ts (productions n) w ts node
   within_the n = record { gives = λ a x last g. gives_the n g; refuses = λ tables e r. refuses_the n r }
 
-  pub within_then : {p q s : GamsPart} {w v x : Walk} {ts us vs : List Seen} {c d : Derivation → Derivation} → Within limit source p w ts q v us c → Within limit source q v us s x vs d → Within limit source p w ts s x vs (λ b. c (d b))
+  pub within_then : {p q s : GamsPart} {w v x : ExpressionState} {ts us vs : List Seen} {c d : Derivation → Derivation} → Within limit source p w ts q v us c → Within limit source q v us s x vs d → Within limit source p w ts s x vs (λ b. c (d b))
   within_then {d = d} h k = record { gives = λ a y last g. h.gives (d a) y last (k.gives a y last g); refuses = λ tables e r. h.refuses tables e (k.refuses tables e r) }
 
 -- A part was read at a place: what its tokens give, its meaning, and the place after it.

@@ -8,16 +8,16 @@ use Rattle.gms_ast.specs.TreeView.{parts_of}
 use Rattle.gms_grammar.specs.declared.terminal.Terminal.TheVariants.{Sign, Dollar}
 use Rattle.gms_grammar.specs.Grammar.{the, ◌·◌, opt, pair, node}
 use Rattle.gms_grammar.specs.Reading.{leads}
-use Rattle.gms_grammar.specs.Terminals.{is, is_among}
+use Rattle.gms_grammar.specs.Terminals.{is, is_terminal_among}
 use Rattle.gms_grammar.specs.GamsGrammar.{Sum, Product, Guarded, Primary, Condition, productions, token}
 use Rattle.gms_grammar.specs.GamsLookAhead.{look_ahead}
 use Rattle.gms_expressions.specs.declared.reader.Reader.{Reader}
 use Rattle.gms_expressions.specs.declared.reader.Tables.{Tables}
 use Rattle.gms_expressions.specs.declared.fault.SyntaxFaultOrMemory.{SyntaxFaultOrMemory}
-use Rattle.gms_expressions.specs.ExpressionTrees.{or_alone, with_sign, place_in, sum_of, terms, product_of, guarded_of, guards, primary, condition}
+use Rattle.gms_expressions.specs.ExpressionTrees.{or_alone, with_sign, place_in, sum_tree, terms, product_tree, guarded_of, guards, primary, condition}
 use Rattle.gms_expressions.specs.Outcomes.{next_place}
-use Rattle.gms_expressions.specs.Nodes.{view}
-use Rattle.gms_expressions.specs.Readings.{Seen, IsGot, IsMeant, IsSigned, Refuses, seen_from, walk_of, kind_of}
+use Rattle.gms_expressions.specs.InnerNodes.{view}
+use Rattle.gms_expressions.specs.InnerReadings.{Seen, IsGot, IsMeant, IsSigned, Refuses, seen_from, walk_of, kind_of}
 use Rattle.gms_expressions.proofs.TokenKinds.{leads_by_kind, same_test}
 use Rattle.gms_expressions.proofs.Steps.{within_the, within_second, within_then, gives_both}
 use Rattle.gms_expressions.proofs.Loops.{Looping, loop_on, loop_got, loop_refuses}
@@ -25,9 +25,9 @@ use Rattle.gms_expressions.proofs.Chains.{ChainFirst, in_sense, place_read, part
 
 module _ {F : Type 0} {value : F → Number} {limit : ℕ} {reader : Reader} {at : ℕ} {old new : Tables} where
   -- the first part of a sum, perhaps after a sign
-  pub sum_first : {start next : ℕ} {minus : Bool} {operand : Expr F} {place : Place} (first : Expr F) (s : IsSigned reader at minus start) (got : IsGot limit (IsMeant value reader.source.now product_of) (the Product) reader start old new operand next) →
+  pub sum_first : {start next : ℕ} {minus : Bool} {operand : Expr F} {place : Place} (first : Expr F) (s : IsSigned reader at minus start) (got : IsGot limit (IsMeant value reader.source.now product_tree) (the Product) reader start old new operand next) →
       view value first ≡ cond minus (negated (view value operand)) (view value operand) → place ≡ next_place reader.source.now (seen_from reader at) →
-      ChainFirst limit (the Sum) (token Sign · the Product) sum_of terms sum_node (signed place false) (view value first) reader at old new next
+      ChainFirst limit (the Sum) (token Sign · the Product) sum_tree terms sum_node (signed place false) (view value first) reader at old new next
   sum_first {operand = operand} {place = place} first s got is there =
       let from : place_in (pair s.tree got.tree) ≡ place = place_read (opt (token Sign) · the Product) refl (gives_both (s.gives limit old) got.gives) ∙ sym there in
       record {
@@ -35,7 +35,7 @@ module _ {F : Type 0} {value : F → Number} {limit : ℕ} {reader : Reader} {at
           context = λ b. node (pair s.tree (pair got.tree b));
           within = within_then (within_the Sum) (within_then (within_second (s.gives limit old)) (within_second got.gives));
           means = λ sense k b.
-              let x : with_sign s.tree (in_sense reader.source.now product_of sense got.tree) ≡ view value first = ap (with_sign s.tree) (sym (got.means sense k).is) ∙ s.means (view value operand) ∙ sym is in
+              let x : with_sign s.tree (in_sense reader.source.now product_tree sense got.tree) ≡ view value first = ap (with_sign s.tree) (sym (got.means sense k).is) ∙ s.means (view value operand) ∙ sym is in
               ap (λ y. or_alone y (λ r. sum_node (part (signed (place_in (pair s.tree got.tree)) false) y r)) (in_sense reader.source.now terms sense b)) x
               ∙ ap (λ p. or_alone (view value first) (λ r. sum_node (part (signed p false) (view value first) r)) (in_sense reader.source.now terms sense b)) from;
           further = (let f = got.further in let g = s.further in omega arith);
@@ -45,7 +45,7 @@ module _ {F : Type 0} {value : F → Number} {limit : ℕ} {reader : Reader} {at
 -- a `$` leads into a condition
 pub leads_condition : (ts : List Seen) → leads productions look_ahead (the Condition) ts ≡ leads productions look_ahead (token Dollar) ts
 leads_condition ts =
-    leads_by_kind (the Condition) ts refl ∙ same_test (is_among (Dollar ∷ [])) (is Dollar) refl (kind_of ts) ∙ sym (leads_by_kind (token Dollar) ts refl)
+    leads_by_kind (the Condition) ts refl ∙ same_test (is_terminal_among (Dollar ∷ [])) (is Dollar) refl (kind_of ts) ∙ sym (leads_by_kind (token Dollar) ts refl)
 
 -- what an operand under conditions is, of which some were read
 abbrev pub guarded_made : Syntax Number → List (Mark × Syntax Number) → Parts Number → Syntax Number

@@ -6,10 +6,10 @@ use Rattle.std.proofs.lemmas.List.{append-nil}
 use Rattle.std.proofs.lemmas.Bool.Decides.{eqb_tells}
 use Rattle.gq_text.specs.Numeral.{AreDigits, spelled}
 use Rattle.gq_text.specs.Decimal.{Decimal, number_of, IsSomeDigits, IsSigned, IsExponent, MeansNumber}
-use Rattle.gq_text.specs.Parts.{BeginsNoDigit, SplitsDigits, Divides, SplitsSign, exponent_of}
+use Rattle.gq_text.specs.InnerParts.{BeginsNoDigit, SplitsDigits, Divides, SplitsSign, exponent_of}
 use Rattle.gq_text.proofs.Splits.{counted_digits, all_in_front, signed_digits as only_digits, IsSigned_from, Divides-from, Spells-from, one_division}
 use Rattle.gq_text.proofs.Readings.{no_digits, no_power}
-use Rattle.gms_expressions.specs.Valuations.{IsValuation, front_digits, behind_digits, point_digits, behind_point, signed_digits, exponent_in, number_in}
+use Rattle.gms_expressions.specs.Valuations.{IsValuation, front_digits, behind_digits, point_digits, behind_point, signed_digits, exponent_in, number_meant}
 
 -- something of which P holds, or that there is none
 abbrev pub Told : {X : Type 0} → (X → Type 0) → Type 0
@@ -126,8 +126,8 @@ exponent_is : (text : List ℕ) (e : ℤ) → IsExponent text e → exponent_in 
 exponent_is [] e h = sym h
 exponent_is (mark ∷ text) e h = let s = sign_told text in s.number ∙ sym (only_digits text s.digits s.negative e h.1 s.splits).1
 
-pub number_in_is : IsValuation number_in
-unfolding number_in
+pub number_in_is : IsValuation number_meant
+unfolding number_meant
 number_in_is text x m =
     let same = one_division text (front_digits text) (point_digits (behind_digits text)) (behind_point (behind_digits text)) m.0.before m.0.behind m.1.power (divides text) (Divides-from text m.0 m.1) in
     let power = exponent_is (behind_point (behind_digits text)) m.0.exponent (subst (λ (r : List ℕ). IsExponent r m.0.exponent) (sym same.same_rest) m.1.power_is) in

@@ -4,9 +4,9 @@ use Rattle.std.specs.Prelude.{ℕ, Bool, true, false, if◌then◌else◌, List,
 use Rattle.std.specs.Str.{str_eq_ignore_ascii_case}
 use Rattle.gms_labels.specs.declared.place.Place.{Place}
 use Rattle.gms_labels.specs.Labels.{place_of}
-use Rattle.gms_lexemes.specs.declared.kind.Sym.TheVariants as sym
-use Rattle.gms_lexemes.specs.declared.kind.Kind.{Kind}
-use Rattle.gms_lexemes.specs.declared.kind.Kind.TheVariants as kind
+use Rattle.gms_lines.specs.declared.kind.Sym.TheVariants as sym
+use Rattle.gms_lines.specs.declared.kind.Kind.{Kind}
+use Rattle.gms_lines.specs.declared.kind.Kind.TheVariants as kind
 use Rattle.gms_lex.specs.declared.token.Token.{Token}
 use Rattle.gms_lex.specs.TokenTexts.{token_text, unquoted}
 use Rattle.gms_ast.specs.declared.expression.Suffix.{Suffix}
@@ -23,8 +23,8 @@ use Rattle.gms_ast.specs.Trees.{plain, placed, signed, related, chosen, Tree as 
 use Rattle.gms_grammar.specs.declared.terminal.Terminal.{Terminal}
 use Rattle.gms_grammar.specs.declared.terminal.Terminal.TheVariants as terminal
 use Rattle.gq_number.specs.Number.{Number}
-use Rattle.gms_expressions.specs.Valuations.{number_in as number_meant}
-use Rattle.gms_grammar.specs.Grammar.{Tree, leaf, pair, left, right, none, some, more, node, yield}
+use Rattle.gms_expressions.specs.Valuations.{number_meant}
+use Rattle.gms_grammar.specs.Grammar.{DerivationTree, leaf, pair, left, right, none, some, more, node, yield}
 
 -- a word is this one, letter case ignored
 abbrev pub is_word : List ℕ → List ℕ → Bool
@@ -87,38 +87,38 @@ abbrev pub no_token : Token
 no_token = record { kind = kind.End; start = 0; end = 0; at = record { line = 0; column = 0 } }
 
 -- the token of a leaf
-abbrev pub token_of : Tree (Terminal × Token) → Token
+abbrev pub token_of : DerivationTree (Terminal × Token) → Token
 token_of (leaf token) = token.1
 token_of _ = no_token
 
 -- the kind of the token of a leaf
-abbrev pub terminal_in : Tree (Terminal × Token) → Terminal
+abbrev pub terminal_in : DerivationTree (Terminal × Token) → Terminal
 terminal_in (leaf token) = token.0
 terminal_in _ = terminal.End
 
 -- the first of two parts
-abbrev pub first_in : {T : Type 0} → Tree T → Tree T
+abbrev pub first_in : {T : Type 0} → DerivationTree T → DerivationTree T
 first_in (pair a b) = a
 first_in _ = none
 
 -- the second of two parts
-abbrev pub second_in : {T : Type 0} → Tree T → Tree T
+abbrev pub second_in : {T : Type 0} → DerivationTree T → DerivationTree T
 second_in (pair a b) = b
 second_in _ = none
 
 -- what is inside an optional part or a nonterminal
-abbrev pub inside : {T : Type 0} → Tree T → Tree T
+abbrev pub inside : {T : Type 0} → DerivationTree T → DerivationTree T
 inside (some tree) = tree
 inside (node tree) = tree
 inside _ = none
 
 -- a tree with `not` before it, if there is one
-abbrev pub negated_by : {N T : Type 0} → Tree T → Syntax N → Syntax N
+abbrev pub negated_by : {N T : Type 0} → DerivationTree T → Syntax N → Syntax N
 negated_by (some word) tree = not_so tree
 negated_by _ tree = tree
 
 -- a tree with the sign before it, if any
-abbrev pub with_sign : {N : Type 0} → Tree (Terminal × Token) → Syntax N → Syntax N
+abbrev pub with_sign : {N : Type 0} → DerivationTree (Terminal × Token) → Syntax N → Syntax N
 with_sign (some sign) tree = if is_minus (token_of sign).kind then negated tree else tree
 with_sign _ tree = tree
 
@@ -133,7 +133,7 @@ first_place [] = record { line = 0; column = 0 }
 first_place (token ∷ tokens) = token.1.at
 
 -- the place where a tree begins
-abbrev pub place_in : Tree (Terminal × Token) → Place
+abbrev pub place_in : DerivationTree (Terminal × Token) → Place
 place_in tree = first_place (yield tree)
 
 -- a constant, by its kind, its bytes and its value
@@ -147,147 +147,147 @@ constant_of _ text value = number value
 -- that is none of the part means `no`.
 module _ (source : List ℕ) (names labels : List (List ℕ)) where
   -- the bytes of the token of a leaf
-  abbrev pub text_in : Tree (Terminal × Token) → List ℕ
+  abbrev pub text_in : DerivationTree (Terminal × Token) → List ℕ
   text_in tree = token_text source (token_of tree)
 
   -- the number of a name
-  abbrev pub name_in : Tree (Terminal × Token) → ℕ
+  abbrev pub name_in : DerivationTree (Terminal × Token) → ℕ
   name_in tree = or_0 (place_of names (text_in tree))
 
   -- the number of a quoted label
-  abbrev pub label_in : Tree (Terminal × Token) → ℕ
+  abbrev pub label_in : DerivationTree (Terminal × Token) → ℕ
   label_in tree = or_0 (place_of labels (unquoted (text_in tree)))
 
   -- the suffix of a reference: a dot and a word
-  abbrev pub suffix_in : Tree (Terminal × Token) → Suffix
+  abbrev pub suffix_in : DerivationTree (Terminal × Token) → Suffix
   suffix_in (some (node (pair _ word))) = suffix_of (text_in word)
   suffix_in _ = suffix.None
 
   -- the names after the first one in a list
-  abbrev pub names_behind : Tree (Terminal × Token) → List ℕ
+  abbrev pub names_behind : DerivationTree (Terminal × Token) → List ℕ
   names_behind (more (pair _ name) others) = name_in name ∷ names_behind others
   names_behind _ = []
 
   -- the names of a list
-  abbrev pub names_in : Tree (Terminal × Token) → List ℕ
+  abbrev pub names_in : DerivationTree (Terminal × Token) → List ℕ
   names_in (node (pair first others)) = name_in first ∷ names_behind others
   names_in _ = []
 
   -- the sets of a control: one, or those in parentheses
-  abbrev pub sets_in : Tree (Terminal × Token) → List ℕ
+  abbrev pub sets_in : DerivationTree (Terminal × Token) → List ℕ
   sets_in (left name) = name_in name ∷ []
   sets_in (right (pair _ (pair list _))) = names_in list
   sets_in _ = []
 
   -- `ord` or `card` of a set
-  abbrev pub set_call : Tree (Terminal × Token) → Syntax Number
+  abbrev pub set_call : DerivationTree (Terminal × Token) → Syntax Number
   set_call (pair word (pair _ (pair name _))) =
       if is_word (text_in word) (codes "ord") then place_in_set (token_of word).at (name_in name) else size_of_set (token_of word).at (name_in name)
   set_call _ = no
 
   -- a number
-  abbrev pub number_in : Tree (Terminal × Token) → Syntax Number
-  number_in tree = number (number_meant (text_in tree))
+  abbrev pub number_tree : DerivationTree (Terminal × Token) → Syntax Number
+  number_tree tree = number (number_meant (text_in tree))
 
   -- a constant
-  abbrev pub constant_in : Tree (Terminal × Token) → Syntax Number
+  abbrev pub constant_in : DerivationTree (Terminal × Token) → Syntax Number
   constant_in tree = constant_of (terminal_in tree) (text_in tree) (number_meant (text_in tree))
 
   -- a name alone, as a reference to a scalar
-  abbrev pub scalar : Tree (Terminal × Token) → Syntax Number
+  abbrev pub scalar : DerivationTree (Terminal × Token) → Syntax Number
   scalar tree = reference (token_of tree).at (name_in tree) suffix.None no_index
 
   abbrev mutual
     -- an expression: parts joined by `or` and `xor`
-    pub expression : Tree (Terminal × Token) → Syntax Number
+    pub expression : DerivationTree (Terminal × Token) → Syntax Number
     expression (node (pair first others)) = or_alone (conjunction first) (λ rest. one_of (part (chosen false) (conjunction first) rest)) (choices others)
     expression _ = no
 
-    pub choices : Tree (Terminal × Token) → Parts Number
+    pub choices : DerivationTree (Terminal × Token) → Parts Number
     choices (more (pair word tree) others) = part (chosen (is_word (text_in word) (codes "xor"))) (conjunction tree) (choices others)
     choices _ = no_part
 
     -- parts joined by `and`
-    pub conjunction : Tree (Terminal × Token) → Syntax Number
+    pub conjunction : DerivationTree (Terminal × Token) → Syntax Number
     conjunction (node (pair first others)) = or_alone (negation first) (λ rest. all_of (part plain (negation first) rest)) (conjuncts others)
     conjunction _ = no
 
-    pub conjuncts : Tree (Terminal × Token) → Parts Number
+    pub conjuncts : DerivationTree (Terminal × Token) → Parts Number
     conjuncts (more (pair _ tree) others) = part plain (negation tree) (conjuncts others)
     conjuncts _ = no_part
 
     -- a comparison, perhaps with `not`
-    pub negation : Tree (Terminal × Token) → Syntax Number
-    negation (node (pair word tree)) = negated_by word (comparison tree)
+    pub negation : DerivationTree (Terminal × Token) → Syntax Number
+    negation (node (pair word tree)) = negated_by word (comparison_tree tree)
     negation _ = no
 
     -- sums with relations between them
-    pub comparison : Tree (Terminal × Token) → Syntax Number
-    comparison (node (pair first others)) = or_alone (sum_of first) (λ rest. relation (part (related rel_op.Eq) (sum_of first) rest)) (relations others)
-    comparison _ = no
+    pub comparison_tree : DerivationTree (Terminal × Token) → Syntax Number
+    comparison_tree (node (pair first others)) = or_alone (sum_tree first) (λ rest. relation (part (related rel_op.Eq) (sum_tree first) rest)) (relations others)
+    comparison_tree _ = no
 
-    pub relations : Tree (Terminal × Token) → Parts Number
-    relations (more (pair word tree) others) = part (related (relation_of (token_of word).kind (text_in word))) (sum_of tree) (relations others)
+    pub relations : DerivationTree (Terminal × Token) → Parts Number
+    relations (more (pair word tree) others) = part (related (relation_of (token_of word).kind (text_in word))) (sum_tree tree) (relations others)
     relations _ = no_part
 
     -- a sum: the first part perhaps with a sign
-    pub sum_of : Tree (Terminal × Token) → Syntax Number
-    sum_of (node (pair sign (pair first others))) =
-        or_alone (with_sign sign (product_of first)) (λ rest. sum (part (signed (place_in (pair sign first)) false) (with_sign sign (product_of first)) rest)) (terms others)
-    sum_of _ = no
+    pub sum_tree : DerivationTree (Terminal × Token) → Syntax Number
+    sum_tree (node (pair sign (pair first others))) =
+        or_alone (with_sign sign (product_tree first)) (λ rest. sum (part (signed (place_in (pair sign first)) false) (with_sign sign (product_tree first)) rest)) (terms others)
+    sum_tree _ = no
 
-    pub terms : Tree (Terminal × Token) → Parts Number
-    terms (more (pair sign tree) others) = part (signed (place_in tree) (is_minus (token_of sign).kind)) (product_of tree) (terms others)
+    pub terms : DerivationTree (Terminal × Token) → Parts Number
+    terms (more (pair sign tree) others) = part (signed (place_in tree) (is_minus (token_of sign).kind)) (product_tree tree) (terms others)
     terms _ = no_part
 
     -- a product: after `*` and `/` a sign belongs to the factor
-    pub product_of : Tree (Terminal × Token) → Syntax Number
-    product_of (node (pair first others)) = or_alone (power_of first) (λ rest. product (part (signed (place_in first) false) (power_of first) rest)) (factors others)
-    product_of _ = no
+    pub product_tree : DerivationTree (Terminal × Token) → Syntax Number
+    product_tree (node (pair first others)) = or_alone (power_of first) (λ rest. product (part (signed (place_in first) false) (power_of first) rest)) (factors others)
+    product_tree _ = no
 
-    pub factors : Tree (Terminal × Token) → Parts Number
+    pub factors : DerivationTree (Terminal × Token) → Parts Number
     factors (more (pair operator tree) others) = part (signed (place_in tree) (is_slash (token_of operator).kind)) (signed_power tree) (factors others)
     factors _ = no_part
 
     -- a power, perhaps with a sign
-    pub signed_power : Tree (Terminal × Token) → Syntax Number
+    pub signed_power : DerivationTree (Terminal × Token) → Syntax Number
     signed_power (pair sign tree) = with_sign sign (power_of tree)
     signed_power _ = no
 
     -- a power: after `**` a sign belongs to the exponent
-    pub power_of : Tree (Terminal × Token) → Syntax Number
+    pub power_of : DerivationTree (Terminal × Token) → Syntax Number
     power_of (node (pair first others)) = or_alone (guarded_of first) (λ rest. power (part (placed (place_in first)) (guarded_of first) rest)) (exponents others)
     power_of _ = no
 
-    pub exponents : Tree (Terminal × Token) → Parts Number
+    pub exponents : DerivationTree (Terminal × Token) → Parts Number
     exponents (more (pair _ tree) others) = part (placed (place_in tree)) (signed_guarded tree) (exponents others)
     exponents _ = no_part
 
     -- an operand under conditions, perhaps with a sign
-    pub signed_guarded : Tree (Terminal × Token) → Syntax Number
+    pub signed_guarded : DerivationTree (Terminal × Token) → Syntax Number
     signed_guarded (pair sign tree) = with_sign sign (guarded_of tree)
     signed_guarded _ = no
 
     -- an operand under conditions
-    pub guarded_of : Tree (Terminal × Token) → Syntax Number
+    pub guarded_of : DerivationTree (Terminal × Token) → Syntax Number
     guarded_of (node (pair operand others)) = or_alone (primary operand) (guarded (primary operand)) (guards others)
     guarded_of _ = no
 
-    pub guards : Tree (Terminal × Token) → Parts Number
+    pub guards : DerivationTree (Terminal × Token) → Parts Number
     guards (more tree others) = part plain (condition tree) (guards others)
     guards _ = no_part
 
     -- what follows a `$`
-    pub condition : Tree (Terminal × Token) → Syntax Number
+    pub condition : DerivationTree (Terminal × Token) → Syntax Number
     condition (node (pair _ tree)) = negated_primary tree
     condition _ = no
 
-    pub negated_primary : Tree (Terminal × Token) → Syntax Number
+    pub negated_primary : DerivationTree (Terminal × Token) → Syntax Number
     negated_primary (pair word tree) = negated_by word (primary tree)
     negated_primary _ = no
 
     -- an operand: a constant, a reference, a call, a fold, or an expression in parentheses
-    pub primary : Tree (Terminal × Token) → Syntax Number
+    pub primary : DerivationTree (Terminal × Token) → Syntax Number
     primary (node (left tree)) = constant_in tree
     primary (node (right (left tree))) = target tree
     primary (node (right (right (left tree)))) = call_of tree
@@ -295,74 +295,74 @@ module _ (source : List ℕ) (names labels : List (List ℕ)) where
     primary (node (right (right (right (right tree))))) = bracketed_expression tree
     primary _ = no
 
-    pub bracketed_expression : Tree (Terminal × Token) → Syntax Number
+    pub bracketed_expression : DerivationTree (Terminal × Token) → Syntax Number
     bracketed_expression (pair _ (pair tree _)) = expression tree
     bracketed_expression _ = no
 
     -- a call of a function, or of `ord` or `card`
-    pub call_of : Tree (Terminal × Token) → Syntax Number
+    pub call_of : DerivationTree (Terminal × Token) → Syntax Number
     call_of (node (left tree)) = function_call tree
     call_of (node (right tree)) = set_call tree
     call_of _ = no
 
-    pub function_call : Tree (Terminal × Token) → Syntax Number
+    pub function_call : DerivationTree (Terminal × Token) → Syntax Number
     function_call (pair word tree) = call (token_of word).at (function_of (text_in word)) (bracketed_arguments tree)
     function_call _ = no
 
-    pub bracketed_arguments : Tree (Terminal × Token) → Parts Number
+    pub bracketed_arguments : DerivationTree (Terminal × Token) → Parts Number
     bracketed_arguments (pair _ (pair list _)) = arguments list
     bracketed_arguments _ = no_part
 
-    pub arguments : Tree (Terminal × Token) → Parts Number
+    pub arguments : DerivationTree (Terminal × Token) → Parts Number
     arguments (node (pair first others)) = part plain (expression first) (more_arguments others)
     arguments _ = no_part
 
-    pub more_arguments : Tree (Terminal × Token) → Parts Number
+    pub more_arguments : DerivationTree (Terminal × Token) → Parts Number
     more_arguments (more (pair _ tree) others) = part plain (expression tree) (more_arguments others)
     more_arguments _ = no_part
 
     -- a fold
-    pub fold_of : Tree (Terminal × Token) → Syntax Number
+    pub fold_of : DerivationTree (Terminal × Token) → Syntax Number
     fold_of (node (pair word (pair _ (pair (pair sets (pair _ body)) _)))) =
         fold_over (token_of word).at (fold_op_of (text_in word)) (control sets) (expression body)
     fold_of _ = no
 
     -- a reference, or what is assigned
-    pub target : Tree (Terminal × Token) → Syntax Number
+    pub target : DerivationTree (Terminal × Token) → Syntax Number
     target (node (pair name (pair dotted bracketed))) = reference (token_of name).at (name_in name) (suffix_in dotted) (optional_indices bracketed)
     target _ = no
 
-    pub optional_indices : Tree (Terminal × Token) → Indices Number
+    pub optional_indices : DerivationTree (Terminal × Token) → Indices Number
     optional_indices (some (pair _ (pair list _))) = indices list
     optional_indices _ = no_index
 
-    pub indices : Tree (Terminal × Token) → Indices Number
+    pub indices : DerivationTree (Terminal × Token) → Indices Number
     indices (node (pair first others)) = index first (more_indices others)
     indices _ = no_index
 
-    pub more_indices : Tree (Terminal × Token) → Indices Number
+    pub more_indices : DerivationTree (Terminal × Token) → Indices Number
     more_indices (more (pair _ tree) others) = index tree (more_indices others)
     more_indices _ = no_index
 
     -- an index before others: a label, or a set, perhaps with a lag
-    pub index : Tree (Terminal × Token) → Indices Number → Indices Number
+    pub index : DerivationTree (Terminal × Token) → Indices Number → Indices Number
     index (node (left text)) rest = label (label_in text) rest
     index (node (right (pair name none))) rest = set (name_in name) rest
     index (node (right (pair name (some tree)))) rest = lag (name_in name) tree rest
     index _ rest = rest
 
-    pub lag : ℕ → Tree (Terminal × Token) → Indices Number → Indices Number
+    pub lag : ℕ → DerivationTree (Terminal × Token) → Indices Number → Indices Number
     lag name (node (pair sign amount)) rest = lagged name (lag_op_of (token_of sign).kind) (place_in amount) (lag_amount amount) rest
     lag name _ rest = rest
 
-    pub lag_amount : Tree (Terminal × Token) → Syntax Number
-    lag_amount (node (left tree)) = number_in tree
+    pub lag_amount : DerivationTree (Terminal × Token) → Syntax Number
+    lag_amount (node (left tree)) = number_tree tree
     lag_amount (node (right (left tree))) = scalar tree
     lag_amount (node (right (right tree))) = bracketed_expression tree
     lag_amount _ = no
 
     -- the sets of a fold or a loop, and the condition
-    pub control : Tree (Terminal × Token) → Control Number
+    pub control : DerivationTree (Terminal × Token) → Control Number
     control (node (pair sets none)) = over (sets_in sets)
     control (node (pair sets (some tree))) = over_where (sets_in sets) (condition tree)
     control _ = over []

@@ -9,20 +9,20 @@ use Rattle.gms_expressions.specs.declared.fault.SyntaxFaultOrMemory.{SyntaxFault
 use Rattle.gms_expressions.specs.declared.fault.SyntaxFaultOrMemory.TheVariants.{Fault, Memory}
 
 -- the number of a syntax error
-abbrev pub error_code : SyntaxError → ℕ
-error_code Expected = 11
-error_code Depth = 12
-error_code Number = 13
-error_code NotInProfile = 14
-error_code TooManyLabels = 15
+abbrev pub syntax_error_code : SyntaxError → ℕ
+syntax_error_code Expected = 11
+syntax_error_code Depth = 12
+syntax_error_code Number = 13
+syntax_error_code NotInProfile = 14
+syntax_error_code TooManyLabels = 15
 
 -- the name of a syntax error
-abbrev pub error_name : SyntaxError → List ℕ
-error_name Expected = codes "Expected"
-error_name Depth = codes "Depth"
-error_name Number = codes "Number"
-error_name NotInProfile = codes "NotInProfile"
-error_name TooManyLabels = codes "TooManyLabels"
+abbrev pub syntax_error_name : SyntaxError → List ℕ
+syntax_error_name Expected = codes "Expected"
+syntax_error_name Depth = codes "Depth"
+syntax_error_name Number = codes "Number"
+syntax_error_name NotInProfile = codes "NotInProfile"
+syntax_error_name TooManyLabels = codes "TooManyLabels"
 
 -- the refusal of a name or a label at a place that was not entered
 abbrev pub not_entered : LabelFault → Place → SyntaxFaultOrMemory

@@ -3,6 +3,6 @@ pub mod Faults
 pub mod ExpressionTrees
 pub mod Outcomes
 pub mod Valuations
-pub mod Nodes
-pub mod Readings
+pub mod InnerNodes
+pub mod InnerReadings
 pub mod Calls

@@ -4,18 +4,18 @@ use Rattle.std.specs.Prelude.{◌≡◌, ℕ, ◌+◌, ◌-◌, ◌≤◌, Bool,
 use Rattle.gms_labels.specs.declared.place.Place.{Place}
 use Rattle.gms_labels.specs.Labels.{entered, IsFullFor}
 use Rattle.gms_lex.specs.declared.token.Token.{Token}
-use Rattle.gms_lex.specs.Places.{place_of}
+use Rattle.gms_lex.specs.Places.{place_of_byte}
 use Rattle.gms_lex.specs.TokenTexts.{token_text, unquoted}
 use Rattle.gq_number.specs.Number.{Number}
 use Rattle.gq_text.specs.Literal.{FitsLiteral}
 use Rattle.gq_text.specs.Decimal.{MeansNumber}
 use Rattle.gms_grammar.specs.declared.terminal.Terminal.{Terminal}
 use Rattle.gms_grammar.specs.declared.terminal.Terminal.TheVariants as terminal
-use Rattle.gms_grammar.specs.Grammar.{the, Tree, yield, IsTree, Derives, Stops}
-use Rattle.gms_grammar.specs.Terminals.{is, is_among}
+use Rattle.gms_grammar.specs.Grammar.{the, DerivationTree, yield, IsTree, Derives, Stops}
+use Rattle.gms_grammar.specs.Terminals.{is, is_terminal_among}
 use Rattle.gms_grammar.specs.GamsGrammar.{Nonterminal, productions}
 use Rattle.gms_grammar.specs.Rules as rules
-use Rattle.gms_grammar.specs.Rules.{Rule, kind_of, left_by, AreSound}
+use Rattle.gms_grammar.specs.Rules.{Rule, kind_of, left_by, AreFaultless}
 use Rattle.gms_expressions.specs.declared.fault.SyntaxError.{SyntaxError}
 use Rattle.gms_expressions.specs.declared.fault.SyntaxError.TheVariants.{Expected, Depth, Number as OutOfRange, NotInProfile, TooManyLabels}
 use Rattle.gms_expressions.specs.declared.fault.SyntaxFault.{SyntaxFault}
@@ -24,20 +24,20 @@ use Rattle.gms_expressions.specs.declared.fault.SyntaxFaultOrMemory.TheVariants.
 use Rattle.gms_expressions.specs.Words.{terminal_of}
 
 -- the tokens of a source as the grammar views them
-abbrev pub seen : List ℕ → List Token → List (Terminal × Token)
-seen source tokens = map (λ token. (terminal_of token.kind (token_text source token), token)) tokens
+abbrev pub kinded_tokens : List ℕ → List Token → List (Terminal × Token)
+kinded_tokens source tokens = map (λ token. (terminal_of token.kind (token_text source token), token)) tokens
 
 -- The state after the tokens so far: how many parentheses are open, the names and the labels, and
 -- whether the last token was a dot.
-pub record Walk : Type 0 where
+pub record ExpressionState : Type 0 where
   pub open_count : ℕ
   pub names : List (List ℕ)
   pub labels : List (List ℕ)
   pub dotted : Bool
 
 -- a token is a name: no suffix after a dot
-abbrev pub is_name : Walk → Terminal → Bool
-is_name walk kind = is_among (terminal.Name ∷ terminal.Suffix ∷ []) kind && not walk.dotted
+abbrev pub is_name_token : ExpressionState → Terminal → Bool
+is_name_token walk kind = is_terminal_among (terminal.Name ∷ terminal.Suffix ∷ []) kind && not walk.dotted
 
 -- how many parentheses are open after a token
 abbrev pub open_after : ℕ → Terminal → ℕ
@@ -46,22 +46,22 @@ open_after n terminal.RightParen = n - 1
 open_after n _ = n
 
 -- the state after a token of a source: a new name or label is entered
-abbrev pub walk_after : List ℕ → Walk → Terminal × Token → Walk
-walk_after source walk token =
+abbrev pub state_after_token : List ℕ → ExpressionState → Terminal × Token → ExpressionState
+state_after_token source walk token =
     record {
       open_count = open_after walk.open_count token.0;
-      names = if is_name walk token.0 then entered walk.names (token_text source token.1) else walk.names;
+      names = if is_name_token walk token.0 then entered walk.names (token_text source token.1) else walk.names;
       labels = if is terminal.Text token.0 then entered walk.labels (unquoted (token_text source token.1)) else walk.labels;
       dotted = is terminal.Dot token.0;
     }
 
 -- the state after tokens; in expressions it does not depend on the token that follows them
-abbrev pub walk_behind : List ℕ → Walk → List (Terminal × Token) → Terminal → Walk
-walk_behind source walk tokens ahead = left_by (λ walk token ahead. walk_after source walk token) walk tokens ahead
+abbrev pub state_after_tokens : List ℕ → ExpressionState → List (Terminal × Token) → Terminal → ExpressionState
+state_after_tokens source walk tokens ahead = left_by (λ walk token ahead. state_after_token source walk token) walk tokens ahead
 
 -- the place of the next token, or the end of the source
 abbrev pub next_place : List ℕ → List (Terminal × Token) → Place
-next_place source [] = place_of source (length source)
+next_place source [] = place_of_byte source (length source)
 next_place source (token ∷ tokens) = token.1.at
 
 -- the error of an unexpected token: NotInProfile for a word that the language leaves out
@@ -70,39 +70,39 @@ unexpected_error [] = Expected
 unexpected_error (token ∷ tokens) = if is terminal.NotInProfile token.0 then NotInProfile else Expected
 
 -- the fault of an unexpected token
-abbrev pub unexpected : List ℕ → List (Terminal × Token) → SyntaxFault
-unexpected source rest = record { error = unexpected_error rest; at = next_place source rest }
+abbrev pub unexpected_token : List ℕ → List (Terminal × Token) → SyntaxFault
+unexpected_token source rest = record { error = unexpected_error rest; at = next_place source rest }
 
 -- A token that the grammar expects has a fault: it opens a 101st parenthesis, it is a number out of
 -- range, or it is a new name or label for which the table is full.
-pub data IsFaulty (limit : ℕ) (source : List ℕ) (walk : Walk) (token : Terminal × Token) : SyntaxFault → Type 0 where
-  deep : token.0 ≡ terminal.LeftParen → 100 ≤ walk.open_count → IsFaulty limit source walk token (record { error = Depth; at = token.1.at })
+pub data IsFaultyInExpression (limit : ℕ) (source : List ℕ) (walk : ExpressionState) (token : Terminal × Token) : SyntaxFault → Type 0 where
+  deep : token.0 ≡ terminal.LeftParen → 100 ≤ walk.open_count → IsFaultyInExpression limit source walk token (record { error = Depth; at = token.1.at })
   out_of_range : token.0 ≡ terminal.Number → ((x : Number) → MeansNumber (token_text source token.1) x → FitsLiteral limit x → ⊥) →
-      IsFaulty limit source walk token (record { error = OutOfRange; at = token.1.at })
-  many_names : is_name walk token.0 ≡ true → IsFullFor walk.names (token_text source token.1) →
-      IsFaulty limit source walk token (record { error = TooManyLabels; at = token.1.at })
+      IsFaultyInExpression limit source walk token (record { error = OutOfRange; at = token.1.at })
+  many_names : is_name_token walk token.0 ≡ true → IsFullFor walk.names (token_text source token.1) →
+      IsFaultyInExpression limit source walk token (record { error = TooManyLabels; at = token.1.at })
   many_labels : token.0 ≡ terminal.Text → IsFullFor walk.labels (unquoted (token_text source token.1)) →
-      IsFaulty limit source walk token (record { error = TooManyLabels; at = token.1.at })
+      IsFaultyInExpression limit source walk token (record { error = TooManyLabels; at = token.1.at })
 
 -- the rule of faults in the expressions of a source, by the limit of its numbers
-abbrev pub syntax_rule : ℕ × List ℕ → Rule Token Walk SyntaxFault SyntaxFaultOrMemory
+abbrev pub syntax_rule : ℕ × List ℕ → Rule Token ExpressionState SyntaxFault SyntaxFaultOrMemory
 syntax_rule key = record {
-  after = λ walk token ahead. walk_after key.1 walk token;
-  Faulty = λ walk token ahead fault. IsFaulty key.0 key.1 walk token fault;
-  unexpected = unexpected key.1;
+  after = λ walk token ahead. state_after_token key.1 walk token;
+  Faulty = λ walk token ahead fault. IsFaultyInExpression key.0 key.1 walk token fault;
+  unexpected = unexpected_token key.1;
   told = Fault;
 }
 
 module _ (limit : ℕ) (source : List ℕ) where
   -- The longest part that begins the tokens, complete and without faulty tokens, and what follows
   -- it.
-  pub record IsPart (n : Nonterminal) (walk behind : Walk) (tokens rest : List (Terminal × Token)) (tree : Tree (Terminal × Token)) : Type 0 where
+  pub record IsPart (n : Nonterminal) (walk behind : ExpressionState) (tokens rest : List (Terminal × Token)) (tree : DerivationTree (Terminal × Token)) : Type 0 where
     pub is_tree : IsTree productions (the n) tree
     pub stops : Stops productions (the n) tokens (yield tree) rest
-    pub are_sound : AreSound (syntax_rule (limit, source)) walk (yield tree) (kind_of rest)
-    pub leaves : behind ≡ walk_behind source walk (yield tree) (kind_of rest)
+    pub are_sound : AreFaultless (syntax_rule (limit, source)) walk (yield tree) (kind_of rest)
+    pub leaves : behind ≡ state_after_tokens source walk (yield tree) (kind_of rest)
 
   -- The tokens begin no part, or a faulty one: this is the first fault. If the longest prefix that
   -- begins a part is not complete, the token after it is unexpected.
-  abbrev pub IsRefused : Nonterminal → Walk → List (Terminal × Token) → SyntaxFault → Type 0
-  IsRefused n walk tokens fault = rules.IsRefused syntax_rule (limit, source) (λ front rest. Derives productions (the n) front → ⊥) n walk tokens fault
+  abbrev pub IsRefusedPart : Nonterminal → ExpressionState → List (Terminal × Token) → SyntaxFault → Type 0
+  IsRefusedPart n walk tokens fault = rules.IsRefusedByRule syntax_rule (limit, source) (λ front rest. Derives productions (the n) front → ⊥) n walk tokens fault

@@ -39,8 +39,8 @@ exponent_in [] = pos 0
 exponent_in (mark ∷ text) = signed_digits text
 
 -- the number that a text means; the value for a text that means none has no meaning
-unfoldable pub number_in : List ℕ → Number
-number_in text =
+unfoldable pub number_meant : List ℕ → Number
+number_meant text =
     number_of (record {
       before = front_digits text;
       behind = point_digits (behind_digits text);

@@ -3,7 +3,7 @@ ghost use Rattle.gms_grammar.specs.Grammar.{the, ◌·◌, opt};
 ghost use Rattle.gms_grammar.specs.GamsGrammar.{Expression, Conjunction, Negation, Comparison, Sum, Product, PowerTerm, Guarded, Condition, Primary, token};
 ghost use Rattle.gms_grammar.specs.declared.terminal.Terminal.TheVariants.{Sign, Not};
 ghost use Rattle.gms_expressions.specs.ExpressionTrees as trees;
-ghost use Rattle.gms_expressions.specs.Readings.{CanRead, IsExpression};
+ghost use Rattle.gms_expressions.specs.InnerReadings.{CanRead, IsExpression};
 
 use crate::grammar::{Grammar, Inner};
 use crate::node;
@@ -70,7 +70,7 @@ impl<
     /// Reads the sums with relations between them.
     fn comparison(&self, tables: &mut Tables, at: usize) -> Read<Expr<F>>
         requires { CanRead F.limit F.value self.now.reader (N.pre self.now.nested) (N.post self.now.nested) }
-        ensures { IsExpression F.limit F.value trees.comparison (the Comparison) self.now.reader at tables.old tables.new result }
+        ensures { IsExpression F.limit F.value trees.comparison_tree (the Comparison) self.now.reader at tables.old tables.new result }
     {
         let (first, mut next) = self.sum(tables, at)?;
         if !self.reader.is_any_next(
@@ -95,7 +95,7 @@ impl<
     /// Reads a sum.
     fn sum(&self, tables: &mut Tables, at: usize) -> Read<Expr<F>>
         requires { CanRead F.limit F.value self.now.reader (N.pre self.now.nested) (N.post self.now.nested) }
-        ensures { IsExpression F.limit F.value trees.sum_of (the Sum) self.now.reader at tables.old tables.new result }
+        ensures { IsExpression F.limit F.value trees.sum_tree (the Sum) self.now.reader at tables.old tables.new result }
     {
         let (minus, start) = self.reader.sign(at);
         let (operand, mut next) = self.product(tables, start)?;
@@ -116,7 +116,7 @@ impl<
     /// Reads a product.
     fn product(&self, tables: &mut Tables, at: usize) -> Read<Expr<F>>
         requires { CanRead F.limit F.value self.now.reader (N.pre self.now.nested) (N.post self.now.nested) }
-        ensures { IsExpression F.limit F.value trees.product_of (the Product) self.now.reader at tables.old tables.new result }
+        ensures { IsExpression F.limit F.value trees.product_tree (the Product) self.now.reader at tables.old tables.new result }
     {
         let (first, mut next) = self.power(tables, at)?;
         if !self

@@ -4,8 +4,8 @@ ghost use Rattle.gms_lex.specs.TokenTexts.{IsPlaced, token_text};
 ghost use Rattle.gms_grammar.specs.GamsGrammar.{token, any_of};
 ghost use Rattle.gms_grammar.specs.declared.terminal.Terminal.TheVariants.{Number, Infinity, NotAvailable, YesNo};
 ghost use Rattle.gms_expressions.specs.declared.reader.Tables.{Tables};
-ghost use Rattle.gms_expressions.specs.ExpressionTrees.{number_in, constant_in};
-ghost use Rattle.gms_expressions.specs.Readings.{IsReady, IsExpression, IsValue, IsOutOfRange};
+ghost use Rattle.gms_expressions.specs.ExpressionTrees.{number_tree, constant_in};
+ghost use Rattle.gms_expressions.specs.InnerReadings.{IsReady, IsExpression, IsValue, IsOutOfRange};
 
 use crate::fault::{SyntaxError, SyntaxFaultOrMemory};
 use crate::reader::{Read, Reader};
@@ -33,7 +33,7 @@ impl<'s> Reader<'s> {
     /// Reads a number.
     pub(crate) fn number<F: ExactField>(&self, at: usize) -> Read<Expr<F>>
         requires { IsReady self.now }
-        ensures { (tables : Tables) → IsExpression F.limit F.value number_in (token Number) self.now at tables tables result }
+        ensures { (tables : Tables) → IsExpression F.limit F.value number_tree (token Number) self.now at tables tables result }
     {
         let (token, behind) = self.take(Terminal::Number, at)?;
         let value = self.value(token)?;

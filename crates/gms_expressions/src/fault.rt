@@ -3,7 +3,7 @@ ghost use Rattle.std.specs.Prelude.{◌≡◌};
 ghost use Rattle.gms_labels.specs.declared.fault.LabelFault.TheVariants as label_fault;
 ghost use Rattle.gms_expressions.specs.declared.fault.SyntaxError.TheVariants.{TooManyLabels};
 ghost use Rattle.gms_expressions.specs.declared.fault.SyntaxFaultOrMemory.TheVariants.{Fault, Memory};
-ghost use Rattle.gms_expressions.specs.Faults.{error_code, error_name, not_entered};
+ghost use Rattle.gms_expressions.specs.Faults.{syntax_error_code, syntax_error_name, not_entered};
 
 use gms_labels::{LabelFault, Place};
 use std::alloc::{AllocError, AllocFailed};
@@ -32,7 +32,7 @@ pub enum SyntaxError {
 impl SyntaxError {
     /// The number of this error in a listing.
     pub fn code(self) -> u8
-        ensures { result ≡ error_code self }
+        ensures { result ≡ syntax_error_code self }
     {
         match self {
             SyntaxError::Expected => 11,
@@ -45,7 +45,7 @@ impl SyntaxError {
 
     /// The name of this error in a listing.
     pub fn name(self) -> &'static str
-        ensures { result.now ≡ error_name self }
+        ensures { result.now ≡ syntax_error_name self }
     {
         match self {
             SyntaxError::Expected => "Expected",

@@ -1,7 +1,7 @@
 //! The reader of what is inside parentheses, which the readers of all parts take as a parameter: so
 //! recursion is no deeper than the nesting of parentheses.
 ghost use Rattle.gms_grammar.specs.Grammar.{the};
-ghost use Rattle.gms_expressions.specs.Readings.{IsReady, IsExpression, nonterminal_of, meaning_of};
+ghost use Rattle.gms_expressions.specs.InnerReadings.{IsReady, IsExpression, nonterminal_of, meaning_of};
 
 use crate::reader::{Read, Reader, Tables};
 use gms_ast::Expr;

@@ -3,7 +3,7 @@ ghost use Rattle.std.specs.Prelude.{◌≡◌, ◌≤◌, ℕ, length};
 ghost use Rattle.gms_grammar.specs.Grammar.{the, ◌∣◌};
 ghost use Rattle.gms_grammar.specs.GamsGrammar.{NameList, token, name, bracketed};
 ghost use Rattle.gms_grammar.specs.declared.terminal.Terminal.TheVariants.{Text};
-ghost use Rattle.gms_expressions.specs.Readings.{IsReady, IsAnswer, IsName, IsLabel, AreNames, AreSets};
+ghost use Rattle.gms_expressions.specs.InnerReadings.{IsReady, IsAnswer, IsName, IsLabel, AreNames, AreSets};
 
 use crate::fault::SyntaxFaultOrMemory;
 use crate::reader::{Read, Reader, Tables};

@@ -4,7 +4,7 @@ ghost use Rattle.gms_ast.specs.Trees.{negated, not_so, fold_over};
 ghost use Rattle.gms_ast.specs.TreeView.{control_tree};
 ghost use Rattle.gms_expressions.specs.declared.fault.SyntaxFaultOrMemory.TheVariants.{Memory};
 ghost use Rattle.gms_ast.specs.Numbers.{control_in_numbers};
-ghost use Rattle.gms_expressions.specs.Nodes.{view};
+ghost use Rattle.gms_expressions.specs.InnerNodes.{view};
 
 use crate::fault::SyntaxFaultOrMemory;
 use gms_ast::{Control, Expr, FoldOp};

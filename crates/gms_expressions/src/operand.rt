@@ -3,7 +3,7 @@ ghost use Rattle.gms_grammar.specs.Grammar.{the, ◌·◌};
 ghost use Rattle.gms_grammar.specs.GamsGrammar.{Expression, Primary, Target as TargetPart, Fold, Control as ControlPart, ExpressionList, token, name, bracketed};
 ghost use Rattle.gms_grammar.specs.declared.terminal.Terminal.TheVariants.{Function, OrdCard};
 ghost use Rattle.gms_expressions.specs.ExpressionTrees as trees;
-ghost use Rattle.gms_expressions.specs.Readings.{CanRead, CanReadHere, IsAnswer, IsExpression, AreArguments, IsControl};
+ghost use Rattle.gms_expressions.specs.InnerReadings.{CanRead, CanReadHere, IsAnswer, IsExpression, AreArguments, IsControl};
 
 use crate::grammar::{Grammar, Inner};
 use crate::node;

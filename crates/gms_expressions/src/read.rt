@@ -6,8 +6,8 @@ ghost use Rattle.gms_ast.specs.TreeView.{tree_of, control_tree, indices_of, inde
 ghost use Rattle.gms_grammar.specs.GamsGrammar.{Expression, Primary, Control as ControlPart, Target as TargetPart};
 ghost use Rattle.gms_expressions.specs.ExpressionTrees as trees;
 ghost use Rattle.gms_ast.specs.Numbers.{in_numbers, indices_in_numbers, control_in_numbers};
-ghost use Rattle.gms_expressions.specs.Calls.{walk_from, tokens_from, IsRead, IsRefusal, GoesOn};
-ghost use Rattle.gms_expressions.specs.Readings.{IsReady};
+ghost use Rattle.gms_expressions.specs.Calls.{walk_from, tokens_from, IsRead, IsSyntaxRefusal, IsTablePrefix};
+ghost use Rattle.gms_expressions.specs.InnerReadings.{IsReady};
 
 use crate::fault::SyntaxFaultOrMemory;
 use crate::grammar::{Grammar, Inner, nested};
@@ -89,8 +89,8 @@ pub fn expression<F: ExactField>(
         (λ all_names all_labels tree part. in_numbers F.value (tree_of part) ≡ trees.expression source.now all_names all_labels tree)
         (walk_from unclosed names.old labels.old) (walk_from unclosed names.new labels.new)
         (tokens_from source.now tokens.now from) (tokens_from source.now tokens.now r.1) r.0)
-        (λ e. IsRefusal F.limit source.now Expression (walk_from unclosed names.old labels.old) (tokens_from source.now tokens.now from) e) }
-    ensures goes_on { GoesOn names.old names.new × GoesOn labels.old labels.new }
+        (λ e. IsSyntaxRefusal F.limit source.now Expression (walk_from unclosed names.old labels.old) (tokens_from source.now tokens.now from) e) }
+    ensures goes_on { IsTablePrefix names.old names.new × IsTablePrefix labels.old labels.new }
 {
     let mut tables = Tables::taken(alloc, names, labels);
     let read = nested(
@@ -123,8 +123,8 @@ pub fn primary<F: ExactField>(
         (λ all_names all_labels tree part. in_numbers F.value (tree_of part) ≡ trees.primary source.now all_names all_labels tree)
         (walk_from unclosed names.old labels.old) (walk_from unclosed names.new labels.new)
         (tokens_from source.now tokens.now from) (tokens_from source.now tokens.now r.1) r.0)
-        (λ e. IsRefusal F.limit source.now Primary (walk_from unclosed names.old labels.old) (tokens_from source.now tokens.now from) e) }
-    ensures goes_on { GoesOn names.old names.new × GoesOn labels.old labels.new }
+        (λ e. IsSyntaxRefusal F.limit source.now Primary (walk_from unclosed names.old labels.old) (tokens_from source.now tokens.now from) e) }
+    ensures goes_on { IsTablePrefix names.old names.new × IsTablePrefix labels.old labels.new }
 {
     let mut tables = Tables::taken(alloc, names, labels);
     let grammar = Grammar {
@@ -156,8 +156,8 @@ pub fn control<F: ExactField>(
         (λ all_names all_labels tree part. control_in_numbers F.value (control_tree part) ≡ trees.control source.now all_names all_labels tree)
         (walk_from unclosed names.old labels.old) (walk_from unclosed names.new labels.new)
         (tokens_from source.now tokens.now from) (tokens_from source.now tokens.now r.1) r.0)
-        (λ e. IsRefusal F.limit source.now ControlPart (walk_from unclosed names.old labels.old) (tokens_from source.now tokens.now from) e) }
-    ensures goes_on { GoesOn names.old names.new × GoesOn labels.old labels.new }
+        (λ e. IsSyntaxRefusal F.limit source.now ControlPart (walk_from unclosed names.old labels.old) (tokens_from source.now tokens.now from) e) }
+    ensures goes_on { IsTablePrefix names.old names.new × IsTablePrefix labels.old labels.new }
 {
     let mut tables = Tables::taken(alloc, names, labels);
     let grammar = Grammar {
@@ -189,8 +189,8 @@ pub fn target<F: ExactField>(
         (λ all_names all_labels tree part. reference part.at part.name part.suffix (indices_in_numbers F.value (indices_of (map index_tree part.indices))) ≡ trees.target source.now all_names all_labels tree)
         (walk_from unclosed names.old labels.old) (walk_from unclosed names.new labels.new)
         (tokens_from source.now tokens.now from) (tokens_from source.now tokens.now r.1) r.0)
-        (λ e. IsRefusal F.limit source.now TargetPart (walk_from unclosed names.old labels.old) (tokens_from source.now tokens.now from) e) }
-    ensures goes_on { GoesOn names.old names.new × GoesOn labels.old labels.new }
+        (λ e. IsSyntaxRefusal F.limit source.now TargetPart (walk_from unclosed names.old labels.old) (tokens_from source.now tokens.now from) e) }
+    ensures goes_on { IsTablePrefix names.old names.new × IsTablePrefix labels.old labels.new }
 {
     let mut tables = Tables::taken(alloc, names, labels);
     let grammar = Grammar {

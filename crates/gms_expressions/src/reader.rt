@@ -5,11 +5,11 @@ ghost use Rattle.gms_grammar.specs.Grammar.{the, opt};
 ghost use Rattle.gms_grammar.specs.GamsGrammar.{Attribute, productions, token, any_of};
 ghost use Rattle.gms_grammar.specs.GamsLookAhead.{look_ahead};
 ghost use Rattle.gms_grammar.specs.Reading.{leads};
-ghost use Rattle.gms_grammar.specs.Terminals.{is, is_among};
+ghost use Rattle.gms_grammar.specs.Terminals.{is, is_terminal_among};
 ghost use Rattle.gms_lex.specs.TokenTexts.{token_text, IsPlaced};
 ghost use Rattle.gms_expressions.specs.declared.reader.Tables.{Tables};
 ghost use Rattle.gms_expressions.specs.Outcomes.{next_place};
-ghost use Rattle.gms_expressions.specs.Readings.{seen_from, kind_of, unexpected_at, IsAnswer, IsAt, IsNext, IsLacking, IsBefore, IsReady, IsOpened, IsUnopened, IsSigned, IsNegated, IsSuffix};
+ghost use Rattle.gms_expressions.specs.InnerReadings.{seen_from, kind_of, unexpected_at, IsAnswer, IsAt, IsNext, IsLacking, IsBefore, IsReady, IsOpened, IsUnopened, IsSigned, IsNegated, IsSuffix};
 
 use crate::fault::{SyntaxError, SyntaxFaultOrMemory};
 use crate::spelling::{is_minus, suffix_of};
@@ -117,7 +117,7 @@ impl<'s> Reader<'s> {
         requires { IsReady self.now }
         ensures { MatchOption result
             (leads productions look_ahead (any_of kinds.now) (seen_from self.now at) ≡ false)
-            (λ r. IsNext (is_among kinds.now) self.now at r.0 r.1) }
+            (λ r. IsNext (is_terminal_among kinds.now) self.now at r.0 r.1) }
     {
         let token = self.token(at)?;
         if self.next(at).is_among(kinds) {
@@ -151,8 +151,8 @@ impl<'s> Reader<'s> {
     ) -> Result<(Token, usize), SyntaxFaultOrMemory>
         requires { IsReady self.now }
         ensures { MatchResult result
-            (λ r. IsNext (is_among kinds.now) self.now at r.0 r.1)
-            (λ e. IsLacking (is_among kinds.now) self.now at e) }
+            (λ r. IsNext (is_terminal_among kinds.now) self.now at r.0 r.1)
+            (λ e. IsLacking (is_terminal_among kinds.now) self.now at e) }
     {
         match self.take_any_if(kinds, at) {
             Some(found) => Ok(found),

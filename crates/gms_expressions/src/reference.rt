@@ -2,7 +2,7 @@
 ghost use Rattle.gms_grammar.specs.Grammar.{the, opt};
 ghost use Rattle.gms_grammar.specs.GamsGrammar.{Target as TargetPart, IndexList, Index as IndexPart, Lag, LagAmount, name, bracketed};
 ghost use Rattle.gms_expressions.specs.ExpressionTrees as trees;
-ghost use Rattle.gms_expressions.specs.Readings.{CanRead, IsAnswer, IsExpression, IsTarget, AreIndices, IsIndex, IsLag};
+ghost use Rattle.gms_expressions.specs.InnerReadings.{CanRead, IsAnswer, IsExpression, IsTarget, AreIndices, IsIndex, IsLag};
 
 use crate::grammar::{Grammar, Inner};
 use crate::reader::{Read, Reader, Tables};

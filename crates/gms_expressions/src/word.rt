@@ -6,8 +6,7 @@ ghost use Rattle.gms_lex.specs.TokenTexts.{token_text};
 
 use gms_grammar::{Terminal, statement_word};
 use gms_lex::Token;
-use gms_lexemes::{Kind, Sym};
-use gms_lines::is_among;
+use gms_lines::{Kind, Sym, is_among};
 
 /// How many bytes a quoted label has at most, with its marks.
 const MOST_QUOTED_BYTES: usize = 65;

@@ -15,10 +15,10 @@ abbrev pub left_in : ℕ → List ℕ → List ℕ
 left_in width text = text ++ blanks (width - length text)
 
 -- a text is an old one followed by a prefix of another
-abbrev pub BeginsWith : List ℕ → List ℕ → List ℕ → Type 0
-BeginsWith old more new = (front rest : List ℕ) × (more ≡ front ++ rest) × (new ≡ old ++ front)
+abbrev pub IsExtendedByPrefix : List ℕ → List ℕ → List ℕ → Type 0
+IsExtendedByPrefix old more new = (front rest : List ℕ) × (more ≡ front ++ rest) × (new ≡ old ++ front)
 
 -- a text was appended; after a failure a prefix of it was
 abbrev pub Appends : {A E : Type 0} → Result A E → List ℕ → List ℕ → List ℕ → Type 0
 Appends (Ok x) old new text = new ≡ old ++ text
-Appends (Err e) old new text = BeginsWith old text new
+Appends (Err e) old new text = IsExtendedByPrefix old text new

@@ -3,8 +3,8 @@
 use Rattle.std.specs.Prelude.{ℕ, List, [], ◌∷◌, ◌++◌, map, slice_index_or, codes}
 
 -- the text of this number in a table
-abbrev pub text_of : List (List ℕ) → ℕ → List ℕ
-text_of table n = slice_index_or table n []
+abbrev pub label_in_table : List (List ℕ) → ℕ → List ℕ
+label_in_table table n = slice_index_or table n []
 
 -- texts with another between each and the next
 abbrev pub joined_by : List ℕ → List (List ℕ) → List ℕ
@@ -14,13 +14,13 @@ joined_by between (text ∷ next ∷ texts) = text ++ between ++ joined_by betwe
 
 -- the labels of a tuple with dots between them: `a.b`
 abbrev pub dotted_text : List (List ℕ) → List ℕ → List ℕ
-dotted_text labels t = joined_by (codes ".") (map (text_of labels) t)
+dotted_text labels t = joined_by (codes ".") (map (label_in_table labels) t)
 
 -- the labels of a tuple in parentheses: `(a,b)`; nothing if there are none
 abbrev pub in_parentheses : List (List ℕ) → List ℕ → List ℕ
 in_parentheses labels [] = []
-in_parentheses labels (label ∷ t) = codes "(" ++ joined_by (codes ",") (map (text_of labels) (label ∷ t)) ++ codes ")"
+in_parentheses labels (label ∷ t) = codes "(" ++ joined_by (codes ",") (map (label_in_table labels) (label ∷ t)) ++ codes ")"
 
 -- an element: `x` or `x(a,b)`
 abbrev pub element_text : List (List ℕ) → List (List ℕ) → ℕ → List ℕ → List ℕ
-element_text names labels name t = text_of names name ++ in_parentheses labels t
+element_text names labels name t = label_in_table names name ++ in_parentheses labels t

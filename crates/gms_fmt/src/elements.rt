@@ -1,6 +1,6 @@
 //! Texts of elements.
 ghost use Rattle.std.specs.Prelude.{◌≡◌, ◌++◌, map, IfOk, OnOk, string_bytes};
-ghost use Rattle.gms_fmt.specs.ElementTexts.{text_of, joined_by, element_text, dotted_text};
+ghost use Rattle.gms_fmt.specs.ElementTexts.{label_in_table, joined_by, element_text, dotted_text};
 
 use gms_labels::Labels;
 use gms_tuple::Tuple;
@@ -9,7 +9,7 @@ use std::alloc::{AllocError, Global};
 /// The text of this number in a table, as it was first written; the empty text if the table has no
 /// such number.
 pub fn text_of(table: &Labels, n: u32) -> &str
-    ensures { result.now ≡ text_of table.now n }
+    ensures { result.now ≡ label_in_table table.now n }
 {
     if n < table.len() { table.text(n) } else { "" }
 }
@@ -21,7 +21,7 @@ fn push_labels(
     between: &str,
     into: &mut String,
 ) -> Result<(), AllocError>
-    ensures { OnOk result (string_bytes into.new ≡ string_bytes into.old ++ joined_by between.now (map (text_of labels.now) t.now)) }
+    ensures { OnOk result (string_bytes into.new ≡ string_bytes into.old ++ joined_by between.now (map (label_in_table labels.now) t.now)) }
 {
     let mut first = true;
     for label in t.as_slice() {

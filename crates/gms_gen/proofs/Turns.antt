@@ -1,14 +1,14 @@
 -- One turn of a loop: one number drawn, one more line.
 use Rattle.std.proofs.Common.{◌≡◌, ℕ, suc, ◌+◌, List, [], ◌∷◌, ◌++◌, refl, sym, ap, ◌∙◌, append_assoc}
 use Rattle.std.specs.Prelude.{decimal}
-use Rattle.gms_gen.specs.Generator.{next_state, state_after, drawn_by, drawn, texts_below, sum_below, datum}
+use Rattle.gms_gen.specs.Generator.{next_state, seed_after, drawn_by, drawn, texts_below, sum_below, datum}
 
 -- the state after one more draw
-pub state-more : (seed n k old new : ℕ) → old ≡ state_after seed n → new ≡ next_state old → k ≡ suc n → new ≡ state_after seed k
-state-more seed n k old new was is more = is ∙ ap next_state was ∙ ap (state_after seed) (sym more)
+pub state-more : (seed n k old new : ℕ) → old ≡ seed_after seed n → new ≡ next_state old → k ≡ suc n → new ≡ seed_after seed k
+state-more seed n k old new was is more = is ∙ ap next_state was ∙ ap (seed_after seed) (sym more)
 
 -- what it gave
-pub drawn-more : (seed n k old new below value : ℕ) → old ≡ state_after seed n → new ≡ next_state old → value ≡ drawn_by new below → k ≡ n → value ≡ drawn seed k below
+pub drawn-more : (seed n k old new below value : ℕ) → old ≡ seed_after seed n → new ≡ next_state old → value ≡ drawn_by new below → k ≡ n → value ≡ drawn seed k below
 drawn-more seed n k old new below value was is gives same =
     gives ∙ ap (λ s. drawn_by s below) (is ∙ ap next_state was) ∙ ap (λ i. drawn seed i below) (sym same)
 

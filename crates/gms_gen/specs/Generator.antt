@@ -7,17 +7,17 @@ use Rattle.std.specs.Prelude.{ℕ, zero, suc, ◌+◌, ◌*◌, ◌/◌, ◌%◌
 -- ---- draws
 
 -- the number that the sequence begins with
-abbrev pub first_state : ℕ → ℕ
-first_state seed = seed % 2 ^ 31
+abbrev pub first_seed : ℕ → ℕ
+first_seed seed = seed % 2 ^ 31
 
 -- the number of the sequence that follows another
 abbrev pub next_state : ℕ → ℕ
 next_state state = (1103515245 * state + 12345) % 2 ^ 31
 
 -- the number of the sequence after `n` draws
-abbrev pub state_after : ℕ → ℕ → ℕ
-state_after seed zero = first_state seed
-state_after seed (suc n) = next_state (state_after seed n)
+abbrev pub seed_after : ℕ → ℕ → ℕ
+seed_after seed zero = first_seed seed
+seed_after seed (suc n) = next_state (seed_after seed n)
 
 -- the draw of a number of the sequence: a number below another
 abbrev pub drawn_by : ℕ → ℕ → ℕ
@@ -25,7 +25,7 @@ drawn_by state below = (state / 65536) % below
 
 -- the draw after `n` others
 abbrev pub drawn : ℕ → ℕ → ℕ → ℕ
-drawn seed n below = drawn_by (state_after seed (suc n)) below
+drawn seed n below = drawn_by (seed_after seed (suc n)) below
 
 -- ---- lines
 
@@ -40,8 +40,8 @@ sum_below zero number = 0
 sum_below (suc n) number = sum_below n number + number n
 
 -- a text as a line
-abbrev pub line : List ℕ → List ℕ
-line text = text ++ codes "\n"
+abbrev pub text_line : List ℕ → List ℕ
+text_line text = text ++ codes "\n"
 
 -- the name of an element: a letter and its number, from 1 on
 abbrev pub element : List ℕ → ℕ → List ℕ
@@ -49,7 +49,7 @@ element letter n = letter ++ decimal (n + 1)
 
 -- a line of data: an element and its value
 abbrev pub datum : List ℕ → ℕ → List ℕ
-datum element value = line (element ++ codes " " ++ decimal value)
+datum element value = text_line (element ++ codes " " ++ decimal value)
 
 -- The model of this seed, these plants and these markets.
 module _ (seed plants markets : ℕ) where
@@ -58,12 +58,12 @@ module _ (seed plants markets : ℕ) where
   demand market = 10 + drawn seed market 90
 
   -- the demand of all markets
-  abbrev pub total : ℕ
-  total = sum_below markets demand
+  abbrev pub total_demand : ℕ
+  total_demand = sum_below markets demand
 
   -- the supply of a plant: its share of the total demand, and from 1 to 10 more
   abbrev pub supply : ℕ → ℕ
-  supply plant = total / plants + 1 + drawn seed (markets + plant) 10
+  supply plant = total_demand / plants + 1 + drawn seed (markets + plant) 10
 
   -- the cost of the route from a plant to a market: from 1 to 50
   abbrev pub cost : ℕ → ℕ → ℕ
@@ -71,7 +71,7 @@ module _ (seed plants markets : ℕ) where
 
   -- the names of the plants and the markets, and the data
   abbrev pub set_lines : List ℕ
-  set_lines = line (codes "set p /p1*p" ++ decimal plants ++ codes "/;") ++ line (codes "set m /m1*m" ++ decimal markets ++ codes "/;")
+  set_lines = text_line (codes "set p /p1*p" ++ decimal plants ++ codes "/;") ++ text_line (codes "set m /m1*m" ++ decimal markets ++ codes "/;")
 
   abbrev pub demand_lines : List ℕ
   demand_lines = texts_below markets (λ market. datum (element (codes "m") market) (demand market))
@@ -83,15 +83,15 @@ module _ (seed plants markets : ℕ) where
   abbrev pub costs_from : ℕ → List ℕ
   costs_from plant = texts_below markets (λ market. datum (element (codes "p") plant ++ codes "." ++ element (codes "m") market) (cost plant market))
 
-  abbrev pub cost_lines : List ℕ
-  cost_lines = texts_below plants costs_from
+  abbrev pub transport_cost_lines : List ℕ
+  transport_cost_lines = texts_below plants costs_from
 
   -- the variables, the equations, the model and its solve
   abbrev pub model_lines : List ℕ
   model_lines =
-      line (codes "positive variable x(p,m); variable z;") ++ line (codes "equations cost, supply(p), demand(m);") ++ line (codes "cost.. z =e= sum((p,m), c(p,m)*x(p,m));") ++ line (codes "supply(p).. sum(m, x(p,m)) =l= a(p);") ++ line (codes "demand(m).. sum(p, x(p,m)) =g= b(m);") ++ line (codes "model t /all/;") ++ line (codes "option iterlim = 100000, limrow = 0, limcol = 0;") ++ line (codes "solve t using lp minimizing z;")
+      text_line (codes "positive variable x(p,m); variable z;") ++ text_line (codes "equations cost, supply(p), demand(m);") ++ text_line (codes "cost.. z =e= sum((p,m), c(p,m)*x(p,m));") ++ text_line (codes "supply(p).. sum(m, x(p,m)) =l= a(p);") ++ text_line (codes "demand(m).. sum(p, x(p,m)) =g= b(m);") ++ text_line (codes "model t /all/;") ++ text_line (codes "option iterlim = 100000, limrow = 0, limcol = 0;") ++ text_line (codes "solve t using lp minimizing z;")
 
   -- the text of the model
-  abbrev pub model_text : List ℕ
-  model_text =
-      set_lines ++ line (codes "parameter b(m) /") ++ demand_lines ++ line (codes "/;") ++ line (codes "parameter a(p) /") ++ supply_lines ++ line (codes "/;") ++ line (codes "parameter c(p,m) /") ++ cost_lines ++ line (codes "/;") ++ model_lines
+  abbrev pub generated_model_text : List ℕ
+  generated_model_text =
+      set_lines ++ text_line (codes "parameter b(m) /") ++ demand_lines ++ text_line (codes "/;") ++ text_line (codes "parameter a(p) /") ++ supply_lines ++ text_line (codes "/;") ++ text_line (codes "parameter c(p,m) /") ++ transport_cost_lines ++ text_line (codes "/;") ++ model_lines

@@ -1,6 +1,6 @@
 //! The sequence of draws.
 ghost use Rattle.std.specs.Prelude.{◌≡◌, ◌<◌, ◌^◌};
-ghost use Rattle.gms_gen.specs.Generator.{first_state, next_state, drawn_by};
+ghost use Rattle.gms_gen.specs.Generator.{first_seed, next_state, drawn_by};
 
 use std::marker::Model;
 
@@ -23,7 +23,7 @@ impl Model for Draws {
 impl Draws {
     /// The sequence of a seed, before the first draw.
     pub(crate) fn new(seed: u64) -> Draws
-        ensures { result ≡ first_state seed }
+        ensures { result ≡ first_seed seed }
     {
         Draws {
             state: seed % 2_147_483_648,

@@ -1,6 +1,6 @@
 //! The text of the model.
 ghost use Rattle.std.specs.Prelude.{◌≡◌, ℕ, ◌≤◌, ◌<◌, ◌*◌, ◌+◌, ◌++◌, IfOk, OnOk, string_bytes};
-ghost use Rattle.gms_gen.specs.Generator.{state_after, demand, demand_lines, sum_below, total, supply_lines, costs_from, cost_lines, model_text};
+ghost use Rattle.gms_gen.specs.Generator.{seed_after, demand, demand_lines, sum_below, total_demand, supply_lines, costs_from, transport_cost_lines, generated_model_text};
 
 use crate::draws::Draws;
 use std::alloc::{AllocError, Global};
@@ -24,9 +24,9 @@ fn push_demands(
     markets: u32,
     text: &mut String,
 ) -> Result<u64, AllocError>
-    ensures text { (seed plants : ℕ) → draws.old ≡ state_after seed 0 → OnOk result (string_bytes text.new ≡ string_bytes text.old ++ demand_lines seed plants markets) }
-    ensures total { (seed plants : ℕ) → draws.old ≡ state_after seed 0 → IfOk result (λ sum. sum ≡ total seed plants markets) }
-    ensures draws { (seed : ℕ) → draws.old ≡ state_after seed 0 → OnOk result (draws.new ≡ state_after seed markets) }
+    ensures text { (seed plants : ℕ) → draws.old ≡ seed_after seed 0 → OnOk result (string_bytes text.new ≡ string_bytes text.old ++ demand_lines seed plants markets) }
+    ensures total { (seed plants : ℕ) → draws.old ≡ seed_after seed 0 → IfOk result (λ sum. sum ≡ total_demand seed plants markets) }
+    ensures draws { (seed : ℕ) → draws.old ≡ seed_after seed 0 → OnOk result (draws.new ≡ seed_after seed markets) }
     ensures few { IfOk result (λ sum. sum ≤ 99 * markets) }
 {
     let mut total = 0;
@@ -49,8 +49,8 @@ fn push_supplies(
     text: &mut String,
 ) -> Result<(), AllocError>
     requires { demand ≤ 99 * 4294967295 }
-    ensures text { (seed markets : ℕ) → draws.old ≡ state_after seed markets → demand ≡ total seed plants markets → OnOk result (string_bytes text.new ≡ string_bytes text.old ++ supply_lines seed plants markets) }
-    ensures draws { (seed markets : ℕ) → draws.old ≡ state_after seed markets → OnOk result (draws.new ≡ state_after seed (markets + plants)) }
+    ensures text { (seed markets : ℕ) → draws.old ≡ seed_after seed markets → demand ≡ total_demand seed plants markets → OnOk result (string_bytes text.new ≡ string_bytes text.old ++ supply_lines seed plants markets) }
+    ensures draws { (seed markets : ℕ) → draws.old ≡ seed_after seed markets → OnOk result (draws.new ≡ seed_after seed (markets + plants)) }
 {
     for plant in 0..plants {
         let supply = demand / u64::from(plants) + 1 + draws.draw(10);
@@ -70,8 +70,8 @@ fn push_costs_from(
     text: &mut String,
 ) -> Result<(), AllocError>
     requires { plant < 4294967295 }
-    ensures text { (seed plants : ℕ) → draws.old ≡ state_after seed (markets + plants + plant * markets) → OnOk result (string_bytes text.new ≡ string_bytes text.old ++ costs_from seed plants markets plant) }
-    ensures draws { (seed before : ℕ) → draws.old ≡ state_after seed before → OnOk result (draws.new ≡ state_after seed (before + markets)) }
+    ensures text { (seed plants : ℕ) → draws.old ≡ seed_after seed (markets + plants + plant * markets) → OnOk result (string_bytes text.new ≡ string_bytes text.old ++ costs_from seed plants markets plant) }
+    ensures draws { (seed before : ℕ) → draws.old ≡ seed_after seed before → OnOk result (draws.new ≡ seed_after seed (before + markets)) }
 {
     let plant = plant + 1;
     for market in 0..markets {
@@ -91,7 +91,7 @@ fn push_costs(
     markets: u32,
     text: &mut String,
 ) -> Result<(), AllocError>
-    ensures { (seed : ℕ) → draws.old ≡ state_after seed (markets + plants) → OnOk result (string_bytes text.new ≡ string_bytes text.old ++ cost_lines seed plants markets) }
+    ensures { (seed : ℕ) → draws.old ≡ seed_after seed (markets + plants) → OnOk result (string_bytes text.new ≡ string_bytes text.old ++ transport_cost_lines seed plants markets) }
 {
     for plant in 0..plants {
         push_costs_from(alloc, draws, plant, markets, text)?;
@@ -105,7 +105,7 @@ fn push_costs(
 /// A seed gives the same text each time. GAMS User's Guide, "A GAMS Tutorial by Richard E.
 /// Rosenthal".
 pub fn generate(alloc: Global, seed: u64, plants: u32, markets: u32) -> Result<String, AllocError>
-    ensures { IfOk result (λ text. string_bytes text ≡ model_text seed plants markets) }
+    ensures { IfOk result (λ text. string_bytes text ≡ generated_model_text seed plants markets) }
 {
     let mut draws = Draws::new(seed);
     let mut text = format!(in alloc; "set p /p1*p{plants}/;\nset m /m1*m{markets}/;\n")?;

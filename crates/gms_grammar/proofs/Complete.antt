@@ -1,6 +1,6 @@
 -- Each tree is what a reader finds in its tokens, and derivations are unique.
 use Rattle.std.proofs.Common.{◌≡◌, Bool, ◌||◌, List, [], ◌++◌, sym, ap, subst, append_assoc}
-use Rattle.gms_grammar.specs.Grammar.{Part, one, the, ◌·◌, ◌∣◌, opt, many, Tree, leaf, pair, left, right, none, some, more, node, yield, IsTree}
+use Rattle.gms_grammar.specs.Grammar.{Part, one, the, ◌·◌, ◌∣◌, opt, many, DerivationTree, leaf, pair, left, right, none, some, more, node, yield, IsTree}
 use Rattle.gms_grammar.specs.LookAhead.{LookAhead, may_begin, may_go_on, IsDecided, DecidesEach}
 use Rattle.gms_grammar.specs.Reading.{read, Reads, taken, entered, both, in_left, in_right, left_out, there, no_more, again}
 use Rattle.gms_grammar.proofs.Basics.{end_nil}
@@ -9,7 +9,7 @@ use Rattle.gms_grammar.proofs.Only.{only}
 
 module _ {C N D : Type 0} (production : N → Part C N) (ahead : LookAhead C N) (ok : DecidesEach ahead production) where
   -- a reader finds the tree before tokens that may follow
-  pub complete : (part : Part C N) (tree : Tree (C × D)) → IsTree production part tree → (after : C → Bool) (behind : List (C × D)) → IsDecided ahead part after → Follows after behind → Reads production ahead part (yield tree ++ behind) (read tree behind)
+  pub complete : (part : Part C N) (tree : DerivationTree (C × D)) → IsTree production part tree → (after : C → Bool) (behind : List (C × D)) → IsDecided ahead part after → Follows after behind → Reads production ahead part (yield tree ++ behind) (read tree behind)
   complete (one test) (leaf token) h after behind d f = taken h
   complete (the n) (node tree) h after behind d f =
       entered (complete (production n) tree h (ahead.follow n) behind (ok.decided n) (follows_more production ahead ok _ _ _ d f))
@@ -36,12 +36,12 @@ module _ {C N D : Type 0} (production : N → Part C N) (ahead : LookAhead C N) 
   complete _ _ h after behind d f = absurd h
 
   -- a reader finds the tree in the tokens of a tree alone
-  pub complete_alone : (part : Part C N) (tree : Tree (C × D)) → IsTree production part tree → (after : C → Bool) → IsDecided ahead part after → Reads production ahead part (yield tree) (read tree [])
+  pub complete_alone : (part : Part C N) (tree : DerivationTree (C × D)) → IsTree production part tree → (after : C → Bool) → IsDecided ahead part after → Reads production ahead part (yield tree) (read tree [])
   complete_alone part tree h after d =
       subst (λ w. Reads production ahead part w (read tree [])) (end_nil (yield tree)) (complete part tree h after [] d tt)
 
   -- two trees of a part over the same tokens are the same
-  pub unique : (part : Part C N) (first other : Tree (C × D)) → IsTree production part first → IsTree production part other → (after : C → Bool) → IsDecided ahead part after → yield other ≡ yield first → other ≡ first
+  pub unique : (part : Part C N) (first other : DerivationTree (C × D)) → IsTree production part first → IsTree production part other → (after : C → Bool) → IsDecided ahead part after → yield other ≡ yield first → other ≡ first
   unique part first other h k after d e =
       only production ahead ok (complete_alone part first h after d) after d other [] []
       (record { is_tree = k; follows = tt; goes = tt; agrees = ap (λ w. w ++ []) e })

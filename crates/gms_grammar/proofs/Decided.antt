@@ -4,32 +4,32 @@ use Rattle.std.proofs.lemmas.Bool.{eqb-true, or_cases}
 use Rattle.gms_grammar.specs.declared.terminal.Terminal.{Terminal}
 use Rattle.gms_grammar.specs.declared.terminal.Terminal.TheVariants.{Abort}
 use Rattle.gms_grammar.specs.LookAhead.{DecidesEach}
-use Rattle.gms_grammar.specs.Terminals.{number_of, terminals, is, is_among}
+use Rattle.gms_grammar.specs.Terminals.{terminal_number, terminals, is, is_terminal_among}
 use Rattle.gms_grammar.specs.GamsGrammar.{Nonterminal, Expression, productions}
 use Rattle.gms_grammar.specs.GamsLookAhead.{firsts, follows, look_ahead}
 use Rattle.gms_grammar.proofs.Checks.{every, every_at, left_and, right_and, Covers, IsRight, decides_each}
 
-stands_at : (kind : Terminal) → get_or terminals (number_of kind) Abort ≡ kind
+stands_at : (kind : Terminal) → get_or terminals (terminal_number kind) Abort ≡ kind
 stands_at Abort = refl
 stands_at _ = refl
 
-is_below : (kind : Terminal) → ltb (number_of kind) (length terminals) ≡ true
+is_below : (kind : Terminal) → ltb (terminal_number kind) (length terminals) ≡ true
 is_below Abort = refl
 is_below _ = refl
 
 -- what holds of each kind of the list holds of each kind
 pub all_kinds : (test : Terminal → Bool) → every terminals test ≡ true → (kind : Terminal) → test kind ≡ true
 all_kinds test h kind =
-    ap test (sym (stands_at kind)) ∙ every_at terminals test (number_of kind) Abort h (ltb-true (number_of kind) (length terminals) (is_below kind))
+    ap test (sym (stands_at kind)) ∙ every_at terminals test (terminal_number kind) Abort h (ltb-true (terminal_number kind) (length terminals) (is_below kind))
 
 same_kind : (kind other : Terminal) → is kind other ≡ true → kind ≡ other
 same_kind kind other h = sym (stands_at kind) ∙ ap (λ n. get_or terminals n Abort) (eqb-true _ _ h) ∙ stands_at other
 
 -- what holds of each kind of a list holds of those that are among them
-covers_among : (kinds : List Terminal) → Covers (is_among kinds) kinds
+covers_among : (kinds : List Terminal) → Covers (is_terminal_among kinds) kinds
 covers_among [] test h kind k = cc
 covers_among (x ∷ kinds) test h kind k =
-    elim (or_cases (is kind x) (is_among kinds kind) k) [
+    elim (or_cases (is kind x) (is_terminal_among kinds kind) k) [
       | inl same ↦ ap test (same_kind kind x same) ∙ left_and _ _ h
       | inr later ↦ covers_among kinds test (right_and (test x) _ h) kind later
     ]

@@ -1,7 +1,7 @@
 -- What a part derives, determined by its parts, without a tree: the form in which two parts are
 -- best compared.
 use Rattle.std.proofs.Common.{◌≡◌, ◌↔◌, Bool, true, List, [], ◌∷◌, ◌++◌, refl, ap₂, subst}
-use Rattle.gms_grammar.specs.Grammar.{Part, one, the, ◌·◌, ◌∣◌, opt, many, Tree, leaf, pair, left, right, none, some, more, node, yield, IsTree, Derives}
+use Rattle.gms_grammar.specs.Grammar.{Part, one, the, ◌·◌, ◌∣◌, opt, many, DerivationTree, leaf, pair, left, right, none, some, more, node, yield, IsTree, Derives}
 
 module _ {C N D : Type 0} (production : N → Part C N) where
   -- A part derives the tokens.
@@ -16,7 +16,7 @@ module _ {C N D : Type 0} (production : N → Part C N) where
     over : {p : Part C N} → Has (many p) []
     again : {p : Part C N} {u v : List (C × D)} → Has p u → Has (many p) v → Has (many p) (u ++ v)
 
-  has : (part : Part C N) (t : Tree (C × D)) → IsTree production part t → Has part (yield t)
+  has : (part : Part C N) (t : DerivationTree (C × D)) → IsTree production part t → Has part (yield t)
   has (one test) (leaf token) h = single h
   has (the n) (node t) h = whole (has (production n) t h)
   has (p · q) (pair a b) h = both (has p a h.0) (has q b h.1)

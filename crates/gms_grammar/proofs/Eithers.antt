@@ -1,11 +1,11 @@
 -- Alternatives of which one begins with a single token.
 use Rattle.std.proofs.Common.{◌≡◌, Bool, true, false, ◌||◌, List, [], ◌∷◌, refl, ap}
 use Rattle.gms_grammar.specs.declared.terminal.Terminal.{Terminal}
-use Rattle.gms_grammar.specs.Grammar.{Part, one, ◌·◌, ◌∣◌, Tree}
+use Rattle.gms_grammar.specs.Grammar.{Part, one, ◌·◌, ◌∣◌, DerivationTree}
 use Rattle.gms_grammar.specs.Reading.{read, stuck, leads, Reads, taken, refused, in_neither, takes_left, takes_right, takes_first}
 use Rattle.gms_grammar.specs.GamsGrammar.{Nonterminal, productions}
 use Rattle.gms_grammar.specs.GamsLookAhead.{look_ahead}
-use Rattle.gms_grammar.specs.Rules.{Rule, Gives, Refuses}
+use Rattle.gms_grammar.specs.Rules.{Rule, IsPartRead, Refuses}
 use Rattle.gms_grammar.proofs.Rules.{by_cause, stuck_as, wrong_as}
 
 -- only what the next token tells leads into a part that begins with it
@@ -23,11 +23,11 @@ stuck_right : {D : Type 0} {test : Terminal → Bool} {p r : Part Terminal Nonte
 stuck_right {test = test} {r = r} k (refused {tokens = ts} h) = in_neither k (unled_next test r ts h)
 
 -- a token that was read leads
-led_read : {D : Type 0} {test : Terminal → Bool} {ts rest : List (Terminal × D)} {tree : Tree (Terminal × D)} → Reads productions look_ahead (one test) ts (read tree rest) → leads productions look_ahead (one test) ts ≡ true
+led_read : {D : Type 0} {test : Terminal → Bool} {ts rest : List (Terminal × D)} {tree : DerivationTree (Terminal × D)} → Reads productions look_ahead (one test) ts (read tree rest) → leads productions look_ahead (one test) ts ≡ true
 led_read (taken h) = h
 
 module _ {K D W E R : Type 0} {rules : K → Rule D W E R} {key : K} {test : Terminal → Bool} {w : W} {ts : List (Terminal × D)} where
-  pub led_given : {v : W} {rest : List (Terminal × D)} {tree : Tree (Terminal × D)} → Gives rules key (one test) w ts tree v rest → leads productions look_ahead (one test) ts ≡ true
+  pub led_given : {v : W} {rest : List (Terminal × D)} {tree : DerivationTree (Terminal × D)} → IsPartRead rules key (one test) w ts tree v rest → leads productions look_ahead (one test) ts ≡ true
   led_given g = led_read g.reads
 
   -- the first alternative is a token that is refused, and nothing leads into the second

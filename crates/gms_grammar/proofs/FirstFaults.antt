@@ -5,7 +5,7 @@ use Rattle.gms_grammar.specs.declared.terminal.Terminal.{Terminal}
 use Rattle.gms_grammar.specs.declared.terminal.Terminal.TheVariants.{End}
 use Rattle.gms_grammar.specs.Grammar.{the, Derives}
 use Rattle.gms_grammar.specs.GamsGrammar.{Nonterminal, productions}
-use Rattle.gms_grammar.specs.Rules.{Rule, kind_ahead, kind_of, left_by, AreSound, IsStuck, IsWrong, IsFirstFaulty, IsUnexpected, IsRefused, FaultsOnce}
+use Rattle.gms_grammar.specs.Rules.{Rule, kind_ahead, kind_of, left_by, AreFaultless, IsStuck, IsWrong, IsFirstFaulty, IsUnexpectedByRule, IsRefusedByRule, FaultsOnce}
 use Rattle.gms_grammar.proofs.Basics.{behind_same}
 use Rattle.gms_grammar.proofs.Stopping.{stops_once, front_begins}
 use Rattle.gms_grammar.proofs.Language.{gams_stuck_stops, gams_stuck_none, gams_takes, gams_stops}
@@ -13,25 +13,25 @@ use Rattle.gms_grammar.proofs.Orders.{Order, at_once, earlier, later, order}
 use Rattle.gms_grammar.proofs.Rules.{ahead_append}
 
 -- of sound tokens none is faulty
-pub sound_at : {D W E R : Type 0} (rule : Rule D W E R) (w : W) (before : List (Terminal × D)) (token : Terminal × D) (behind : List (Terminal × D)) (ahead : Terminal) (fault : E) → AreSound rule w (before ++ token ∷ behind) ahead → rule.Faulty (left_by rule.after w before token.0) token (kind_ahead behind ahead) fault → ⊥
+pub sound_at : {D W E R : Type 0} (rule : Rule D W E R) (w : W) (before : List (Terminal × D)) (token : Terminal × D) (behind : List (Terminal × D)) (ahead : Terminal) (fault : E) → AreFaultless rule w (before ++ token ∷ behind) ahead → rule.Faulty (left_by rule.after w before token.0) token (kind_ahead behind ahead) fault → ⊥
 sound_at rule w [] token behind ahead fault sound faulty = sound.0 fault faulty
 sound_at rule w (x ∷ before) token behind ahead fault sound faulty =
     let same : kind_ahead (before ++ token ∷ behind) ahead ≡ kind_ahead before token.0 = ahead_append before (token ∷ behind) ahead in
     sound_at rule (rule.after w x (kind_ahead before token.0)) before token behind ahead fault
-    (subst (λ (k : Terminal). AreSound rule (rule.after w x k) (before ++ token ∷ behind) ahead) same sound.1) faulty
+    (subst (λ (k : Terminal). AreFaultless rule (rule.after w x k) (before ++ token ∷ behind) ahead) same sound.1) faulty
 
 module _ {K D W E R : Type 0} (rules : K → Rule D W E R) (key : K) where
   -- sound tokens have no first faulty one
-  pub no_first : (w : W) (front : List (Terminal × D)) (ahead : Terminal) (fault : E) → IsFirstFaulty rules key w front ahead fault → AreSound (rules key) w front ahead → ⊥
+  pub no_first : (w : W) (front : List (Terminal × D)) (ahead : Terminal) (fault : E) → IsFirstFaulty rules key w front ahead fault → AreFaultless (rules key) w front ahead → ⊥
   no_first w front ahead fault first sound =
-      sound_at (rules key) w first.before first.token first.behind ahead fault (subst (λ (us : List (Terminal × D)). AreSound (rules key) w us ahead) first.parts sound) first.is_faulty
+      sound_at (rules key) w first.before first.token first.behind ahead fault (subst (λ (us : List (Terminal × D)). AreFaultless (rules key) w us ahead) first.parts sound) first.is_faulty
 
   module _ (once : FaultsOnce (rules key)) where
     -- of two faulty tokens none comes before the first
     not_later : (w : W) (front : List (Terminal × D)) (ahead : Terminal) (one other : E) (f : IsFirstFaulty rules key w front ahead one) (g : IsFirstFaulty rules key w front ahead other) (more : List (Terminal × D)) → g.before ≡ f.before ++ (f.token ∷ more) → f.behind ≡ more ++ (g.token ∷ g.behind) → ⊥
     not_later w front ahead one other f g more e k =
         sound_at (rules key) w f.before f.token more g.token.0 one
-        (subst (λ (us : List (Terminal × D)). AreSound (rules key) w us g.token.0) e g.are_sound)
+        (subst (λ (us : List (Terminal × D)). AreFaultless (rules key) w us g.token.0) e g.are_sound)
         (subst (λ (kind : Terminal). (rules key).Faulty (left_by (rules key).after w f.before f.token.0) f.token kind one) (ap (λ (us : List (Terminal × D)). kind_ahead us ahead) k ∙ ahead_append more (g.token ∷ g.behind) ahead) f.is_faulty)
 
     one_first_faulty : (w : W) (front : List (Terminal × D)) (ahead : Terminal) (one other : E) → IsFirstFaulty rules key w front ahead one → IsFirstFaulty rules key w front ahead other → one ≡ other
@@ -47,24 +47,24 @@ module _ {K D W E R : Type 0} (rules : K → Rule D W E R) (key : K) where
             (subst (λ (us : List (Terminal × D)). (rules key).Faulty (left_by (rules key).after w g.before g.token.0) g.token (kind_ahead us ahead) other) (sym k) g.is_faulty)) in
             once (left_by (rules key).after w f.before f.token.0) f.token (kind_ahead f.behind ahead) one other f.is_faulty there
 
-    one_cause : {One Other : Type 0} (w : W) (front rest : List (Terminal × D)) (one other : E) → IsFirstFaulty rules key w front (kind_of rest) one ⊎ IsUnexpected rules key One w front rest one → IsFirstFaulty rules key w front (kind_of rest) other ⊎ IsUnexpected rules key Other w front rest other → one ≡ other
+    one_cause : {One Other : Type 0} (w : W) (front rest : List (Terminal × D)) (one other : E) → IsFirstFaulty rules key w front (kind_of rest) one ⊎ IsUnexpectedByRule rules key One w front rest one → IsFirstFaulty rules key w front (kind_of rest) other ⊎ IsUnexpectedByRule rules key Other w front rest other → one ≡ other
     one_cause w front rest one other (inl f) (inl g) = one_first_faulty w front (kind_of rest) one other f g
     one_cause w front rest one other (inl f) (inr u) = absurd (no_first w front (kind_of rest) one f u.are_sound)
     one_cause w front rest one other (inr u) (inl g) = absurd (no_first w front (kind_of rest) other g u.are_sound)
     one_cause w front rest one other (inr u) (inr v) = u.is ∙ sym v.is
 
     -- two first faults of tokens are one
-    pub one_refused : {Wants : List (Terminal × D) → List (Terminal × D) → Type 0} (n : Nonterminal) (w : W) (tokens : List (Terminal × D)) (one other : E) → IsRefused rules key Wants n w tokens one → IsRefused rules key Wants n w tokens other → one ≡ other
+    pub one_refused : {Wants : List (Terminal × D) → List (Terminal × D) → Type 0} (n : Nonterminal) (w : W) (tokens : List (Terminal × D)) (one other : E) → IsRefusedByRule rules key Wants n w tokens one → IsRefusedByRule rules key Wants n w tokens other → one ≡ other
     one_refused {Wants} n w tokens one other f g =
         let front = stops_once productions (the n) tokens f.front f.rest g.front g.rest f.stops g.stops in
         let rest = behind_same f.front f.rest g.rest (sym f.stops.parts ∙ g.stops.parts ∙ ap (λ (us : List (Terminal × D)). us ++ g.rest) (sym front)) in
         one_cause w f.front f.rest one other f.cause
-        (subst (λ (us : List (Terminal × D)). IsFirstFaulty rules key w us (kind_of f.rest) other ⊎ IsUnexpected rules key (Wants g.front g.rest) w us f.rest other) (sym front)
-        (subst (λ (us : List (Terminal × D)). IsFirstFaulty rules key w g.front (kind_of us) other ⊎ IsUnexpected rules key (Wants g.front g.rest) w g.front us other) (sym rest) g.cause))
+        (subst (λ (us : List (Terminal × D)). IsFirstFaulty rules key w us (kind_of f.rest) other ⊎ IsUnexpectedByRule rules key (Wants g.front g.rest) w us f.rest other) (sym front)
+        (subst (λ (us : List (Terminal × D)). IsFirstFaulty rules key w g.front (kind_of us) other ⊎ IsUnexpectedByRule rules key (Wants g.front g.rest) w g.front us other) (sym rest) g.cause))
 
 -- what a reader by the table refuses has a first fault
 module _ {K D W E R : Type 0} {rules : K → Rule D W E R} {key : K} {n : Nonterminal} {w : W} {ts : List (Terminal × D)} {fault : E} (known : D) (Wants : List (Terminal × D) → List (Terminal × D) → Type 0) where
-  pub stuck_refused : (s : IsStuck rules key (the n) w ts fault) → ((Derives productions (the n) s.front → ⊥) → Wants s.front s.rest) → IsRefused rules key Wants n w ts fault
+  pub stuck_refused : (s : IsStuck rules key (the n) w ts fault) → ((Derives productions (the n) s.front → ⊥) → Wants s.front s.rest) → IsRefusedByRule rules key Wants n w ts fault
   stuck_refused s wants = record {
     front = s.front;
     rest = s.rest;
@@ -72,7 +72,7 @@ module _ {K D W E R : Type 0} {rules : K → Rule D W E R} {key : K} {n : Nonter
     cause = inr (record { wants = wants (gams_stuck_none known n ts s.front s.rest s.reads); are_sound = s.are_sound; is = s.is });
   }
 
-  pub wrong_refused : IsWrong rules key (the n) w ts fault → IsRefused rules key Wants n w ts fault
+  pub wrong_refused : IsWrong rules key (the n) w ts fault → IsRefusedByRule rules key Wants n w ts fault
   wrong_refused s =
       let over = gams_takes known n ts (s.before ++ s.token ∷ []) s.behind s.takes in
       let stop = gams_stops known n ts in

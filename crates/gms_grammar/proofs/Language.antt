@@ -1,7 +1,7 @@
 -- The laws of readers at the grammar of the language.
 use Rattle.std.proofs.Common.{◌≡◌, List, [], ◌++◌}
 use Rattle.gms_grammar.specs.declared.terminal.Terminal.{Terminal}
-use Rattle.gms_grammar.specs.Grammar.{the, Tree, yield, IsTree, Derives, Begins, Stops}
+use Rattle.gms_grammar.specs.Grammar.{the, DerivationTree, yield, IsTree, Derives, Begins, Stops}
 use Rattle.gms_grammar.specs.Reading.{Found, read, stuck, Reads, Takes}
 use Rattle.gms_grammar.specs.GamsGrammar.{Nonterminal, productions}
 use Rattle.gms_grammar.specs.GamsLookAhead.{look_ahead}
@@ -12,16 +12,16 @@ use Rattle.gms_grammar.proofs.Total.{finds}
 use Rattle.gms_grammar.proofs.Decided.{gams_decided}
 
 module _ {D : Type 0} where
-  pub gams_unique : (n : Nonterminal) (one other : Tree (Terminal × D)) → IsTree productions (the n) one → IsTree productions (the n) other → yield one ≡ yield other → one ≡ other
+  pub gams_unique : (n : Nonterminal) (one other : DerivationTree (Terminal × D)) → IsTree productions (the n) one → IsTree productions (the n) other → yield one ≡ yield other → one ≡ other
   gams_unique n one other h k e = unique productions look_ahead gams_decided (the n) other one k h (look_ahead.follow n) (λ c w. w) e
 
-  pub gams_complete : (n : Nonterminal) (tree : Tree (Terminal × D)) → IsTree productions (the n) tree → Reads productions look_ahead (the n) (yield tree) (read tree [])
+  pub gams_complete : (n : Nonterminal) (tree : DerivationTree (Terminal × D)) → IsTree productions (the n) tree → Reads productions look_ahead (the n) (yield tree) (read tree [])
   gams_complete n tree h = complete_alone productions look_ahead gams_decided (the n) tree h (look_ahead.follow n) (λ c w. w)
 
-  pub gams_read_tree : (n : Nonterminal) (tokens rest : List (Terminal × D)) (tree : Tree (Terminal × D)) → Reads productions look_ahead (the n) tokens (read tree rest) → IsTree productions (the n) tree
+  pub gams_read_tree : (n : Nonterminal) (tokens rest : List (Terminal × D)) (tree : DerivationTree (Terminal × D)) → Reads productions look_ahead (the n) tokens (read tree rest) → IsTree productions (the n) tree
   gams_read_tree n tokens rest tree r = (sound productions look_ahead r).0
 
-  pub gams_read_stops : D → (n : Nonterminal) (tokens rest : List (Terminal × D)) (tree : Tree (Terminal × D)) → Reads productions look_ahead (the n) tokens (read tree rest) → Stops productions (the n) tokens (yield tree) rest
+  pub gams_read_stops : D → (n : Nonterminal) (tokens rest : List (Terminal × D)) (tree : DerivationTree (Terminal × D)) → Reads productions look_ahead (the n) tokens (read tree rest) → Stops productions (the n) tokens (yield tree) rest
   gams_read_stops known n tokens rest tree r =
       read_stops productions look_ahead gams_decided known (the n) (look_ahead.follow n) tokens tree rest (λ c w. w) r
 

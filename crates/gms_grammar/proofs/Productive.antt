@@ -2,7 +2,7 @@
 use Rattle.std.proofs.Common.{◌≡◌, inl, inr, ℕ, zero, suc, ◌<◌, Bool, true, ◌||◌, List, [], ◌∷◌, ◌++◌, refl, sym, ap, ◌∙◌, append_assoc, arith, ltb-true}
 use Rattle.std.specs.Prelude.{⊤}
 use Rattle.std.proofs.lemmas.Bool.{or_cases}
-use Rattle.gms_grammar.specs.Grammar.{Part, one, the, ◌·◌, ◌∣◌, opt, many, Tree, leaf, pair, left, right, none, some, more, node, yield, IsTree, Derives, IsUnexpected, Stops}
+use Rattle.gms_grammar.specs.Grammar.{Part, one, the, ◌·◌, ◌∣◌, opt, many, DerivationTree, leaf, pair, left, right, none, some, more, node, yield, IsTree, Derives, IsUnexpected, Stops}
 use Rattle.gms_grammar.specs.LookAhead.{LookAhead, may_begin, may_go_on, IsDecided, DecidesEach, ends_below}
 use Rattle.gms_grammar.specs.Reading.{Found, read, stuck, Reads, taken, refused, entered, entered_stuck, both, first_stuck, second_stuck, in_left, in_left_stuck, in_right, in_right_stuck, in_neither, left_out, there, there_stuck, no_more, again, again_stuck, later_stuck, Takes, takes_one, takes_the, takes_first, takes_second, takes_left, takes_right, takes_opt, takes_many, takes_later}
 use Rattle.gms_grammar.proofs.Basics.{end_nil, not_longer, regrouped}
@@ -13,13 +13,13 @@ use Rattle.gms_grammar.proofs.Only.{only}
 module _ {C N D : Type 0} (production : N → Part C N) (ahead : LookAhead C N) (ok : DecidesEach ahead production) (known : D) where
   -- Some tree of the part begins with these tokens.
   pub record GoesOn (part : Part C N) (front : List (C × D)) : Type 0 where
-    pub tree : Tree (C × D)
+    pub tree : DerivationTree (C × D)
     pub is_tree : IsTree production part tree
     pub further : List (C × D)
     pub yields : yield tree ≡ front ++ further
 
   -- a tree begins with no tokens
-  from : {part : Part C N} (tree : Tree (C × D)) → IsTree production part tree → GoesOn part []
+  from : {part : Part C N} (tree : DerivationTree (C × D)) → IsTree production part tree → GoesOn part []
   from tree h = record { tree = tree; is_tree = h; further = yield tree; yields = refl }
 
   -- tokens that begin a part begin a larger one
@@ -46,13 +46,13 @@ module _ {C N D : Type 0} (production : N → Part C N) (ahead : LookAhead C N) 
     yields = ap (λ w. w ++ yield u.tree) t.yields ∙ append_assoc front t.further (yield u.tree);
   }
 
-  behind : (a : Tree (C × D)) (b front further : List (C × D)) → b ≡ front ++ further → yield a ++ b ≡ (yield a ++ front) ++ further
+  behind : (a : DerivationTree (C × D)) (b front further : List (C × D)) → b ≡ front ++ further → yield a ++ b ≡ (yield a ++ front) ++ further
   behind a b front further e = ap (λ w. yield a ++ w) e ∙ sym (append_assoc (yield a) front further)
 
-  on_second : {p q : Part C N} (a : Tree (C × D)) {front : List (C × D)} → IsTree production p a → GoesOn q front → GoesOn (p · q) (yield a ++ front)
+  on_second : {p q : Part C N} (a : DerivationTree (C × D)) {front : List (C × D)} → IsTree production p a → GoesOn q front → GoesOn (p · q) (yield a ++ front)
   on_second a h u = record { tree = pair a u.tree; is_tree = (h, u.is_tree); further = u.further; yields = behind a _ _ _ u.yields }
 
-  on_later : {p : Part C N} (a : Tree (C × D)) {front : List (C × D)} → IsTree production p a → GoesOn (many p) front → GoesOn (many p) (yield a ++ front)
+  on_later : {p : Part C N} (a : DerivationTree (C × D)) {front : List (C × D)} → IsTree production p a → GoesOn (many p) front → GoesOn (many p) (yield a ++ front)
   on_later a h u = record { tree = more a u.tree; is_tree = (h, u.is_tree); further = u.further; yields = behind a _ _ _ u.yields }
 
   -- a part has a tree where the nonterminals below a bound have one
@@ -126,7 +126,7 @@ module _ {C N D : Type 0} (production : N → Part C N) (ahead : LookAhead C N) 
       (regrouped _ _ _ _ _ v.1 u.0, on_later a v.0 u.1)
 
   -- where a tree is read, its tokens are as many as begin a list that the part derives
-  pub read_stops : (part : Part C N) (after : C → Bool) (tokens : List (C × D)) (tree : Tree (C × D)) (rest : List (C × D)) → IsDecided ahead part after → Reads production ahead part tokens (read tree rest) → Stops production part tokens (yield tree) rest
+  pub read_stops : (part : Part C N) (after : C → Bool) (tokens : List (C × D)) (tree : DerivationTree (C × D)) (rest : List (C × D)) → IsDecided ahead part after → Reads production ahead part tokens (read tree rest) → Stops production part tokens (yield tree) rest
   read_stops part after tokens tree rest d r =
       record {
         parts = (sound production ahead r).1;

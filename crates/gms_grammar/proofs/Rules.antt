@@ -2,11 +2,11 @@
 use Rattle.std.proofs.Common.{◌≡◌, Bool, true, false, List, [], ◌∷◌, ◌++◌, refl, sym, ap, ◌∙◌, subst, inl, inr, append_assoc}
 use Rattle.gms_grammar.specs.declared.terminal.Terminal.{Terminal}
 use Rattle.gms_grammar.specs.declared.terminal.Terminal.TheVariants.{End}
-use Rattle.gms_grammar.specs.Grammar.{Part, one, the, ◌·◌, ◌∣◌, opt, many, Tree, leaf, pair, left, right, none, some, more, node, yield}
+use Rattle.gms_grammar.specs.Grammar.{Part, one, the, ◌·◌, ◌∣◌, opt, many, DerivationTree, leaf, pair, left, right, none, some, more, node, yield}
 use Rattle.gms_grammar.specs.Reading.{read, stuck, leads, Reads, Takes, taken, entered, entered_stuck, both, first_stuck, second_stuck, in_left, in_left_stuck, in_right, in_right_stuck, left_out, there, there_stuck, no_more, again, again_stuck, later_stuck, takes_one, takes_the, takes_first, takes_second, takes_left, takes_right, takes_opt, takes_many, takes_later}
 use Rattle.gms_grammar.specs.GamsGrammar.{Nonterminal, productions}
 use Rattle.gms_grammar.specs.GamsLookAhead.{look_ahead}
-use Rattle.gms_grammar.specs.Rules.{Rule, kind_ahead, kind_of, left_by, AreSound, Gives, IsStuck, IsWrong, Refuses, Within}
+use Rattle.gms_grammar.specs.Rules.{Rule, kind_ahead, kind_of, left_by, AreFaultless, IsPartRead, IsStuck, IsWrong, Refuses, Within}
 use Rattle.gms_grammar.proofs.Basics.{regrouped}
 use Rattle.gms_grammar.proofs.Sound.{sound}
 
@@ -29,10 +29,10 @@ pub all_keep : {D W : Type 0} (after : W → Terminal × D → Terminal → W) (
 all_keep after Keeps each w [] ahead h = h
 all_keep after Keeps each w (t ∷ u) ahead h = all_keep after Keeps each (after w t (kind_ahead u ahead)) u ahead (each w t (kind_ahead u ahead) h)
 
-pub sound_append : {D W E R : Type 0} (rule : Rule D W E R) (w : W) (u v : List (Terminal × D)) (ahead : Terminal) → AreSound rule w u (kind_ahead v ahead) → AreSound rule (left_by rule.after w u (kind_ahead v ahead)) v ahead → AreSound rule w (u ++ v) ahead
+pub sound_append : {D W E R : Type 0} (rule : Rule D W E R) (w : W) (u v : List (Terminal × D)) (ahead : Terminal) → AreFaultless rule w u (kind_ahead v ahead) → AreFaultless rule (left_by rule.after w u (kind_ahead v ahead)) v ahead → AreFaultless rule w (u ++ v) ahead
 sound_append rule w [] v ahead h k = k
 sound_append {E = E} rule w (t ∷ u) v ahead h k =
-    subst (λ (kind : Terminal). ((fault : E) → rule.Faulty w t kind fault → ⊥) × AreSound rule (rule.after w t kind) (u ++ v) ahead) (sym (ahead_append u v ahead))
+    subst (λ (kind : Terminal). ((fault : E) → rule.Faulty w t kind fault → ⊥) × AreFaultless rule (rule.after w t kind) (u ++ v) ahead) (sym (ahead_append u v ahead))
     (h.0, sound_append rule (rule.after w t (kind_ahead u (kind_ahead v ahead))) u v ahead h.1 k)
 
 -- the tokens that were gone over, and the rest
@@ -53,48 +53,48 @@ takes_next {test = test} {rest = rest} {token = token} is h = subst (λ u. Takes
 
 module _ {K D W E R : Type 0} {rules : K → Rule D W E R} {key : K} where
   -- the tokens of a part, and the rest
-  pub given_parts : {p : Part Terminal Nonterminal} {w v : W} {ts rest : List (Terminal × D)} {a : Tree (Terminal × D)} → Gives rules key p w ts a v rest → ts ≡ yield a ++ rest
+  pub given_parts : {p : Part Terminal Nonterminal} {w v : W} {ts rest : List (Terminal × D)} {a : DerivationTree (Terminal × D)} → IsPartRead rules key p w ts a v rest → ts ≡ yield a ++ rest
   given_parts g = (sound productions look_ahead g.reads).1
 
   -- tokens after a part are sound if they are sound after the part's tokens
-  pub onward : {p : Part Terminal Nonterminal} {w v : W} {ts rest : List (Terminal × D)} {a : Tree (Terminal × D)} → Gives rules key p w ts a v rest → (u us : List (Terminal × D)) → rest ≡ u ++ us → AreSound (rules key) v u (kind_of us) → AreSound (rules key) w (yield a ++ u) (kind_of us)
+  pub onward : {p : Part Terminal Nonterminal} {w v : W} {ts rest : List (Terminal × D)} {a : DerivationTree (Terminal × D)} → IsPartRead rules key p w ts a v rest → (u us : List (Terminal × D)) → rest ≡ u ++ us → AreFaultless (rules key) v u (kind_of us) → AreFaultless (rules key) w (yield a ++ u) (kind_of us)
   onward {w = w} {a = a} g u us e h =
-      sound_append (rules key) w (yield a) u (kind_of us) (subst (λ (k : Terminal). AreSound (rules key) w (yield a) k) (ahead_is u us e) g.are_sound)
-      (subst (λ (x : W). AreSound (rules key) x u (kind_of us)) (g.leaves ∙ ap (left_by (rules key).after w (yield a)) (ahead_is u us e)) h)
+      sound_append (rules key) w (yield a) u (kind_of us) (subst (λ (k : Terminal). AreFaultless (rules key) w (yield a) k) (ahead_is u us e) g.are_sound)
+      (subst (λ (x : W). AreFaultless (rules key) x u (kind_of us)) (g.leaves ∙ ap (left_by (rules key).after w (yield a)) (ahead_is u us e)) h)
 
-  pub walk_on : {p : Part Terminal Nonterminal} {w v : W} {ts rest : List (Terminal × D)} {a : Tree (Terminal × D)} → Gives rules key p w ts a v rest → (u us : List (Terminal × D)) → rest ≡ u ++ us → left_by (rules key).after v u (kind_of us) ≡ left_by (rules key).after w (yield a ++ u) (kind_of us)
+  pub walk_on : {p : Part Terminal Nonterminal} {w v : W} {ts rest : List (Terminal × D)} {a : DerivationTree (Terminal × D)} → IsPartRead rules key p w ts a v rest → (u us : List (Terminal × D)) → rest ≡ u ++ us → left_by (rules key).after v u (kind_of us) ≡ left_by (rules key).after w (yield a ++ u) (kind_of us)
   walk_on {w = w} {a = a} g u us e =
       ap (λ (x : W). left_by (rules key).after x u (kind_of us)) (g.leaves ∙ ap (left_by (rules key).after w (yield a)) (ahead_is u us e)) ∙ sym (walk_append (rules key).after w (yield a) u (kind_of us))
 
   -- parts that were read
-  pub gives_both : {p q : Part Terminal Nonterminal} {w v x : W} {ts between rest : List (Terminal × D)} {a b : Tree (Terminal × D)} →
-      Gives rules key p w ts a v between → Gives rules key q v between b x rest → Gives rules key (p · q) w ts (pair a b) x rest
+  pub gives_both : {p q : Part Terminal Nonterminal} {w v x : W} {ts between rest : List (Terminal × D)} {a b : DerivationTree (Terminal × D)} →
+      IsPartRead rules key p w ts a v between → IsPartRead rules key q v between b x rest → IsPartRead rules key (p · q) w ts (pair a b) x rest
   gives_both {rest = rest} {b = b} g h = record {
     reads = both g.reads h.reads;
     are_sound = onward g (yield b) rest (given_parts h) h.are_sound;
     leaves = h.leaves ∙ walk_on g (yield b) rest (given_parts h);
   }
 
-  pub gives_the : (n : Nonterminal) {w v : W} {ts rest : List (Terminal × D)} {a : Tree (Terminal × D)} → Gives rules key (productions n) w ts a v rest → Gives rules key (the n) w ts (node a) v rest
+  pub gives_the : (n : Nonterminal) {w v : W} {ts rest : List (Terminal × D)} {a : DerivationTree (Terminal × D)} → IsPartRead rules key (productions n) w ts a v rest → IsPartRead rules key (the n) w ts (node a) v rest
   gives_the n g = record { reads = entered g.reads; are_sound = g.are_sound; leaves = g.leaves }
 
-  pub gives_left : {p q : Part Terminal Nonterminal} {w v : W} {ts rest : List (Terminal × D)} {a : Tree (Terminal × D)} → leads productions look_ahead p ts ≡ true → Gives rules key p w ts a v rest → Gives rules key (p ∣ q) w ts (left a) v rest
+  pub gives_left : {p q : Part Terminal Nonterminal} {w v : W} {ts rest : List (Terminal × D)} {a : DerivationTree (Terminal × D)} → leads productions look_ahead p ts ≡ true → IsPartRead rules key p w ts a v rest → IsPartRead rules key (p ∣ q) w ts (left a) v rest
   gives_left h g = record { reads = in_left h g.reads; are_sound = g.are_sound; leaves = g.leaves }
 
-  pub gives_right : {p q : Part Terminal Nonterminal} {w v : W} {ts rest : List (Terminal × D)} {a : Tree (Terminal × D)} → leads productions look_ahead p ts ≡ false → leads productions look_ahead q ts ≡ true → Gives rules key q w ts a v rest → Gives rules key (p ∣ q) w ts (right a) v rest
+  pub gives_right : {p q : Part Terminal Nonterminal} {w v : W} {ts rest : List (Terminal × D)} {a : DerivationTree (Terminal × D)} → leads productions look_ahead p ts ≡ false → leads productions look_ahead q ts ≡ true → IsPartRead rules key q w ts a v rest → IsPartRead rules key (p ∣ q) w ts (right a) v rest
   gives_right h k g = record { reads = in_right h k g.reads; are_sound = g.are_sound; leaves = g.leaves }
 
-  pub gives_none : {p : Part Terminal Nonterminal} {w : W} {ts : List (Terminal × D)} → leads productions look_ahead p ts ≡ false → Gives rules key (opt p) w ts none w ts
+  pub gives_none : {p : Part Terminal Nonterminal} {w : W} {ts : List (Terminal × D)} → leads productions look_ahead p ts ≡ false → IsPartRead rules key (opt p) w ts none w ts
   gives_none h = record { reads = left_out h; are_sound = tt; leaves = refl }
 
-  pub gives_some : {p : Part Terminal Nonterminal} {w v : W} {ts rest : List (Terminal × D)} {a : Tree (Terminal × D)} → leads productions look_ahead p ts ≡ true → Gives rules key p w ts a v rest → Gives rules key (opt p) w ts (some a) v rest
+  pub gives_some : {p : Part Terminal Nonterminal} {w v : W} {ts rest : List (Terminal × D)} {a : DerivationTree (Terminal × D)} → leads productions look_ahead p ts ≡ true → IsPartRead rules key p w ts a v rest → IsPartRead rules key (opt p) w ts (some a) v rest
   gives_some h g = record { reads = there h g.reads; are_sound = g.are_sound; leaves = g.leaves }
 
-  pub gives_no_more : {p : Part Terminal Nonterminal} {w : W} {ts : List (Terminal × D)} → leads productions look_ahead p ts ≡ false → Gives rules key (many p) w ts none w ts
+  pub gives_no_more : {p : Part Terminal Nonterminal} {w : W} {ts : List (Terminal × D)} → leads productions look_ahead p ts ≡ false → IsPartRead rules key (many p) w ts none w ts
   gives_no_more h = record { reads = no_more h; are_sound = tt; leaves = refl }
 
-  pub gives_again : {p : Part Terminal Nonterminal} {w v x : W} {ts between rest : List (Terminal × D)} {a b : Tree (Terminal × D)} → leads productions look_ahead p ts ≡ true →
-      Gives rules key p w ts a v between → Gives rules key (many p) v between b x rest → Gives rules key (many p) w ts (more a b) x rest
+  pub gives_again : {p : Part Terminal Nonterminal} {w v x : W} {ts between rest : List (Terminal × D)} {a b : DerivationTree (Terminal × D)} → leads productions look_ahead p ts ≡ true →
+      IsPartRead rules key p w ts a v between → IsPartRead rules key (many p) v between b x rest → IsPartRead rules key (many p) w ts (more a b) x rest
   gives_again {rest = rest} {b = b} l g h = record {
     reads = again l g.reads h.reads;
     are_sound = onward g (yield b) rest (given_parts h) h.are_sound;
@@ -102,16 +102,16 @@ module _ {K D W E R : Type 0} {rules : K → Rule D W E R} {key : K} where
   }
 
   -- the same tokens were read of another part
-  pub gives_as : {p q : Part Terminal Nonterminal} {w v : W} {ts rest : List (Terminal × D)} {a b : Tree (Terminal × D)} → Gives rules key p w ts a v rest → Reads productions look_ahead q ts (read b rest) → yield a ≡ yield b → Gives rules key q w ts b v rest
+  pub gives_as : {p q : Part Terminal Nonterminal} {w v : W} {ts rest : List (Terminal × D)} {a b : DerivationTree (Terminal × D)} → IsPartRead rules key p w ts a v rest → Reads productions look_ahead q ts (read b rest) → yield a ≡ yield b → IsPartRead rules key q w ts b v rest
   gives_as {w = w} {rest = rest} g r e = record {
     reads = r;
-    are_sound = subst (λ (u : List (Terminal × D)). AreSound (rules key) w u (kind_of rest)) e g.are_sound;
+    are_sound = subst (λ (u : List (Terminal × D)). AreFaultless (rules key) w u (kind_of rest)) e g.are_sound;
     leaves = g.leaves ∙ ap (λ (u : List (Terminal × D)). left_by (rules key).after w u (kind_of rest)) e;
   }
 
   -- one token was read
   pub gives_one : {test : Terminal → Bool} {w v : W} {ts rest : List (Terminal × D)} {token : Terminal × D} → ts ≡ token ∷ rest → test token.0 ≡ true →
-      ((fault : E) → (rules key).Faulty w token (kind_of rest) fault → ⊥) → v ≡ (rules key).after w token (kind_of rest) → Gives rules key (one test) w ts (leaf token) v rest
+      ((fault : E) → (rules key).Faulty w token (kind_of rest) fault → ⊥) → v ≡ (rules key).after w token (kind_of rest) → IsPartRead rules key (one test) w ts (leaf token) v rest
   gives_one {test = test} {rest = rest} {token = token} is h sound l =
       record { reads = subst (λ u. Reads productions look_ahead (one test) u (read (leaf token) rest)) (sym is) (taken h); are_sound = (sound, tt); leaves = l }
 
@@ -134,7 +134,7 @@ module _ {K D W E R : Type 0} {rules : K → Rule D W E R} {key : K} where
   wrong_parts s = takes_parts s.takes ∙ append_assoc s.before (s.token ∷ []) s.behind
 
   -- a fault after a part is a fault of the larger part
-  pub wrong_behind : {p q r : Part Terminal Nonterminal} {w v : W} {ts between : List (Terminal × D)} {a : Tree (Terminal × D)} {fault : E} → Gives rules key p w ts a v between → (s : IsWrong rules key q v between fault) →
+  pub wrong_behind : {p q r : Part Terminal Nonterminal} {w v : W} {ts between : List (Terminal × D)} {a : DerivationTree (Terminal × D)} {fault : E} → IsPartRead rules key p w ts a v between → (s : IsWrong rules key q v between fault) →
       Takes productions look_ahead r ts (yield a ++ (s.before ++ s.token ∷ [])) s.behind → IsWrong rules key r w ts fault
   wrong_behind {r = r} {ts = ts} {a = a} {fault = fault} g s t = record {
     before = yield a ++ s.before;
@@ -145,14 +145,14 @@ module _ {K D W E R : Type 0} {rules : K → Rule D W E R} {key : K} where
     is_faulty = subst (λ (x : W). (rules key).Faulty x s.token (kind_of s.behind) fault) (walk_on g s.before (s.token ∷ s.behind) (wrong_parts s)) s.is_faulty;
   }
 
-  pub stuck_behind : {p q r : Part Terminal Nonterminal} {w v : W} {ts between : List (Terminal × D)} {a : Tree (Terminal × D)} {fault : E} → Gives rules key p w ts a v between → (s : IsStuck rules key q v between fault) →
+  pub stuck_behind : {p q r : Part Terminal Nonterminal} {w v : W} {ts between : List (Terminal × D)} {a : DerivationTree (Terminal × D)} {fault : E} → IsPartRead rules key p w ts a v between → (s : IsStuck rules key q v between fault) →
       Reads productions look_ahead r ts (stuck (yield a ++ s.front) s.rest) → IsStuck rules key r w ts fault
   stuck_behind {a = a} g s r = record { front = yield a ++ s.front; rest = s.rest; reads = r; are_sound = onward g s.front s.rest (sound productions look_ahead s.reads) s.are_sound; is = s.is }
 
   pub refuses_first : {p q : Part Terminal Nonterminal} {w : W} {ts : List (Terminal × D)} {e : R} → Refuses rules key p w ts e → Refuses rules key (p · q) w ts e
   refuses_first r = by_cause r (λ fault s. stuck_as s (first_stuck s.reads)) (λ fault s. wrong_as s (takes_first s.takes))
 
-  pub refuses_second : {p q : Part Terminal Nonterminal} {w v : W} {ts between : List (Terminal × D)} {a : Tree (Terminal × D)} {e : R} → Gives rules key p w ts a v between → Refuses rules key q v between e → Refuses rules key (p · q) w ts e
+  pub refuses_second : {p q : Part Terminal Nonterminal} {w v : W} {ts between : List (Terminal × D)} {a : DerivationTree (Terminal × D)} {e : R} → IsPartRead rules key p w ts a v between → Refuses rules key q v between e → Refuses rules key (p · q) w ts e
   refuses_second g r = by_cause r (λ fault s. stuck_behind g s (second_stuck g.reads s.reads)) (λ fault s. wrong_behind g s (takes_second g.reads s.takes))
 
   pub refuses_the : (n : Nonterminal) {w : W} {ts : List (Terminal × D)} {e : R} → Refuses rules key (productions n) w ts e → Refuses rules key (the n) w ts e
@@ -170,7 +170,7 @@ module _ {K D W E R : Type 0} {rules : K → Rule D W E R} {key : K} where
   pub refuses_again : {p : Part Terminal Nonterminal} {w : W} {ts : List (Terminal × D)} {e : R} → leads productions look_ahead p ts ≡ true → Refuses rules key p w ts e → Refuses rules key (many p) w ts e
   refuses_again h r = by_cause r (λ fault s. stuck_as s (again_stuck h s.reads)) (λ fault s. wrong_as s (takes_many s.takes))
 
-  pub refuses_later : {p : Part Terminal Nonterminal} {w v : W} {ts between : List (Terminal × D)} {a : Tree (Terminal × D)} {e : R} → leads productions look_ahead p ts ≡ true → Gives rules key p w ts a v between → Refuses rules key (many p) v between e → Refuses rules key (many p) w ts e
+  pub refuses_later : {p : Part Terminal Nonterminal} {w v : W} {ts between : List (Terminal × D)} {a : DerivationTree (Terminal × D)} {e : R} → leads productions look_ahead p ts ≡ true → IsPartRead rules key p w ts a v between → Refuses rules key (many p) v between e → Refuses rules key (many p) w ts e
   refuses_later l g r = by_cause r (λ fault s. stuck_behind g s (later_stuck l g.reads s.reads)) (λ fault s. wrong_behind g s (takes_later g.reads s.takes))
 
   -- nothing of a part was read, since the next token is unexpected, and this is what is told
@@ -188,10 +188,10 @@ module _ {K D W E R : Type 0} {rules : K → Rule D W E R} {key : K} where
   pub within_the : (n : Nonterminal) {w : W} {ts : List (Terminal × D)} → Within rules key (the n) w ts (productions n) w ts node
   within_the n = record { gives = λ a x last g. gives_the n g; refuses = λ e r. refuses_the n r }
 
-  pub within_second : {p q : Part Terminal Nonterminal} {w v : W} {ts between : List (Terminal × D)} {a : Tree (Terminal × D)} → Gives rules key p w ts a v between → Within rules key (p · q) w ts q v between (λ b. pair a b)
+  pub within_second : {p q : Part Terminal Nonterminal} {w v : W} {ts between : List (Terminal × D)} {a : DerivationTree (Terminal × D)} → IsPartRead rules key p w ts a v between → Within rules key (p · q) w ts q v between (λ b. pair a b)
   within_second g = record { gives = λ a x last h. gives_both g h; refuses = λ e r. refuses_second g r }
 
-  pub within_again : {p : Part Terminal Nonterminal} {w v : W} {ts between : List (Terminal × D)} {a : Tree (Terminal × D)} → leads productions look_ahead p ts ≡ true → Gives rules key p w ts a v between → Within rules key (many p) w ts (many p) v between (λ b. more a b)
+  pub within_again : {p : Part Terminal Nonterminal} {w v : W} {ts between : List (Terminal × D)} {a : DerivationTree (Terminal × D)} → leads productions look_ahead p ts ≡ true → IsPartRead rules key p w ts a v between → Within rules key (many p) w ts (many p) v between (λ b. more a b)
   within_again l g = record { gives = λ a x last h. gives_again l g h; refuses = λ e r. refuses_later l g r }
 
   pub within_some : {p : Part Terminal Nonterminal} {w : W} {ts : List (Terminal × D)} → leads productions look_ahead p ts ≡ true → Within rules key (opt p) w ts p w ts some
@@ -203,5 +203,5 @@ module _ {K D W E R : Type 0} {rules : K → Rule D W E R} {key : K} where
   pub within_right : {p q : Part Terminal Nonterminal} {w : W} {ts : List (Terminal × D)} → leads productions look_ahead p ts ≡ false → leads productions look_ahead q ts ≡ true → Within rules key (p ∣ q) w ts q w ts right
   within_right h l = record { gives = λ a x last g. gives_right h l g; refuses = λ e r. refuses_right h l r }
 
-  pub within_then : {p q s : Part Terminal Nonterminal} {w v x : W} {ts us vs : List (Terminal × D)} {c d : Tree (Terminal × D) → Tree (Terminal × D)} → Within rules key p w ts q v us c → Within rules key q v us s x vs d → Within rules key p w ts s x vs (λ b. c (d b))
+  pub within_then : {p q s : Part Terminal Nonterminal} {w v x : W} {ts us vs : List (Terminal × D)} {c d : DerivationTree (Terminal × D) → DerivationTree (Terminal × D)} → Within rules key p w ts q v us c → Within rules key q v us s x vs d → Within rules key p w ts s x vs (λ b. c (d b))
   within_then {d = d} h k = record { gives = λ a y last g. h.gives (d a) y last (k.gives a y last g); refuses = λ e r. h.refuses e (k.refuses e r) }

@@ -1,7 +1,7 @@
 -- With which tokens the trees of a part may start, and what the first token tells.
 use Rattle.std.proofs.Common.{◌≡◌, Bool, true, false, List, [], ◌∷◌, ◌++◌, refl, sym, ap, ◌∙◌}
 use Rattle.std.specs.Prelude.{⊤}
-use Rattle.gms_grammar.specs.Grammar.{Part, one, the, ◌·◌, ◌∣◌, opt, many, Tree, leaf, pair, left, right, none, some, more, node, yield, IsTree}
+use Rattle.gms_grammar.specs.Grammar.{Part, one, the, ◌·◌, ◌∣◌, opt, many, DerivationTree, leaf, pair, left, right, none, some, more, node, yield, IsTree}
 use Rattle.gms_grammar.specs.LookAhead.{LookAhead, may_be_empty, may_begin, may_go_on, Apart, DecidesEach}
 use Rattle.gms_grammar.specs.Reading.{leads}
 use Rattle.gms_grammar.proofs.Basics.{or_left, or_right, and_both, not_true, both_ways}
@@ -42,7 +42,7 @@ module _ {C N D : Type 0} (production : N → Part C N) (ahead : LookAhead C N) 
   starts_many p (x ∷ u) v h k = h
 
   -- the tokens of a tree start as its part may
-  pub starts : (p : Part C N) (tree : Tree (C × D)) → IsTree production p tree → Starts p (yield tree)
+  pub starts : (p : Part C N) (tree : DerivationTree (C × D)) → IsTree production p tree → Starts p (yield tree)
   starts (one test) (leaf token) h = h
   starts (the n) (node tree) h = starts_as (production n) (the n) _ (λ k. sym (ok.empty_is n) ∙ k) (λ c k. sym (ok.first_is n c) ∙ k) (starts (production n) tree h)
   starts (p · q) (pair a b) h = starts_both p q _ _ (starts p a h.0) (starts q b h.1)

@@ -1,7 +1,7 @@
 -- A reader finds something in all tokens.
 use Rattle.std.proofs.Common.{◌≡◌, ◌⊎◌, inl, inr, ℕ, zero, suc, ◌<◌, ◌≤◌, max, Bool, true, not, List, [], ◌∷◌, ◌++◌, length, refl, ap, subst, arith, ltb-true, lt-ltb, length-append}
 use Rattle.std.proofs.lemmas.Bool.{cases_Bool}
-use Rattle.gms_grammar.specs.Grammar.{Part, one, the, ◌·◌, ◌∣◌, opt, many, Tree, yield}
+use Rattle.gms_grammar.specs.Grammar.{Part, one, the, ◌·◌, ◌∣◌, opt, many, DerivationTree, yield}
 use Rattle.gms_grammar.specs.LookAhead.{LookAhead, may_be_empty, IsDecided, DecidesEach, ranks_below}
 use Rattle.gms_grammar.specs.Reading.{Found, read, stuck, leads, Reads, taken, refused, entered, entered_stuck, both, first_stuck, second_stuck, in_left, in_left_stuck, in_right, in_right_stuck, in_neither, left_out, there, there_stuck, no_more, again, again_stuck, later_stuck}
 use Rattle.gms_grammar.proofs.Basics.{both_ways, and_both, or_right}
@@ -42,7 +42,7 @@ module _ {C N : Type 0} (D : Type 0) (production : N → Part C N) (ahead : Look
   by {found = found} r = record { found = found; reads = r }
 
   -- what follows from a tree that is found, and from where a reader is stuck
-  each : {X : Type 0} {p : Part C N} {tokens : List (C × D)} → Finds p tokens → ((tree : Tree (C × D)) (rest : List (C × D)) → Reads production ahead p tokens (read tree rest) → X) → ((front rest : List (C × D)) → Reads production ahead p tokens (stuck front rest) → X) → X
+  each : {X : Type 0} {p : Part C N} {tokens : List (C × D)} → Finds p tokens → ((tree : DerivationTree (C × D)) (rest : List (C × D)) → Reads production ahead p tokens (read tree rest) → X) → ((front rest : List (C × D)) → Reads production ahead p tokens (stuck front rest) → X) → X
   each {X = X} {p = p} {tokens = tokens} f at_tree at_stuck = go f.found f.reads
     where
       go : (found : Found (C × D)) → Reads production ahead p tokens found → X
@@ -52,7 +52,7 @@ module _ {C N : Type 0} (D : Type 0) (production : N → Part C N) (ahead : Look
   finds_the : (n : N) (tokens : List (C × D)) → Finds (production n) tokens → Finds (the n) tokens
   finds_the n tokens f = each f (λ tree rest r. by (entered r)) (λ front rest r. by (entered_stuck r))
 
-  finds_pair : (p q : Part C N) (tokens : List (C × D)) → Finds p tokens → ((a : Tree (C × D)) (between : List (C × D)) → Reads production ahead p tokens (read a between) → Finds q between) → Finds (p · q) tokens
+  finds_pair : (p q : Part C N) (tokens : List (C × D)) → Finds p tokens → ((a : DerivationTree (C × D)) (between : List (C × D)) → Reads production ahead p tokens (read a between) → Finds q between) → Finds (p · q) tokens
   finds_pair p q tokens f then =
       each f (λ a between r. each (then a between r) (λ b rest s. by (both r s)) (λ front rest s. by (second_stuck r s)))
       (λ front rest r. by (first_stuck r))
@@ -71,7 +71,7 @@ module _ {C N : Type 0} (D : Type 0) (production : N → Part C N) (ahead : Look
   finds_opt p tokens f =
       elim (cases_Bool (leads production ahead p tokens)) [ inl h ↦ each f (λ tree rest r. by (there h r)) (λ front rest r. by (there_stuck h r)) | inr h ↦ by (left_out h) ]
 
-  finds_many : (p : Part C N) (tokens : List (C × D)) → Finds p tokens → ((a : Tree (C × D)) (between : List (C × D)) → Reads production ahead p tokens (read a between) → Finds (many p) between) → Finds (many p) tokens
+  finds_many : (p : Part C N) (tokens : List (C × D)) → Finds p tokens → ((a : DerivationTree (C × D)) (between : List (C × D)) → Reads production ahead p tokens (read a between) → Finds (many p) between) → Finds (many p) tokens
   finds_many p tokens f then =
       elim (cases_Bool (leads production ahead p tokens)) [
         | inl h ↦ each f (λ a between r. each (then a between r) (λ b rest s. by (again h r s)) (λ front rest s. by (later_stuck h r s)))
@@ -80,7 +80,7 @@ module _ {C N : Type 0} (D : Type 0) (production : N → Part C N) (ahead : Look
       ]
 
   -- after a part, the tokens are the same, and the part may be empty, or they are fewer
-  left_over : (p : Part C N) (tokens : List (C × D)) (a : Tree (C × D)) (between : List (C × D)) → Reads production ahead p tokens (read a between) → ((tokens ≡ between) × (may_be_empty ahead p ≡ true)) ⊎ (length between < length tokens)
+  left_over : (p : Part C N) (tokens : List (C × D)) (a : DerivationTree (C × D)) (between : List (C × D)) → Reads production ahead p tokens (read a between) → ((tokens ≡ between) × (may_be_empty ahead p ≡ true)) ⊎ (length between < length tokens)
   left_over p tokens a between r =
       let s = sound production ahead r in
       go (yield a) s.1 (starts production ahead ok p a s.0)
@@ -98,7 +98,7 @@ module _ {C N : Type 0} (D : Type 0) (production : N → Part C N) (ahead : Look
       finds_pair p q tokens (finds_part bound limit shorter below p _ d.0 (left_and _ _ h) tokens l)
       (next (finds_part bound limit shorter below q after d.1))
     where
-      next : (ranks_below ahead limit q ≡ true → (tokens : List (C × D)) → length tokens ≤ bound → Finds q tokens) → (a : Tree (C × D)) (between : List (C × D)) → Reads production ahead p tokens (read a between) → Finds q between
+      next : (ranks_below ahead limit q ≡ true → (tokens : List (C × D)) → length tokens ≤ bound → Finds q tokens) → (a : DerivationTree (C × D)) (between : List (C × D)) → Reads production ahead p tokens (read a between) → Finds q between
       next same a between r =
           elim (left_over p tokens a between r) [
             | inl k ↦ same (implied (may_be_empty ahead p) _ (right_and (ranks_below ahead limit p) _ h) k.1) between (subst (λ w. length w ≤ bound) k.0 l)
@@ -111,7 +111,7 @@ module _ {C N : Type 0} (D : Type 0) (production : N → Part C N) (ahead : Look
   finds_part bound limit shorter below (many p) after d h tokens l =
       finds_many p tokens (finds_part bound limit shorter below p _ d.2 h tokens l) next
     where
-      next : (a : Tree (C × D)) (between : List (C × D)) → Reads production ahead p tokens (read a between) → Finds (many p) between
+      next : (a : DerivationTree (C × D)) (between : List (C × D)) → Reads production ahead p tokens (read a between) → Finds (many p) between
       next a between r = elim (left_over p tokens a between r) [ inl k ↦ absurd (both_ways _ k.1 d.0) | inr k ↦ shorter (many p) after d between (omega arith) ]
 
   finds_ranked : (bound limit : ℕ) → Shorter bound → (n : N) (tokens : List (C × D)) → ahead.rank n < limit → length tokens ≤ bound → Finds (the n) tokens

@@ -6,7 +6,7 @@ use Rattle.std.specs.Prelude.{List, [], ◌∷◌}
 use Rattle.gms_grammar.specs.declared.terminal.Terminal.{Terminal}
 use Rattle.gms_grammar.specs.declared.terminal.Terminal.TheVariants.{Abort, Alias, Display, Equation, Loop, Model, Option, Parameter, Scalar, Set, Solve, Table, Variable, VariableType, Name, Suffix, Function, OrdCard, FoldOp, Infinity, NotAvailable, YesNo, Not, And, Or, RelationWord, All, Using, Direction, Reserved, Label, Number, Text, LongText, Sense, Power, DotDot, Relation, Circular, Sign, Star, Slash, Equals, LeftParen, RightParen, Comma, Semicolon, Dot, Dollar, Break, TableLine}
 use Rattle.gms_grammar.specs.Grammar.{Part, one, the, ◌·◌, ◌∣◌, opt, many}
-use Rattle.gms_grammar.specs.Terminals.{is, is_among}
+use Rattle.gms_grammar.specs.Terminals.{is, is_terminal_among}
 
 -- The parts of a program for which there is a production.
 pub data Nonterminal : Type 0 where
@@ -30,7 +30,7 @@ token kind = one (is kind)
 
 -- one token of some kinds
 abbrev pub any_of : List Terminal → Part Terminal Nonterminal
-any_of kinds = one (is_among kinds)
+any_of kinds = one (is_terminal_among kinds)
 
 -- a name: a word that is not reserved
 abbrev pub name : Part Terminal Nonterminal
@@ -47,8 +47,8 @@ abbrev pub bracketed : Part Terminal Nonterminal → Part Terminal Nonterminal
 bracketed part = token LeftParen · part · token RightParen
 
 -- parts with commas between them
-abbrev pub listed : Part Terminal Nonterminal → Part Terminal Nonterminal
-listed part = part · many (token Comma · part)
+abbrev pub comma_list : Part Terminal Nonterminal → Part Terminal Nonterminal
+comma_list part = part · many (token Comma · part)
 
 -- the elements of a list between slashes, with commas or line ends between them
 abbrev pub separated : Part Terminal Nonterminal → Part Terminal Nonterminal
@@ -76,15 +76,15 @@ productions Condition = token Dollar · opt (token Not) · the Primary
 productions Primary = any_of (Number ∷ Infinity ∷ NotAvailable ∷ YesNo ∷ []) ∣ the Target ∣ the Call ∣ the Fold ∣ bracketed (the Expression)
 productions Target = name · opt (the Attribute) · opt (bracketed (the IndexList))
 productions Attribute = token Dot · token Suffix
-productions IndexList = listed (the Index)
+productions IndexList = comma_list (the Index)
 productions Index = token Text ∣ name · opt (the Lag)
 productions Lag = any_of (Sign ∷ Circular ∷ []) · the LagAmount
 productions LagAmount = token Number ∣ name ∣ bracketed (the Expression)
 productions Call = token Function · bracketed (the ExpressionList) ∣ token OrdCard · bracketed name
-productions ExpressionList = listed (the Expression)
+productions ExpressionList = comma_list (the Expression)
 productions Fold = token FoldOp · bracketed (the Control · token Comma · the Expression)
 productions Control = (name ∣ bracketed (the NameList)) · opt (the Condition)
-productions NameList = listed name
+productions NameList = comma_list name
 -- A program: { [statement] ";" } [statement], where ";" may be left out before a statement keyword.
 -- Between two semicolons there is at most one statement that begins with a name, which comes first,
 -- and then any number of those that begin with a keyword.
@@ -114,9 +114,9 @@ productions Assignment = the Target · the AfterTarget
 -- The other statements.
 productions AliasStatement = token Alias · bracketed (name · token Comma · name)
 productions DisplayStatement = token Display · the ShownList
-productions ShownList = listed (the Shown)
+productions ShownList = comma_list (the Shown)
 productions Shown = any_of (Text ∷ LongText ∷ []) ∣ name · opt (the Attribute)
-productions OptionStatement = token Option · listed (the Setting)
+productions OptionStatement = token Option · comma_list (the Setting)
 productions Setting = word · token Equals · (token Number ∣ word)
 productions SolveStatement = token Solve · name · (token Using · word · token Direction · name ∣ token Direction · name · token Using · word)
 productions AbortStatement = token Abort · opt (the Condition) · opt (the ShownList)
@@ -128,7 +128,7 @@ productions SetList = separated (the Element)
 productions Element = the ElementPart · many (token Dot · the ElementPart)
 productions ElementPart = the Range ∣ bracketed (the RangeList)
 productions Range = token Label · opt (token Star · token Label)
-productions RangeList = listed (the Range)
+productions RangeList = comma_list (the Range)
 productions ParameterStatement = token Parameter · the ParameterItems
 productions ParameterItems = items ParameterItem ParameterItems
 productions ParameterItem = name · opt (the Domain) · opt (token Slash · the ParameterList · token Slash)
@@ -148,5 +148,5 @@ productions ModelItems = items ModelItem ModelItems
 productions ModelItem = name · opt (token Slash · the ModelList · token Slash)
 productions ModelList = token All ∣ separated name
 productions Domain = bracketed (the DomainList)
-productions DomainList = listed (the DomainPosition)
+productions DomainList = comma_list (the DomainPosition)
 productions DomainPosition = token Star ∣ name

@@ -4,7 +4,7 @@ use Rattle.std.specs.Prelude.{ℕ, Bool, true, false, List, [], ◌∷◌}
 use Rattle.gms_grammar.specs.declared.terminal.Terminal.{Terminal}
 use Rattle.gms_grammar.specs.declared.terminal.Terminal.TheVariants.{Abort, Alias, Display, Equation, Loop, Model, Option, Parameter, Scalar, Set, Solve, Table, Variable, VariableType, Name, Suffix, Function, OrdCard, FoldOp, Infinity, NotAvailable, YesNo, Not, And, Or, RelationWord, All, Using, Direction, Reserved, Label, Number, Text, LongText, Sense, Power, DotDot, Relation, Circular, Sign, Star, Slash, Equals, LeftParen, RightParen, Comma, Semicolon, Dot, Dollar, Break, TableLine}
 use Rattle.gms_grammar.specs.LookAhead.{LookAhead}
-use Rattle.gms_grammar.specs.Terminals.{is_among}
+use Rattle.gms_grammar.specs.Terminals.{is_terminal_among}
 use Rattle.gms_grammar.specs.GamsGrammar.{Nonterminal, Expression, Conjunction, Negation, Comparison, Sum, Product, PowerTerm, Guarded, Condition, Primary, Target, Attribute, IndexList, Index, Lag, LagAmount, Call, ExpressionList, Fold, Control, NameList, Program, Segment, KeywordStatement, NamedStatement, AfterName, HeadIndices, AfterHeadName, AfterHeadIndex, AfterLag, AfterHead, AfterTarget, Sides, LoopStatement, LoopBody, InnerStatement, Assignment, AliasStatement, DisplayStatement, ShownList, Shown, OptionStatement, Setting, SolveStatement, AbortStatement, SetStatement, SetItems, SetItem, SetList, Element, ElementPart, Range, RangeList, ParameterStatement, ParameterItems, ParameterItem, ParameterList, Entry, Value, ScalarStatement, ScalarItems, ScalarItem, TableStatement, VariableStatement, EquationStatement, PlainItems, PlainItem, ModelStatement, ModelItems, ModelItem, ModelList, Domain, DomainList, DomainPosition}
 
 -- the kinds of tokens that may come first in a nonterminal
@@ -323,4 +323,4 @@ front_rank DomainPosition = 0
 
 -- what one token tells
 abbrev pub look_ahead : LookAhead Terminal Nonterminal
-look_ahead = record { first = λ n. is_among (firsts n); follow = λ n. is_among (follows n); empty = is_empty; depth = least_depth; rank = front_rank }
+look_ahead = record { first = λ n. is_terminal_among (firsts n); follow = λ n. is_terminal_among (follows n); empty = is_empty; depth = least_depth; rank = front_rank }

@@ -21,26 +21,26 @@ pub data Part (C N : Type 0) : Type 0 where
 infixr 5 ◌·◌
 infixr 4 ◌∣◌
 -- A tree of tokens, in which each part of a production has its place.
-pub data Tree (T : Type 0) : Type 0 where
+pub data DerivationTree (T : Type 0) : Type 0 where
   -- of one token
-  leaf : T → Tree T
+  leaf : T → DerivationTree T
   -- of one part and then another
-  pair : Tree T → Tree T → Tree T
+  pair : DerivationTree T → DerivationTree T → DerivationTree T
   -- of the first of two alternatives
-  left : Tree T → Tree T
+  left : DerivationTree T → DerivationTree T
   -- of the second
-  right : Tree T → Tree T
+  right : DerivationTree T → DerivationTree T
   -- of an optional part that is left out, and of no further repetition
-  none : Tree T
+  none : DerivationTree T
   -- of an optional part that is present
-  some : Tree T → Tree T
+  some : DerivationTree T → DerivationTree T
   -- of a repetition and those after it
-  more : Tree T → Tree T → Tree T
+  more : DerivationTree T → DerivationTree T → DerivationTree T
   -- of a nonterminal
-  node : Tree T → Tree T
+  node : DerivationTree T → DerivationTree T
 
 -- the tokens of a tree, in order
-abbrev pub yield : {T : Type 0} → Tree T → List T
+abbrev pub yield : {T : Type 0} → DerivationTree T → List T
 yield (leaf token) = token ∷ []
 yield (pair a b) = yield a ++ yield b
 yield (left tree) = yield tree
@@ -54,7 +54,7 @@ yield (node tree) = yield tree
 -- it.
 module _ {C N D : Type 0} (production : N → Part C N) where
   -- a tree is one of a part
-  abbrev pub IsTree : Part C N → Tree (C × D) → Type 0
+  abbrev pub IsTree : Part C N → DerivationTree (C × D) → Type 0
   IsTree (one test) (leaf token) = test token.0 ≡ true
   IsTree (the n) (node tree) = IsTree (production n) tree
   IsTree (p · q) (pair a b) = IsTree p a × IsTree q b
@@ -68,7 +68,7 @@ module _ {C N D : Type 0} (production : N → Part C N) where
 
   -- A part derives the tokens, by a tree.
   pub record Derives (part : Part C N) (tokens : List (C × D)) : Type 0 where
-    pub tree : Tree (C × D)
+    pub tree : DerivationTree (C × D)
     pub is_tree : IsTree part tree
     pub yields : yield tree ≡ tokens
 

@@ -3,7 +3,7 @@
 use Rattle.gms_grammar.specs.declared.terminal.Terminal.{Terminal}
 use Rattle.gms_grammar.specs.declared.terminal.Terminal.TheVariants.{Comma, Semicolon, DotDot, Text, Break}
 use Rattle.gms_grammar.specs.Grammar.{Part, the, ◌·◌, ◌∣◌, opt, many}
-use Rattle.gms_grammar.specs.GamsGrammar.{Nonterminal, Condition, NamedStatement, KeywordStatement, Assignment, Sides, InnerStatement, token, name, bracketed, listed}
+use Rattle.gms_grammar.specs.GamsGrammar.{Nonterminal, Condition, NamedStatement, KeywordStatement, Assignment, Sides, InnerStatement, token, name, bracketed, comma_list}
 
 -- A statement: one that begins with a name, or one that begins with a keyword.
 abbrev pub statement : Part Terminal Nonterminal
@@ -17,7 +17,7 @@ plain_program = opt statement · many (token Semicolon · opt statement ∣ the 
 -- A definition of an equation: a name, perhaps with texts and names as indices, perhaps a
 -- condition, and the sides.
 abbrev pub plain_definition : Part Terminal Nonterminal
-plain_definition = name · opt (bracketed (listed (token Text ∣ name))) · opt (the Condition) · token DotDot · the Sides
+plain_definition = name · opt (bracketed (comma_list (token Text ∣ name))) · opt (the Condition) · token DotDot · the Sides
 
 -- A statement that begins with a name: an assignment or a definition.
 abbrev pub plain_named : Part Terminal Nonterminal

@@ -1,13 +1,13 @@
 -- Reading tokens by a grammar that one token decides, without backtracking (Aho, Lam, Sethi and
 -- Ullman, "Compilers", section 4.4: predictive parsing).
 use Rattle.std.specs.Prelude.{◌≡◌, Bool, true, false, List, [], ◌∷◌, ◌++◌}
-use Rattle.gms_grammar.specs.Grammar.{Part, one, the, ◌·◌, ◌∣◌, opt, many, Tree, leaf, pair, left, right, none, some, more, node, yield}
+use Rattle.gms_grammar.specs.Grammar.{Part, one, the, ◌·◌, ◌∣◌, opt, many, DerivationTree, leaf, pair, left, right, none, some, more, node, yield}
 use Rattle.gms_grammar.specs.LookAhead.{LookAhead, may_begin}
 
 -- What a reader finds.
 pub data Found (T : Type 0) : Type 0 where
   -- a tree, and the tokens after it
-  read : Tree T → List T → Found T
+  read : DerivationTree T → List T → Found T
   -- the tokens read until no token could continue, and the rest
   stuck : List T → List T → Found T
 
@@ -23,37 +23,37 @@ module _ {C N D : Type 0} (production : N → Part C N) (ahead : LookAhead C N) 
     taken : {test : C → Bool} {token : C × D} {rest : List (C × D)} →
         test token.0 ≡ true → Reads (one test) (token ∷ rest) (read (leaf token) rest)
     refused : {test : C → Bool} {tokens : List (C × D)} → leads (one test) tokens ≡ false → Reads (one test) tokens (stuck [] tokens)
-    entered : {n : N} {tokens rest : List (C × D)} {tree : Tree (C × D)} →
+    entered : {n : N} {tokens rest : List (C × D)} {tree : DerivationTree (C × D)} →
         Reads (production n) tokens (read tree rest) → Reads (the n) tokens (read (node tree) rest)
     entered_stuck : {n : N} {tokens front rest : List (C × D)} →
         Reads (production n) tokens (stuck front rest) → Reads (the n) tokens (stuck front rest)
-    both : {p q : Part C N} {tokens between rest : List (C × D)} {a b : Tree (C × D)} →
+    both : {p q : Part C N} {tokens between rest : List (C × D)} {a b : DerivationTree (C × D)} →
         Reads p tokens (read a between) → Reads q between (read b rest) → Reads (p · q) tokens (read (pair a b) rest)
     first_stuck : {p q : Part C N} {tokens front rest : List (C × D)} →
         Reads p tokens (stuck front rest) → Reads (p · q) tokens (stuck front rest)
-    second_stuck : {p q : Part C N} {tokens between front rest : List (C × D)} {a : Tree (C × D)} →
+    second_stuck : {p q : Part C N} {tokens between front rest : List (C × D)} {a : DerivationTree (C × D)} →
         Reads p tokens (read a between) → Reads q between (stuck front rest) → Reads (p · q) tokens (stuck (yield a ++ front) rest)
-    in_left : {p q : Part C N} {tokens rest : List (C × D)} {tree : Tree (C × D)} →
+    in_left : {p q : Part C N} {tokens rest : List (C × D)} {tree : DerivationTree (C × D)} →
         leads p tokens ≡ true → Reads p tokens (read tree rest) → Reads (p ∣ q) tokens (read (left tree) rest)
     in_left_stuck : {p q : Part C N} {tokens front rest : List (C × D)} →
         leads p tokens ≡ true → Reads p tokens (stuck front rest) → Reads (p ∣ q) tokens (stuck front rest)
-    in_right : {p q : Part C N} {tokens rest : List (C × D)} {tree : Tree (C × D)} →
+    in_right : {p q : Part C N} {tokens rest : List (C × D)} {tree : DerivationTree (C × D)} →
         leads p tokens ≡ false → leads q tokens ≡ true → Reads q tokens (read tree rest) → Reads (p ∣ q) tokens (read (right tree) rest)
     in_right_stuck : {p q : Part C N} {tokens front rest : List (C × D)} →
         leads p tokens ≡ false → leads q tokens ≡ true → Reads q tokens (stuck front rest) → Reads (p ∣ q) tokens (stuck front rest)
     in_neither : {p q : Part C N} {tokens : List (C × D)} →
         leads p tokens ≡ false → leads q tokens ≡ false → Reads (p ∣ q) tokens (stuck [] tokens)
     left_out : {p : Part C N} {tokens : List (C × D)} → leads p tokens ≡ false → Reads (opt p) tokens (read none tokens)
-    there : {p : Part C N} {tokens rest : List (C × D)} {tree : Tree (C × D)} →
+    there : {p : Part C N} {tokens rest : List (C × D)} {tree : DerivationTree (C × D)} →
         leads p tokens ≡ true → Reads p tokens (read tree rest) → Reads (opt p) tokens (read (some tree) rest)
     there_stuck : {p : Part C N} {tokens front rest : List (C × D)} →
         leads p tokens ≡ true → Reads p tokens (stuck front rest) → Reads (opt p) tokens (stuck front rest)
     no_more : {p : Part C N} {tokens : List (C × D)} → leads p tokens ≡ false → Reads (many p) tokens (read none tokens)
-    again : {p : Part C N} {tokens between rest : List (C × D)} {a b : Tree (C × D)} →
+    again : {p : Part C N} {tokens between rest : List (C × D)} {a b : DerivationTree (C × D)} →
         leads p tokens ≡ true → Reads p tokens (read a between) → Reads (many p) between (read b rest) → Reads (many p) tokens (read (more a b) rest)
     again_stuck : {p : Part C N} {tokens front rest : List (C × D)} →
         leads p tokens ≡ true → Reads p tokens (stuck front rest) → Reads (many p) tokens (stuck front rest)
-    later_stuck : {p : Part C N} {tokens between front rest : List (C × D)} {a : Tree (C × D)} →
+    later_stuck : {p : Part C N} {tokens between front rest : List (C × D)} {a : DerivationTree (C × D)} →
         leads p tokens ≡ true →
         Reads p tokens (read a between) → Reads (many p) between (stuck front rest) → Reads (many p) tokens (stuck (yield a ++ front) rest)
 
@@ -63,11 +63,11 @@ module _ {C N D : Type 0} (production : N → Part C N) (ahead : LookAhead C N) 
         test token.0 ≡ true → Takes (one test) (token ∷ rest) (token ∷ []) rest
     takes_the : {n : N} {tokens front rest : List (C × D)} → Takes (production n) tokens front rest → Takes (the n) tokens front rest
     takes_first : {p q : Part C N} {tokens front rest : List (C × D)} → Takes p tokens front rest → Takes (p · q) tokens front rest
-    takes_second : {p q : Part C N} {tokens between front rest : List (C × D)} {a : Tree (C × D)} →
+    takes_second : {p q : Part C N} {tokens between front rest : List (C × D)} {a : DerivationTree (C × D)} →
         Reads p tokens (read a between) → Takes q between front rest → Takes (p · q) tokens (yield a ++ front) rest
     takes_left : {p q : Part C N} {tokens front rest : List (C × D)} → Takes p tokens front rest → Takes (p ∣ q) tokens front rest
     takes_right : {p q : Part C N} {tokens front rest : List (C × D)} → Takes q tokens front rest → Takes (p ∣ q) tokens front rest
     takes_opt : {p : Part C N} {tokens front rest : List (C × D)} → Takes p tokens front rest → Takes (opt p) tokens front rest
     takes_many : {p : Part C N} {tokens front rest : List (C × D)} → Takes p tokens front rest → Takes (many p) tokens front rest
-    takes_later : {p : Part C N} {tokens between front rest : List (C × D)} {a : Tree (C × D)} →
+    takes_later : {p : Part C N} {tokens between front rest : List (C × D)} {a : DerivationTree (C × D)} →
         Reads p tokens (read a between) → Takes (many p) between front rest → Takes (many p) tokens (yield a ++ front) rest

@@ -4,7 +4,7 @@
 use Rattle.std.specs.Prelude.{◌≡◌, ◌⊎◌, List, [], ◌∷◌, ◌++◌, ⊤}
 use Rattle.gms_grammar.specs.declared.terminal.Terminal.{Terminal}
 use Rattle.gms_grammar.specs.declared.terminal.Terminal.TheVariants.{End}
-use Rattle.gms_grammar.specs.Grammar.{Part, the, Tree, yield, Stops}
+use Rattle.gms_grammar.specs.Grammar.{Part, the, DerivationTree, yield, Stops}
 use Rattle.gms_grammar.specs.Reading.{read, stuck, Reads, Takes}
 use Rattle.gms_grammar.specs.GamsGrammar.{Nonterminal, productions}
 use Rattle.gms_grammar.specs.GamsLookAhead.{look_ahead}
@@ -36,17 +36,17 @@ left_by after w [] ahead = w
 left_by after w (token ∷ tokens) ahead = left_by after (after w token (kind_ahead tokens ahead)) tokens ahead
 
 -- none of the tokens has a fault
-abbrev pub AreSound : {D W E R : Type 0} → Rule D W E R → W → List (Terminal × D) → Terminal → Type 0
-AreSound rule w [] ahead = ⊤
-AreSound {E = E} rule w (token ∷ tokens) ahead =
-    ((fault : E) → rule.Faulty w token (kind_ahead tokens ahead) fault → ⊥) × AreSound rule (rule.after w token (kind_ahead tokens ahead)) tokens ahead
+abbrev pub AreFaultless : {D W E R : Type 0} → Rule D W E R → W → List (Terminal × D) → Terminal → Type 0
+AreFaultless rule w [] ahead = ⊤
+AreFaultless {E = E} rule w (token ∷ tokens) ahead =
+    ((fault : E) → rule.Faulty w token (kind_ahead tokens ahead) fault → ⊥) × AreFaultless rule (rule.after w token (kind_ahead tokens ahead)) tokens ahead
 
 -- Below, there is a rule for each K, such as a source.
 module _ {K D W E R : Type 0} (rules : K → Rule D W E R) (key : K) where
   -- a part was read: its tree, and the state after its tokens
-  pub record Gives (part : Part Terminal Nonterminal) (w : W) (tokens : List (Terminal × D)) (tree : Tree (Terminal × D)) (v : W) (rest : List (Terminal × D)) : Type 0 where
+  pub record IsPartRead (part : Part Terminal Nonterminal) (w : W) (tokens : List (Terminal × D)) (tree : DerivationTree (Terminal × D)) (v : W) (rest : List (Terminal × D)) : Type 0 where
     pub reads : Reads productions look_ahead part tokens (read tree rest)
-    pub are_sound : AreSound (rules key) w (yield tree) (kind_of rest)
+    pub are_sound : AreFaultless (rules key) w (yield tree) (kind_of rest)
     pub leaves : v ≡ left_by (rules key).after w (yield tree) (kind_of rest)
 
   -- within a part the next token is unexpected, and none before it has a fault
@@ -54,7 +54,7 @@ module _ {K D W E R : Type 0} (rules : K → Rule D W E R) (key : K) where
     pub front : List (Terminal × D)
     pub rest : List (Terminal × D)
     pub reads : Reads productions look_ahead part tokens (stuck front rest)
-    pub are_sound : AreSound (rules key) w front (kind_of rest)
+    pub are_sound : AreFaultless (rules key) w front (kind_of rest)
     pub is : fault ≡ (rules key).unexpected rest
 
   -- within a part a token has a fault, and none before it has one
@@ -63,7 +63,7 @@ module _ {K D W E R : Type 0} (rules : K → Rule D W E R) (key : K) where
     pub token : Terminal × D
     pub behind : List (Terminal × D)
     pub takes : Takes productions look_ahead part tokens (before ++ token ∷ []) behind
-    pub are_sound : AreSound (rules key) w before token.0
+    pub are_sound : AreFaultless (rules key) w before token.0
     pub is_faulty : (rules key).Faulty (left_by (rules key).after w before token.0) token (kind_of behind) fault
 
   -- why a part was not read; out of memory has no cause in it
@@ -71,8 +71,8 @@ module _ {K D W E R : Type 0} (rules : K → Rule D W E R) (key : K) where
     pub why : (fault : E) → refusal ≡ (rules key).told fault → IsStuck part w tokens fault ⊎ IsWrong part w tokens fault
 
   -- the place of a part within a larger one, and the tree around its tree
-  pub record Within (part : Part Terminal Nonterminal) (w : W) (tokens : List (Terminal × D)) (inner : Part Terminal Nonterminal) (v : W) (rest : List (Terminal × D)) (context : Tree (Terminal × D) → Tree (Terminal × D)) : Type 0 where
-    pub gives : (a : Tree (Terminal × D)) (x : W) (last : List (Terminal × D)) → Gives inner v rest a x last → Gives part w tokens (context a) x last
+  pub record Within (part : Part Terminal Nonterminal) (w : W) (tokens : List (Terminal × D)) (inner : Part Terminal Nonterminal) (v : W) (rest : List (Terminal × D)) (context : DerivationTree (Terminal × D) → DerivationTree (Terminal × D)) : Type 0 where
+    pub gives : (a : DerivationTree (Terminal × D)) (x : W) (last : List (Terminal × D)) → IsPartRead inner v rest a x last → IsPartRead part w tokens (context a) x last
     pub refuses : (e : R) → Refuses inner v rest e → Refuses part w tokens e
 
   -- The first faulty one of the tokens, if one of kind `ahead` follows them.
@@ -81,22 +81,22 @@ module _ {K D W E R : Type 0} (rules : K → Rule D W E R) (key : K) where
     pub token : Terminal × D
     pub behind : List (Terminal × D)
     pub parts : front ≡ before ++ token ∷ behind
-    pub are_sound : AreSound (rules key) w before token.0
+    pub are_sound : AreFaultless (rules key) w before token.0
     pub is_faulty : (rules key).Faulty (left_by (rules key).after w before token.0) token (kind_ahead behind ahead) fault
 
   -- None of the tokens before is faulty, and the next one is unexpected, since they require more.
-  pub record IsUnexpected (Wants : Type 0) (w : W) (front rest : List (Terminal × D)) (fault : E) : Type 0 where
+  pub record IsUnexpectedByRule (Wants : Type 0) (w : W) (front rest : List (Terminal × D)) (fault : E) : Type 0 where
     pub wants : Wants
-    pub are_sound : AreSound (rules key) w front (kind_of rest)
+    pub are_sound : AreFaultless (rules key) w front (kind_of rest)
     pub is : fault ≡ (rules key).unexpected rest
 
   -- The first fault of tokens: it is where they cease to begin what is read, if they require more
   -- there, or before that.
-  pub record IsRefused (Wants : List (Terminal × D) → List (Terminal × D) → Type 0) (n : Nonterminal) (w : W) (tokens : List (Terminal × D)) (fault : E) : Type 0 where
+  pub record IsRefusedByRule (Wants : List (Terminal × D) → List (Terminal × D) → Type 0) (n : Nonterminal) (w : W) (tokens : List (Terminal × D)) (fault : E) : Type 0 where
     pub front : List (Terminal × D)
     pub rest : List (Terminal × D)
     pub stops : Stops productions (the n) tokens front rest
-    pub cause : IsFirstFaulty w front (kind_of rest) fault ⊎ IsUnexpected (Wants front rest) w front rest fault
+    pub cause : IsFirstFaulty w front (kind_of rest) fault ⊎ IsUnexpectedByRule (Wants front rest) w front rest fault
 
 -- a token has at most one fault
 abbrev pub FaultsOnce : {D W E R : Type 0} → Rule D W E R → Type 0

@@ -1,7 +1,7 @@
 //! Laws of the grammar. In each, `D` is what a token tells beside its kind, as its place.
 ghost use Rattle.std.specs.Prelude.{◌≡◌, ◌↔◌, List, [], ◌++◌};
 ghost use Rattle.gms_grammar.specs.declared.terminal.Terminal.{Terminal};
-ghost use Rattle.gms_grammar.specs.Grammar.{the, Tree, yield, IsTree, Derives, Begins, Stops};
+ghost use Rattle.gms_grammar.specs.Grammar.{the, DerivationTree, yield, IsTree, Derives, Begins, Stops};
 ghost use Rattle.gms_grammar.specs.Reading.{Found, read, stuck, Reads, Takes};
 ghost use Rattle.gms_grammar.specs.GamsGrammar.{Nonterminal, Program, NamedStatement, LoopBody, SetItems, SetItem, ParameterItems, ParameterItem, ScalarItems, ScalarItem, PlainItems, PlainItem, ModelItems, ModelItem, productions};
 ghost use Rattle.gms_grammar.specs.PlainGrammar.{plain_program, plain_named, plain_body, plain_items};
@@ -12,7 +12,7 @@ ghost use Rattle.gms_grammar.specs.GamsLookAhead.{look_ahead};
 /// Its derivation of a list of tokens is unique. Each list of tokens has exactly one longest prefix
 /// that begins something it derives, so at most one token of the list is the first unexpected one.
 pub fn derivation_laws<D>()
-    ensures one_tree { (n : Nonterminal) (one other : Tree (Terminal × D)) →
+    ensures one_tree { (n : Nonterminal) (one other : DerivationTree (Terminal × D)) →
         IsTree productions (the n) one → IsTree productions (the n) other → yield one ≡ yield other → one ≡ other }
     ensures stops { D → (n : Nonterminal) (tokens : List (Terminal × D)) →
         (front : List (Terminal × D)) × ((rest : List (Terminal × D)) × Stops productions (the n) tokens front rest) }
@@ -30,15 +30,15 @@ pub fn derivation_laws<D>()
 pub fn reading_laws<D>()
     ensures finds { (n : Nonterminal) (tokens : List (Terminal × D)) →
         (found : Found (Terminal × D)) × Reads productions look_ahead (the n) tokens found }
-    ensures tree { (n : Nonterminal) (tokens rest : List (Terminal × D)) (tree : Tree (Terminal × D)) →
+    ensures tree { (n : Nonterminal) (tokens rest : List (Terminal × D)) (tree : DerivationTree (Terminal × D)) →
         Reads productions look_ahead (the n) tokens (read tree rest) → IsTree productions (the n) tree }
-    ensures longest { D → (n : Nonterminal) (tokens rest : List (Terminal × D)) (tree : Tree (Terminal × D)) →
+    ensures longest { D → (n : Nonterminal) (tokens rest : List (Terminal × D)) (tree : DerivationTree (Terminal × D)) →
         Reads productions look_ahead (the n) tokens (read tree rest) → Stops productions (the n) tokens (yield tree) rest }
     ensures unexpected { D → (n : Nonterminal) (tokens front rest : List (Terminal × D)) →
         Reads productions look_ahead (the n) tokens (stuck front rest) → Stops productions (the n) tokens front rest }
     ensures unfinished { D → (n : Nonterminal) (tokens front rest : List (Terminal × D)) →
         Reads productions look_ahead (the n) tokens (stuck front rest) → Derives productions (the n) front → ⊥ }
-    ensures complete { (n : Nonterminal) (tree : Tree (Terminal × D)) →
+    ensures complete { (n : Nonterminal) (tree : DerivationTree (Terminal × D)) →
         IsTree productions (the n) tree → Reads productions look_ahead (the n) (yield tree) (read tree []) }
     ensures gone_over { D → (n : Nonterminal) (tokens front rest : List (Terminal × D)) →
         Takes productions look_ahead (the n) tokens front rest → (tokens ≡ front ++ rest) × Begins productions (the n) front }

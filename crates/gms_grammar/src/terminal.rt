@@ -1,6 +1,6 @@
 //! The kinds of tokens that the grammar tells apart.
 ghost use Rattle.std.specs.Prelude.{◌≡◌};
-ghost use Rattle.gms_grammar.specs.Terminals.{is, is_among};
+ghost use Rattle.gms_grammar.specs.Terminals.{is, is_terminal_among};
 
 /// A kind of tokens, as productions name it (GAMS User's Guide, "Language Items", reserved words
 /// and delimiters).
@@ -131,7 +131,7 @@ impl Terminal {
 
     /// Whether a kind is among some.
     pub fn is_among(self, kinds: &[Terminal]) -> bool
-        ensures { result ≡ is_among kinds.now self }
+        ensures { result ≡ is_terminal_among kinds.now self }
     {
         kinds.contains(&self)
     }

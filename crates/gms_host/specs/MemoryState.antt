@@ -44,8 +44,8 @@ abbrev pub bytes_code : Coded (List ℕ)
 bytes_code = coded_list coded_ℕ
 
 -- a state is stored as its fields, in pairs
-abbrev pub state_code : Coded MemoryState
-state_code =
+abbrev pub memory_code : Coded MemoryState
+memory_code =
     code_by (Files × (List ℕ × (Option ℕ × (ℕ × (List ℕ × (List ℕ × (List ℕ × (List ℕ × (List (List ℕ) × (List (List ℕ × List ℕ) × (Bool × (Bool × (ℕ × ℕ)))))))))))))
     (coded× (finite.code bytes_code bytes_code) (coded× bytes_code (coded× (coded_option coded_ℕ) (coded× coded_ℕ (coded× bytes_code (coded× bytes_code (coded× bytes_code (coded× bytes_code
     (coded× (coded_list bytes_code) (coded× (coded_list (coded× bytes_code bytes_code)) (coded× coded_bool (coded× coded_bool (coded× coded_ℕ coded_ℕ)))))))))))))
@@ -105,8 +105,8 @@ piece m count = elim m.most [ None ↦ count | Some most ↦ min count most ]
 
 -- a host of files in memory exposes all, counts precisely, and is reliable exactly where no call is
 -- to fail
-abbrev pub meaning_of : MemoryState → Meaning
-meaning_of m = record {
+abbrev pub memory_meaning : MemoryState → Meaning
+memory_meaning m = record {
   outside = record {
     files = Some m.files;
     input = Some m.input;
@@ -131,8 +131,8 @@ abbrev pub IsToFail : MemoryState → Type 0
 IsToFail m = Contains m.failing m.calls
 
 -- one call was numbered, and nothing else happened
-abbrev pub numbered : MemoryState → MemoryState
-numbered m = record m { calls = one_more m.calls }
+abbrev pub with_call_numbered : MemoryState → MemoryState
+with_call_numbered m = record m { calls = one_more m.calls }
 
 -- a fault of reading was counted, and nothing else happened
 abbrev pub with_read_fault : MemoryState → MemoryState
@@ -144,43 +144,43 @@ with_write_fault m = record m { write_faults = one_more m.write_faults }
 
 -- what an `open_in` of that name leaves, by its answer
 abbrev pub after_open_in : MemoryState → List ℕ → Result (Unit {0}) Failed → MemoryState
-after_open_in m name (Ok _) = record (numbered m) { input = unwrap_or (finite.get m.files name) []; asked = m.asked ++ name ∷ []; reading = true }
-after_open_in m name (Err Fault) = record (with_read_fault (numbered m)) { reading = false }
-after_open_in m name (Err Memory) = record (numbered m) { reading = false }
+after_open_in m name (Ok _) = record (with_call_numbered m) { input = unwrap_or (finite.get m.files name) []; asked = m.asked ++ name ∷ []; reading = true }
+after_open_in m name (Err Fault) = record (with_read_fault (with_call_numbered m)) { reading = false }
+after_open_in m name (Err Memory) = record (with_call_numbered m) { reading = false }
 
 -- what a `read` leaves, by its answer: the bytes that it gave are off the input
 abbrev pub after_read : MemoryState → Result ℕ Failed → MemoryState
-after_read m (Ok count) = record (numbered m) { input = drop count m.input }
-after_read m (Err Fault) = with_read_fault (numbered m)
-after_read m (Err Memory) = numbered m
+after_read m (Ok count) = record (with_call_numbered m) { input = drop count m.input }
+after_read m (Err Fault) = with_read_fault (with_call_numbered m)
+after_read m (Err Memory) = with_call_numbered m
 
 -- the output is empty and not open
-abbrev pub emptied : MemoryState → MemoryState
-emptied m = record m { output = []; writing = false }
+abbrev pub with_empty_output : MemoryState → MemoryState
+with_empty_output m = record m { output = []; writing = false }
 
 -- what an `open_out` of that name leaves, by its answer: an empty output, which is open if it
 -- succeeded
 abbrev pub after_open_out : MemoryState → List ℕ → Result (Unit {0}) Failed → MemoryState
-after_open_out m name (Ok _) = record (numbered m) { named = name; output = []; asked = m.asked ++ name ∷ []; writing = true }
-after_open_out m name (Err Fault) = emptied (with_write_fault (numbered m))
-after_open_out m name (Err Memory) = emptied (numbered m)
+after_open_out m name (Ok _) = record (with_call_numbered m) { named = name; output = []; asked = m.asked ++ name ∷ []; writing = true }
+after_open_out m name (Err Fault) = with_empty_output (with_write_fault (with_call_numbered m))
+after_open_out m name (Err Memory) = with_empty_output (with_call_numbered m)
 
 -- what a `write` of these bytes leaves, by its answer: the counted number of bytes is added to the
 -- output
 abbrev pub after_write : MemoryState → List ℕ → Result ℕ Failed → MemoryState
-after_write m bytes (Ok count) = record (numbered m) { output = m.output ++ take count bytes }
-after_write m bytes (Err Fault) = with_write_fault (numbered m)
-after_write m bytes (Err Memory) = numbered m
+after_write m bytes (Ok count) = record (with_call_numbered m) { output = m.output ++ take count bytes }
+after_write m bytes (Err Fault) = with_write_fault (with_call_numbered m)
+after_write m bytes (Err Memory) = with_call_numbered m
 
 -- what a `close_out` leaves, by its answer: no output is open, and the one that was is kept
 abbrev pub after_close_out : MemoryState → Result (Unit {0}) Failed → MemoryState
-after_close_out m (Ok _) = record (numbered m) { kept = m.kept ++ (m.named, m.output) ∷ []; writing = false }
-after_close_out m (Err Fault) = record (with_write_fault (numbered m)) { writing = false }
-after_close_out m (Err Memory) = record (numbered m) { writing = false }
+after_close_out m (Ok _) = record (with_call_numbered m) { kept = m.kept ++ (m.named, m.output) ∷ []; writing = false }
+after_close_out m (Err Fault) = record (with_write_fault (with_call_numbered m)) { writing = false }
+after_close_out m (Err Memory) = record (with_call_numbered m) { writing = false }
 
 -- what a `say` of these bytes leaves, by its answer: the counted number of bytes is added to
 -- standard output
 abbrev pub after_say : MemoryState → List ℕ → Result ℕ Failed → MemoryState
-after_say m bytes (Ok count) = record (numbered m) { said = m.said ++ take count bytes }
-after_say m bytes (Err Fault) = with_write_fault (numbered m)
-after_say m bytes (Err Memory) = numbered m
+after_say m bytes (Ok count) = record (with_call_numbered m) { said = m.said ++ take count bytes }
+after_say m bytes (Err Fault) = with_write_fault (with_call_numbered m)
+after_say m bytes (Err Memory) = with_call_numbered m

@@ -24,8 +24,8 @@ untouched = record {
 
 -- such a host exposes no files, no names and no bytes; any call can fail, and one that succeeds can
 -- count a fault
-abbrev pub meaning_of : RealState → Meaning
-meaning_of r = record {
+abbrev pub real_meaning : RealState → Meaning
+real_meaning r = record {
   outside = record {
     files = None;
     input = None;

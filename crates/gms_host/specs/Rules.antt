@@ -74,10 +74,10 @@ pub record GivesFirst (bytes : List ℕ) (count : ℕ) (buffer : List ℕ) : Typ
 
 -- What a `read` does: the first bytes of the input are put at the beginning of the buffer, and are
 -- taken off the input. If it fails nothing is.
-abbrev pub Reads : Result ℕ Failed → Outside → Outside → List ℕ → Type 0
-Reads (Ok count) old new buffer =
+abbrev pub ReadsBytes : Result ℕ Failed → Outside → Outside → List ℕ → Type 0
+ReadsBytes (Ok count) old new buffer =
     IfSome old.input (λ bytes. GivesFirst bytes count buffer) × (new ≡ record old { input = option_map (λ bytes. drop count bytes) old.input })
-Reads (Err _) old new buffer = new ≡ old
+ReadsBytes (Err _) old new buffer = new ≡ old
 
 -- What an `open_out` does: an empty output of that name is open, and the name is requested. If it
 -- fails the output is empty too, but not open, and the name may be requested.

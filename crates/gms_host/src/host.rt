@@ -2,7 +2,7 @@
 ghost use Rattle.std.specs.Prelude.{◌≡◌, ◌<◌, ◌≤◌, true, length, IfOk};
 ghost use Rattle.gms_host.specs.declared.host.Failed.TheVariants.{Memory};
 ghost use Rattle.gms_host.specs.Meaning.{Meaning};
-ghost use Rattle.gms_host.specs.Rules.{TellsWhole, IsThere, OpensInput, Reads, OpensOutput, Writes, ClosesOutput, Says, CountsReading, CountsWriting, CountsNothing};
+ghost use Rattle.gms_host.specs.Rules.{TellsWhole, IsThere, OpensInput, ReadsBytes, OpensOutput, Writes, ClosesOutput, Says, CountsReading, CountsWriting, CountsNothing};
 
 use std::alloc::{AllocError, AllocFailed};
 use thiserror::Error;
@@ -63,7 +63,7 @@ pub trait Host {
         requires open { (meaning self.old).outside.reading ≡ true }
         requires room { 0 < length into.old }
         ensures count { IfOk result (λ count. count ≤ length into.new) }
-        ensures outside { Reads result (meaning self.old).outside (meaning self.new).outside into.new }
+        ensures outside { ReadsBytes result (meaning self.old).outside (meaning self.new).outside into.new }
         ensures counts { CountsReading result (Unit {0}) (meaning self.old).counts (meaning self.new).counts }
         ensures memory { CountsNothing result (meaning self.old).counts (meaning self.new).counts };
 

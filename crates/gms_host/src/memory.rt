@@ -1,7 +1,7 @@
 //! A host over files in memory, some of whose calls are to fail.
 ghost use Rattle.std.specs.Prelude.{◌≡◌, ◌≢◌, ◌<◌, ◌↔◌, ◌⊎◌, ◌++◌, [], true, IsSome, map, min, take, drop, length, option_map, string_bytes, Contains, IsNone, IsTrue, IfOk, OnOk, OnErr, IsErrOf};
 ghost use Rattle.std.specs.FinMap as finite;
-ghost use Rattle.gms_host.specs.MemoryState.{file_of, files_of, at_start, in_pieces_of, piece, numbered, with_read_fault, with_write_fault, meaning_of, IsToFail, after_open_in, after_read, after_open_out, after_write, after_close_out, after_say};
+ghost use Rattle.gms_host.specs.MemoryState.{file_of, files_of, at_start, in_pieces_of, piece, with_call_numbered, with_read_fault, with_write_fault, memory_meaning, IsToFail, after_open_in, after_read, after_open_out, after_write, after_close_out, after_say};
 
 use crate::host::{Failed, Host};
 use std::alloc::Global;
@@ -34,11 +34,11 @@ pub struct MemHost {
 
 impl Model for MemHost {
     ghost use Rattle.std.specs.Prelude.{◌≤◌, ◌<◌, IfSome, drop, length, map, string_bytes};
-    ghost use Rattle.gms_host.specs.MemoryState.{MemoryState, state_code, files_of, file_of};
+    ghost use Rattle.gms_host.specs.MemoryState.{MemoryState, memory_code, files_of, file_of};
 
     ghost Value = { MemoryState };
 
-    ghost coded = { state_code };
+    ghost coded = { memory_code };
 
     ghost view = { λ h. record {
       files = files_of h.files.items;
@@ -139,7 +139,7 @@ impl MemHost {
 
     /// Numbers this call, and says whether it is to fail.
     fn begin_call(&mut self) -> bool
-        ensures number { self.new ≡ numbered self.old }
+        ensures number { self.new ≡ with_call_numbered self.old }
         ensures fails { IsTrue result ↔ IsToFail self.old }
     {
         let number = self.calls;
@@ -177,7 +177,7 @@ impl MemHost {
 }
 
 impl Host for MemHost {
-    ghost meaning = { meaning_of };
+    ghost meaning = { memory_meaning };
 
     ghost tells_whole = { λ _. record { input = λ told. told; output = λ told. (told, told) } };
 

@@ -3,7 +3,7 @@ ghost use Rattle.std.specs.Prelude.{◌≡◌, ◌≢◌, ◌<◌, ◌≤◌, �
 ghost use Rattle.std.specs.IoError.{error_kind};
 ghost use Rattle.gms_host.specs.Meaning.{Rose};
 ghost use Rattle.gms_host.specs.Counts.{one_more};
-ghost use Rattle.gms_host.specs.RealState.{untouched, meaning_of};
+ghost use Rattle.gms_host.specs.RealState.{untouched, real_meaning};
 
 use crate::host::{Failed, Host};
 use std::io::{ErrorKind, Read, Write};
@@ -58,7 +58,7 @@ impl<R: Files> RealHost<R> {
 }
 
 impl<R: Files + Print> Host for RealHost<R> {
-    ghost meaning = { meaning_of };
+    ghost meaning = { real_meaning };
 
     ghost tells_whole = { λ _. record { input = λ told. told; output = λ told. (told, told) } };
 

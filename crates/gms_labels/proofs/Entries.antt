@@ -12,8 +12,8 @@ use Rattle.std.proofs.lemmas.Option.{slice_get-map}
 use Rattle.std.proofs.lemmas.Simd.{map-map}
 use Rattle.indexmap.specs.IndexMap.{insert_entry}
 use Rattle.indexmap.proofs.MapLemmas.{insert_entry-absent, Missing-position}
-use Rattle.gms_labels.specs.Labels.{folded, is_same, place_of, AreLabels}
-use Rattle.gms_labels.specs.Table.{Entry, texts_of, IsKept}
+use Rattle.gms_labels.specs.Labels.{lower_case, is_same, place_of, AreLabels}
+use Rattle.gms_labels.specs.Table.{Entry, texts_of, IsLabelTable}
 use Rattle.gms_labels.proofs.Places.{position_misses, is_same_sym}
 
 module _ {X Y : Type 0} (p : Y → Bool) (f : X → Y) where
@@ -27,14 +27,14 @@ module _ {X Y : Type 0} (p : Y → Bool) (f : X → Y) where
       ap (λ n. cond (ltb n (length (map f xs))) (Some n) None) (passed-map xs) ∙ ap (λ n. cond (ltb (position_or_len (λ x. p (f x)) xs) n) (Some (position_or_len (λ x. p (f x)) xs)) None) (length-map xs f)
 
 -- the key of a text has the text's place
-pub position-keys : (entries : List Entry) (text : List ℕ) → IsKept entries → position (bytes_eq (folded text)) (keys_of entries) ≡ place_of (texts_of entries) text
+pub position-keys : (entries : List Entry) (text : List ℕ) → IsLabelTable entries → position (bytes_eq (lower_case text)) (keys_of entries) ≡ place_of (texts_of entries) text
 position-keys entries text kept =
-    ap (position (bytes_eq (folded text))) kept.keyed ∙ position-map (bytes_eq (folded text)) folded (texts_of entries)
+    ap (position (bytes_eq (lower_case text))) kept.keyed ∙ position-map (bytes_eq (lower_case text)) lower_case (texts_of entries)
 
 -- an entry with a new text goes last
-pub insert-new : (entries : List Entry) (text : List ℕ) (written : String Global) → IsKept entries → place_of (texts_of entries) text ≡ None → insert_entry bytes_eq entries (folded text) written ≡ entries ++ (folded text, written) ∷ []
+pub insert-new : (entries : List Entry) (text : List ℕ) (written : String Global) → IsLabelTable entries → place_of (texts_of entries) text ≡ None → insert_entry bytes_eq entries (lower_case text) written ≡ entries ++ (lower_case text, written) ∷ []
 insert-new entries text written kept none =
-    insert_entry-absent bytes_eq (folded text) written entries (Missing-position (bytes_eq (folded text)) entries (position-keys entries text kept ∙ none)).absent
+    insert_entry-absent bytes_eq (lower_case text) written entries (Missing-position (bytes_eq (lower_case text)) entries (position-keys entries text kept ∙ none)).absent
 
 -- one more text
 pub AreLabels-push : (texts : List (List ℕ)) (text : List ℕ) → AreLabels texts → place_of texts text ≡ None → length texts < 65536 → length text ≤ 63 → AreLabels (texts ++ text ∷ [])
@@ -57,12 +57,12 @@ texts_of-push entries key written text is =
     map_push (λ (entry : Entry). string_bytes entry.1) entries (key, written) ∙ ap (λ t. texts_of entries ++ t ∷ []) is
 
 -- one more entry, with a new text
-pub IsKept-push : (entries : List Entry) (written : String Global) (text : List ℕ) → IsKept entries → place_of (texts_of entries) text ≡ None → length (texts_of entries) < 65536 → length text ≤ 63 → string_bytes written ≡ text → IsKept (entries ++ (folded text, written) ∷ [])
+pub IsKept-push : (entries : List Entry) (written : String Global) (text : List ℕ) → IsLabelTable entries → place_of (texts_of entries) text ≡ None → length (texts_of entries) < 65536 → length text ≤ 63 → string_bytes written ≡ text → IsLabelTable (entries ++ (lower_case text, written) ∷ [])
 IsKept-push entries written text kept none room short is =
-    let shows : texts_of (entries ++ (folded text, written) ∷ []) ≡ texts_of entries ++ text ∷ [] = texts_of-push entries (folded text) written text is in
+    let shows : texts_of (entries ++ (lower_case text, written) ∷ []) ≡ texts_of entries ++ text ∷ [] = texts_of-push entries (lower_case text) written text is in
     record {
       labels = rw shows (AreLabels-push (texts_of entries) text kept.labels none room short);
-      keyed = map_push (λ (entry : Entry). entry.0) entries (folded text, written) ∙ ap (λ keys. keys ++ folded text ∷ []) kept.keyed ∙ sym (map_push folded (texts_of entries) text) ∙ ap (map folded) (sym shows);
+      keyed = map_push (λ (entry : Entry). entry.0) entries (lower_case text, written) ∙ ap (λ keys. keys ++ lower_case text ∷ []) kept.keyed ∙ sym (map_push lower_case (texts_of entries) text) ∙ ap (map lower_case) (sym shows);
     }
 
 -- the text at a place, as it was first written

@@ -7,7 +7,7 @@ use Rattle.std.proofs.lemmas.List.Sums.{prefix_len-le-length, position_or_len_is
 use Rattle.std.proofs.lemmas.List.Quantifiers.{position-Some}
 use Rattle.std.proofs.lemmas.Bool.Decides.{nat_tests}
 use Rattle.std.proofs.lemmas.Slice.Eq.{bytes_eq-Decides}
-use Rattle.gms_labels.specs.Labels.{folded, is_same, place_of, entered, AreDistinct}
+use Rattle.gms_labels.specs.Labels.{lower_case, is_same, place_of, entered, AreDistinct}
 
 module _ {X : Type 0} (p : X → Bool) where
   -- a place that is answered is the first that passes
@@ -61,11 +61,11 @@ module _ {X : Type 0} (p : X → Bool) where
 
 -- a text is the same label as itself
 pub is_same_refl : (text : List ℕ) → is_same text text ≡ true
-is_same_refl text = (bytes_eq-Decides (folded text) (folded text)).1 refl
+is_same_refl text = (bytes_eq-Decides (lower_case text) (lower_case text)).1 refl
 
 -- two texts that are one label are so in either order
 pub is_same_sym : (a b : List ℕ) → is_same a b ≡ true → is_same b a ≡ true
-is_same_sym a b e = (bytes_eq-Decides (folded b) (folded a)).1 (sym ((bytes_eq-Decides (folded a) (folded b)).0 e))
+is_same_sym a b e = (bytes_eq-Decides (lower_case b) (lower_case a)).1 (sym ((bytes_eq-Decides (lower_case a) (lower_case b)).0 e))
 
 -- entering a text keeps the place of each text that was there
 pub place_of-entered_kept : (texts : List (List ℕ)) (text other : List ℕ) (n : ℕ) → place_of texts other ≡ Some n → place_of (entered texts text) other ≡ Some n
@@ -91,7 +91,7 @@ place_of-entered texts text = by (place_of texts text) refl
 -- two texts that are one label with a third are one label
 pub is_same_trans : (a b c : List ℕ) → is_same a b ≡ true → is_same b c ≡ true → is_same a c ≡ true
 is_same_trans a b c p q =
-    (bytes_eq-Decides (folded a) (folded c)).1 ((bytes_eq-Decides (folded a) (folded b)).0 p ∙ (bytes_eq-Decides (folded b) (folded c)).0 q)
+    (bytes_eq-Decides (lower_case a) (lower_case c)).1 ((bytes_eq-Decides (lower_case a) (lower_case b)).0 p ∙ (bytes_eq-Decides (lower_case b) (lower_case c)).0 q)
 
 -- a place is unique: the place of a text is the one place at which its label stands
 pub place_of-unique : (texts : List (List ℕ)) (text : List ℕ) (n : ℕ) → AreDistinct texts → n < length texts → is_same text (get_or texts n []) ≡ true → place_of texts text ≡ Some n

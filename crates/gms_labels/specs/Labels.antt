@@ -4,16 +4,16 @@ use Rattle.std.specs.Char.{to_ascii_lowercase}
 use Rattle.std.specs.Str.{str_eq_ignore_ascii_case}
 
 -- how many bytes a label may have
-abbrev pub longest : ℕ
-longest = 63
+abbrev pub most_label_bytes : ℕ
+most_label_bytes = 63
 
 -- how many labels a table may have
 abbrev pub most_labels : ℕ
 most_labels = 65536
 
 -- a text with its ASCII letters in lower case
-abbrev pub folded : List ℕ → List ℕ
-folded text = map to_ascii_lowercase text
+abbrev pub lower_case : List ℕ → List ℕ
+lower_case text = map to_ascii_lowercase text
 
 -- whether two texts are one label: they are equal when letter case is ignored
 abbrev pub is_same : List ℕ → List ℕ → Bool
@@ -42,4 +42,4 @@ pub record AreLabels (texts : List (List ℕ)) : Type 0 where
   -- there are at most as many as a table may have
   pub few : length texts ≤ most_labels
   -- none is longer than a label may be
-  pub short : All (λ text. length text ≤ longest) texts
+  pub short : All (λ text. length text ≤ most_label_bytes) texts

@@ -2,7 +2,7 @@
 -- written, in the order of the places.
 use Rattle.std.specs.Prelude.{◌≡◌, ℕ, List, map, String, string_bytes}
 use Rattle.std.specs.declared.alloc.Global.{Global}
-use Rattle.gms_labels.specs.Labels.{folded, AreLabels}
+use Rattle.gms_labels.specs.Labels.{lower_case, AreLabels}
 
 -- one entry: the text in lower case, and as first written
 abbrev pub Entry : Type 0
@@ -13,8 +13,8 @@ abbrev pub texts_of : List Entry → List (List ℕ)
 texts_of entries = map (λ entry. string_bytes entry.1) entries
 
 -- The invariant of a table's entries.
-pub record IsKept (entries : List Entry) : Type 0 where
+pub record IsLabelTable (entries : List Entry) : Type 0 where
   -- the texts are labels
   pub labels : AreLabels (texts_of entries)
   -- each key is its text in lower case
-  pub keyed : map (λ entry. entry.0) entries ≡ map folded (texts_of entries)
+  pub keyed : map (λ entry. entry.0) entries ≡ map lower_case (texts_of entries)

@@ -4,7 +4,7 @@ ghost use Rattle.std.specs.Str.{bytes_eq};
 ghost use Rattle.std.specs.Cmp.{partial_equiv_from_equiv};
 ghost use Rattle.std.specs.Cmp.Lexicographic.{nat_list_eq_equiv, bytes_decides};
 ghost use Rattle.std.proofs.Common.{ap};
-ghost use Rattle.gms_labels.specs.Labels.{longest, folded};
+ghost use Rattle.gms_labels.specs.Labels.{most_label_bytes, lower_case};
 
 use crate::labels::MOST_BYTES;
 use std::hash::{Hash, Hasher};
@@ -30,8 +30,8 @@ impl Model for Folded {
 impl Folded {
     /// The text in lower case.
     pub fn new(text: &str) -> Folded
-        requires { length text.now ≤ longest }
-        ensures { result ≡ folded text.now }
+        requires { length text.now ≤ most_label_bytes }
+        ensures { result ≡ lower_case text.now }
     {
         let len = text.len();
         let mut bytes = [0; MOST_BYTES];

@@ -1,6 +1,6 @@
 //! The table of labels.
 ghost use Rattle.std.specs.Prelude.{◌≡◌, ◌<◌, ◌≤◌, ◌↔◌, ℕ, List, [], length, slice_get, IsSome, IfSome, IsOk, IfOk, OnOk, OnErr, IsErrOf, IsTrue, IsOkUnless, ◌∷◌, ◌++◌};
-ghost use Rattle.gms_labels.specs.Labels.{longest, most_labels, place_of, entered, IsFullFor, AreLabels};
+ghost use Rattle.gms_labels.specs.Labels.{most_label_bytes, most_labels, place_of, entered, IsFullFor, AreLabels};
 
 use crate::fault::LabelFault;
 use crate::folded::Folded;
@@ -37,13 +37,13 @@ impl Drop for Labels {
 
 impl Model for Labels {
     ghost use Rattle.std.specs.Prelude.{List, ℕ};
-    ghost use Rattle.gms_labels.specs.Table.{texts_of, IsKept};
+    ghost use Rattle.gms_labels.specs.Table.{texts_of, IsLabelTable};
 
     ghost Value = { List (List ℕ) };
 
     ghost view = { λ l. texts_of l.texts.entries };
 
-    ghost invariant = { λ l. IsKept l.texts.entries };
+    ghost invariant = { λ l. IsLabelTable l.texts.entries };
 }
 
 impl Labels {
@@ -86,7 +86,7 @@ impl Labels {
     /// `Full` exactly if the text is new and the table has 65,536 labels. After `Full`, and after
     /// out of memory, the table is as it was.
     pub fn enter(&mut self, alloc: Global, text: &str) -> Result<u32, LabelFault>
-        requires { length text.now ≤ longest }
+        requires { length text.now ≤ most_label_bytes }
         // The text has the place that is answered, and a new text has the last place.
         ensures ok { OnOk result (self.new ≡ entered self.old text.now) }
         ensures place { IfOk result (λ n. place_of self.new text.now ≡ Some n) }
@@ -113,7 +113,7 @@ impl Labels {
 
     /// Enters a new text, if there is space for it.
     fn append(&mut self, alloc: Global, text: &str) -> Result<(), LabelFault>
-        requires short { length text.now ≤ longest }
+        requires short { length text.now ≤ most_label_bytes }
         requires new { place_of self.old text.now ≡ None }
         requires room { length self.old < most_labels }
         ensures ok { OnOk result (self.new ≡ self.old ++ text.now ∷ []) }
@@ -129,7 +129,7 @@ impl Labels {
     /// The place of a text of at most 63 bytes, letter case ignored. `None` exactly if the table
     /// does not have it.
     pub fn find(&self, text: &str) -> Option<u32>
-        requires { length text.now ≤ longest }
+        requires { length text.now ≤ most_label_bytes }
         ensures place { result ≡ place_of self.now text.now }
         ensures within { IfSome result (λ n. n < length self.now) }
         ensures labels { AreLabels self.now }
@@ -158,7 +158,7 @@ impl Labels {
     pub fn text(&self, n: u32) -> &str
         requires { n < length self.now }
         ensures value { slice_get self.now n ≡ Some result.now }
-        ensures short { length result.now ≤ longest }
+        ensures short { length result.now ≤ most_label_bytes }
         ensures place { place_of self.now result.now ≡ Some n }
     {
         self.texts[n as usize].as_str()

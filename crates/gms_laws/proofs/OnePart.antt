@@ -8,7 +8,7 @@ use Rattle.gms_grammar.specs.GamsGrammar.{Nonterminal, productions}
 use Rattle.gms_grammar.specs.GamsLookAhead.{look_ahead}
 use Rattle.gms_grammar.specs.Reading.{Found, read, stuck, Reads}
 use Rattle.gms_grammar.specs.Rules as rules
-use Rattle.gms_grammar.specs.Rules.{kind_ahead, kind_of, AreSound}
+use Rattle.gms_grammar.specs.Rules.{kind_ahead, kind_of, AreFaultless}
 use Rattle.gms_grammar.proofs.Basics.{behind_same}
 use Rattle.gms_grammar.proofs.FirstFaults.{no_first, one_refused}
 use Rattle.gms_grammar.proofs.Language.{gams_unique, gams_read_tree, gams_read_stops, gams_stuck_stops, gams_stuck_none, gams_finds}
@@ -18,7 +18,7 @@ use Rattle.gms_expressions.specs.declared.fault.SyntaxError.TheVariants.{Depth, 
 use Rattle.gms_expressions.specs.declared.fault.SyntaxFault.{SyntaxFault}
 use Rattle.gms_expressions.specs.Calls.{IsRead}
 use Rattle.gms_expressions.specs.ExpressionTrees.{no_token}
-use Rattle.gms_expressions.specs.Outcomes.{Walk, walk_after, walk_behind, is_name, unexpected, syntax_rule, IsFaulty, deep, out_of_range, many_names, many_labels, IsPart, IsRefused}
+use Rattle.gms_expressions.specs.Outcomes.{ExpressionState, state_after_token, state_after_tokens, is_name_token, unexpected_token, syntax_rule, IsFaultyInExpression, deep, out_of_range, many_names, many_labels, IsPart, IsRefusedPart}
 use Rattle.gms_laws.specs.Parts.{Tokens, Derivation, EndAlike, SomePart}
 
 -- ---- faults of a token
@@ -29,12 +29,12 @@ Tells LeftParen token fault = fault ≡ record { error = Depth; at = token.at }
 Tells Number token fault = fault ≡ record { error = OutOfRange; at = token.at }
 Tells _ token fault = fault ≡ record { error = TooManyLabels; at = token.at }
 
-names_tell : (walk : Walk) (kind : Terminal) (token : Token) → is_name walk kind ≡ true → Tells kind token (record { error = TooManyLabels; at = token.at })
+names_tell : (walk : ExpressionState) (kind : Terminal) (token : Token) → is_name_token walk kind ≡ true → Tells kind token (record { error = TooManyLabels; at = token.at })
 names_tell walk LeftParen token h = absurd cc
 names_tell walk Number token h = absurd cc
 names_tell walk _ token h = refl
 
-tells : {fault : SyntaxFault} (limit : ℕ) (source : List ℕ) (walk : Walk) (kind : Terminal) (token : Token) → IsFaulty limit source walk (kind, token) fault → Tells kind token fault
+tells : {fault : SyntaxFault} (limit : ℕ) (source : List ℕ) (walk : ExpressionState) (kind : Terminal) (token : Token) → IsFaultyInExpression limit source walk (kind, token) fault → Tells kind token fault
 tells limit source walk kind token (deep e d) = subst (λ (k : Terminal). Tells k token (record { error = Depth; at = token.at })) (sym e) refl
 tells limit source walk kind token (out_of_range e d) = subst (λ (k : Terminal). Tells k token (record { error = OutOfRange; at = token.at })) (sym e) refl
 tells limit source walk kind token (many_names n d) = names_tell walk kind token n
@@ -45,23 +45,23 @@ one_told LeftParen token one other h k = h ∙ sym k
 one_told Number token one other h k = h ∙ sym k
 one_told _ token one other h k = h ∙ sym k
 
-module _ (limit : ℕ) (source : List ℕ) (n : Nonterminal) (before : Walk) (tokens : Tokens) where
-  pub one_fault : (one other : SyntaxFault) → IsRefused limit source n before tokens one → IsRefused limit source n before tokens other → one ≡ other
+module _ (limit : ℕ) (source : List ℕ) (n : Nonterminal) (before : ExpressionState) (tokens : Tokens) where
+  pub one_fault : (one other : SyntaxFault) → IsRefusedPart limit source n before tokens one → IsRefusedPart limit source n before tokens other → one ≡ other
   one_fault one other f g =
       one_refused syntax_rule (limit, source) (λ walk token ahead a b h k. one_told token.0 token.1 a b (tells limit source walk token.0 token.1 h) (tells limit source walk token.0 token.1 k)) n before tokens one other f g
 
   -- ---- one part
 
-  pub one_part : (after later : Walk) (rest others : Tokens) (one other : Derivation) → IsPart limit source n before after tokens rest one → IsPart limit source n before later tokens others other → (one ≡ other) × EndAlike after later rest others
+  pub one_part : (after later : ExpressionState) (rest others : Tokens) (one other : Derivation) → IsPart limit source n before after tokens rest one → IsPart limit source n before later tokens others other → (one ≡ other) × EndAlike after later rest others
   one_part after later rest others one other p q =
       let yields = stops_once productions (the n) tokens (yield one) rest (yield other) others p.stops q.stops in
       let same : one ≡ other = gams_unique n one other p.is_tree q.is_tree yields in
       let behind : rest ≡ others = behind_same (yield one) rest others (sym p.stops.parts ∙ q.stops.parts ∙ ap (λ (us : Tokens). us ++ others) (sym yields)) in
-      (same, (p.leaves ∙ ap₂ (λ (us vs : Tokens). walk_behind source before us (kind_of vs)) yields behind ∙ sym q.leaves, behind))
+      (same, (p.leaves ∙ ap₂ (λ (us vs : Tokens). state_after_tokens source before us (kind_of vs)) yields behind ∙ sym q.leaves, behind))
 
   -- ---- a part and a fault
 
-  pub not_both : (after : Walk) (rest : Tokens) (part : Derivation) (fault : SyntaxFault) → IsPart limit source n before after tokens rest part → IsRefused limit source n before tokens fault → ⊥
+  pub not_both : (after : ExpressionState) (rest : Tokens) (part : Derivation) (fault : SyntaxFault) → IsPart limit source n before after tokens rest part → IsRefusedPart limit source n before tokens fault → ⊥
   not_both after rest part fault p none = by_cause none.cause
     where
       front : yield part ≡ none.front
@@ -70,41 +70,41 @@ module _ (limit : ℕ) (source : List ℕ) (n : Nonterminal) (before : Walk) (to
       behind : rest ≡ none.rest
       behind = behind_same (yield part) rest none.rest (sym p.stops.parts ∙ none.stops.parts ∙ ap (λ (us : Tokens). us ++ none.rest) (sym front))
 
-      by_cause : rules.IsFirstFaulty syntax_rule (limit, source) before none.front (kind_of none.rest) fault ⊎ rules.IsUnexpected syntax_rule (limit, source) (Derives productions (the n) none.front → ⊥) before none.front none.rest fault → ⊥
+      by_cause : rules.IsFirstFaulty syntax_rule (limit, source) before none.front (kind_of none.rest) fault ⊎ rules.IsUnexpectedByRule syntax_rule (limit, source) (Derives productions (the n) none.front → ⊥) before none.front none.rest fault → ⊥
       by_cause (inl first) =
           no_first syntax_rule (limit, source) before none.front (kind_of none.rest) fault first
-          (subst (λ (us : Tokens). AreSound (syntax_rule (limit, source)) before none.front (kind_of us)) behind (subst (λ (us : Tokens). AreSound (syntax_rule (limit, source)) before us (kind_of rest)) front p.are_sound))
+          (subst (λ (us : Tokens). AreFaultless (syntax_rule (limit, source)) before none.front (kind_of us)) behind (subst (λ (us : Tokens). AreFaultless (syntax_rule (limit, source)) before us (kind_of rest)) front p.are_sound))
       by_cause (inr stop) = stop.wants (record { tree = part; is_tree = p.is_tree; yields = front })
 
-  module _ (none : (fault : SyntaxFault) → IsRefused limit source n before tokens fault → ⊥) where
+  module _ (none : (fault : SyntaxFault) → IsRefusedPart limit source n before tokens fault → ⊥) where
     -- the tokens before the one at which they cease to begin a part are sound
     module _ (front rest : Tokens) (stops : Stops productions (the n) tokens front rest) where
-      sound_on : (passed left : Tokens) → front ≡ passed ++ left → AreSound (syntax_rule (limit, source)) before passed (kind_ahead left (kind_of rest)) →
-          AreSound (syntax_rule (limit, source)) (walk_behind source before passed (kind_ahead left (kind_of rest))) left (kind_of rest)
+      sound_on : (passed left : Tokens) → front ≡ passed ++ left → AreFaultless (syntax_rule (limit, source)) before passed (kind_ahead left (kind_of rest)) →
+          AreFaultless (syntax_rule (limit, source)) (state_after_tokens source before passed (kind_ahead left (kind_of rest))) left (kind_of rest)
       sound_on passed [] e s = tt
       sound_on passed (t ∷ left) e s =
           let ahead = kind_ahead left (kind_of rest) in
-          let here : (fault : SyntaxFault) → IsFaulty limit source (walk_behind source before passed t.0) t fault → ⊥ =
+          let here : (fault : SyntaxFault) → IsFaultyInExpression limit source (state_after_tokens source before passed t.0) t fault → ⊥ =
           λ fault f. none fault (record { front = front; rest = rest; stops = stops; cause = inl (record { before = passed; token = t; behind = left; parts = e; are_sound = s; is_faulty = f }) }) in
-          let more : AreSound (syntax_rule (limit, source)) before (passed ++ t ∷ []) ahead = sound_append (syntax_rule (limit, source)) before passed (t ∷ []) ahead s (here, tt) in
+          let more : AreFaultless (syntax_rule (limit, source)) before (passed ++ t ∷ []) ahead = sound_append (syntax_rule (limit, source)) before passed (t ∷ []) ahead s (here, tt) in
           let others = sound_on (passed ++ t ∷ []) left (e ∙ sym (append_assoc passed (t ∷ []) left)) more in
-          (here, subst (λ (w : Walk). AreSound (syntax_rule (limit, source)) w left (kind_of rest)) (walk_append (λ walk token ahead. walk_after source walk token) before passed (t ∷ []) ahead) others)
+          (here, subst (λ (w : ExpressionState). AreFaultless (syntax_rule (limit, source)) w left (kind_of rest)) (walk_append (λ walk token ahead. state_after_token source walk token) before passed (t ∷ []) ahead) others)
 
-      sound_front : AreSound (syntax_rule (limit, source)) before front (kind_of rest)
+      sound_front : AreFaultless (syntax_rule (limit, source)) before front (kind_of rest)
       sound_front = sound_on [] front refl tt
 
     by_found : (found : Found (Terminal × Token)) → Reads productions look_ahead (the n) tokens found → SomePart limit source n before tokens
     by_found (read tree rest) r =
         let stops = gams_read_stops no_token n tokens rest tree r in
         record {
-          after = walk_behind source before (yield tree) (kind_of rest);
+          after = state_after_tokens source before (yield tree) (kind_of rest);
           rest = rest;
           tree = tree;
           is_part = record { is_tree = gams_read_tree n tokens rest tree r; stops = stops; are_sound = sound_front (yield tree) rest stops; leaves = refl };
         }
     by_found (stuck front rest) r =
         let stops = gams_stuck_stops no_token n tokens front rest r in
-        absurd (none (unexpected source rest) (record {
+        absurd (none (unexpected_token source rest) (record {
           front = front;
           rest = rest;
           stops = stops;
@@ -118,14 +118,14 @@ module _ (limit : ℕ) (source : List ℕ) (n : Nonterminal) (before : Walk) (to
 
 -- what two readings mean is the same, where the meaning is a function of the derivation
 module _ {T M : Type 0} (limit : ℕ) (source : List ℕ) (n : Nonterminal) (shown : T → M) (meaning : List (List ℕ) → List (List ℕ) → Derivation → M) where
-  abbrev IsReadSo : Walk → Walk → Tokens → Tokens → T → Type 0
+  abbrev IsReadSo : ExpressionState → ExpressionState → Tokens → Tokens → T → Type 0
   IsReadSo = IsRead limit source n (λ names labels tree part. shown part ≡ meaning names labels tree)
 
-  pub same_meaning : (before after later : Walk) (tokens rest others : Tokens) (one other : T) → IsReadSo before after tokens rest one → IsReadSo before later tokens others other → (shown one ≡ shown other) × EndAlike after later rest others
+  pub same_meaning : (before after later : ExpressionState) (tokens rest others : Tokens) (one other : T) → IsReadSo before after tokens rest one → IsReadSo before later tokens others other → (shown one ≡ shown other) × EndAlike after later rest others
   same_meaning before after later tokens rest others one other p q =
       let same = one_part limit source n before tokens after later rest others p.tree q.tree p.is_part q.is_part in
       let ends : EndAlike after later rest others = same.1 in
       let walk : after ≡ later = ends.0 in
       let first : shown one ≡ meaning after.names after.labels p.tree = p.means after.names after.labels (λ text k there. there) (λ text k there. there) in
       let second : shown other ≡ meaning later.names later.labels q.tree = q.means later.names later.labels (λ text k there. there) (λ text k there. there) in
-      (first ∙ ap₂ (λ (w : Walk) (t : Derivation). meaning w.names w.labels t) walk same.0 ∙ sym second, (walk, ends.1))
+      (first ∙ ap₂ (λ (w : ExpressionState) (t : Derivation). meaning w.names w.labels t) walk same.0 ∙ sym second, (walk, ends.1))

@@ -7,34 +7,34 @@ use Rattle.gms_table.specs.declared.entry.TableLine.{TableLine}
 use Rattle.gms_table.specs.declared.fault.TableFault.{TableFault}
 use Rattle.gms_table.specs.declared.fault.TableError.{TableError}
 use Rattle.gms_table.specs.declared.fault.TableError.TheVariants.{NoColumn, TwoColumns, RepeatedEntry, BadRow, NoHeading, Labels}
-use Rattle.gms_table.specs.Faults.{error_code}
+use Rattle.gms_table.specs.Faults.{table_error_code}
 use Rattle.gms_labels.specs.declared.place.Place.{Place}
 use Rattle.gms_table.specs.Words.{words_of}
 use Rattle.gms_table.specs.WordLabels.{all_entered}
-use Rattle.gms_table.specs.TableEntries.{Part, name, cell, nowhere, parts_of, place_of_part, texts_of, AreEntries, AreSound, IsFirstFault, IsTable, IsFault, Stands}
+use Rattle.gms_table.specs.TableEntries.{TablePart, name, cell, nowhere, table_parts, place_of_part, label_texts, AreEntries, ArePartsFaultless, IsFirstPartFault, IsTable, IsTableFault, IsPartFault}
 use Rattle.gms_grammar.proofs.Orders.{Order, at_once, earlier, later, order, some_there}
 use Rattle.gms_parse.specs.Tables.{entries_in}
 use Rattle.gms_parse.proofs.Ranges.{entered_there}
 use Rattle.gms_parse.proofs.TableFaults.{stands_not}
 use Rattle.gms_parse.proofs.TableItems.{entries_only}
 use Rattle.gms_parse.proofs.TableSound.{sound_table, placed_table, entries_there}
-use Rattle.gms_laws.specs.Tables.{entry_in, HasEntries}
+use Rattle.gms_laws.specs.Tables.{meant_entry, HasEntries}
 
 -- ---- entries over numbers
 
 module _ {F : Type 0} (limit : ℕ) (value : F → Number) (labels : List (List ℕ)) where
-  entries_seen : (parts : List Part) (entries : List (Entry F)) → AreEntries limit value labels parts entries → AreEntries limit (λ x. x) labels parts (map (entry_in value) entries)
-  entries_seen [] entries are = ap (map (entry_in value)) are
+  entries_seen : (parts : List TablePart) (entries : List (Entry F)) → AreEntries limit value labels parts entries → AreEntries limit (λ x. x) labels parts (map (meant_entry value) entries)
+  entries_seen [] entries are = ap (map (meant_entry value)) are
   entries_seen (name word ∷ parts) entries are = entries_seen parts entries are
   entries_seen (cell row headings word ∷ parts) [] are = absurd are
   entries_seen (cell row headings word ∷ parts) (entry ∷ entries) are =
       (record { heading = are.0.heading; under_one = are.0.under_one; at = are.0.at; row_is = are.0.row_is; column_is = are.0.column_is; value_is = are.0.value_is }, entries_seen parts entries are.1)
 
-  pub seen_so : (lines : List TableLine) (before : List (List ℕ)) (entries : List (Entry F)) → IsTable limit value lines before labels entries → HasEntries limit lines before labels (map (entry_in value) entries)
+  pub seen_so : (lines : List TableLine) (before : List (List ℕ)) (entries : List (Entry F)) → IsTable limit value lines before labels entries → HasEntries limit lines before labels (map (meant_entry value) entries)
   seen_so lines before entries t =
-      record { headed = t.headed; sound = t.sound; labels_are = t.labels_are; entries_are = entries_seen (parts_of lines) entries t.entries_are }
+      record { headed = t.headed; sound = t.sound; labels_are = t.labels_are; entries_are = entries_seen (table_parts lines) entries t.entries_are }
 
-same_entries : (entries : List (Entry Number)) → map (entry_in (λ x. x)) entries ≡ entries
+same_entries : (entries : List (Entry Number)) → map (meant_entry (λ x. x)) entries ≡ entries
 same_entries [] = refl
 same_entries (entry ∷ entries) = ap (λ (rest : List (Entry Number)). entry ∷ rest) (same_entries entries)
 
@@ -45,7 +45,7 @@ abbrev with_code : ℕ → TableError
 with_code n =
     if n == 21 then NoColumn else (if n == 22 then TwoColumns else (if n == 23 then RepeatedEntry else (if n == 24 then BadRow else (if n == 25 then NoHeading else Labels))))
 
-with_own_code : (error : TableError) → with_code (error_code error) ≡ error
+with_own_code : (error : TableError) → with_code (table_error_code error) ≡ error
 with_own_code NoColumn = refl
 with_own_code TwoColumns = refl
 with_own_code RepeatedEntry = refl
@@ -53,56 +53,56 @@ with_own_code BadRow = refl
 with_own_code NoHeading = refl
 with_own_code Labels = refl
 
-same_least : (limit : ℕ) (labels : List (List ℕ)) (parts : List Part) (one other : TableFault) → IsFirstFault limit labels parts one → IsFirstFault limit labels parts other → one ≡ other
+same_least : (limit : ℕ) (labels : List (List ℕ)) (parts : List TablePart) (one other : TableFault) → IsFirstPartFault limit labels parts one → IsFirstPartFault limit labels parts other → one ≡ other
 same_least limit labels parts one other f g = by_order (order f.before f.part f.behind g.before g.part g.behind (sym f.parts_are ∙ g.parts_are))
   where
     by_order : Order f.before f.part f.behind g.before g.part g.behind → one ≡ other
     by_order (earlier w e k) =
-        absurd (stands_not limit labels [] f.before f.part w one.error (subst (λ (ps : List Part). AreSound limit labels [] ps) e g.sound) f.stands)
+        absurd (stands_not limit labels [] f.before f.part w one.error (subst (λ (ps : List TablePart). ArePartsFaultless limit labels [] ps) e g.sound) f.stands)
     by_order (later w e k) =
-        absurd (stands_not limit labels [] g.before g.part w other.error (subst (λ (ps : List Part). AreSound limit labels [] ps) e f.sound) g.stands)
+        absurd (stands_not limit labels [] g.before g.part w other.error (subst (λ (ps : List TablePart). ArePartsFaultless limit labels [] ps) e f.sound) g.stands)
     by_order (at_once front part rest) =
-        let less = f.least other.error (subst (λ (ps : List Part). Stands limit labels ps f.part other.error) (sym front) (subst (λ (p : Part). Stands limit labels g.before p other.error) (sym part) g.stands)) in
-        let more = g.least one.error (subst (λ (ps : List Part). Stands limit labels ps g.part one.error) front (subst (λ (p : Part). Stands limit labels f.before p one.error) part f.stands)) in
-        let codes : error_code one.error ≡ error_code other.error = omega (arith, less, more) in
+        let less = f.least other.error (subst (λ (ps : List TablePart). IsPartFault limit labels ps f.part other.error) (sym front) (subst (λ (p : TablePart). IsPartFault limit labels g.before p other.error) (sym part) g.stands)) in
+        let more = g.least one.error (subst (λ (ps : List TablePart). IsPartFault limit labels ps g.part one.error) front (subst (λ (p : TablePart). IsPartFault limit labels f.before p one.error) part f.stands)) in
+        let codes : table_error_code one.error ≡ table_error_code other.error = omega (arith, less, more) in
         ap₂ (λ (e : TableError) (p : Place). record { error = e; at = p }) (sym (with_own_code one.error) ∙ ap with_code codes ∙ with_own_code other.error) (f.at ∙ ap place_of_part part ∙ sym g.at)
 
 -- ---- one and not both
 
 module _ (limit : ℕ) (lines : List TableLine) (before : List (List ℕ)) where
-  given : (after : List (List ℕ)) (entries : List (Entry Number)) → HasEntries limit lines before after entries → entries ≡ entries_in after (parts_of lines)
+  given : (after : List (List ℕ)) (entries : List (Entry Number)) → HasEntries limit lines before after entries → entries ≡ entries_in after (table_parts lines)
   given after entries t =
-      sym (same_entries entries) ∙ entries_only after after (λ text n there. there) limit (λ x. x) (parts_of lines) entries t.entries_are
+      sym (same_entries entries) ∙ entries_only after after (λ text n there. there) limit (λ x. x) (table_parts lines) entries t.entries_are
 
   pub one_list : (after last : List (List ℕ)) (one other : List (Entry Number)) → HasEntries limit lines before after one → HasEntries limit lines before last other → (one ≡ other) × (after ≡ last)
   one_list after last one other t u =
       let labels : after ≡ last = t.labels_are ∙ sym u.labels_are in
-      (given after one t ∙ ap (λ (ls : List (List ℕ)). entries_in ls (parts_of lines)) labels ∙ sym (given last other u), labels)
+      (given after one t ∙ ap (λ (ls : List (List ℕ)). entries_in ls (table_parts lines)) labels ∙ sym (given last other u), labels)
 
-  pub one_fault : (one other : TableFault) → IsFault limit lines before one → IsFault limit lines before other → one ≡ other
+  pub one_fault : (one other : TableFault) → IsTableFault limit lines before one → IsTableFault limit lines before other → one ≡ other
   one_fault one other (inl a) (inl b) = a.1 ∙ sym b.1
   one_fault one other (inl a) (inr b) = absurd (some_there b.before b.part b.behind (sym a.0 ∙ b.parts_are))
   one_fault one other (inr a) (inl b) = absurd (some_there a.before a.part a.behind (sym b.0 ∙ a.parts_are))
-  one_fault one other (inr a) (inr b) = same_least limit before (parts_of lines) one other a b
+  one_fault one other (inr a) (inr b) = same_least limit before (table_parts lines) one other a b
 
-  pub not_both : (after : List (List ℕ)) (entries : List (Entry Number)) (fault : TableFault) → HasEntries limit lines before after entries → IsFault limit lines before fault → ⊥
+  pub not_both : (after : List (List ℕ)) (entries : List (Entry Number)) (fault : TableFault) → HasEntries limit lines before after entries → IsTableFault limit lines before fault → ⊥
   not_both after entries fault t (inl none) = t.headed none.0
   not_both after entries fault t (inr f) =
-      stands_not limit before [] f.before f.part f.behind fault.error (subst (λ (ps : List Part). AreSound limit before [] ps) f.parts_are t.sound) f.stands
+      stands_not limit before [] f.before f.part f.behind fault.error (subst (λ (ps : List TablePart). ArePartsFaultless limit before [] ps) f.parts_are t.sound) f.stands
 
-  pub not_neither : ((fault : TableFault) → IsFault limit lines before fault → ⊥) → (after : List (List ℕ)) × ((entries : List (Entry Number)) × HasEntries limit lines before after entries)
+  pub not_neither : ((fault : TableFault) → IsTableFault limit lines before fault → ⊥) → (after : List (List ℕ)) × ((entries : List (Entry Number)) × HasEntries limit lines before after entries)
   not_neither none =
-      let after = all_entered before (texts_of (parts_of lines)) in
-      let sound = sound_table limit before (parts_of lines) (λ fault first. none fault (inr first)) in
-      let placed = placed_table after (map (λ (line : TableLine). words_of line.line (string_bytes line.text)) lines) (entered_there before (texts_of (parts_of lines))) in (
+      let after = all_entered before (label_texts (table_parts lines)) in
+      let sound = sound_table limit before (table_parts lines) (λ fault first. none fault (inr first)) in
+      let placed = placed_table after (map (λ (line : TableLine). words_of line.line (string_bytes line.text)) lines) (entered_there before (label_texts (table_parts lines))) in (
         after,
         (
-          entries_in after (parts_of lines),
+          entries_in after (table_parts lines),
           record {
             headed = λ empty. none (record { error = NoHeading; at = nowhere }) (inl (empty, refl));
             sound = sound;
             labels_are = refl;
-            entries_are = entries_there after limit before [] (parts_of lines) sound placed;
+            entries_are = entries_there after limit before [] (table_parts lines) sound placed;
           },
         ),
       )

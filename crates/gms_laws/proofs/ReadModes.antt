@@ -1,12 +1,12 @@
 -- What the rules of modes say of tokens.
 use Rattle.std.proofs.Common.{◌≡◌, ℕ, suc, ◌+◌, ◌-◌, ◌==◌, if◌then◌else◌, true, false, List, take, drop, length, Option, Some, None, Ok, refl, ap, subst, arith}
 use Rattle.std.proofs.Math.Dec.{eqb-suc-zero}
-use Rattle.gms_lexemes.specs.declared.kind.Sym.{Sym}
-use Rattle.gms_lexemes.specs.declared.kind.Sym.TheVariants.{EqE, EqL, EqG, EqN, Power, DotDot, LessEq, GreaterEq, NotEq, PlusPlus, MinusMinus, Plus, Minus, Star, Slash, Equals, Less, Greater, LeftParen, RightParen, Comma, Semicolon, Dot, Dollar}
-use Rattle.gms_lexemes.specs.declared.kind.Kind.TheVariants.{Word, Label, Number, Text, Symbol, Break, TableLine, End}
-use Rattle.gms_lexemes.specs.declared.lexeme.Lexeme.{Lexeme}
-use Rattle.gms_lexemes.specs.declared.lexeme.Piece.{Piece}
-use Rattle.gms_lexemes.specs.declared.lexeme.Piece.TheVariants.{Gap, LineEnd, Remark, Token}
+use Rattle.gms_lines.specs.declared.kind.Sym.{Sym}
+use Rattle.gms_lines.specs.declared.kind.Sym.TheVariants.{EqE, EqL, EqG, EqN, Power, DotDot, LessEq, GreaterEq, NotEq, PlusPlus, MinusMinus, Plus, Minus, Star, Slash, Equals, Less, Greater, LeftParen, RightParen, Comma, Semicolon, Dot, Dollar}
+use Rattle.gms_lines.specs.declared.kind.Kind.TheVariants.{Word, Label, Number, Text, Symbol, Break, TableLine, End}
+use Rattle.gms_lines.specs.declared.lexeme.Lexeme.{Lexeme}
+use Rattle.gms_lines.specs.declared.lexeme.Piece.{Piece}
+use Rattle.gms_lines.specs.declared.lexeme.Piece.TheVariants.{Gap, LineEnd, Remark, Token}
 use Rattle.gms_lex.specs.declared.keyword.Shape.{Shape}
 use Rattle.gms_lex.specs.declared.keyword.Shape.TheVariants.{Set, Parameter, Scalar, Model}
 use Rattle.gms_lex.specs.declared.keyword.Keyword.{Keyword}
@@ -17,7 +17,7 @@ use Rattle.gms_lex.specs.declared.mode.Mode.{Mode}
 use Rattle.gms_lex.specs.declared.mode.Mode.TheVariants.{Code, Item, Named, Domain, Rest, Element, TableName, TableNamed, TableDomain, TableTexted, TableLines}
 use Rattle.gms_lex.specs.declared.mode.LineEnds.TheVariants.{Skipped, EndElement}
 use Rattle.gms_lex.specs.Keywords.{keyword_of, begins_statement}
-use Rattle.gms_lex.specs.Longest.{IsCode, IsElement, IsListed, IsOfTable, has_text}
+use Rattle.gms_lex.specs.Longest.{IsCode, IsElementPiece, IsInList, IsOfTable, has_text}
 use Rattle.gms_lex.specs.Modes.{begun_by, list_start, after_comma, mode_after}
 use Rattle.gms_lex.specs.Pieces.{element_line_ends, line_ends, piece_at}
 use Rattle.gms_lex.proofs.LongestLemmas.{longest}
@@ -75,7 +75,7 @@ joined shape depth symbol text star = refl
 joined shape depth symbol text stars = refl
 
 -- what may be read where a label is expected
-of_element : (piece : Piece) (text : List ℕ) → IsElement piece text → IsLabelOrSymbol piece
+of_element : (piece : Piece) (text : List ℕ) → IsElementPiece piece text → IsLabelOrSymbol piece
 of_element (Token Label) text is = a_label
 of_element (Token (Symbol symbol)) text is = a_symbol symbol
 of_element (Token Word) text is = absurd is
@@ -88,7 +88,7 @@ of_element Gap text is = absurd is
 of_element LineEnd text is = absurd is
 of_element Remark text is = absurd is
 
-listed : (shape : Shape) (depth : ℕ) (stage : Stage) (piece : Piece) (text behind : List ℕ) → IsLabelExpected stage → IsListed shape depth stage piece text behind → IsLabelOrSymbol piece
+listed : (shape : Shape) (depth : ℕ) (stage : Stage) (piece : Piece) (text behind : List ℕ) → IsLabelExpected stage → IsInList shape depth stage piece text behind → IsLabelOrSymbol piece
 listed shape depth stage piece text behind at_element is = of_element piece text is
 listed shape depth stage piece text behind after_mark is = of_element piece text is
 
@@ -226,7 +226,7 @@ next_label shape depth Due text = still_within shape depth
 next_label shape depth After text = still_within shape depth
 next_label shape depth Spaced text = still_within shape depth
 
-enclosed : (shape : Shape) (depth : ℕ) (stage : Stage) (piece : Piece) (text behind : List ℕ) → IsListed shape (suc depth) stage piece text behind → IsLabelOrSymbol piece
+enclosed : (shape : Shape) (depth : ℕ) (stage : Stage) (piece : Piece) (text behind : List ℕ) → IsInList shape (suc depth) stage piece text behind → IsLabelOrSymbol piece
 enclosed shape depth Fresh piece text behind is = of_element piece text is
 enclosed shape depth Due piece text behind is = of_element piece text is
 enclosed shape depth After piece text behind is = of_element piece text is

@@ -10,11 +10,11 @@ use Rattle.gms_ast.specs.Trees.{Tree as Syntax, reference}
 use Rattle.gms_ast.specs.Numbers.{in_numbers, indices_in_numbers, control_in_numbers}
 use Rattle.gms_lex.specs.declared.token.Token.{Token}
 use Rattle.gms_grammar.specs.declared.terminal.Terminal.{Terminal}
-use Rattle.gms_grammar.specs.Grammar.{Tree}
+use Rattle.gms_grammar.specs.Grammar.{DerivationTree}
 use Rattle.gms_grammar.specs.GamsGrammar.{Nonterminal, Expression, Primary, Control as ControlPart, Target as TargetPart}
 use Rattle.gms_expressions.specs.ExpressionTrees as trees
 use Rattle.gms_expressions.specs.Calls.{IsRead}
-use Rattle.gms_expressions.specs.Outcomes.{Walk, IsPart}
+use Rattle.gms_expressions.specs.Outcomes.{ExpressionState, IsPart}
 
 -- tokens in the grammar's view
 abbrev pub Tokens : Type 0
@@ -22,37 +22,37 @@ Tokens = List (Terminal × Token)
 
 -- the derivation of a part
 abbrev pub Derivation : Type 0
-Derivation = Tree (Terminal × Token)
+Derivation = DerivationTree (Terminal × Token)
 
 -- two readings leave the same state, and end before the same tokens
-abbrev pub EndAlike : Walk → Walk → Tokens → Tokens → Type 0
+abbrev pub EndAlike : ExpressionState → ExpressionState → Tokens → Tokens → Type 0
 EndAlike after later rest others = (after ≡ later) × (rest ≡ others)
 
 -- a part of these tokens is read
-pub record SomePart (limit : ℕ) (source : List ℕ) (n : Nonterminal) (before : Walk) (tokens : Tokens) : Type 0 where
-  pub after : Walk
+pub record SomePart (limit : ℕ) (source : List ℕ) (n : Nonterminal) (before : ExpressionState) (tokens : Tokens) : Type 0 where
+  pub after : ExpressionState
   pub rest : Tokens
   pub tree : Derivation
   pub is_part : IsPart limit source n before after tokens rest tree
 
 module _ {F : Type 0} where
   -- a target, with the numbers that it means
-  abbrev pub target_in : (F → Number) → Target F → Syntax Number
-  target_in value target = reference target.at target.name target.suffix (indices_in_numbers value (indices_of (map index_tree target.indices)))
+  abbrev pub meant_target : (F → Number) → Target F → Syntax Number
+  meant_target value target = reference target.at target.name target.suffix (indices_in_numbers value (indices_of (map index_tree target.indices)))
 
   module _ (limit : ℕ) (value : F → Number) (source : List ℕ) where
     -- what `expression` reads
-    abbrev pub IsExpression : Walk → Walk → Tokens → Tokens → Expr F → Type 0
+    abbrev pub IsExpression : ExpressionState → ExpressionState → Tokens → Tokens → Expr F → Type 0
     IsExpression = IsRead limit source Expression (λ names labels tree part. in_numbers value (tree_of part) ≡ trees.expression source names labels tree)
 
     -- what `primary` reads
-    abbrev pub IsPrimary : Walk → Walk → Tokens → Tokens → Expr F → Type 0
+    abbrev pub IsPrimary : ExpressionState → ExpressionState → Tokens → Tokens → Expr F → Type 0
     IsPrimary = IsRead limit source Primary (λ names labels tree part. in_numbers value (tree_of part) ≡ trees.primary source names labels tree)
 
     -- what `control` reads
-    abbrev pub IsControl : Walk → Walk → Tokens → Tokens → Control F → Type 0
+    abbrev pub IsControl : ExpressionState → ExpressionState → Tokens → Tokens → Control F → Type 0
     IsControl = IsRead limit source ControlPart (λ names labels tree part. control_in_numbers value (control_tree part) ≡ trees.control source names labels tree)
 
     -- what `target` reads
-    abbrev pub IsTarget : Walk → Walk → Tokens → Tokens → Target F → Type 0
-    IsTarget = IsRead limit source TargetPart (λ names labels tree part. target_in value part ≡ trees.target source names labels tree)
+    abbrev pub IsTarget : ExpressionState → ExpressionState → Tokens → Tokens → Target F → Type 0
+    IsTarget = IsRead limit source TargetPart (λ names labels tree part. meant_target value part ≡ trees.target source names labels tree)

@@ -7,8 +7,8 @@ use Rattle.gms_table.specs.declared.entry.TableLine.{TableLine}
 use Rattle.gms_table.specs.TableEntries.{IsTable}
 
 -- an entry, with the number that it means
-abbrev pub entry_in : {F : Type 0} → (F → Number) → Entry F → Entry Number
-entry_in value entry = record { at = entry.at; row = entry.row; column = entry.column; value = value entry.value }
+abbrev pub meant_entry : {F : Type 0} → (F → Number) → Entry F → Entry Number
+meant_entry value entry = record { at = entry.at; row = entry.row; column = entry.column; value = value entry.value }
 
 -- the lines of a table have these entries, and after it these are the labels of the source
 abbrev pub HasEntries : ℕ → List TableLine → List (List ℕ) → List (List ℕ) → List (Entry Number) → Type 0

@@ -7,8 +7,8 @@ ghost use Rattle.gms_ast.specs.TreeView.{tree_of, control_tree};
 ghost use Rattle.gms_ast.specs.Numbers.{in_numbers, control_in_numbers};
 ghost use Rattle.gms_grammar.specs.GamsGrammar.{Nonterminal};
 ghost use Rattle.gms_expressions.specs.declared.fault.SyntaxFault.{SyntaxFault};
-ghost use Rattle.gms_expressions.specs.Outcomes.{Walk, IsPart, IsRefused};
-ghost use Rattle.gms_laws.specs.Parts.{Tokens, Derivation, EndAlike, IsExpression, IsPrimary, IsControl, IsTarget, SomePart, target_in};
+ghost use Rattle.gms_expressions.specs.Outcomes.{ExpressionState, IsPart, IsRefusedPart};
+ghost use Rattle.gms_laws.specs.Parts.{Tokens, Derivation, EndAlike, IsExpression, IsPrimary, IsControl, IsTarget, SomePart, meant_target};
 
 use gq_field::ExactField;
 
@@ -19,25 +19,25 @@ use gq_field::ExactField;
 /// after the tokens before the part, and `after` the one after its tokens; `rest` are the tokens
 /// after it. A result is compared by the numbers that it means, in whatever field they are stored.
 pub fn part_laws<F: ExactField>()
-    ensures one_part { (limit : ℕ) (source : List ℕ) (n : Nonterminal) (before after later : Walk) (tokens rest others : Tokens) (one other : Derivation) →
+    ensures one_part { (limit : ℕ) (source : List ℕ) (n : Nonterminal) (before after later : ExpressionState) (tokens rest others : Tokens) (one other : Derivation) →
         IsPart limit source n before after tokens rest one → IsPart limit source n before later tokens others other →
         (one ≡ other) × EndAlike after later rest others }
-    ensures one_expression { (source : List ℕ) (before after later : Walk) (tokens rest others : Tokens) (one other : Expr F) →
+    ensures one_expression { (source : List ℕ) (before after later : ExpressionState) (tokens rest others : Tokens) (one other : Expr F) →
         IsExpression F.limit F.value source before after tokens rest one → IsExpression F.limit F.value source before later tokens others other →
         (in_numbers F.value (tree_of one) ≡ in_numbers F.value (tree_of other)) × EndAlike after later rest others }
-    ensures one_primary { (source : List ℕ) (before after later : Walk) (tokens rest others : Tokens) (one other : Expr F) →
+    ensures one_primary { (source : List ℕ) (before after later : ExpressionState) (tokens rest others : Tokens) (one other : Expr F) →
         IsPrimary F.limit F.value source before after tokens rest one → IsPrimary F.limit F.value source before later tokens others other →
         (in_numbers F.value (tree_of one) ≡ in_numbers F.value (tree_of other)) × EndAlike after later rest others }
-    ensures one_control { (source : List ℕ) (before after later : Walk) (tokens rest others : Tokens) (one other : Control F) →
+    ensures one_control { (source : List ℕ) (before after later : ExpressionState) (tokens rest others : Tokens) (one other : Control F) →
         IsControl F.limit F.value source before after tokens rest one → IsControl F.limit F.value source before later tokens others other →
         (control_in_numbers F.value (control_tree one) ≡ control_in_numbers F.value (control_tree other)) × EndAlike after later rest others }
-    ensures one_target { (source : List ℕ) (before after later : Walk) (tokens rest others : Tokens) (one other : Target F) →
+    ensures one_target { (source : List ℕ) (before after later : ExpressionState) (tokens rest others : Tokens) (one other : Target F) →
         IsTarget F.limit F.value source before after tokens rest one → IsTarget F.limit F.value source before later tokens others other →
-        (target_in F.value one ≡ target_in F.value other) × EndAlike after later rest others }
-    ensures one_fault { (limit : ℕ) (source : List ℕ) (n : Nonterminal) (before : Walk) (tokens : Tokens) (one other : SyntaxFault) →
-        IsRefused limit source n before tokens one → IsRefused limit source n before tokens other → one ≡ other }
-    ensures not_both { (limit : ℕ) (source : List ℕ) (n : Nonterminal) (before after : Walk) (tokens rest : Tokens) (part : Derivation) (fault : SyntaxFault) →
-        IsPart limit source n before after tokens rest part → IsRefused limit source n before tokens fault → ⊥ }
-    ensures not_neither { (limit : ℕ) (source : List ℕ) (n : Nonterminal) (before : Walk) (tokens : Tokens) →
-        ((fault : SyntaxFault) → IsRefused limit source n before tokens fault → ⊥) → SomePart limit source n before tokens }
+        (meant_target F.value one ≡ meant_target F.value other) × EndAlike after later rest others }
+    ensures one_fault { (limit : ℕ) (source : List ℕ) (n : Nonterminal) (before : ExpressionState) (tokens : Tokens) (one other : SyntaxFault) →
+        IsRefusedPart limit source n before tokens one → IsRefusedPart limit source n before tokens other → one ≡ other }
+    ensures not_both { (limit : ℕ) (source : List ℕ) (n : Nonterminal) (before after : ExpressionState) (tokens rest : Tokens) (part : Derivation) (fault : SyntaxFault) →
+        IsPart limit source n before after tokens rest part → IsRefusedPart limit source n before tokens fault → ⊥ }
+    ensures not_neither { (limit : ℕ) (source : List ℕ) (n : Nonterminal) (before : ExpressionState) (tokens : Tokens) →
+        ((fault : SyntaxFault) → IsRefusedPart limit source n before tokens fault → ⊥) → SomePart limit source n before tokens }
 {}

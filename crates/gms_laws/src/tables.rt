@@ -4,8 +4,8 @@ ghost use Rattle.gq_number.specs.Number.{Number};
 ghost use Rattle.gms_table.specs.declared.entry.Entry.{Entry};
 ghost use Rattle.gms_table.specs.declared.entry.TableLine.{TableLine};
 ghost use Rattle.gms_table.specs.declared.fault.TableFault.{TableFault};
-ghost use Rattle.gms_table.specs.TableEntries.{IsTable, IsFault};
-ghost use Rattle.gms_laws.specs.Tables.{entry_in, HasEntries};
+ghost use Rattle.gms_table.specs.TableEntries.{IsTable, IsTableFault};
+ghost use Rattle.gms_laws.specs.Tables.{meant_entry, HasEntries};
 
 use gq_field::ExactField;
 
@@ -16,14 +16,14 @@ use gq_field::ExactField;
 /// `after` are the labels of the source before the table and after it.
 pub fn table_laws<F: ExactField>()
     ensures seen { (lines : List TableLine) (before after : List (List ℕ)) (entries : List (Entry F)) →
-        IsTable F.limit F.value lines before after entries → HasEntries F.limit lines before after (map (entry_in F.value) entries) }
+        IsTable F.limit F.value lines before after entries → HasEntries F.limit lines before after (map (meant_entry F.value) entries) }
     ensures one_list { (limit : ℕ) (lines : List TableLine) (before after later : List (List ℕ)) (one other : List (Entry Number)) →
         HasEntries limit lines before after one → HasEntries limit lines before later other → (one ≡ other) × (after ≡ later) }
     ensures one_fault { (limit : ℕ) (lines : List TableLine) (before : List (List ℕ)) (one other : TableFault) →
-        IsFault limit lines before one → IsFault limit lines before other → one ≡ other }
+        IsTableFault limit lines before one → IsTableFault limit lines before other → one ≡ other }
     ensures not_both { (limit : ℕ) (lines : List TableLine) (before after : List (List ℕ)) (entries : List (Entry Number)) (fault : TableFault) →
-        HasEntries limit lines before after entries → IsFault limit lines before fault → ⊥ }
+        HasEntries limit lines before after entries → IsTableFault limit lines before fault → ⊥ }
     ensures not_neither { (limit : ℕ) (lines : List TableLine) (before : List (List ℕ)) →
-        ((fault : TableFault) → IsFault limit lines before fault → ⊥) →
+        ((fault : TableFault) → IsTableFault limit lines before fault → ⊥) →
         (after : List (List ℕ)) × ((entries : List (Entry Number)) × HasEntries limit lines before after entries) }
 {}

@@ -4,22 +4,22 @@ use Rattle.gms_labels.specs.declared.place.Place.{Place}
 use Rattle.gms_lines.specs.declared.fault.LexError.{LexError}
 use Rattle.gms_lines.specs.declared.fault.LexError.TheVariants.{BadByte, OpenQuote, OpenText, LongLabel, LongLine, UnknownControl}
 use Rattle.gms_lines.specs.declared.fault.ByteFault.{ByteFault}
-use Rattle.gms_lines.specs.Errors.{error_code, IsBefore, IsFirstFault}
+use Rattle.gms_lines.specs.Errors.{lex_error_code, IsBefore, IsFirstFault}
 use Rattle.gms_lines.specs.Lines.{lines, code_text}
 use Rattle.gms_lines.specs.LineFaults.{IsLineFault}
-use Rattle.gms_lines.specs.LineSearch.{first_in_lines}
+use Rattle.gms_lines.specs.InnerLineSearch.{first_in_lines}
 use Rattle.gms_lines.proofs.FirstLemmas.{source-first, fault_within}
 use Rattle.gms_lex.specs.declared.mode.Mode.TheVariants.{Code}
 use Rattle.gms_lex.specs.declared.token.Token.{Token}
 use Rattle.gms_lex.specs.declared.fault.LexFault.{LexFault}
-use Rattle.gms_lex.specs.Places.{place_of}
-use Rattle.gms_lex.specs.Tokens.{IsMadeOf, HasTokens, StopsAt, Stands, IsTokens, IsFault, Means, tokens_of, end_token, length_of}
-use Rattle.gms_lex.specs.Readings.{is_before, earlier, IsReading}
+use Rattle.gms_lex.specs.Places.{place_of_byte}
+use Rattle.gms_lex.specs.Tokens.{IsMadeOf, HasTokens, StopsAt, IsByteFault, IsTokens, IsLexFault, Means, tokens_of, end_token, bytes_of_pieces}
+use Rattle.gms_lex.specs.InnerReadings.{is_before, earlier, IsReading}
 use Rattle.gms_lex.proofs.FaultLemmas.{first_of_both}
 use Rattle.gms_lex.proofs.ReadingLemmas.{reads, ReadsTo, HasTokens-unique, stop-first, reading-first}
 
 -- the first fault of both passes
-first_of_passes : (source : List ℕ) (a : Option ByteFault) (tokens : List Token) (b : Option ByteFault) → IsFirstFault (IsLineFault source) a → IsReading source (code_text source) tokens b → IsFirstFault (Stands source) (earlier a b)
+first_of_passes : (source : List ℕ) (a : Option ByteFault) (tokens : List Token) (b : Option ByteFault) → IsFirstFault (IsLineFault source) a → IsReading source (code_text source) tokens b → IsFirstFault (IsByteFault source) (earlier a b)
 first_of_passes source a tokens b p q = first_of_both (IsLineFault source) (StopsAt (code_text source)) a b p (reading-first source (code_text source) tokens b q)
 
 choice_some : (b : Bool) (f g : ByteFault) → (if b then Some f else Some g) ≡ None → ⊥
@@ -41,14 +41,14 @@ none_earlier (Some f) (Some g) e = absurd (choice_some (is_before f g) f g e)
 -- without a fault these are the tokens
 pub answers_tokens : (source : List ℕ) (a : Option ByteFault) (tokens : List Token) (b : Option ByteFault) → IsFirstFault (IsLineFault source) a → IsReading source (code_text source) tokens b → earlier a b ≡ None → IsTokens source tokens
 answers_tokens source a tokens b p q e = record {
-  sound = subst (IsFirstFault (Stands source)) e (first_of_passes source a tokens b p q);
+  sound = subst (IsFirstFault (IsByteFault source)) e (first_of_passes source a tokens b p q);
   has = subst (IsReading source (code_text source) tokens) (none_earlier a b e) q;
 }
 
 -- the earlier of both faults is the first of the source
-pub answers_fault : (source : List ℕ) (a : Option ByteFault) (tokens : List Token) (b : Option ByteFault) (f : ByteFault) → IsFirstFault (IsLineFault source) a → IsReading source (code_text source) tokens b → earlier a b ≡ Some f → IsFault source record { error = f.error; at = place_of source f.at }
+pub answers_fault : (source : List ℕ) (a : Option ByteFault) (tokens : List Token) (b : Option ByteFault) (f : ByteFault) → IsFirstFault (IsLineFault source) a → IsReading source (code_text source) tokens b → earlier a b ≡ Some f → IsLexFault source record { error = f.error; at = place_of_byte source f.at }
 answers_fault source a tokens b f p q e =
-    let first : IsFirstFault (Stands source) (Some f) = subst (IsFirstFault (Stands source)) e (first_of_passes source a tokens b p q) in
+    let first : IsFirstFault (IsByteFault source) (Some f) = subst (IsFirstFault (IsByteFault source)) e (first_of_passes source a tokens b p q) in
     record { byte = f.at; at = refl; stands = first.0; first = first.1 }
 
 some_cases : (a b : Option ByteFault) (f : ByteFault) → earlier a b ≡ Some f → (a ≡ Some f) ⊎ (b ≡ Some f)
@@ -64,9 +64,9 @@ answers_within source a tokens b f long p q e = elim (some_cases a b f e) [
 ]
 
 -- the meaning of a source, by its first fault
-meaning_by_first : (source : List ℕ) (r : Option ByteFault) → IsFirstFault (Stands source) r → (r ≡ None → (tokens : List Token) × HasTokens source (code_text source) tokens) → (meaning : Result (List Token) LexFault) × Means source meaning
+meaning_by_first : (source : List ℕ) (r : Option ByteFault) → IsFirstFault (IsByteFault source) r → (r ≡ None → (tokens : List Token) × HasTokens source (code_text source) tokens) → (meaning : Result (List Token) LexFault) × Means source meaning
 meaning_by_first source None first has = let tokens = has refl in (Ok tokens.0, record { sound = first; has = tokens.1 })
-meaning_by_first source (Some f) first has = (Err record { error = f.error; at = place_of source f.at }, record { byte = f.at; at = refl; stands = first.0; first = first.1 })
+meaning_by_first source (Some f) first has = (Err record { error = f.error; at = place_of_byte source f.at }, record { byte = f.at; at = refl; stands = first.0; first = first.1 })
 
 -- each source has tokens or a first fault
 pub means_one : (source : List ℕ) → (meaning : Result (List Token) LexFault) × Means source meaning
@@ -79,7 +79,7 @@ means_one source =
           let has : HasTokens source text (tokens_of source 0 read.pieces ++ end_token source ∷ []) = record { pieces = read.pieces; last = read.last; made = subst (IsMadeOf Code text read.pieces read.last) none read.made; tokens_are = refl } in
           meaning_by_first source (earlier lines_first None) (first_of_both (IsLineFault source) (StopsAt text) lines_first None (source-first source) (reading-first source text _ None has)) (λ _. (_, has))
       | inr (m, stops, some) ↦
-          let fault : ByteFault = record { at = length_of read.pieces + m.ahead; error = m.error } in
+          let fault : ByteFault = record { at = bytes_of_pieces read.pieces + m.ahead; error = m.error } in
           let stop : StopsAt text fault = record { pieces = read.pieces; last = read.last; rest = read.rest; misread = m; made = read.made; some = some; stops = stops; at = refl; error = refl } in
           meaning_by_first source (earlier lines_first (Some fault)) (first_of_both (IsLineFault source) (StopsAt text) lines_first (Some fault) (source-first source) (stop-first text fault stop)) (λ e. let none : Some fault ≡ None = none_earlier lines_first (Some fault) e in absurd (some_none fault none))
     ]
@@ -88,7 +88,7 @@ means_one source =
 error_of : ℕ → LexError
 error_of n = if n == 1 then BadByte else (if n == 2 then OpenQuote else (if n == 3 then OpenText else (if n == 4 then LongLabel else (if n == 5 then LongLine else UnknownControl))))
 
-error_back : (e : LexError) → error_of (error_code e) ≡ e
+error_back : (e : LexError) → error_of (lex_error_code e) ≡ e
 unfolding error_of
 error_back BadByte = refl
 error_back OpenQuote = refl
@@ -103,7 +103,7 @@ same_fault f g (inl a) (inl b) = absurd (omega arith)
 same_fault f g (inl a) (inr b) = absurd (omega (arith, b.0))
 same_fault f g (inr a) (inl b) = absurd (omega (arith, a.0))
 same_fault f g (inr a) (inr b) =
-    let code : error_code f.error ≡ error_code g.error = omega (arith, a.1, b.1) in
+    let code : lex_error_code f.error ≡ lex_error_code g.error = omega (arith, a.1, b.1) in
     (a.0, sym (error_back f.error) ∙ ap error_of code ∙ error_back g.error)
 
 -- a source has one list of tokens at most, or one first fault, and not both
@@ -113,6 +113,6 @@ means_only source (Ok ts) (Err f) p q = absurd (p.sound record { at = q.byte; er
 means_only source (Err f) (Ok ts) p q = absurd (q.sound record { at = p.byte; error = f.error } p.stands)
 means_only source (Err f) (Err g) p q =
     let same = same_fault record { at = p.byte; error = f.error } record { at = q.byte; error = g.error } (p.first record { at = q.byte; error = g.error } q.stands) (q.first record { at = p.byte; error = f.error } p.stands) in
-    let place : f.at ≡ g.at = p.at ∙ ap (place_of source) same.0 ∙ sym q.at in
+    let place : f.at ≡ g.at = p.at ∙ ap (place_of_byte source) same.0 ∙ sym q.at in
     let fault : f ≡ g = ap (λ (e : LexError). (let h : LexFault = record { error = e; at = f.at } in h)) same.1 ∙ ap (λ (at : Place). (let h : LexFault = record { error = g.error; at = at } in h)) place in
     cc

@@ -7,12 +7,12 @@ use Rattle.std.proofs.lemmas.List.Folds.{concat-append}
 use Rattle.std.proofs.Math.Seq.{take-add}
 use Rattle.std.specs.List.{prefix_len, list_all, concat, AllByRecursion}
 use Rattle.gms_lines.specs.Lines.{begins, is_blank, is_line_end, content, code_text}
-use Rattle.gms_lexemes.specs.declared.kind.Kind.TheVariants.{Word, Label, Number, Text, Symbol, Break, TableLine, End}
-use Rattle.gms_lexemes.specs.declared.lexeme.Piece.{Piece}
-use Rattle.gms_lexemes.specs.declared.lexeme.Piece.TheVariants.{Gap, LineEnd, Remark, Token}
-use Rattle.gms_lexemes.specs.declared.lexeme.Lexeme.{Lexeme}
-use Rattle.gms_lexemes.specs.Shapes.{Read, lexeme, code_token}
-use Rattle.gms_lexemes.specs.TableLines.{table_bytes, table_line}
+use Rattle.gms_lines.specs.declared.kind.Kind.TheVariants.{Word, Label, Number, Text, Symbol, Break, TableLine, End}
+use Rattle.gms_lines.specs.declared.lexeme.Piece.{Piece}
+use Rattle.gms_lines.specs.declared.lexeme.Piece.TheVariants.{Gap, LineEnd, Remark, Token}
+use Rattle.gms_lines.specs.declared.lexeme.Lexeme.{Lexeme}
+use Rattle.gms_lines.specs.Shapes.{Read, lexeme, code_token}
+use Rattle.gms_lines.specs.TableLines.{table_bytes, table_line}
 use Rattle.gms_lex.specs.declared.mode.Mode.{Mode}
 use Rattle.gms_lex.specs.declared.mode.Mode.TheVariants.{Code, TableLines}
 use Rattle.gms_lex.specs.declared.mode.LineEnds.{LineEnds}
@@ -20,8 +20,8 @@ use Rattle.gms_lex.specs.declared.mode.LineEnds.TheVariants.{Skipped, EndItem, E
 use Rattle.gms_lex.specs.declared.token.Token.{Token as CodeToken}
 use Rattle.gms_lex.specs.Keywords.{begins_statement}
 use Rattle.gms_lex.specs.Modes.{mode_after}
-use Rattle.gms_lex.specs.Places.{place_of}
-use Rattle.gms_lex.specs.Pieces.{passes, ends_or_begins, space_length, line_end_length, line_ends, line_end, token_at as piece_of, table_piece, plain_piece, piece_at}
+use Rattle.gms_lex.specs.Places.{place_of_byte}
+use Rattle.gms_lex.specs.Pieces.{passes, ends_or_begins, space_length, line_end_length, line_ends, line_end, token_read as piece_of, table_piece, plain_piece, piece_at}
 use Rattle.gms_lex.specs.Tokens.{IsMadeOf, token_at, tokens_of, end_token, IsTokens}
 use Rattle.gms_lex.specs.Apart.{is_space, IsSkipped, AreSkipped, AreApart, IsOneLineEnd, IsEnding, IsBreak, break_of}
 use Rattle.gms_lex.proofs.FrontLemmas.{not_both}
@@ -79,7 +79,7 @@ skipped_none : (text : List ℕ) (at : ℕ) → AreSkipped (take (at - at) (drop
 skipped_none text at = let none : 0 ≡ at - at = omega arith in subst (λ k. AreSkipped (take k (drop at text))) none AreSkipped-none
 
 -- a piece, and the tokens after it
-piece_apart : (source text : List ℕ) (from start bytes : ℕ) (piece : Piece) (tokens : List CodeToken) → from ≤ start → AreSkipped (take (start - from) (drop from text)) → IsSkippedPiece piece (take bytes (drop start text)) → ((next : ℕ) → next ≤ start + bytes → AreSkipped (take (start + bytes - next) (drop next text)) → AreApart text next tokens) → AreApart text from (token_at (place_of source start) piece start (start + bytes) ++ tokens)
+piece_apart : (source text : List ℕ) (from start bytes : ℕ) (piece : Piece) (tokens : List CodeToken) → from ≤ start → AreSkipped (take (start - from) (drop from text)) → IsSkippedPiece piece (take bytes (drop start text)) → ((next : ℕ) → next ≤ start + bytes → AreSkipped (take (start + bytes - next) (drop next text)) → AreApart text next tokens) → AreApart text from (token_at (place_of_byte source start) piece start (start + bytes) ++ tokens)
 piece_apart source text from start bytes (Token kind) tokens le so_far piece others = (le, so_far, others (start + bytes) (omega arith) (skipped_none text (start + bytes)))
 piece_apart source text from start bytes Gap tokens le so_far piece others = others from (omega arith) (skipped_more text from start bytes le so_far piece)
 piece_apart source text from start bytes LineEnd tokens le so_far piece others = others from (omega arith) (skipped_more text from start bytes le so_far piece)
@@ -95,7 +95,7 @@ pieces_apart source from start current (p ∷ pieces) last le within so_far made
     let w = lexeme_within current text p made.0 in
     let fits : start + p.length ≤ length source = omega (arith, w.1, length-drop start (code_text source), length-code_text source) in
     let others : IsMadeOf (mode_after current p.piece (take p.length text)) (drop (start + p.length) (code_text source)) pieces last [] = subst (λ t. IsMadeOf (mode_after current p.piece (take p.length text)) t pieces last []) (drop-drop p.length start (code_text source)) made.1 in
-    let first : List CodeToken = token_at (place_of source start) p.piece start (start + p.length) in
+    let first : List CodeToken = token_at (place_of_byte source start) p.piece start (start + p.length) in
     let rest : List CodeToken = tokens_of source (start + p.length) pieces in
     subst (AreApart (code_text source) from) (sym (append_assoc first rest (end_token source ∷ []))) (piece_apart source (code_text source) from start p.length p.piece (rest ++ end_token source ∷ []) le so_far (skipped_piece current text p made.0) (λ next below skipped. pieces_apart source next (start + p.length) (mode_after current p.piece (take p.length text)) pieces last below fits skipped others))
 

@@ -1,11 +1,11 @@
 -- A piece opens one parenthesis at most.
 use Rattle.std.proofs.Common.{ℕ, ◌+◌, ◌==◌, ◌≤◌, Bool, true, false, if◌then◌else◌, List, Option, Some, None, arith}
-use Rattle.gms_lexemes.specs.declared.kind.Sym.{Sym}
-use Rattle.gms_lexemes.specs.declared.kind.Sym.TheVariants.{Power, DotDot, Star, Slash, LeftParen, RightParen, Comma, Semicolon, Dot}
-use Rattle.gms_lexemes.specs.declared.kind.Kind.{Kind}
-use Rattle.gms_lexemes.specs.declared.kind.Kind.TheVariants.{Word, Label, Number, Text, Symbol, Break, TableLine, End}
-use Rattle.gms_lexemes.specs.declared.lexeme.Piece.{Piece}
-use Rattle.gms_lexemes.specs.declared.lexeme.Piece.TheVariants.{Gap, LineEnd, Remark, Token}
+use Rattle.gms_lines.specs.declared.kind.Sym.{Sym}
+use Rattle.gms_lines.specs.declared.kind.Sym.TheVariants.{Power, DotDot, Star, Slash, LeftParen, RightParen, Comma, Semicolon, Dot}
+use Rattle.gms_lines.specs.declared.kind.Kind.{Kind}
+use Rattle.gms_lines.specs.declared.kind.Kind.TheVariants.{Word, Label, Number, Text, Symbol, Break, TableLine, End}
+use Rattle.gms_lines.specs.declared.lexeme.Piece.{Piece}
+use Rattle.gms_lines.specs.declared.lexeme.Piece.TheVariants.{Gap, LineEnd, Remark, Token}
 use Rattle.gms_lex.specs.declared.keyword.Shape.{Shape}
 use Rattle.gms_lex.specs.declared.keyword.Shape.TheVariants.{Set, Parameter, Scalar, Model}
 use Rattle.gms_lex.specs.declared.keyword.Keyword.{Keyword}
@@ -15,7 +15,7 @@ use Rattle.gms_lex.specs.declared.mode.Stage.TheVariants.{Fresh, Due, After, Spa
 use Rattle.gms_lex.specs.declared.mode.Mode.{Mode}
 use Rattle.gms_lex.specs.declared.mode.Mode.TheVariants.{Code, Item, Named, Domain, Bare, Rest, Element, Value, Tail, TableName, TableNamed, TableDomain, TableBare, TableTexted, TableLines}
 use Rattle.gms_lex.specs.Keywords.{keyword_of}
-use Rattle.gms_lex.specs.Depths.{depth_of}
+use Rattle.gms_lex.specs.InnerDepths.{depth_of}
 use Rattle.gms_lex.specs.Modes.{list_start, begun_by, behind_element, after_plain, after_word, after_item_symbol, after_comma, after_due_symbol, after_element_symbol, after_stray_paren, after_tail_symbol, after_name_symbol, after_domain_symbol, after_table_symbol, after_list_symbol, after_symbol, after_break, after_token, after_gap, after_line, after_remark, mode_after}
 
 list_start_depth : (s : Shape) (d : ℕ) → depth_of (list_start s) ≤ d

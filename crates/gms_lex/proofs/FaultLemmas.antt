@@ -4,7 +4,7 @@ use Rattle.std.proofs.lemmas.Bool.Decides.{nat_tests}
 use Rattle.gms_lines.specs.declared.fault.ByteFault.{ByteFault}
 use Rattle.gms_lines.specs.Errors.{IsBefore, IsFirstFault}
 use Rattle.gms_lines.proofs.LineLemmas.{true_or_false}
-use Rattle.gms_lex.specs.Readings.{is_before, earlier}
+use Rattle.gms_lex.specs.InnerReadings.{is_before, earlier}
 
 -- the test says which fault comes before the other
 before_true : (f g : ByteFault) → is_before f g ≡ true → IsBefore f g

@@ -7,18 +7,18 @@ use Rattle.std.specs.List.{prefix_len, list_all}
 use Rattle.std.specs.Char.{is_ascii_alphabetic, is_ascii_alphanumeric, is_ascii_digit}
 use Rattle.gms_lines.specs.Lines.{begins, before, is_blank, is_line_end, content}
 use Rattle.gms_lines.proofs.LineLemmas.{true_or_false}
-use Rattle.gms_lexemes.specs.declared.kind.Kind.{Kind}
-use Rattle.gms_lexemes.specs.declared.kind.Kind.TheVariants.{Word, Label, Number, Text, Symbol, Break, TableLine, End}
-use Rattle.gms_lexemes.specs.declared.kind.Sym.{Sym}
-use Rattle.gms_lexemes.specs.declared.lexeme.Piece.{Piece}
-use Rattle.gms_lexemes.specs.declared.lexeme.Piece.TheVariants.{Gap, LineEnd, Remark, Token}
-use Rattle.gms_lexemes.specs.declared.lexeme.Lexeme.{Lexeme}
-use Rattle.gms_lexemes.specs.declared.lexeme.Misread.{Misread}
-use Rattle.gms_lexemes.specs.Bytes.{is_name_byte, is_label_byte, is_quote, is_plain}
-use Rattle.gms_lexemes.specs.Numbers.{begins_dot, begins_number, number_length}
-use Rattle.gms_lexemes.specs.Shapes.{Read, longest_label, bounded, symbol, code_token, label_token, remark}
-use Rattle.gms_lexemes.specs.TableLines.{table_bytes, table_line}
-use Rattle.gms_lexemes.proofs.WithinLemmas.{run_within, table_bytes_le}
+use Rattle.gms_lines.specs.declared.kind.Kind.{Kind}
+use Rattle.gms_lines.specs.declared.kind.Kind.TheVariants.{Word, Label, Number, Text, Symbol, Break, TableLine, End}
+use Rattle.gms_lines.specs.declared.kind.Sym.{Sym}
+use Rattle.gms_lines.specs.declared.lexeme.Piece.{Piece}
+use Rattle.gms_lines.specs.declared.lexeme.Piece.TheVariants.{Gap, LineEnd, Remark, Token}
+use Rattle.gms_lines.specs.declared.lexeme.Lexeme.{Lexeme}
+use Rattle.gms_lines.specs.declared.lexeme.Misread.{Misread}
+use Rattle.gms_lines.specs.Bytes.{is_name_byte, is_label_byte, is_quote, is_ascii}
+use Rattle.gms_lines.specs.Numbers.{begins_dot, begins_number, number_length}
+use Rattle.gms_lines.specs.Shapes.{Read, longest_label, bounded, symbol, code_token, label_token, remark}
+use Rattle.gms_lines.specs.TableLines.{table_bytes, table_line}
+use Rattle.gms_lines.proofs.WithinLemmas.{run_within, table_bytes_le}
 use Rattle.gms_lex.specs.declared.keyword.Shape.{Shape}
 use Rattle.gms_lex.specs.declared.keyword.Shape.TheVariants.{Set, Parameter, Scalar, Model}
 use Rattle.gms_lex.specs.declared.mode.Stage.{Stage}
@@ -28,9 +28,9 @@ use Rattle.gms_lex.specs.declared.mode.Mode.TheVariants.{Named, Bare, Element, V
 use Rattle.gms_lex.specs.declared.mode.LineEnds.{LineEnds}
 use Rattle.gms_lex.specs.declared.mode.LineEnds.TheVariants.{Skipped, EndItem, EndElement}
 use Rattle.gms_lex.specs.Keywords.{begins_statement}
-use Rattle.gms_lex.specs.Pieces.{passes, ends_or_begins, begins_other, space_length, line_end_length, line_ends, line_end, is_item_mark, is_element_mark, element_tail, behind_label, in_list, token_at, table_piece, plain_piece, piece_at}
-use Rattle.gms_lex.specs.Spellings.{IsWord, IsLabel, IsQuoted, IsText, IsSymbol, IsNumber}
-use Rattle.gms_lex.specs.Longest.{IsCode, IsElement, IsMarkOrText, IsValue, IsBehindElement, IsListed, IsOfTable, IsAllowed, has_text, IsLongest, IsRefused}
+use Rattle.gms_lex.specs.Pieces.{passes, ends_or_begins, begins_other, space_length, line_end_length, line_ends, line_end, is_item_mark, is_element_mark, element_tail, behind_label, in_list, token_read, table_piece, plain_piece, piece_at}
+use Rattle.gms_lex.specs.Spellings.{IsWord, IsLabel, IsQuoted, IsText, IsSymbol, IsNumberSpelling}
+use Rattle.gms_lex.specs.Longest.{IsCode, IsElementPiece, IsMarkOrText, IsValuePiece, IsBehindElement, IsInList, IsOfTable, IsAllowedPiece, has_text, IsLongest, IsRefusedPiece}
 use Rattle.gms_lex.specs.Apart.{is_space, IsOneLineEnd}
 use Rattle.gms_lex.proofs.FrontLemmas.{both_true, and_true, not_both, front_most, front_all, begins_take, begins_front, begins_apart}
 use Rattle.gms_lex.proofs.NumberLemmas.{number_most, number_begins, number_positive, number_spelled}
@@ -104,7 +104,7 @@ number_apart test text digit dot h number = elim (number_front text number) [
 
 -- the spelling of a token of code
 abbrev IsSpelledCode : List ℕ → List ℕ → Type 0
-IsSpelledCode text behind = IsWord text ⊎ (IsNumber text behind ⊎ (IsQuoted text ⊎ ((s : Sym) × IsSymbol s text)))
+IsSpelledCode text behind = IsWord text ⊎ (IsNumberSpelling text behind ⊎ (IsQuoted text ⊎ ((s : Sym) × IsSymbol s text)))
 
 code_spelled : (kind : Kind) (piece : Piece) (text behind : List ℕ) → IsCode kind piece text behind → IsSpelledCode text behind
 code_spelled kind (Token Word) text behind h = inl h
@@ -196,7 +196,7 @@ code_longest allowed kind text quotes may others =
 abbrev IsSpelledElement : List ℕ → Type 0
 IsSpelledElement text = IsLabel text ⊎ (IsQuoted text ⊎ ((s : Sym) × IsSymbol s text))
 
-element_spelled : (piece : Piece) (text : List ℕ) → IsElement piece text → IsSpelledElement text
+element_spelled : (piece : Piece) (text : List ℕ) → IsElementPiece piece text → IsSpelledElement text
 element_spelled (Token Label) text (inl label) = inl label
 element_spelled (Token Label) text (inr quote) = inr (inl quote)
 element_spelled (Token (Symbol s)) text h = inr (inr (s, h))
@@ -226,7 +226,7 @@ element_symbol_only text label quote n (inr (inl q)) = not_both (begins is_quote
 element_symbol_only text label quote n (inr (inr s)) = s
 
 -- the first token where an element is expected is the longest
-element_longest : (allowed : Allowing) (text : List ℕ) → ((piece : Piece) (n : ℕ) → IsElement piece (take n text) → allowed piece n) → ((other : Piece) (n : ℕ) → n ≤ length text → allowed other n → IsSpelledElement (take n text)) → IsLongestRead allowed text (label_token text)
+element_longest : (allowed : Allowing) (text : List ℕ) → ((piece : Piece) (n : ℕ) → IsElementPiece piece (take n text) → allowed piece n) → ((other : Piece) (n : ℕ) → n ≤ length text → allowed other n → IsSpelledElement (take n text)) → IsLongestRead allowed text (label_token text)
 element_longest allowed text may others =
     let run : ℕ = prefix_len is_label_byte text in
     if_longest allowed text (begins is_ascii_alphanumeric text) _ _
@@ -293,7 +293,7 @@ is_label_quoted t b h = (refl, h)
 is_text_quoted : (t b : List ℕ) → IsQuoted t → IsCode Text (Token Text) t b
 is_text_quoted t b h = (refl, h)
 
-value_spelled : (stage : Stage) (piece : Piece) (text behind : List ℕ) → IsValue stage piece text behind → IsSpelledCode text behind
+value_spelled : (stage : Stage) (piece : Piece) (text behind : List ℕ) → IsValuePiece stage piece text behind → IsSpelledCode text behind
 value_spelled After (Token Number) text behind h = inr (inl h.0)
 value_spelled After (Token Word) text behind h = inl h
 value_spelled After (Token (Symbol s)) text behind h = inr (inr (inr (s, h)))
@@ -311,7 +311,7 @@ value_spelled Due piece text behind h = code_spelled Label piece text behind h
 
 -- what a value is after an element: not a number that begins with a dot, if it directly follows the
 -- element
-code_value : (piece : Piece) (text behind : List ℕ) → begins_dot text ≡ false → IsCode Label piece text behind → IsValue After piece text behind
+code_value : (piece : Piece) (text behind : List ℕ) → begins_dot text ≡ false → IsCode Label piece text behind → IsValuePiece After piece text behind
 code_value (Token Number) text behind dot h = (h, dot)
 code_value (Token Word) text behind dot h = h
 code_value (Token (Symbol s)) text behind dot h = h
@@ -342,7 +342,7 @@ front_no_dot (suc n) (b ∷ text) h = h
 
 -- what begins with a mark and is spelled as a token of code, but is no number with a dot, is a
 -- symbol
-mark_only : (text : List ℕ) → begins is_element_mark text ≡ true → (n : ℕ) → (IsNumber (take n text) (drop n text) → begins_dot text ≡ false) → IsSpelledCode (take n text) (drop n text) → (s : Sym) × IsSymbol s (take n text)
+mark_only : (text : List ℕ) → begins is_element_mark text ≡ true → (n : ℕ) → (IsNumberSpelling (take n text) (drop n text) → begins_dot text ≡ false) → IsSpelledCode (take n text) (drop n text) → (s : Sym) × IsSymbol s (take n text)
 mark_only text mark n dot (inl word) = begins_apart is_element_mark is_ascii_alphabetic text mark_letter mark (begins_front is_ascii_alphabetic n text word.0)
 mark_only text mark n dot (inr (inl number)) = elim (number_front text (number_begins n text number)) [
   | inl d ↦ begins_apart is_element_mark is_ascii_digit text mark_digit mark d
@@ -352,7 +352,7 @@ mark_only text mark n dot (inr (inr (inl quote))) = begins_apart is_element_mark
 mark_only text mark n dot (inr (inr (inr s))) = s
 
 -- a number begins with a dot only if its text does
-dot_of_front : (n : ℕ) (text : List ℕ) → IsNumber (take n text) (drop n text) → begins_dot (take n text) ≡ false → begins_dot text ≡ false
+dot_of_front : (n : ℕ) (text : List ℕ) → IsNumberSpelling (take n text) (drop n text) → begins_dot (take n text) ≡ false → begins_dot text ≡ false
 dot_of_front zero text number h =
     let long : 0 ≡ length number.whole + (length number.point + length number.exponent) = omega (arith, ap length number.spelled, length-append number.whole (number.point ++ number.exponent), length-append number.point number.exponent) in
     elim number.some [ inl w ↦ absurd (omega (arith, w, long)) | inr p ↦ absurd (omega (arith, p, long)) ]
@@ -360,7 +360,7 @@ dot_of_front (suc n) [] number h = refl
 dot_of_front (suc n) (b ∷ text) number h = h
 
 -- directly after an element a number may not begin with a dot
-after_number : (piece : Piece) (n : ℕ) (text : List ℕ) → IsValue After piece (take n text) (drop n text) → begins is_element_mark text ≡ true → (s : Sym) × IsSymbol s (take n text)
+after_number : (piece : Piece) (n : ℕ) (text : List ℕ) → IsValuePiece After piece (take n text) (drop n text) → begins is_element_mark text ≡ true → (s : Sym) × IsSymbol s (take n text)
 after_number (Token Number) n text h mark = elim (number_front text (number_begins n text h.0)) [
   | inl d ↦ begins_apart is_element_mark is_ascii_digit text mark_digit mark d
   | inr both ↦ not_both (begins_dot text) both.1 (dot_of_front n text h.0 h.1)
@@ -384,7 +384,7 @@ digit_first [] h = refl
 digit_first (b ∷ text) h = digit_no_dot b h
 
 -- where a dot begins no value, a number at the text begins with none
-no_value_dot : (text : List ℕ) (n : ℕ) → (begins_dot text && begins is_ascii_digit (drop 1 text)) ≡ false → IsNumber (take n text) (drop n text) → begins_dot text ≡ false
+no_value_dot : (text : List ℕ) (n : ℕ) → (begins_dot text && begins is_ascii_digit (drop 1 text)) ≡ false → IsNumberSpelling (take n text) (drop n text) → begins_dot text ≡ false
 no_value_dot text n none number = elim (number_front text (number_begins n text number)) [
   | inl d ↦ digit_first text d
   | inr both ↦ not_both (begins_dot text && begins is_ascii_digit (drop 1 text)) (and_true (begins_dot text) (begins is_ascii_digit (drop 1 text)) both.1 both.2) none
@@ -395,9 +395,9 @@ and_false true h = h
 and_false false h = refl
 
 -- in a parameter's list outside parentheses, directly after an element
-parameter_after : (text : List ℕ) → IsLongestRead (λ piece n. IsValue After piece (take n text) (drop n text)) text (behind_label Parameter 0 After text)
+parameter_after : (text : List ℕ) → IsLongestRead (λ piece n. IsValuePiece After piece (take n text) (drop n text)) text (behind_label Parameter 0 After text)
 parameter_after text =
-    let allowed : Allowing = λ piece n. IsValue After piece (take n text) (drop n text) in
+    let allowed : Allowing = λ piece n. IsValuePiece After piece (take n text) (drop n text) in
     if_longest allowed text (begins is_element_mark text && true) _ _
     (λ mark. symbol_longest allowed text (λ s n h. h) (λ other n le h. after_number other n text h (both_true (begins is_element_mark text) true mark).0))
     (λ mark.
@@ -405,9 +405,9 @@ parameter_after text =
     code_longest allowed Label text is_label_quoted (λ piece n h. code_value piece (take n text) (drop n text) (front_no_dot n text none) h) (λ other n le h. value_spelled After other (take n text) (drop n text) h))
 
 -- in a parameter's list outside parentheses, after a blank
-parameter_spaced : (text : List ℕ) → IsLongestRead (λ piece n. IsValue Spaced piece (take n text) (drop n text)) text (behind_label Parameter 0 Spaced text)
+parameter_spaced : (text : List ℕ) → IsLongestRead (λ piece n. IsValuePiece Spaced piece (take n text) (drop n text)) text (behind_label Parameter 0 Spaced text)
 parameter_spaced text =
-    let allowed : Allowing = λ piece n. IsValue Spaced piece (take n text) (drop n text) in
+    let allowed : Allowing = λ piece n. IsValuePiece Spaced piece (take n text) (drop n text) in
     let value : Bool = begins_dot text && begins is_ascii_digit (drop 1 text) in
     if_longest allowed text (begins is_element_mark text && not value) _ _
     (λ mark.
@@ -429,15 +429,15 @@ element_mark_only text mark n (inr (inl quote)) = begins_apart is_element_mark i
 element_mark_only text mark n (inr (inr s)) = s
 
 -- in parentheses of a list, after an element
-inside_longest : (text : List ℕ) → IsLongestRead (λ piece n. IsElement piece (take n text)) text (if begins is_element_mark text && true then symbol text else label_token text)
+inside_longest : (text : List ℕ) → IsLongestRead (λ piece n. IsElementPiece piece (take n text)) text (if begins is_element_mark text && true then symbol text else label_token text)
 inside_longest text =
-    let allowed : Allowing = λ piece n. IsElement piece (take n text) in
+    let allowed : Allowing = λ piece n. IsElementPiece piece (take n text) in
     if_longest allowed text (begins is_element_mark text && true) _ _
     (λ mark. symbol_longest allowed text (λ s n h. h) (λ other n le h. element_mark_only text (both_true (begins is_element_mark text) true mark).0 n (element_spelled other (take n text) h)))
     (λ _. element_longest allowed text (λ piece n h. h) (λ other n le h. element_spelled other (take n text) h))
 
-due_longest : (text : List ℕ) → IsLongestRead (λ piece n. IsElement piece (take n text)) text (label_token text)
-due_longest text = element_longest (λ piece n. IsElement piece (take n text)) text (λ piece n h. h) (λ other n le h. element_spelled other (take n text) h)
+due_longest : (text : List ℕ) → IsLongestRead (λ piece n. IsElementPiece piece (take n text)) text (label_token text)
+due_longest text = element_longest (λ piece n. IsElementPiece piece (take n text)) text (λ piece n h. h) (λ other n le h. element_spelled other (take n text) h)
 
 -- after an element, with blanks between or without
 abbrev IsBehind : Stage → Type 0
@@ -472,11 +472,11 @@ nested_is Parameter depth After text = ap (λ v. if begins is_element_mark text 
 nested_is Parameter depth Spaced text =
     ap (λ v. if begins is_element_mark text && not (v && (begins_dot text && begins is_ascii_digit (drop 1 text))) then symbol text else (if v then element_tail Parameter text else label_token text)) (positive depth)
 
-nested_longest : (shape : Shape) (depth : ℕ) (stage : Stage) (text : List ℕ) → IsLongestRead (λ piece n. IsElement piece (take n text)) text (behind_label shape (suc depth) stage text)
+nested_longest : (shape : Shape) (depth : ℕ) (stage : Stage) (text : List ℕ) → IsLongestRead (λ piece n. IsElementPiece piece (take n text)) text (behind_label shape (suc depth) stage text)
 nested_longest shape depth stage text =
-    subst (IsLongestRead (λ piece n. IsElement piece (take n text)) text) (sym (nested_is shape depth stage text)) (inside_longest text)
+    subst (IsLongestRead (λ piece n. IsElementPiece piece (take n text)) text) (sym (nested_is shape depth stage text)) (inside_longest text)
 
-list_longest : (shape : Shape) (depth : ℕ) (stage : Stage) (text : List ℕ) → IsLongestRead (λ piece n. IsListed shape depth stage piece (take n text) (drop n text)) text (in_list shape depth stage text)
+list_longest : (shape : Shape) (depth : ℕ) (stage : Stage) (text : List ℕ) → IsLongestRead (λ piece n. IsInList shape depth stage piece (take n text) (drop n text)) text (in_list shape depth stage text)
 list_longest shape depth Fresh text = due_longest text
 list_longest shape depth Due text = due_longest text
 list_longest shape zero After text = outside_longest shape After text tt
@@ -492,7 +492,7 @@ code_read kind text quotes = code_longest (λ piece n. IsCode kind piece (take n
 -- what is read outside the lines of a table
 abbrev IsPlainRead : Mode → List ℕ → Type 0
 IsPlainRead TableLines text = Unit {0}
-IsPlainRead current text = IsLongestRead (IsAllowed current text) text (token_at current text)
+IsPlainRead current text = IsLongestRead (IsAllowedPiece current text) text (token_read current text)
 
 plain_read : (current : Mode) (text : List ℕ) → IsPlainRead current text
 plain_read TableLines text = tt
@@ -523,7 +523,7 @@ code_tells kind LineEnd text behind h = absurd h
 code_tells kind Remark text behind h = absurd h
 code_tells kind piece text behind h = (refl, tt)
 
-element_tells : (piece : Piece) (text : List ℕ) → IsElement piece text → Tells piece text
+element_tells : (piece : Piece) (text : List ℕ) → IsElementPiece piece text → Tells piece text
 element_tells (Token Break) text h = absurd h
 element_tells Gap text h = absurd h
 element_tells LineEnd text h = absurd h
@@ -537,7 +537,7 @@ mark_tells marks LineEnd text h = absurd h
 mark_tells marks Remark text h = (refl, h.1)
 mark_tells marks piece text h = (refl, tt)
 
-value_tells : (stage : Stage) (piece : Piece) (text behind : List ℕ) → IsValue stage piece text behind → Tells piece text
+value_tells : (stage : Stage) (piece : Piece) (text behind : List ℕ) → IsValuePiece stage piece text behind → Tells piece text
 value_tells After (Token Break) text behind h = absurd h
 value_tells After Gap text behind h = absurd h
 value_tells After LineEnd text behind h = absurd h
@@ -553,7 +553,7 @@ behind_tells Set stage piece text behind h = mark_tells is_element_mark piece te
 behind_tells Scalar stage piece text behind h = mark_tells is_element_mark piece text h
 behind_tells Model stage piece text behind h = mark_tells is_element_mark piece text h
 
-listed_tells : (shape : Shape) (depth : ℕ) (stage : Stage) (piece : Piece) (text behind : List ℕ) → IsListed shape depth stage piece text behind → Tells piece text
+listed_tells : (shape : Shape) (depth : ℕ) (stage : Stage) (piece : Piece) (text behind : List ℕ) → IsInList shape depth stage piece text behind → Tells piece text
 listed_tells shape depth Fresh piece text behind h = element_tells piece text h
 listed_tells shape depth Due piece text behind h = element_tells piece text h
 listed_tells shape zero After piece text behind h = behind_tells shape After piece text behind h
@@ -566,7 +566,7 @@ table_tells text (Token TableLine) n h = (refl, tt)
 table_tells text piece n h = code_tells Text piece (take n text) (drop n text) h.1
 
 -- what a mode allows has a text
-pub allowed_tells : (current : Mode) (text : List ℕ) (piece : Piece) (n : ℕ) → IsAllowed current text piece n → Tells piece (take n text)
+pub allowed_tells : (current : Mode) (text : List ℕ) (piece : Piece) (n : ℕ) → IsAllowedPiece current text piece n → Tells piece (take n text)
 allowed_tells (Named shape) text piece n h = mark_tells (λ b. b == 40 || is_item_mark b) piece (take n text) h
 allowed_tells TableNamed text piece n h = mark_tells (λ b. b == 40 || is_item_mark b) piece (take n text) h
 allowed_tells (Bare shape) text piece n h = mark_tells is_item_mark piece (take n text) h
@@ -610,9 +610,9 @@ table_line_longest text goes =
     let bytes : ℕ = table_bytes (content text) in
     let some = line_some bytes (begins_statement text) goes in
     let most : IsMost (IsOfTable text) text (record { piece = Token TableLine; length = bytes }) = ((some.0, some.1, refl), λ other n le h. of_table_line text other n goes h) in
-    if_longest (IsOfTable text) text (nat_lt (prefix_len is_plain (take bytes text)) bytes) _ _
+    if_longest (IsOfTable text) text (nat_lt (prefix_len is_ascii (take bytes text)) bytes) _ _
     (λ h.
-    let early : prefix_len is_plain (take bytes text) < bytes = grind (arith, nat_tests, h) in
+    let early : prefix_len is_ascii (take bytes text) < bytes = grind (arith, nat_tests, h) in
     inr (record { piece = Token TableLine; length = bytes }, most, inr (refl, early, bad_byte text bytes (line_within text) early)))
     (λ _. most)
 
@@ -635,11 +635,11 @@ table_line_tells text goes = read_tells (IsOfTable text) text (table_line (table
 -- what is read outside the lines of a table
 abbrev pub TellsPlain : Mode → List ℕ → Type 0
 TellsPlain TableLines text = Unit {0}
-TellsPlain current text = TellsRead text (token_at current text)
+TellsPlain current text = TellsRead text (token_read current text)
 
 pub plain_tells : (current : Mode) (text : List ℕ) → TellsPlain current text
 plain_tells TableLines text = tt
-plain_tells current text = read_tells (IsAllowed current text) text (token_at current text) (allowed_tells current text) (plain_read current text)
+plain_tells current text = read_tells (IsAllowedPiece current text) text (token_read current text) (allowed_tells current text) (plain_read current text)
 
 -- ---- blanks and line ends
 
@@ -750,27 +750,27 @@ line_end_due allowed Skipped text h = no_text allowed LineEnd (line_end_length t
 line_end_due allowed EndItem text h = if_due allowed text (ends_or_begins (passes EndItem) (drop (space_length text) text)) _ _ (λ _. no_text allowed LineEnd (space_length text) text refl (space_space text)) (λ _. no_text allowed (Token Break) (line_end_length text) text refl (line_end_space text h))
 line_end_due allowed EndElement text h = if_due allowed text (ends_or_begins (passes EndElement) (drop (space_length text) text)) _ _ (λ _. no_text allowed LineEnd (space_length text) text refl (space_space text)) (λ _. no_text allowed (Token Break) (line_end_length text) text refl (line_end_space text h))
 
-plain_due : (allowed : Allowing) (current : Mode) (text : List ℕ) → IsDueRead allowed text (token_at current text) → IsDueRead allowed text (plain_piece current text)
+plain_due : (allowed : Allowing) (current : Mode) (text : List ℕ) → IsDueRead allowed text (token_read current text) → IsDueRead allowed text (plain_piece current text)
 plain_due allowed current text h =
     if_due allowed text (begins is_blank text) _ _
     (λ _. no_text allowed Gap (prefix_len is_blank text) text refl (blanks_space text))
     (λ _. if_due allowed text (is_line_end text) _ _ (λ e. line_end_due allowed (line_ends current) text e) (λ _. h))
 
-piece_due : (current : Mode) (text : List ℕ) → IsDueRead (IsAllowed current text) text (piece_at current text)
+piece_due : (current : Mode) (text : List ℕ) → IsDueRead (IsAllowedPiece current text) text (piece_at current text)
 piece_due TableLines text = table_due text
-piece_due current text = plain_due (IsAllowed current text) current text (longest_due (IsAllowed current text) text (token_at current text) (allowed_tells current text) (plain_read current text))
+piece_due current text = plain_due (IsAllowedPiece current text) current text (longest_due (IsAllowedPiece current text) text (token_read current text) (allowed_tells current text) (plain_read current text))
 
 -- the first piece of a text
-pub due : (current : Mode) (text : List ℕ) (p : Lexeme) → piece_at current text ≡ Ok p → IsDue (IsAllowed current text) text p
-due current text p e = subst (IsDueRead (IsAllowed current text) text) e (piece_due current text)
+pub due : (current : Mode) (text : List ℕ) (p : Lexeme) → piece_at current text ≡ Ok p → IsDue (IsAllowedPiece current text) text p
+due current text p e = subst (IsDueRead (IsAllowedPiece current text) text) e (piece_due current text)
 
 -- the first piece of a text is the longest that the mode allows there
 pub longest : (current : Mode) (text : List ℕ) (p : Lexeme) → piece_at current text ≡ Ok p → has_text p.piece ≡ true → IsLongest current text p
 longest current text p e h = let most = (due current text p e).0 h in record { allowed = most.0; longest = most.1 }
 
 -- an error means that nothing is allowed there, or the longest that is allowed is no token
-pub refused : (current : Mode) (text : List ℕ) (m : Misread) → piece_at current text ≡ Err m → IsRefused current text m
-refused current text m e = elim (subst (IsDueRead (IsAllowed current text) text) e (piece_due current text)) [
+pub refused : (current : Mode) (text : List ℕ) (m : Misread) → piece_at current text ≡ Err m → IsRefusedPiece current text m
+refused current text m e = elim (subst (IsDueRead (IsAllowedPiece current text) text) e (piece_due current text)) [
   | inl none ↦ inl none
   | inr found ↦ inr (found.0, record { allowed = found.1.0; longest = found.1.1 }, found.2)
 ]

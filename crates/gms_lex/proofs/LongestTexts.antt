@@ -8,16 +8,16 @@ use Rattle.std.proofs.lemmas.List.Folds.{length-prefix_len}
 use Rattle.std.proofs.Math.Seq.{take-add, drop-append_seam}
 use Rattle.std.specs.List.{prefix_len, list_all}
 use Rattle.gms_lines.specs.Lines.{begins}
-use Rattle.gms_lexemes.specs.declared.kind.Kind.TheVariants.{Symbol}
-use Rattle.gms_lexemes.specs.declared.kind.Sym.{Sym}
-use Rattle.gms_lexemes.specs.declared.lexeme.Piece.{Piece}
-use Rattle.gms_lexemes.specs.declared.lexeme.Piece.TheVariants.{Remark, Token}
-use Rattle.gms_lexemes.specs.declared.lexeme.Lexeme.{Lexeme}
-use Rattle.gms_lexemes.specs.declared.lexeme.Misread.{Misread}
-use Rattle.gms_lexemes.specs.Bytes.{is_quote, is_text_byte, is_plain}
-use Rattle.gms_lexemes.specs.Symbols.{written, symbols, begins_with, symbol_at}
-use Rattle.gms_lexemes.specs.Shapes.{Read, longest_label, symbol_of, symbol, quoted_length, is_closed, is_label, quoted, remark}
-use Rattle.gms_lexemes.proofs.WithinLemmas.{closed_more}
+use Rattle.gms_lines.specs.declared.kind.Kind.TheVariants.{Symbol}
+use Rattle.gms_lines.specs.declared.kind.Sym.{Sym}
+use Rattle.gms_lines.specs.declared.lexeme.Piece.{Piece}
+use Rattle.gms_lines.specs.declared.lexeme.Piece.TheVariants.{Remark, Token}
+use Rattle.gms_lines.specs.declared.lexeme.Lexeme.{Lexeme}
+use Rattle.gms_lines.specs.declared.lexeme.Misread.{Misread}
+use Rattle.gms_lines.specs.Bytes.{is_quote, is_text_byte, is_ascii}
+use Rattle.gms_lines.specs.Symbols.{written_symbol, symbols, begins_with_word, longest_symbol}
+use Rattle.gms_lines.specs.Shapes.{Read, longest_label, symbol_read, symbol, quoted_length, is_closed, is_label, quoted, remark}
+use Rattle.gms_lines.proofs.WithinLemmas.{closed_more}
 use Rattle.gms_lex.specs.Spellings.{IsQuoted, IsUnquotedText, IsText, IsSymbol}
 use Rattle.gms_lex.specs.Longest.{IsUnlawful}
 use Rattle.gms_lex.proofs.FrontLemmas.{both_true, not_both, front_most, front_all, run_over, run_stops, begins_take, begins_front}
@@ -113,21 +113,21 @@ closed_by mark (suc n) text h =
     (ap (λ k. begins (λ b. b == mark) (drop k (h.inner ++ (mark ∷ behind)))) run ∙ ap (begins (λ b. b == mark)) (drop-append_seam h.inner (mark ∷ behind)) ∙ marks_same mark)
 
 -- the first byte that is not of ASCII among the first of a text
-pub bad_byte : (text : List ℕ) (n : ℕ) → n ≤ length text → prefix_len is_plain (take n text) < n → 127 < get_or text (prefix_len is_plain (take n text)) 0
+pub bad_byte : (text : List ℕ) (n : ℕ) → n ≤ length text → prefix_len is_ascii (take n text) < n → 127 < get_or text (prefix_len is_ascii (take n text)) 0
 bad_byte text n le early =
-    let k : ℕ = prefix_len is_plain (take n text) in
+    let k : ℕ = prefix_len is_ascii (take n text) in
     let inside : k < length (take n text) = omega (arith, early, length-take-le n text le) in
-    let stops : is_plain (get_or (take n text) k 0) ≡ false = prefix_len_stops is_plain (take n text) 0 inside in
-    above (get_or text k 0) (ap is_plain (sym (get_or-take n text k 0 early)) ∙ stops)
+    let stops : is_ascii (get_or (take n text) k 0) ≡ false = prefix_len_stops is_ascii (take n text) 0 inside in
+    above (get_or text k 0) (ap is_ascii (sym (get_or-take n text k 0 early)) ∙ stops)
   where
-    above : (b : ℕ) → is_plain b ≡ false → 127 < b
+    above : (b : ℕ) → is_ascii b ≡ false → 127 < b
     above b h = grind (arith, nat_tests, h)
 
 pub quoted_longest : (allowed : Allowing) (piece : Piece) (text : List ℕ) → begins is_quote text ≡ true → ((n : ℕ) → IsQuoted (take n text) → allowed piece n) → ((other : Piece) (n : ℕ) → n ≤ length text → allowed other n → IsQuoted (take n text)) → IsLongestRead allowed text (quoted piece text)
 quoted_longest allowed piece [] quote may others = not_both false quote refl
 quoted_longest allowed piece (mark ∷ text) quote may others =
     let inner : ℕ = quoted_length mark text in
-    let plain : ℕ = prefix_len is_plain (take inner text) in
+    let plain : ℕ = prefix_len is_ascii (take inner text) in
     if_longest allowed (mark ∷ text) (not (is_closed mark text)) _ _
     (λ unclosed. inl (λ other n le h. not_both (is_closed mark text) (closed_by mark n text (others other n le h)) (not_true _ unclosed)))
     (λ closed.
@@ -149,15 +149,15 @@ quoted_longest allowed piece (mark ∷ text) quote may others =
 
 -- ---- symbols
 
-symbol_of_longest : (allowed : Allowing) (text : List ℕ) (found : Option Sym) → found ≡ find (λ s. begins_with text (written s)) symbols → ((s : Sym) (n : ℕ) → IsSymbol s (take n text) → allowed (Token (Symbol s)) n) → ((other : Piece) (n : ℕ) → n ≤ length text → allowed other n → (s : Sym) × IsSymbol s (take n text)) → IsLongestRead allowed text (symbol_of (option_map (λ s. (length (written s), s)) found))
+symbol_of_longest : (allowed : Allowing) (text : List ℕ) (found : Option Sym) → found ≡ find (λ s. begins_with_word text (written_symbol s)) symbols → ((s : Sym) (n : ℕ) → IsSymbol s (take n text) → allowed (Token (Symbol s)) n) → ((other : Piece) (n : ℕ) → n ≤ length text → allowed other n → (s : Sym) × IsSymbol s (take n text)) → IsLongestRead allowed text (symbol_read (option_map (λ s. (length (written_symbol s), s)) found))
 symbol_of_longest allowed text None e may others = inl (λ other n le h. let is = others other n le h in none_first text (sym e) is.0 n le is.1)
 symbol_of_longest allowed text (Some s) e may others =
     let first : IsFirstSymbol text s = found_first text s (sym e) in
     (may s (symbol_length s) first.spelled, λ other n le h. let is = others other n le h in first.longest is.0 n le is.1)
 
 pub symbol_longest : (allowed : Allowing) (text : List ℕ) → ((s : Sym) (n : ℕ) → IsSymbol s (take n text) → allowed (Token (Symbol s)) n) → ((other : Piece) (n : ℕ) → n ≤ length text → allowed other n → (s : Sym) × IsSymbol s (take n text)) → IsLongestRead allowed text (symbol text)
-unfolding symbol_at
-symbol_longest allowed text may others = symbol_of_longest allowed text (find (λ s. begins_with text (written s)) symbols) refl may others
+unfolding longest_symbol
+symbol_longest allowed text may others = symbol_of_longest allowed text (find (λ s. begins_with_word text (written_symbol s)) symbols) refl may others
 
 pub symbol_front : (s : Sym) (n : ℕ) (text : List ℕ) → IsSymbol s (take n text) → begins is_outside text ≡ true
 symbol_front s n text h = begins_front is_outside n text (symbol_outside s (take n text) h)

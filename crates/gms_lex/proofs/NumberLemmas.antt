@@ -9,9 +9,9 @@ use Rattle.std.specs.List.{prefix_len, list_all}
 use Rattle.std.specs.Char.{is_ascii_digit}
 use Rattle.gms_lines.specs.Lines.{begins}
 use Rattle.gms_lines.proofs.LineLemmas.{true_or_false}
-use Rattle.gms_lexemes.specs.Numbers.{digit_count, begins_dot, begins_number, point_length, is_sign, sign_length, exponent_length, decimal_length, number_length}
-use Rattle.gms_lexemes.proofs.WithinLemmas.{run_within}
-use Rattle.gms_lex.specs.Spellings.{AreDigits, IsPoint, IsPower, IsExponent, IsNumber}
+use Rattle.gms_lines.specs.Numbers.{digit_count, begins_dot, begins_number, point_length, is_sign, sign_length, exponent_length, decimal_length, number_length}
+use Rattle.gms_lines.proofs.WithinLemmas.{run_within}
+use Rattle.gms_lex.specs.Spellings.{AreSomeDigits, IsPoint, IsPower, IsExponentSpelling, IsNumberSpelling}
 use Rattle.gms_lex.proofs.LineTextLemmas.{length-take_most}
 use Rattle.gms_lex.proofs.FrontLemmas.{both_true, and_true, not_both, front_all, run_over, run_stops, begins_append}
 
@@ -45,7 +45,7 @@ exponent_at b text sign digits letter signed rest some =
     omega (arith, long, signed, ap digit_count is)
 
 -- an exponent is no longer than that with which the text begins
-exponent_most : (exponent behind : List ℕ) → IsExponent exponent → length exponent ≤ exponent_length (exponent ++ behind)
+exponent_most : (exponent behind : List ℕ) → IsExponentSpelling exponent → length exponent ≤ exponent_length (exponent ++ behind)
 exponent_most [] behind h = omega arith
 exponent_most (b ∷ []) behind h = absurd h.1
 exponent_most (b ∷ c ∷ digits) behind h = elim h.1 [
@@ -80,7 +80,7 @@ digits_then [] rest h none = none refl
 digits_then (d ∷ digits) rest h none = digit_no_dot d (both_true (is_ascii_digit d) (list_all is_ascii_digit digits) h).0
 
 -- a dot and digits, before an exponent
-pointed : (whole : List ℕ) (b : ℕ) (digits exponent behind : List ℕ) → list_all is_ascii_digit whole ≡ true → b ≡ 46 → list_all is_ascii_digit digits ≡ true → IsExponent exponent → begins_dot (digits ++ (exponent ++ behind)) ≡ false → length whole + (suc (length digits) + length exponent) ≤ number_length (whole ++ (b ∷ (digits ++ (exponent ++ behind))))
+pointed : (whole : List ℕ) (b : ℕ) (digits exponent behind : List ℕ) → list_all is_ascii_digit whole ≡ true → b ≡ 46 → list_all is_ascii_digit digits ≡ true → IsExponentSpelling exponent → begins_dot (digits ++ (exponent ++ behind)) ≡ false → length whole + (suc (length digits) + length exponent) ≤ number_length (whole ++ (b ∷ (digits ++ (exponent ++ behind))))
 pointed whole b digits [] behind all dot each power none =
     let rest : List ℕ = digits ++ behind in
     let text : List ℕ = whole ++ (b ∷ rest) in
@@ -98,7 +98,7 @@ pointed whole b digits (e ∷ power) behind all dot each h none =
     omega (arith, long, exponent_most (e ∷ power) behind h)
 
 -- digits, before an exponent
-unpointed : (whole exponent behind : List ℕ) → list_all is_ascii_digit whole ≡ true → IsExponent exponent → length whole + length exponent ≤ number_length (whole ++ (exponent ++ behind))
+unpointed : (whole exponent behind : List ℕ) → list_all is_ascii_digit whole ≡ true → IsExponentSpelling exponent → length whole + length exponent ≤ number_length (whole ++ (exponent ++ behind))
 unpointed whole [] behind all power = omega (arith, run_over is_ascii_digit whole behind all)
 unpointed whole (e ∷ power) behind all h =
     let more : List ℕ = e ∷ (power ++ behind) in
@@ -107,7 +107,7 @@ unpointed whole (e ∷ power) behind all h =
     let long : number_length text ≡ length whole + 0 + exponent_length more = number_at text (length whole) 0 more more count (drop-append_seam whole more) (no_point e (power ++ behind) (letter_no_dot e h.0)) refl in
     omega (arith, long, exponent_most (e ∷ power) behind h)
 
-parts_most : (whole point exponent behind : List ℕ) → list_all is_ascii_digit whole ≡ true → IsPoint point → IsExponent exponent → (point ≡ 46 ∷ [] → begins_dot (exponent ++ behind) ≡ false) → length whole + (length point + length exponent) ≤ number_length (whole ++ (point ++ (exponent ++ behind)))
+parts_most : (whole point exponent behind : List ℕ) → list_all is_ascii_digit whole ≡ true → IsPoint point → IsExponentSpelling exponent → (point ≡ 46 ∷ [] → begins_dot (exponent ++ behind) ≡ false) → length whole + (length point + length exponent) ≤ number_length (whole ++ (point ++ (exponent ++ behind)))
 parts_most whole [] exponent behind all fraction power alone = omega (arith, unpointed whole exponent behind all power)
 parts_most whole (b ∷ digits) exponent behind all fraction power alone =
     pointed whole b digits exponent behind all fraction.0 fraction.1 power (digits_then digits (exponent ++ behind) fraction.1 (λ e. alone (ap (λ c. c ∷ digits) fraction.0 ∙ ap (λ ds. 46 ∷ ds) e)))
@@ -118,7 +118,7 @@ whole_text n text whole point exponent e =
     ap (λ t. whole ++ t) (sym (append_assoc point exponent (drop n text))) ∙ sym (append_assoc whole (point ++ exponent) (drop n text)) ∙ ap (λ t. t ++ drop n text) (sym e) ∙ take-append-drop n text
 
 -- no number at the start of a text is longer than the one found there
-pub number_most : (n : ℕ) (text : List ℕ) → n ≤ length text → IsNumber (take n text) (drop n text) → n ≤ number_length text
+pub number_most : (n : ℕ) (text : List ℕ) → n ≤ length text → IsNumberSpelling (take n text) (drop n text) → n ≤ number_length text
 number_most n text le h =
     let same = whole_text n text h.whole h.point h.exponent h.spelled in
     let long : length (take n text) ≡ length h.whole + (length h.point + length h.exponent) = omega (arith, ap length h.spelled, length-append h.whole (h.point ++ h.exponent), length-append h.point h.exponent) in
@@ -136,7 +136,7 @@ parts_begin [] (b ∷ d ∷ digits) rest all fraction some =
     let test : (b == 46 && is_ascii_digit d) ≡ true = and_true (b == 46) (is_ascii_digit d) (is_dot b fraction.0) (both_true (is_ascii_digit d) (list_all is_ascii_digit digits) fraction.1).0 in
     ap (λ v. v || (b == 46 && is_ascii_digit d)) (dot_no_digit b fraction.0) ∙ test
 
-pub number_begins : (n : ℕ) (text : List ℕ) → IsNumber (take n text) (drop n text) → begins_number text ≡ true
+pub number_begins : (n : ℕ) (text : List ℕ) → IsNumberSpelling (take n text) (drop n text) → begins_number text ≡ true
 number_begins n text h =
     subst (λ t. begins_number t ≡ true) (whole_text n text h.whole h.point h.exponent h.spelled) (parts_begin h.whole h.point (h.exponent ++ drop n text) h.digits h.fraction h.some)
 
@@ -149,10 +149,10 @@ digits_begin (b ∷ text) h =
     let here : begins is_ascii_digit (take (1 + digit_count text) (b ∷ text)) ≡ true = subst (λ k. begins is_ascii_digit (take k (b ∷ text)) ≡ true) long h in
     subst (λ v. begins is_ascii_digit (take (cond v (1 + prefix_len is_ascii_digit text) 0) (b ∷ text)) ≡ true) (sym h) here
 
-digits_some : (text : List ℕ) → begins is_ascii_digit text ≡ true → AreDigits (take (digit_count text) text)
+digits_some : (text : List ℕ) → begins is_ascii_digit text ≡ true → AreSomeDigits (take (digit_count text) text)
 digits_some text some = (digits_begin text some, front_all is_ascii_digit text)
 
-power_plain : (text : List ℕ) → AreDigits text → IsPower text
+power_plain : (text : List ℕ) → AreSomeDigits text → IsPower text
 power_plain [] h = not_both false h.0 refl
 power_plain (b ∷ digits) h = inl h
 
@@ -165,17 +165,17 @@ power_spelled [] h = not_both false h refl
 power_spelled (c ∷ more) h = elim (true_or_false (is_sign c)) [
   | inl t ↦
       let one : sign_length (c ∷ more) ≡ 1 = ap (λ v. if v then 1 else 0) t in
-      let digits : AreDigits (take (digit_count more) more) = digits_some more (subst (λ k. begins is_ascii_digit (drop k (c ∷ more)) ≡ true) one h) in
+      let digits : AreSomeDigits (take (digit_count more) more) = digits_some more (subst (λ k. begins is_ascii_digit (drop k (c ∷ more)) ≡ true) one h) in
       let long : suc (digit_count more) ≡ 1 + digit_count more = omega arith in
       subst (IsPowerAt (c ∷ more)) (sym one) (subst (λ k. IsPower (take k (c ∷ more))) long (inr (t, digits)))
   | inr f ↦
       let none : sign_length (c ∷ more) ≡ 0 = ap (λ v. if v then 1 else 0) f in
-      let digits : AreDigits (take (digit_count (c ∷ more)) (c ∷ more)) = digits_some (c ∷ more) (subst (λ k. begins is_ascii_digit (drop k (c ∷ more)) ≡ true) none h) in
+      let digits : AreSomeDigits (take (digit_count (c ∷ more)) (c ∷ more)) = digits_some (c ∷ more) (subst (λ k. begins is_ascii_digit (drop k (c ∷ more)) ≡ true) none h) in
       let long : digit_count (c ∷ more) ≡ 0 + digit_count (c ∷ more) = omega arith in
       subst (IsPowerAt (c ∷ more)) (sym none) (subst (λ k. IsPower (take k (c ∷ more))) long (power_plain (take (digit_count (c ∷ more)) (c ∷ more)) digits))
 ]
 
-exponent_spelled : (text : List ℕ) → IsExponent (take (exponent_length text) text)
+exponent_spelled : (text : List ℕ) → IsExponentSpelling (take (exponent_length text) text)
 exponent_spelled [] = tt
 exponent_spelled (b ∷ text) =
     let sign : ℕ = sign_length text in
@@ -186,9 +186,9 @@ exponent_spelled (b ∷ text) =
           let both = both_true (b == 101 || b == 69) (begins is_ascii_digit behind) t in
           let power : IsPowerAt text sign = power_spelled text (ap (begins is_ascii_digit) (sym is) ∙ both.1) in
           let long : suc (sign + digit_count (drop sign text)) ≡ 1 + sign + digit_count behind = omega (arith, ap digit_count is) in
-          let here : IsExponent (take (1 + sign + digit_count behind) (b ∷ text)) = subst (λ k. IsExponent (take k (b ∷ text))) long (both.0, power) in
-          subst (λ v. IsExponent (take (if v then 1 + sign + digit_count behind else 0) (b ∷ text))) (sym t) here
-      | inr f ↦ subst (λ v. IsExponent (take (if v then 1 + sign + digit_count behind else 0) (b ∷ text))) (sym f) tt
+          let here : IsExponentSpelling (take (1 + sign + digit_count behind) (b ∷ text)) = subst (λ k. IsExponentSpelling (take k (b ∷ text))) long (both.0, power) in
+          subst (λ v. IsExponentSpelling (take (if v then 1 + sign + digit_count behind else 0) (b ∷ text))) (sym t) here
+      | inr f ↦ subst (λ v. IsExponentSpelling (take (if v then 1 + sign + digit_count behind else 0) (b ∷ text))) (sym f) tt
     ]
 
 point_is : (b : ℕ) → (b == 46) ≡ true → b ≡ 46
@@ -263,7 +263,7 @@ point_alone (b ∷ rest) h = elim (true_or_false (begins_dot (b ∷ rest) && not
 ]
 
 -- the number with which a text begins is spelled as one
-pub number_spelled : (text : List ℕ) → begins_number text ≡ true → IsNumber (take (number_length text) text) (drop (number_length text) text)
+pub number_spelled : (text : List ℕ) → begins_number text ≡ true → IsNumberSpelling (take (number_length text) text) (drop (number_length text) text)
 number_spelled text h =
     let w : ℕ = digit_count text in
     let rest : List ℕ = drop w text in

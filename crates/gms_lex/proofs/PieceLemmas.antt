@@ -7,10 +7,10 @@ use Rattle.std.proofs.lemmas.List.Sums.{prefix_len-le-length}
 use Rattle.std.specs.List.{prefix_len}
 use Rattle.gms_lines.specs.Lines.{begins, before, content, is_blank, is_line_end}
 use Rattle.gms_lines.proofs.LineLemmas.{true_or_false, before-le-length, before_more}
-use Rattle.gms_lexemes.specs.declared.kind.Kind.TheVariants.{Label, Text}
-use Rattle.gms_lexemes.specs.Shapes.{IsWithin}
-use Rattle.gms_lexemes.specs.TableLines.{table_bytes}
-use Rattle.gms_lexemes.proofs.WithinLemmas.{if_within, run_within, begins_some, table_bytes_le, symbol_within, code_token_within, label_token_within, remark_within, table_line_within}
+use Rattle.gms_lines.specs.declared.kind.Kind.TheVariants.{Label, Text}
+use Rattle.gms_lines.specs.Shapes.{IsWithinText}
+use Rattle.gms_lines.specs.TableLines.{table_bytes}
+use Rattle.gms_lines.proofs.WithinLemmas.{if_within, run_within, begins_some, table_bytes_le, symbol_within, code_token_within, label_token_within, remark_within, table_line_within}
 use Rattle.gms_lex.specs.declared.keyword.Shape.{Shape}
 use Rattle.gms_lex.specs.declared.keyword.Shape.TheVariants.{Set, Parameter, Scalar, Model}
 use Rattle.gms_lex.specs.declared.mode.Stage.{Stage}
@@ -20,7 +20,7 @@ use Rattle.gms_lex.specs.declared.mode.Mode.TheVariants.{Named, Bare, Element, V
 use Rattle.gms_lex.specs.declared.mode.LineEnds.{LineEnds}
 use Rattle.gms_lex.specs.declared.mode.LineEnds.TheVariants.{Skipped, EndItem, EndElement}
 use Rattle.gms_lex.specs.Keywords.{begins_statement}
-use Rattle.gms_lex.specs.Pieces.{passes, ends_or_begins, begins_other, space_length, line_end_length, line_ends, line_end, is_item_mark, is_element_mark, behind_name, behind_domain, begins_value_dot, element_tail, behind_label, in_list, token_at, table_piece, plain_piece, piece_at}
+use Rattle.gms_lex.specs.Pieces.{passes, ends_or_begins, begins_other, space_length, line_end_length, line_ends, line_end, is_item_mark, is_element_mark, behind_name, behind_domain, begins_value_dot, element_tail, behind_label, in_list, token_read, table_piece, plain_piece, piece_at}
 
 -- a line end takes as many bytes as there are
 line_end_length_within : (text : List ℕ) → is_line_end text ≡ true → (0 < line_end_length text) × (line_end_length text ≤ length text)
@@ -42,34 +42,34 @@ space_some (b ∷ text) h =
     let other : begins_other (b ∷ text) ≡ false = line_end_not_other (begins is_blank (b ∷ text)) (is_line_end (b ∷ text)) h in
     omega (arith, before_more begins_other b text other)
 
-line_end_within : (ends : LineEnds) (text : List ℕ) → is_line_end text ≡ true → IsWithin text (line_end ends text)
+line_end_within : (ends : LineEnds) (text : List ℕ) → is_line_end text ≡ true → IsWithinText text (line_end ends text)
 line_end_within Skipped text h = line_end_length_within text h
 line_end_within EndItem text h = if_within text (ends_or_begins (passes EndItem) (drop (space_length text) text)) _ _ (λ _. (space_some text h, before-le-length begins_other text)) (λ _. line_end_length_within text h)
 line_end_within EndElement text h = if_within text (ends_or_begins (passes EndElement) (drop (space_length text) text)) _ _ (λ _. (space_some text h, before-le-length begins_other text)) (λ _. line_end_length_within text h)
 
-tail_within : (s : Shape) (text : List ℕ) → IsWithin text (element_tail s text)
+tail_within : (s : Shape) (text : List ℕ) → IsWithinText text (element_tail s text)
 tail_within Parameter text = code_token_within Label text
 tail_within Set text = remark_within text
 tail_within Scalar text = remark_within text
 tail_within Model text = remark_within text
 
-behind_label_within : (s : Shape) (d : ℕ) (stage : Stage) (text : List ℕ) → IsWithin text (behind_label s d stage text)
+behind_label_within : (s : Shape) (d : ℕ) (stage : Stage) (text : List ℕ) → IsWithinText text (behind_label s d stage text)
 behind_label_within s d stage text =
     if_within text (begins is_element_mark text && not (begins_value_dot s d stage text)) _ _ (λ _. symbol_within text) (λ _. if_within text (d == 0) _ _ (λ _. tail_within s text) (λ _. label_token_within text))
 
-in_list_within : (s : Shape) (d : ℕ) (stage : Stage) (text : List ℕ) → IsWithin text (in_list s d stage text)
+in_list_within : (s : Shape) (d : ℕ) (stage : Stage) (text : List ℕ) → IsWithinText text (in_list s d stage text)
 in_list_within s d Fresh text = label_token_within text
 in_list_within s d Due text = label_token_within text
 in_list_within s d After text = behind_label_within s d After text
 in_list_within s d Spaced text = behind_label_within s d Spaced text
 
-name_within : (text : List ℕ) → IsWithin text (behind_name text)
+name_within : (text : List ℕ) → IsWithinText text (behind_name text)
 name_within text = if_within text (begins (λ b. b == 40 || is_item_mark b) text) _ _ (λ _. symbol_within text) (λ _. remark_within text)
 
-domain_within : (text : List ℕ) → IsWithin text (behind_domain text)
+domain_within : (text : List ℕ) → IsWithinText text (behind_domain text)
 domain_within text = if_within text (begins is_item_mark text) _ _ (λ _. symbol_within text) (λ _. remark_within text)
 
-token_at_within : (current : Mode) (text : List ℕ) → IsWithin text (token_at current text)
+token_at_within : (current : Mode) (text : List ℕ) → IsWithinText text (token_read current text)
 token_at_within (Named s) text = name_within text
 token_at_within TableNamed text = name_within text
 token_at_within (Bare s) text = domain_within text
@@ -84,7 +84,7 @@ blanks_some : (text : List ℕ) → begins is_blank text ≡ true → 0 < prefix
 blanks_some text h = run_within is_blank is_blank (λ b g. g) text h
 
 -- the first piece in a mode outside the lines of a table
-pub plain_within : (current : Mode) (text : List ℕ) → IsWithin text (plain_piece current text)
+pub plain_within : (current : Mode) (text : List ℕ) → IsWithinText text (plain_piece current text)
 plain_within current text =
     if_within text (begins is_blank text) _ _
     (λ h. (blanks_some text h, prefix_len-le-length is_blank text))
@@ -97,7 +97,7 @@ some_of_or : (n : ℕ) (b : Bool) → (n == 0 || b) ≡ false → 0 < n
 some_of_or n b h = grind (arith, nat_tests, h)
 
 -- the first piece where the lines of a table may continue
-pub table_within : (text : List ℕ) → IsWithin text (table_piece text)
+pub table_within : (text : List ℕ) → IsWithinText text (table_piece text)
 table_within text =
     let blanks = prefix_len is_blank text in
     let bytes = table_bytes (content text) in
@@ -111,6 +111,6 @@ table_within text =
     (λ h. table_line_within bytes text (some_of_or bytes _ h) le)))
 
 -- the first piece is within the text
-pub piece_within : (current : Mode) (text : List ℕ) → IsWithin text (piece_at current text)
+pub piece_within : (current : Mode) (text : List ℕ) → IsWithinText text (piece_at current text)
 piece_within TableLines text = table_within text
 piece_within current text = plain_within current text

@@ -4,12 +4,12 @@ use Rattle.std.proofs.lemmas.List.Sums.{fold-append}
 use Rattle.std.proofs.Math.Seq.{take-add}
 use Rattle.std.proofs.lemmas.List.{length-drop, length-take-le}
 use Rattle.gms_labels.specs.declared.place.Place.{Place}
-use Rattle.gms_lexemes.specs.Columns.{column_after}
-use Rattle.gms_lexemes.proofs.ColumnLemmas.{column_after-bounds}
-use Rattle.gms_lex.specs.Places.{IsEarlier, place_after, place_behind, place_of, source_start}
+use Rattle.gms_lines.specs.Columns.{column_after}
+use Rattle.gms_lines.proofs.ColumnLemmas.{column_after-bounds}
+use Rattle.gms_lex.specs.Places.{IsEarlier, place_after, place_behind, place_of_byte, source_start}
 
 -- the place of a byte further on
-pub place_of-add : (source : List ℕ) (n k : ℕ) → place_behind (place_of source n) (take k (drop n source)) ≡ place_of source (n + k)
+pub place_of-add : (source : List ℕ) (n k : ℕ) → place_behind (place_of_byte source n) (take k (drop n source)) ≡ place_of_byte source (n + k)
 place_of-add source n k = sym (fold-append place_after source_start (take n source) (take k (drop n source))) ∙ ap (fold place_after source_start) (sym (take-add n k source))
 
 behind_by : (at : Place) (feed : Bool) (column : ℕ) → at.column < column → IsEarlier at (if feed then record { line = at.line + 1; column = 1 } else record { line = at.line; column = column })
@@ -31,9 +31,9 @@ later_behind at (b ∷ []) some = earlier_behind at b
 later_behind at (b ∷ c ∷ bytes) some = earlier_trans at (place_after at b) _ (earlier_behind at b) (later_behind (place_after at b) (c ∷ bytes) (omega arith))
 
 -- places come in the order of bytes
-pub places_in_order : (source : List ℕ) (m n : ℕ) → m < n → n ≤ length source → IsEarlier (place_of source m) (place_of source n)
+pub places_in_order : (source : List ℕ) (m n : ℕ) → m < n → n ≤ length source → IsEarlier (place_of_byte source m) (place_of_byte source n)
 places_in_order source m n below within =
     let more : m + (n - m) ≡ n = omega arith in
     let left : n - m ≤ length (drop m source) = omega (arith, length-drop m source) in
     let some : 0 < length (take (n - m) (drop m source)) = omega (arith, length-take-le (n - m) (drop m source) left) in
-    subst (IsEarlier (place_of source m)) (place_of-add source m (n - m) ∙ ap (place_of source) more) (later_behind (place_of source m) (take (n - m) (drop m source)) some)
+    subst (IsEarlier (place_of_byte source m)) (place_of-add source m (n - m) ∙ ap (place_of_byte source) more) (later_behind (place_of_byte source m) (take (n - m) (drop m source)) some)

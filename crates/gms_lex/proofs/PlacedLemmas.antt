@@ -6,16 +6,16 @@ use Rattle.std.specs.Str.{IsAscii}
 use Rattle.gms_lines.specs.declared.fault.ByteFault.{ByteFault}
 use Rattle.gms_lines.specs.Lines.{code_text}
 use Rattle.gms_lines.specs.LineFaults.{IsLineFault}
-use Rattle.gms_lexemes.specs.declared.kind.Kind.{Kind}
-use Rattle.gms_lexemes.specs.declared.kind.Kind.TheVariants.{Word, Label, Number, Text, Symbol, Break, TableLine, End}
-use Rattle.gms_lexemes.specs.declared.lexeme.Piece.{Piece}
-use Rattle.gms_lexemes.specs.declared.lexeme.Piece.TheVariants.{Gap, LineEnd, Remark, Token}
-use Rattle.gms_lexemes.specs.declared.lexeme.Lexeme.{Lexeme}
+use Rattle.gms_lines.specs.declared.kind.Kind.{Kind}
+use Rattle.gms_lines.specs.declared.kind.Kind.TheVariants.{Word, Label, Number, Text, Symbol, Break, TableLine, End}
+use Rattle.gms_lines.specs.declared.lexeme.Piece.{Piece}
+use Rattle.gms_lines.specs.declared.lexeme.Piece.TheVariants.{Gap, LineEnd, Remark, Token}
+use Rattle.gms_lines.specs.declared.lexeme.Lexeme.{Lexeme}
 use Rattle.gms_lex.specs.declared.mode.Mode.{Mode}
 use Rattle.gms_lex.specs.declared.mode.Mode.TheVariants.{Code}
 use Rattle.gms_lex.specs.declared.token.Token.{Token as CodeToken}
 use Rattle.gms_lex.specs.Modes.{mode_after}
-use Rattle.gms_lex.specs.Places.{place_of}
+use Rattle.gms_lex.specs.Places.{place_of_byte}
 use Rattle.gms_lex.specs.Tokens.{IsMadeOf, token_at, tokens_of, end_token, IsTokens}
 use Rattle.gms_lex.specs.TokenTexts.{IsSpelled, IsPlaced}
 use Rattle.gms_lex.proofs.ReadingLemmas.{lexeme_within}
@@ -53,7 +53,7 @@ spelled source start bytes TableLine sound le named =
 spelled source start bytes End sound le named = tt
 
 -- a piece of `bytes` bytes gives a token that is placed
-token_placed : (source : List ℕ) (start bytes : ℕ) (piece : Piece) → IsSound source → start + bytes ≤ length source → IsNamed piece bytes (drop start (code_text source)) → All (IsPlaced source) (token_at (place_of source start) piece start (start + bytes))
+token_placed : (source : List ℕ) (start bytes : ℕ) (piece : Piece) → IsSound source → start + bytes ≤ length source → IsNamed piece bytes (drop start (code_text source)) → All (IsPlaced source) (token_at (place_of_byte source start) piece start (start + bytes))
 token_placed source start bytes Gap sound le named = All-none (IsPlaced source)
 token_placed source start bytes LineEnd sound le named = All-none (IsPlaced source)
 token_placed source start bytes Remark sound le named = All-none (IsPlaced source)
@@ -68,7 +68,7 @@ pieces_placed source start current (p ∷ pieces) last sound within made =
     let le : start + p.length ≤ length source = omega (arith, w.1, length-drop start (code_text source), length-code_text source) in
     let named : IsNamed p.piece p.length text = subst (IsNamedRead text) made.0 (piece_named current text) in
     let others : IsMadeOf (mode_after current p.piece (take p.length text)) (drop (start + p.length) (code_text source)) pieces last [] = subst (λ t. IsMadeOf (mode_after current p.piece (take p.length text)) t pieces last []) (drop-drop p.length start (code_text source)) made.1 in
-    All-append (IsPlaced source) (token_at (place_of source start) p.piece start (start + p.length)) (tokens_of source (start + p.length) pieces) (token_placed source start p.length p.piece sound le named) (pieces_placed source (start + p.length) _ pieces last sound le others)
+    All-append (IsPlaced source) (token_at (place_of_byte source start) p.piece start (start + p.length)) (tokens_of source (start + p.length) pieces) (token_placed source start p.length p.piece sound le named) (pieces_placed source (start + p.length) _ pieces last sound le others)
 
 -- each token of a source is placed
 pub tokens_placed : (source : List ℕ) (tokens : List CodeToken) → IsTokens source tokens → All (IsPlaced source) tokens

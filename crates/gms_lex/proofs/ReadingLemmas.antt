@@ -2,18 +2,18 @@
 use Rattle.std.proofs.Common.{◌≡◌, ◌⊎◌, inl, inr, ℕ, zero, suc, ◌+◌, ◌<◌, ◌≤◌, List, [], ◌∷◌, ◌++◌, length, take, drop, Option, Some, None, Ok, Err, refl, sym, ap, ◌∙◌, subst, append_assoc, append-nil, arith}
 use Rattle.std.proofs.lemmas.List.{length-drop, drop-drop, drop_all}
 use Rattle.gms_lines.specs.declared.fault.ByteFault.{ByteFault}
-use Rattle.gms_lines.specs.Errors.{error_code, IsFirstFault}
-use Rattle.gms_lexemes.specs.declared.lexeme.Lexeme.{Lexeme}
-use Rattle.gms_lexemes.specs.declared.lexeme.Misread.{Misread}
-use Rattle.gms_lexemes.specs.Shapes.{Read, IsWithin}
+use Rattle.gms_lines.specs.Errors.{lex_error_code, IsFirstFault}
+use Rattle.gms_lines.specs.declared.lexeme.Lexeme.{Lexeme}
+use Rattle.gms_lines.specs.declared.lexeme.Misread.{Misread}
+use Rattle.gms_lines.specs.Shapes.{Read, IsWithinText}
 use Rattle.gms_lex.specs.declared.mode.Mode.{Mode}
 use Rattle.gms_lex.specs.declared.mode.Mode.TheVariants.{Code}
 use Rattle.gms_lex.specs.declared.token.Token.{Token}
 use Rattle.gms_lex.specs.Modes.{mode_after}
 use Rattle.gms_lex.specs.Pieces.{piece_at}
-use Rattle.gms_lex.specs.Places.{place_of}
-use Rattle.gms_lex.specs.Tokens.{IsMadeOf, length_of, token_at, tokens_of, end_token, HasTokens, StopsAt}
-use Rattle.gms_lex.specs.Readings.{IsReading}
+use Rattle.gms_lex.specs.Places.{place_of_byte}
+use Rattle.gms_lex.specs.Tokens.{IsMadeOf, bytes_of_pieces, token_at, tokens_of, end_token, HasTokens, StopsAt}
+use Rattle.gms_lex.specs.InnerReadings.{IsReading}
 use Rattle.gms_lex.proofs.PieceLemmas.{piece_within}
 
 -- the text begins with no piece
@@ -22,11 +22,11 @@ BeginsNone current text = (p : Lexeme) → piece_at current text ≡ Ok p → �
 
 -- the first piece is within the text
 pub lexeme_within : (current : Mode) (text : List ℕ) (p : Lexeme) → piece_at current text ≡ Ok p → (0 < p.length) × (p.length ≤ length text)
-lexeme_within current text p e = subst (IsWithin text) e (piece_within current text)
+lexeme_within current text p e = subst (IsWithinText text) e (piece_within current text)
 
 -- an error instead of a piece is so too
 pub misread_within : (current : Mode) (text : List ℕ) (m : Misread) → piece_at current text ≡ Err m → m.ahead ≤ length text
-misread_within current text m e = subst (IsWithin text) e (piece_within current text)
+misread_within current text m e = subst (IsWithinText text) e (piece_within current text)
 
 -- an empty text begins with no piece
 BeginsNone-nothing : (current : Mode) → BeginsNone current []
@@ -60,23 +60,23 @@ IsMadeOf-step current text (q ∷ pieces) last rest p there made =
     (made.0, IsMadeOf-step (mode_after current q.piece (take q.length text)) (drop q.length text) pieces last rest p there made.1)
 
 -- the bytes of one piece more
-length_of-step : (pieces : List Lexeme) (p : Lexeme) → length_of (pieces ++ p ∷ []) ≡ length_of pieces + p.length
+length_of-step : (pieces : List Lexeme) (p : Lexeme) → bytes_of_pieces (pieces ++ p ∷ []) ≡ bytes_of_pieces pieces + p.length
 length_of-step [] p = omega arith
 length_of-step (q ∷ pieces) p = omega (arith, length_of-step pieces p)
 
 -- the tokens of one piece more
-tokens_of-step : (source : List ℕ) (start : ℕ) (pieces : List Lexeme) (p : Lexeme) (n : ℕ) → start + length_of pieces ≡ n → tokens_of source start (pieces ++ p ∷ []) ≡ tokens_of source start pieces ++ token_at (place_of source n) p.piece n (n + p.length)
+tokens_of-step : (source : List ℕ) (start : ℕ) (pieces : List Lexeme) (p : Lexeme) (n : ℕ) → start + bytes_of_pieces pieces ≡ n → tokens_of source start (pieces ++ p ∷ []) ≡ tokens_of source start pieces ++ token_at (place_of_byte source n) p.piece n (n + p.length)
 tokens_of-step source start [] p n e =
     let same : start ≡ n = omega arith in
-    append-nil (token_at (place_of source start) p.piece start (start + p.length)) ∙ ap (λ k. token_at (place_of source k) p.piece k (k + p.length)) same
+    append-nil (token_at (place_of_byte source start) p.piece start (start + p.length)) ∙ ap (λ k. token_at (place_of_byte source k) p.piece k (k + p.length)) same
 tokens_of-step source start (q ∷ pieces) p n e =
-    ap (λ (ts : List Token). token_at (place_of source start) q.piece start (start + q.length) ++ ts) (tokens_of-step source (start + q.length) pieces p n (omega arith)) ∙ sym (append_assoc (token_at (place_of source start) q.piece start (start + q.length)) (tokens_of source (start + q.length) pieces) (token_at (place_of source n) p.piece n (n + p.length)))
+    ap (λ (ts : List Token). token_at (place_of_byte source start) q.piece start (start + q.length) ++ ts) (tokens_of-step source (start + q.length) pieces p n (omega arith)) ∙ sym (append_assoc (token_at (place_of_byte source start) q.piece start (start + q.length)) (tokens_of source (start + q.length) pieces) (token_at (place_of_byte source n) p.piece n (n + p.length)))
 
 -- Pieces lead so far, and these are the tokens among them.
 pub record Opens (source text : List ℕ) (tokens : List Token) (start : ℕ) (current : Mode) : Type 0 where
   pub pieces : List Lexeme
   pub made : IsMadeOf Code text pieces current (drop start text)
-  pub long : length_of pieces ≡ start
+  pub long : bytes_of_pieces pieces ≡ start
   pub tokens_are : tokens ≡ tokens_of source 0 pieces
 
 -- at the start of the text
@@ -84,12 +84,12 @@ pub Opens-front : (source text : List ℕ) → Opens source text [] 0 Code
 Opens-front source text = record { pieces = []; made = (refl, refl); long = refl; tokens_are = refl }
 
 -- one piece more
-pub Opens-next : (source text : List ℕ) (tokens : List Token) (start : ℕ) (current : Mode) (p : Lexeme) → Opens source text tokens start current → piece_at current (drop start text) ≡ Ok p → Opens source text (tokens ++ token_at (place_of source start) p.piece start (start + p.length)) (start + p.length) (mode_after current p.piece (take p.length (drop start text)))
+pub Opens-next : (source text : List ℕ) (tokens : List Token) (start : ℕ) (current : Mode) (p : Lexeme) → Opens source text tokens start current → piece_at current (drop start text) ≡ Ok p → Opens source text (tokens ++ token_at (place_of_byte source start) p.piece start (start + p.length)) (start + p.length) (mode_after current p.piece (take p.length (drop start text)))
 Opens-next source text tokens start current p opens there = record {
   pieces = opens.pieces ++ p ∷ [];
   made = subst (IsMadeOf Code text (opens.pieces ++ p ∷ []) (mode_after current p.piece (take p.length (drop start text)))) (drop-drop p.length start text) (IsMadeOf-step Code text opens.pieces current (drop start text) p there opens.made);
   long = omega (arith, length_of-step opens.pieces p, opens.long);
-  tokens_are = ap (λ (ts : List Token). ts ++ token_at (place_of source start) p.piece start (start + p.length)) opens.tokens_are ∙ sym (tokens_of-step source 0 opens.pieces p start (omega (arith, opens.long)));
+  tokens_are = ap (λ (ts : List Token). ts ++ token_at (place_of_byte source start) p.piece start (start + p.length)) opens.tokens_are ∙ sym (tokens_of-step source 0 opens.pieces p start (omega (arith, opens.long)));
 }
 
 -- at an error instead of a piece
@@ -158,11 +158,11 @@ StopsAt-unique text f g s t =
     let same = IsMadeOf-unique Code text s.pieces t.pieces s.last t.last s.rest t.rest (BeginsNone-misread s.last s.rest s.misread s.stops) (BeginsNone-misread t.last t.rest t.misread t.stops) s.made t.made in
     let there : piece_at s.last s.rest ≡ Err t.misread = ap (λ (k : Mode). piece_at k s.rest) same.1 ∙ ap (piece_at t.last) same.2 ∙ t.stops in
     let read : s.misread ≡ t.misread = let e : Err s.misread ≡ Err t.misread = sym s.stops ∙ there in cc in
-    (s.at ∙ ap (λ ps. length_of ps + s.misread.ahead) same.0 ∙ ap (λ (m : Misread). length_of t.pieces + m.ahead) read ∙ sym t.at, s.error ∙ ap (λ (m : Misread). m.error) read ∙ sym t.error)
+    (s.at ∙ ap (λ ps. bytes_of_pieces ps + s.misread.ahead) same.0 ∙ ap (λ (m : Misread). bytes_of_pieces t.pieces + m.ahead) read ∙ sym t.at, s.error ∙ ap (λ (m : Misread). m.error) read ∙ sym t.error)
 
 -- where pieces stop is the first byte at which they do
 pub stop-first : (text : List ℕ) (f : ByteFault) → StopsAt text f → IsFirstFault (StopsAt text) (Some f)
-stop-first text f s = (s, λ g t. let same = StopsAt-unique text f g s t in inr (same.0, omega (arith, ap error_code same.1)))
+stop-first text f s = (s, λ g t. let same = StopsAt-unique text f g s t in inr (same.0, omega (arith, ap lex_error_code same.1)))
 
 -- the first byte at which the pieces of a text stop, if they do
 pub reading-first : (source text : List ℕ) (tokens : List Token) (found : Option ByteFault) → IsReading source text tokens found → IsFirstFault (StopsAt text) found

@@ -8,17 +8,17 @@ use Rattle.std.specs.Str.{IsAscii}
 use Rattle.std.specs.Char.{is_ascii_alphabetic, is_ascii_alphanumeric}
 use Rattle.gms_lines.specs.Lines.{begins, before, is_blank, is_line_end, content}
 use Rattle.gms_lines.proofs.LineLemmas.{below_or, before-le-length}
-use Rattle.gms_lexemes.specs.declared.kind.Kind.{Kind}
-use Rattle.gms_lexemes.specs.declared.kind.Kind.TheVariants.{Word, Label, Text, TableLine}
-use Rattle.gms_lexemes.specs.declared.kind.Sym.{Sym}
-use Rattle.gms_lexemes.specs.declared.lexeme.Piece.{Piece}
-use Rattle.gms_lexemes.specs.declared.lexeme.Piece.TheVariants.{Remark, Token}
-use Rattle.gms_lexemes.specs.Bytes.{is_name_byte, is_label_byte, is_quote, is_text_byte, is_plain}
-use Rattle.gms_lexemes.specs.Numbers.{begins_number}
-use Rattle.gms_lexemes.specs.Symbols.{symbol_at}
-use Rattle.gms_lexemes.specs.Shapes.{Read, longest_label, bounded, symbol_of, symbol, quoted_length, is_closed, quoted, code_token, label_token, remark}
-use Rattle.gms_lexemes.specs.TableLines.{table_bytes}
-use Rattle.gms_lexemes.proofs.WithinLemmas.{run_within, closed_more, table_bytes_le}
+use Rattle.gms_lines.specs.declared.kind.Kind.{Kind}
+use Rattle.gms_lines.specs.declared.kind.Kind.TheVariants.{Word, Label, Text, TableLine}
+use Rattle.gms_lines.specs.declared.kind.Sym.{Sym}
+use Rattle.gms_lines.specs.declared.lexeme.Piece.{Piece}
+use Rattle.gms_lines.specs.declared.lexeme.Piece.TheVariants.{Remark, Token}
+use Rattle.gms_lines.specs.Bytes.{is_name_byte, is_label_byte, is_quote, is_text_byte, is_ascii}
+use Rattle.gms_lines.specs.Numbers.{begins_number}
+use Rattle.gms_lines.specs.Symbols.{longest_symbol}
+use Rattle.gms_lines.specs.Shapes.{Read, longest_label, bounded, symbol_read, symbol, quoted_length, is_closed, quoted, code_token, label_token, remark}
+use Rattle.gms_lines.specs.TableLines.{table_bytes}
+use Rattle.gms_lines.proofs.WithinLemmas.{run_within, closed_more, table_bytes_le}
 use Rattle.gms_lex.specs.declared.keyword.Shape.{Shape}
 use Rattle.gms_lex.specs.declared.keyword.Shape.TheVariants.{Set, Parameter, Scalar, Model}
 use Rattle.gms_lex.specs.declared.mode.Stage.{Stage}
@@ -28,7 +28,7 @@ use Rattle.gms_lex.specs.declared.mode.Mode.TheVariants.{Named, Bare, Element, V
 use Rattle.gms_lex.specs.declared.mode.LineEnds.{LineEnds}
 use Rattle.gms_lex.specs.declared.mode.LineEnds.TheVariants.{Skipped, EndItem, EndElement}
 use Rattle.gms_lex.specs.Keywords.{begins_statement}
-use Rattle.gms_lex.specs.Pieces.{passes, ends_or_begins, space_length, line_ends, line_end, is_item_mark, is_element_mark, behind_name, behind_domain, begins_value_dot, element_tail, behind_label, in_list, token_at, table_piece, plain_piece, piece_at}
+use Rattle.gms_lex.specs.Pieces.{passes, ends_or_begins, space_length, line_ends, line_end, is_item_mark, is_element_mark, behind_name, behind_domain, begins_value_dot, element_tail, behind_label, in_list, token_read, table_piece, plain_piece, piece_at}
 use Rattle.gms_lex.specs.TokenTexts.{unquoted, IsSpelled}
 use Rattle.gms_lex.proofs.LineTextLemmas.{IsSolidByte, IsSolid, length-take_most}
 use Rattle.gms_lex.proofs.TableLemmas.{IsTableText}
@@ -79,7 +79,7 @@ ascii_of text each k = elim (below_or k (length text)) [
   | inr ge ↦ subst (λ b. b < 128) (sym (byte_behind text k ge)) (omega arith)
 ]
 
-plain_byte : (b : ℕ) → is_plain b ≡ true → b < 128
+plain_byte : (b : ℕ) → is_ascii b ≡ true → b < 128
 plain_byte b h = grind (arith, nat_tests, h)
 
 -- a text of which no byte is a line feed
@@ -117,7 +117,7 @@ label_named text some =
     let solid = run_solid is_label_byte label_byte text some in
     if_named text (nat_lt longest_label n) _ _ (λ _. tt) (λ h. let le : n ≤ longest_label = grind (arith, nat_tests, h) in (solid, (solid.ascii, omega (arith, length-take_most n text, unquoted-le (take n text)))))
 
-plain_small : (b : ℕ) → is_plain b ≡ true → b < 128
+plain_small : (b : ℕ) → is_ascii b ≡ true → b < 128
 plain_small b h = grind (arith, nat_tests, h)
 
 not_feed : (mark b : ℕ) → not (b == mark || b == 10) ≡ true → b ≡ 10 → ⊥
@@ -136,7 +136,7 @@ feed_front b text h each zero lt = h
 feed_front b text h each (suc k) lt = each k (omega arith)
 
 -- a quoted text of `quoted_length` bytes between its marks
-quoted_solid : (mark : ℕ) (text : List ℕ) → is_quote mark ≡ true → is_closed mark text ≡ true → quoted_length mark text ≤ prefix_len is_plain (take (quoted_length mark text) text) → IsSolid (mark ∷ take (quoted_length mark text + 1) text)
+quoted_solid : (mark : ℕ) (text : List ℕ) → is_quote mark ≡ true → is_closed mark text ≡ true → quoted_length mark text ≤ prefix_len is_ascii (take (quoted_length mark text) text) → IsSolid (mark ∷ take (quoted_length mark text + 1) text)
 quoted_solid mark text quote closed plain =
     let inner = quoted_length mark text in
     let is_mark = quote_byte mark quote in
@@ -149,9 +149,9 @@ quoted_solid mark text quote closed plain =
     elim (below_or k inner) [
       | inl in_front ↦
           let passed : test (get_or text k 0) ≡ true = prefix_len_passes test text k 0 in_front in
-          let ascii : is_plain (get_or (take inner text) k 0) ≡ true = prefix_len_passes is_plain (take inner text) k 0 (omega arith) in
+          let ascii : is_ascii (get_or (take inner text) k 0) ≡ true = prefix_len_passes is_ascii (take inner text) k 0 (omega arith) in
           let same : get_or (take inner text) k 0 ≡ get_or text k 0 = get_or-take inner text k 0 in_front in
-          let small : is_plain (get_or text k 0) ≡ true = ap is_plain (sym same) ∙ ascii in
+          let small : is_ascii (get_or text k 0) ≡ true = ap is_ascii (sym same) ∙ ascii in
           (subst (λ b. b < 128) (sym byte) (plain_small (get_or text k 0) small), λ h. not_feed mark (get_or text k 0) passed (sym byte ∙ h))
       | inr at_end ↦
           let here : k ≡ inner = omega arith in
@@ -182,7 +182,7 @@ quoted_text_named : (text : List ℕ) → begins is_quote text ≡ true → IsNa
 quoted_text_named [] quote = tt
 quoted_text_named (mark ∷ text) quote =
     let inner = quoted_length mark text in
-    let plain = prefix_len is_plain (take inner text) in
+    let plain = prefix_len is_ascii (take inner text) in
     if_named (mark ∷ text) (not (is_closed mark text)) _ _
     (λ _. tt)
     (λ closed. if_named (mark ∷ text) (nat_lt plain inner) _ _
@@ -194,7 +194,7 @@ quoted_label_named : (text : List ℕ) → begins is_quote text ≡ true → IsN
 quoted_label_named [] quote = tt
 quoted_label_named (mark ∷ text) quote =
     let inner = quoted_length mark text in
-    let plain = prefix_len is_plain (take inner text) in
+    let plain = prefix_len is_ascii (take inner text) in
     if_named (mark ∷ text) (not (is_closed mark text)) _ _
     (λ _. tt)
     (λ closed. if_named (mark ∷ text) (nat_lt longest_label inner) _ _
@@ -214,14 +214,14 @@ quoted_remark_named : (text : List ℕ) → IsNamedRead text (quoted Remark text
 quoted_remark_named [] = tt
 quoted_remark_named (mark ∷ text) =
     let inner = quoted_length mark text in
-    if_named (mark ∷ text) (not (is_closed mark text)) _ _ (λ _. tt) (λ _. if_named (mark ∷ text) (nat_lt (prefix_len is_plain (take inner text)) inner) _ _ (λ _. tt) (λ _. tt))
+    if_named (mark ∷ text) (not (is_closed mark text)) _ _ (λ _. tt) (λ _. if_named (mark ∷ text) (nat_lt (prefix_len is_ascii (take inner text)) inner) _ _ (λ _. tt) (λ _. tt))
 
-symbol_of_named : (text : List ℕ) (found : Option (ℕ × Sym)) → IsNamedRead text (symbol_of found)
+symbol_of_named : (text : List ℕ) (found : Option (ℕ × Sym)) → IsNamedRead text (symbol_read found)
 symbol_of_named text None = tt
 symbol_of_named text (Some s) = tt
 
 symbol_named : (text : List ℕ) → IsNamedRead text (symbol text)
-symbol_named text = symbol_of_named text (symbol_at text)
+symbol_named text = symbol_of_named text (longest_symbol text)
 
 letter_in_name : (b : ℕ) → is_ascii_alphabetic b ≡ true → is_name_byte b ≡ true
 letter_in_name b h = grind (arith, nat_tests, h)
@@ -272,7 +272,7 @@ behind_name_named text = if_named text (begins (λ b. b == 40 || is_item_mark b)
 behind_domain_named : (text : List ℕ) → IsNamedRead text (behind_domain text)
 behind_domain_named text = if_named text (begins is_item_mark text) _ _ (λ _. symbol_named text) (λ _. remark_named text)
 
-token_at_named : (current : Mode) (text : List ℕ) → IsNamedRead text (token_at current text)
+token_at_named : (current : Mode) (text : List ℕ) → IsNamedRead text (token_read current text)
 token_at_named (Named s) text = behind_name_named text
 token_at_named TableNamed text = behind_name_named text
 token_at_named (Bare s) text = behind_domain_named text
@@ -290,15 +290,15 @@ blanks_inside : (blanks bytes : ℕ) (x y : Bool) → (nat_lt 0 blanks && (nat_l
 blanks_inside blanks bytes x y gap some = grind (arith, nat_tests, gap, some)
 
 -- what is read as a line of a table
-table_text : (text : List ℕ) (x y : Bool) → (nat_lt 0 (prefix_len is_blank text) && (nat_le (table_bytes (content text)) (prefix_len is_blank text) || x)) ≡ false → (table_bytes (content text) == 0 || y) ≡ false → nat_lt (prefix_len is_plain (take (table_bytes (content text)) text)) (table_bytes (content text)) ≡ false → IsTableText (table_bytes (content text)) text
+table_text : (text : List ℕ) (x y : Bool) → (nat_lt 0 (prefix_len is_blank text) && (nat_le (table_bytes (content text)) (prefix_len is_blank text) || x)) ≡ false → (table_bytes (content text) == 0 || y) ≡ false → nat_lt (prefix_len is_ascii (take (table_bytes (content text)) text)) (table_bytes (content text)) ≡ false → IsTableText (table_bytes (content text)) text
 table_text text x y gap some plain =
     let n = table_bytes (content text) in
     let blanks = prefix_len is_blank text in
     let inside : blanks < n = blanks_inside blanks n x y gap some in
     let within : n ≤ before is_line_end text = omega (arith, table_bytes_le (content text), length-take_most (before is_line_end text) text) in
-    let all : n ≤ prefix_len is_plain (take n text) = grind (arith, nat_tests, plain) in
+    let all : n ≤ prefix_len is_ascii (take n text) = grind (arith, nat_tests, plain) in
     record {
-      ascii = ascii_of (take n text) (λ k lt. plain_byte (get_or (take n text) k 0) (prefix_len_passes is_plain (take n text) k 0 (omega (arith, lt, all, length-take_most n text))));
+      ascii = ascii_of (take n text) (λ k lt. plain_byte (get_or (take n text) k 0) (prefix_len_passes is_ascii (take n text) k 0 (omega (arith, lt, all, length-take_most n text))));
       within = within;
       anchor = blanks;
       inside = inside;
@@ -315,7 +315,7 @@ table_named text =
     (λ _. tt)
     (λ gap. if_named text (bytes == 0 || begins_statement text) _ _
     (λ _. code_named Text text (quoted_text_named text))
-    (λ h. if_named text (nat_lt (prefix_len is_plain (take bytes text)) bytes) _ _ (λ _. tt) (λ plain. table_text text (begins_statement (drop blanks text)) (begins_statement text) gap h plain))))
+    (λ h. if_named text (nat_lt (prefix_len is_ascii (take bytes text)) bytes) _ _ (λ _. tt) (λ plain. table_text text (begins_statement (drop blanks text)) (begins_statement text) gap h plain))))
 
 -- the first piece is named, if its text names something
 pub piece_named : (current : Mode) (text : List ℕ) → IsNamedRead text (piece_at current text)

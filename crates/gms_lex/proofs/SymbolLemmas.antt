@@ -6,10 +6,10 @@ use Rattle.std.specs.Char.{is_ascii_alphanumeric, is_ascii_digit, to_ascii_lower
 use Rattle.std.specs.Str.{str_eq_ignore_ascii_case}
 use Rattle.gms_lines.specs.Lines.{begins}
 use Rattle.gms_lines.proofs.LineLemmas.{true_or_false}
-use Rattle.gms_lexemes.specs.declared.kind.Sym.{Sym}
-use Rattle.gms_lexemes.specs.declared.kind.Sym.TheVariants.{EqE, EqL, EqG, EqN, Power, DotDot, LessEq, GreaterEq, NotEq, PlusPlus, MinusMinus, Plus, Minus, Star, Slash, Equals, Less, Greater, LeftParen, RightParen, Comma, Semicolon, Dot, Dollar}
-use Rattle.gms_lexemes.specs.Bytes.{is_quote}
-use Rattle.gms_lexemes.specs.Symbols.{written, symbols, begins_with}
+use Rattle.gms_lines.specs.declared.kind.Sym.{Sym}
+use Rattle.gms_lines.specs.declared.kind.Sym.TheVariants.{EqE, EqL, EqG, EqN, Power, DotDot, LessEq, GreaterEq, NotEq, PlusPlus, MinusMinus, Plus, Minus, Star, Slash, Equals, Less, Greater, LeftParen, RightParen, Comma, Semicolon, Dot, Dollar}
+use Rattle.gms_lines.specs.Bytes.{is_quote}
+use Rattle.gms_lines.specs.Symbols.{written_symbol, symbols, begins_with_word}
 use Rattle.gms_lex.specs.Spellings.{IsSymbol}
 use Rattle.gms_lex.proofs.FrontLemmas.{both_true, and_true, not_both}
 
@@ -156,7 +156,7 @@ each_stands Dollar = inr (inr (inr (inr (inr (inr (inr (inr (inr (inr (inr (inr 
 
 -- how many bytes a symbol takes
 abbrev pub symbol_length : Sym → ℕ
-symbol_length s = length (written s)
+symbol_length s = length (written_symbol s)
 
 -- each symbol of a list has at most n bytes
 abbrev at_most : ℕ → List Sym → Bool
@@ -199,11 +199,11 @@ found_longest test (y ∷ ys) x s sorted found there passes = elim (true_or_fals
 ]
 
 -- a symbol that is a prefix of a text is one with which it begins
-front_begins : (s : Sym) (n : ℕ) (text : List ℕ) → n ≤ length text → IsSymbol s (take n text) → (n ≡ symbol_length s) × (begins_with text (written s) ≡ true)
+front_begins : (s : Sym) (n : ℕ) (text : List ℕ) → n ≤ length text → IsSymbol s (take n text) → (n ≡ symbol_length s) × (begins_with_word text (written_symbol s) ≡ true)
 front_begins s n text le h =
-    let long : n ≡ symbol_length s = omega (arith, folded_long (take n text) (written s) h, length-take-le n text le) in
+    let long : n ≡ symbol_length s = omega (arith, folded_long (take n text) (written_symbol s) h, length-take-le n text le) in
     let fits : nat_le (symbol_length s) (length text) ≡ true = grind (arith, nat_tests, long, le) in
-    (long, and_true (nat_le (symbol_length s) (length text)) (str_eq_ignore_ascii_case (take (symbol_length s) text) (written s)) fits (subst (λ k. str_eq_ignore_ascii_case (take k text) (written s) ≡ true) long h))
+    (long, and_true (nat_le (symbol_length s) (length text)) (str_eq_ignore_ascii_case (take (symbol_length s) text) (written_symbol s)) fits (subst (λ k. str_eq_ignore_ascii_case (take k text) (written_symbol s) ≡ true) long h))
 
 -- The symbol that is found is spelled so, and none that the text begins with is longer.
 pub record IsFirstSymbol (text : List ℕ) (found : Sym) : Type 0 where
@@ -217,12 +217,12 @@ found_passes test (y ∷ xs) x h = elim (true_or_false (test y)) [
   | inr t ↦ found_passes test xs x (ap (λ v. cond v (Some y) (find test xs)) (sym t) ∙ h)
 ]
 
-pub found_first : (text : List ℕ) (found : Sym) → find (λ s. begins_with text (written s)) symbols ≡ Some found → IsFirstSymbol text found
+pub found_first : (text : List ℕ) (found : Sym) → find (λ s. begins_with_word text (written_symbol s)) symbols ≡ Some found → IsFirstSymbol text found
 found_first text found e = record {
-  spelled = (both_true (nat_le (symbol_length found) (length text)) (str_eq_ignore_ascii_case (take (symbol_length found) text) (written found)) (found_passes (λ s. begins_with text (written s)) symbols found e)).1;
+  spelled = (both_true (nat_le (symbol_length found) (length text)) (str_eq_ignore_ascii_case (take (symbol_length found) text) (written_symbol found)) (found_passes (λ s. begins_with_word text (written_symbol s)) symbols found e)).1;
   longest = λ s n le h.
       let begin = front_begins s n text le h in
-      let most : symbol_length s ≤ symbol_length found = found_longest (λ s. begins_with text (written s)) symbols found s refl e (each_stands s) begin.1 in
+      let most : symbol_length s ≤ symbol_length found = found_longest (λ s. begins_with_word text (written_symbol s)) symbols found s refl e (each_stands s) begin.1 in
       omega (arith, begin.0, most);
 }
 
@@ -237,5 +237,5 @@ found_none test (y ∷ ys) s h there passes = elim (true_or_false (test y)) [
 ]
 
 -- where none is found, the text begins with none
-pub none_first : (text : List ℕ) → find (λ s. begins_with text (written s)) symbols ≡ None → (s : Sym) (n : ℕ) → n ≤ length text → IsSymbol s (take n text) → ⊥
-none_first text e s n le h = found_none (λ s. begins_with text (written s)) symbols s e (each_stands s) (front_begins s n text le h).1
+pub none_first : (text : List ℕ) → find (λ s. begins_with_word text (written_symbol s)) symbols ≡ None → (s : Sym) (n : ℕ) → n ≤ length text → IsSymbol s (take n text) → ⊥
+none_first text e s n le h = found_none (λ s. begins_with_word text (written_symbol s)) symbols s e (each_stands s) (front_begins s n text le h).1

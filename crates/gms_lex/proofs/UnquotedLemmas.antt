@@ -3,7 +3,7 @@ use Rattle.std.proofs.Common.{◌≡◌, ℕ, suc, ◌+◌, ◌-◌, ◌<◌, �
 use Rattle.std.proofs.lemmas.Str.{IsAscii-take, IsAscii-drop}
 use Rattle.std.specs.Str.{IsAscii}
 use Rattle.gms_lines.specs.Lines.{begins}
-use Rattle.gms_lexemes.specs.Bytes.{is_quote}
+use Rattle.gms_lines.specs.Bytes.{is_quote}
 use Rattle.gms_lex.specs.TokenTexts.{unquoted}
 
 -- they are no longer

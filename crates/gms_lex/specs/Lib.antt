@@ -1,10 +1,10 @@
 pub mod Keywords
 pub mod Modes
-pub mod Depths
+pub mod InnerDepths
 pub mod Pieces
 pub mod Places
 pub mod Tokens
-pub mod Readings
+pub mod InnerReadings
 pub mod TokenTexts
 pub mod Spellings
 pub mod Longest

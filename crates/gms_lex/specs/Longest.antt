@@ -3,15 +3,15 @@
 use Rattle.std.specs.Prelude.{◌≡◌, ◌⊎◌, ℕ, zero, suc, ◌<◌, ◌≤◌, Bool, true, false, ◌||◌, ◌==◌, List, length, take, drop, get_or}
 use Rattle.gms_lines.specs.declared.fault.LexError.TheVariants.{BadByte, LongLabel}
 use Rattle.gms_lines.specs.Lines.{begins, content}
-use Rattle.gms_lexemes.specs.declared.kind.Kind.{Kind}
-use Rattle.gms_lexemes.specs.declared.kind.Kind.TheVariants.{Word, Label, Number, Text, Symbol, Break, TableLine}
-use Rattle.gms_lexemes.specs.declared.lexeme.Piece.{Piece}
-use Rattle.gms_lexemes.specs.declared.lexeme.Piece.TheVariants.{Gap, LineEnd, Remark, Token}
-use Rattle.gms_lexemes.specs.declared.lexeme.Lexeme.{Lexeme}
-use Rattle.gms_lexemes.specs.declared.lexeme.Misread.{Misread}
-use Rattle.gms_lexemes.specs.Numbers.{begins_dot}
-use Rattle.gms_lexemes.specs.Shapes.{longest_label}
-use Rattle.gms_lexemes.specs.TableLines.{table_bytes}
+use Rattle.gms_lines.specs.declared.kind.Kind.{Kind}
+use Rattle.gms_lines.specs.declared.kind.Kind.TheVariants.{Word, Label, Number, Text, Symbol, Break, TableLine}
+use Rattle.gms_lines.specs.declared.lexeme.Piece.{Piece}
+use Rattle.gms_lines.specs.declared.lexeme.Piece.TheVariants.{Gap, LineEnd, Remark, Token}
+use Rattle.gms_lines.specs.declared.lexeme.Lexeme.{Lexeme}
+use Rattle.gms_lines.specs.declared.lexeme.Misread.{Misread}
+use Rattle.gms_lines.specs.Numbers.{begins_dot}
+use Rattle.gms_lines.specs.Shapes.{longest_label}
+use Rattle.gms_lines.specs.TableLines.{table_bytes}
 use Rattle.gms_lex.specs.declared.keyword.Shape.{Shape}
 use Rattle.gms_lex.specs.declared.keyword.Shape.TheVariants.{Set, Parameter, Scalar, Model}
 use Rattle.gms_lex.specs.declared.mode.Stage.{Stage}
@@ -21,22 +21,22 @@ use Rattle.gms_lex.specs.declared.mode.Mode.TheVariants.{Named, Bare, Element, V
 use Rattle.gms_lex.specs.Keywords.{begins_statement}
 use Rattle.gms_lex.specs.Pieces.{is_item_mark, is_element_mark}
 use Rattle.gms_lex.specs.TokenTexts.{unquoted}
-use Rattle.gms_lex.specs.Spellings.{IsWord, IsLabel, IsQuoted, IsText, IsSymbol, IsNumber}
+use Rattle.gms_lex.specs.Spellings.{IsWord, IsLabel, IsQuoted, IsText, IsSymbol, IsNumberSpelling}
 
 -- a token of code, followed by `behind`: a word, a number, a symbol, or a quoted token of this kind
 abbrev pub IsCode : Kind → Piece → List ℕ → List ℕ → Type 0
 IsCode quoted (Token Word) text behind = IsWord text
-IsCode quoted (Token Number) text behind = IsNumber text behind
+IsCode quoted (Token Number) text behind = IsNumberSpelling text behind
 IsCode quoted (Token (Symbol symbol)) text behind = IsSymbol symbol text
 IsCode quoted (Token Text) text behind = (quoted ≡ Text) × IsQuoted text
 IsCode quoted (Token Label) text behind = (quoted ≡ Label) × IsQuoted text
 IsCode quoted piece text behind = ⊥
 
 -- a token where an element is expected: a label, unquoted or quoted, or a symbol
-abbrev pub IsElement : Piece → List ℕ → Type 0
-IsElement (Token Label) text = IsLabel text ⊎ IsQuoted text
-IsElement (Token (Symbol symbol)) text = IsSymbol symbol text
-IsElement piece text = ⊥
+abbrev pub IsElementPiece : Piece → List ℕ → Type 0
+IsElementPiece (Token Label) text = IsLabel text ⊎ IsQuoted text
+IsElementPiece (Token (Symbol symbol)) text = IsSymbol symbol text
+IsElementPiece piece text = ⊥
 
 -- a symbol that begins with a byte that passes the test, or a descriptive text that does not
 abbrev pub IsMarkOrText : (ℕ → Bool) → Piece → List ℕ → Type 0
@@ -46,26 +46,26 @@ IsMarkOrText marks piece text = ⊥
 
 -- A token of code after an element of a parameter's list. Directly after the element a dot joins a
 -- label, and begins no number.
-abbrev pub IsValue : Stage → Piece → List ℕ → List ℕ → Type 0
-IsValue After (Token Number) text behind = IsNumber text behind × (begins_dot text ≡ false)
-IsValue stage piece text behind = IsCode Label piece text behind
+abbrev pub IsValuePiece : Stage → Piece → List ℕ → List ℕ → Type 0
+IsValuePiece After (Token Number) text behind = IsNumberSpelling text behind × (begins_dot text ≡ false)
+IsValuePiece stage piece text behind = IsCode Label piece text behind
 
 -- after an element outside parentheses: a value in a parameter's list; in any other `/`, `,`, `;`,
 -- `)`, `*`, `.`, or a text
 abbrev pub IsBehindElement : Shape → Stage → Piece → List ℕ → List ℕ → Type 0
-IsBehindElement Parameter stage piece text behind = IsValue stage piece text behind
+IsBehindElement Parameter stage piece text behind = IsValuePiece stage piece text behind
 IsBehindElement Set stage piece text behind = IsMarkOrText is_element_mark piece text
 IsBehindElement Scalar stage piece text behind = IsMarkOrText is_element_mark piece text
 IsBehindElement Model stage piece text behind = IsMarkOrText is_element_mark piece text
 
 -- within a list, inside `depth` parentheses
-abbrev pub IsListed : Shape → ℕ → Stage → Piece → List ℕ → List ℕ → Type 0
-IsListed shape depth Fresh piece text behind = IsElement piece text
-IsListed shape depth Due piece text behind = IsElement piece text
-IsListed shape zero After piece text behind = IsBehindElement shape After piece text behind
-IsListed shape zero Spaced piece text behind = IsBehindElement shape Spaced piece text behind
-IsListed shape (suc depth) After piece text behind = IsElement piece text
-IsListed shape (suc depth) Spaced piece text behind = IsElement piece text
+abbrev pub IsInList : Shape → ℕ → Stage → Piece → List ℕ → List ℕ → Type 0
+IsInList shape depth Fresh piece text behind = IsElementPiece piece text
+IsInList shape depth Due piece text behind = IsElementPiece piece text
+IsInList shape zero After piece text behind = IsBehindElement shape After piece text behind
+IsInList shape zero Spaced piece text behind = IsBehindElement shape Spaced piece text behind
+IsInList shape (suc depth) After piece text behind = IsElementPiece piece text
+IsInList shape (suc depth) Spaced piece text behind = IsElementPiece piece text
 
 -- The first n bytes of a text, among the lines of a table: all of the line up to the `;` that ends
 -- the table; if that `;` or a statement begins, a token of code.
@@ -75,16 +75,16 @@ IsOfTable text piece n =
     ((table_bytes (content text) == 0 || begins_statement text) ≡ true) × IsCode Text piece (take n text) (drop n text)
 
 -- the first n bytes of a text are a token or a descriptive text that the mode allows there
-abbrev pub IsAllowed : Mode → List ℕ → Piece → ℕ → Type 0
-IsAllowed (Named shape) text piece n = IsMarkOrText (λ b. b == 40 || is_item_mark b) piece (take n text)
-IsAllowed TableNamed text piece n = IsMarkOrText (λ b. b == 40 || is_item_mark b) piece (take n text)
-IsAllowed (Bare shape) text piece n = IsMarkOrText is_item_mark piece (take n text)
-IsAllowed TableBare text piece n = IsMarkOrText is_item_mark piece (take n text)
-IsAllowed (Element shape depth stage) text piece n = IsListed shape depth stage piece (take n text) (drop n text)
-IsAllowed (Value shape) text piece n = IsCode Label piece (take n text) (drop n text)
-IsAllowed (Tail shape) text piece n = IsCode Label piece (take n text) (drop n text)
-IsAllowed TableLines text piece n = IsOfTable text piece n
-IsAllowed current text piece n = IsCode Text piece (take n text) (drop n text)
+abbrev pub IsAllowedPiece : Mode → List ℕ → Piece → ℕ → Type 0
+IsAllowedPiece (Named shape) text piece n = IsMarkOrText (λ b. b == 40 || is_item_mark b) piece (take n text)
+IsAllowedPiece TableNamed text piece n = IsMarkOrText (λ b. b == 40 || is_item_mark b) piece (take n text)
+IsAllowedPiece (Bare shape) text piece n = IsMarkOrText is_item_mark piece (take n text)
+IsAllowedPiece TableBare text piece n = IsMarkOrText is_item_mark piece (take n text)
+IsAllowedPiece (Element shape depth stage) text piece n = IsInList shape depth stage piece (take n text) (drop n text)
+IsAllowedPiece (Value shape) text piece n = IsCode Label piece (take n text) (drop n text)
+IsAllowedPiece (Tail shape) text piece n = IsCode Label piece (take n text) (drop n text)
+IsAllowedPiece TableLines text piece n = IsOfTable text piece n
+IsAllowedPiece current text piece n = IsCode Text piece (take n text) (drop n text)
 
 -- a piece with a text: each except blanks and line ends
 abbrev pub has_text : Piece → Bool
@@ -96,8 +96,8 @@ has_text piece = true
 -- the piece at the start of a text is one that the mode allows there, and none that it allows is
 -- longer
 pub record IsLongest (mode : Mode) (text : List ℕ) (p : Lexeme) : Type 0 where
-  pub allowed : IsAllowed mode text p.piece p.length
-  pub longest : (other : Piece) (n : ℕ) → n ≤ length text → IsAllowed mode text other n → n ≤ p.length
+  pub allowed : IsAllowedPiece mode text p.piece p.length
+  pub longest : (other : Piece) (n : ℕ) → n ≤ length text → IsAllowedPiece mode text other n → n ≤ p.length
 
 -- No token is this piece at the start of a text: a word or a label has over 63 bytes, quotation
 -- marks not counted; or the byte at the error is not ASCII.
@@ -108,7 +108,7 @@ IsUnlawful p text misread =
 
 -- an error instead of a piece: the mode allows none there, or the longest that it allows is no
 -- token
-abbrev pub IsRefused : Mode → List ℕ → Misread → Type 0
-IsRefused mode text misread =
-    ((other : Piece) (n : ℕ) → n ≤ length text → IsAllowed mode text other n → ⊥)
+abbrev pub IsRefusedPiece : Mode → List ℕ → Misread → Type 0
+IsRefusedPiece mode text misread =
+    ((other : Piece) (n : ℕ) → n ≤ length text → IsAllowedPiece mode text other n → ⊥)
     ⊎ ((p : Lexeme) × IsLongest mode text p × IsUnlawful p text misread)

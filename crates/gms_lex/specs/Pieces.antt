@@ -4,11 +4,11 @@ use Rattle.std.specs.Prelude.{ℕ, Bool, true, false, not, ◌&&◌, ◌||◌, �
 use Rattle.std.specs.List.{prefix_len}
 use Rattle.std.specs.Char.{is_ascii_digit}
 use Rattle.gms_lines.specs.Lines.{begins, before, content, is_blank, is_line_end}
-use Rattle.gms_lexemes.specs.declared.kind.Kind.TheVariants.{Label, Text, Break}
-use Rattle.gms_lexemes.specs.declared.lexeme.Piece.TheVariants.{Gap, LineEnd, Token}
-use Rattle.gms_lexemes.specs.Numbers.{begins_dot}
-use Rattle.gms_lexemes.specs.Shapes.{Read, lexeme, symbol, code_token, label_token, remark}
-use Rattle.gms_lexemes.specs.TableLines.{table_bytes, table_line}
+use Rattle.gms_lines.specs.declared.kind.Kind.TheVariants.{Label, Text, Break}
+use Rattle.gms_lines.specs.declared.lexeme.Piece.TheVariants.{Gap, LineEnd, Token}
+use Rattle.gms_lines.specs.Numbers.{begins_dot}
+use Rattle.gms_lines.specs.Shapes.{Read, lexeme, symbol, code_token, label_token, remark}
+use Rattle.gms_lines.specs.TableLines.{table_bytes, table_line}
 use Rattle.gms_lex.specs.declared.keyword.Shape.{Shape}
 use Rattle.gms_lex.specs.declared.keyword.Shape.TheVariants.{Set, Parameter, Scalar, Model}
 use Rattle.gms_lex.specs.declared.mode.Stage.{Stage}
@@ -114,15 +114,15 @@ in_list shape depth After text = behind_label shape depth After text
 in_list shape depth Spaced text = behind_label shape depth Spaced text
 
 -- the piece at a byte that is no blank and no line end
-abbrev pub token_at : Mode → List ℕ → Read
-token_at (Named shape) text = behind_name text
-token_at TableNamed text = behind_name text
-token_at (Bare shape) text = behind_domain text
-token_at TableBare text = behind_domain text
-token_at (Element shape depth stage) text = in_list shape depth stage text
-token_at (Value shape) text = code_token Label text
-token_at (Tail shape) text = code_token Label text
-token_at current text = code_token Text text
+abbrev pub token_read : Mode → List ℕ → Read
+token_read (Named shape) text = behind_name text
+token_read TableNamed text = behind_name text
+token_read (Bare shape) text = behind_domain text
+token_read TableBare text = behind_domain text
+token_read (Element shape depth stage) text = in_list shape depth stage text
+token_read (Value shape) text = code_token Label text
+token_read (Tail shape) text = code_token Label text
+token_read current text = code_token Text text
 
 -- The first piece where the lines of a table may continue; `blanks` bytes are blank and `bytes`
 -- belong to the table. A statement keyword ends the table, and so does a `;`.
@@ -138,7 +138,7 @@ table_piece text =
 -- the first piece in any other mode
 abbrev pub plain_piece : Mode → List ℕ → Read
 plain_piece current text =
-    if begins is_blank text then lexeme Gap (prefix_len is_blank text) else (if is_line_end text then line_end (line_ends current) text else token_at current text)
+    if begins is_blank text then lexeme Gap (prefix_len is_blank text) else (if is_line_end text then line_end (line_ends current) text else token_read current text)
 
 -- the first piece of a text
 abbrev pub piece_at : Mode → List ℕ → Read

@@ -1,7 +1,7 @@
 -- Places in a source: lines and columns, each counted from 1.
 use Rattle.std.specs.Prelude.{◌≡◌, ◌⊎◌, ℕ, ◌<◌, ◌+◌, ◌==◌, if◌then◌else◌, List, take, fold}
 use Rattle.gms_labels.specs.declared.place.Place.{Place}
-use Rattle.gms_lexemes.specs.Columns.{column_after}
+use Rattle.gms_lines.specs.Columns.{column_after}
 
 -- the place where a source begins
 abbrev pub source_start : Place
@@ -17,8 +17,8 @@ abbrev pub place_behind : Place → List ℕ → Place
 place_behind at bytes = fold place_after at bytes
 
 -- the place of a byte of a source, or of its end
-abbrev pub place_of : List ℕ → ℕ → Place
-place_of source n = place_behind source_start (take n source)
+abbrev pub place_of_byte : List ℕ → ℕ → Place
+place_of_byte source n = place_behind source_start (take n source)
 
 -- one place comes before another: on an earlier line, or before it on the same line
 abbrev pub IsEarlier : Place → Place → Type 0

@@ -4,10 +4,10 @@ use Rattle.std.specs.List.{list_all}
 use Rattle.std.specs.Char.{is_ascii_alphabetic, is_ascii_alphanumeric, is_ascii_digit}
 use Rattle.std.specs.Str.{str_eq_ignore_ascii_case}
 use Rattle.gms_lines.specs.Lines.{begins}
-use Rattle.gms_lexemes.specs.declared.kind.Sym.{Sym}
-use Rattle.gms_lexemes.specs.Bytes.{is_name_byte, is_label_byte, is_quote, is_text_byte}
-use Rattle.gms_lexemes.specs.Numbers.{begins_dot, is_sign}
-use Rattle.gms_lexemes.specs.Symbols.{written}
+use Rattle.gms_lines.specs.declared.kind.Sym.{Sym}
+use Rattle.gms_lines.specs.Bytes.{is_name_byte, is_label_byte, is_quote, is_text_byte}
+use Rattle.gms_lines.specs.Numbers.{begins_dot, is_sign}
+use Rattle.gms_lines.specs.Symbols.{written_symbol}
 
 -- a word: a letter, then letters, digits and `_`
 abbrev pub IsWord : List ℕ → Type 0
@@ -37,11 +37,11 @@ IsText text = IsQuoted text ⊎ IsUnquotedText text
 
 -- a symbol as it is written, letter case ignored
 abbrev pub IsSymbol : Sym → List ℕ → Type 0
-IsSymbol symbol text = str_eq_ignore_ascii_case text (written symbol) ≡ true
+IsSymbol symbol text = str_eq_ignore_ascii_case text (written_symbol symbol) ≡ true
 
 -- at least one digit, and nothing else
-abbrev pub AreDigits : List ℕ → Type 0
-AreDigits text = (begins is_ascii_digit text ≡ true) × (list_all is_ascii_digit text ≡ true)
+abbrev pub AreSomeDigits : List ℕ → Type 0
+AreSomeDigits text = (begins is_ascii_digit text ≡ true) × (list_all is_ascii_digit text ≡ true)
 
 -- the dot of a number with any digits after it; or nothing
 abbrev pub IsPoint : List ℕ → Type 0
@@ -51,22 +51,22 @@ IsPoint (b ∷ digits) = (b ≡ 46) × (list_all is_ascii_digit digits ≡ true)
 -- a power of ten: an optional sign, and digits
 abbrev pub IsPower : List ℕ → Type 0
 IsPower [] = ⊥
-IsPower (b ∷ digits) = AreDigits (b ∷ digits) ⊎ ((is_sign b ≡ true) × AreDigits digits)
+IsPower (b ∷ digits) = AreSomeDigits (b ∷ digits) ⊎ ((is_sign b ≡ true) × AreSomeDigits digits)
 
 -- the exponent of a number: `e` and a power of ten; or nothing
-abbrev pub IsExponent : List ℕ → Type 0
-IsExponent [] = Unit {0}
-IsExponent (b ∷ power) = ((b == 101 || b == 69) ≡ true) × IsPower power
+abbrev pub IsExponentSpelling : List ℕ → Type 0
+IsExponentSpelling [] = Unit {0}
+IsExponentSpelling (b ∷ power) = ((b == 101 || b == 69) ≡ true) × IsPower power
 
 -- A number followed by `behind`: digits, a dot with digits, and an exponent, with at least one
 -- digit before the exponent. No other dot follows its dot.
-pub record IsNumber (text behind : List ℕ) : Type 0 where
+pub record IsNumberSpelling (text behind : List ℕ) : Type 0 where
   pub whole : List ℕ
   pub point : List ℕ
   pub exponent : List ℕ
   pub spelled : text ≡ whole ++ (point ++ exponent)
   pub digits : list_all is_ascii_digit whole ≡ true
   pub fraction : IsPoint point
-  pub power : IsExponent exponent
+  pub power : IsExponentSpelling exponent
   pub some : (0 < length whole) ⊎ (1 < length point)
   pub alone : point ≡ 46 ∷ [] → begins_dot (exponent ++ behind) ≡ false

@@ -3,12 +3,12 @@ use Rattle.std.specs.Prelude.{◌≡◌, ℕ, ◌-◌, ◌≤◌, true, if◌the
 use Rattle.std.specs.Str.{IsAscii}
 use Rattle.gms_lines.specs.Lines.{begins}
 use Rattle.gms_lines.specs.LineFaults.{longest_line}
-use Rattle.gms_lexemes.specs.declared.kind.Kind.{Kind}
-use Rattle.gms_lexemes.specs.declared.kind.Kind.TheVariants.{Word, Label, Number, Text, Symbol, Break, TableLine, End}
-use Rattle.gms_lexemes.specs.Bytes.{is_quote}
-use Rattle.gms_lexemes.specs.Shapes.{longest_label}
+use Rattle.gms_lines.specs.declared.kind.Kind.{Kind}
+use Rattle.gms_lines.specs.declared.kind.Kind.TheVariants.{Word, Label, Number, Text, Symbol, Break, TableLine, End}
+use Rattle.gms_lines.specs.Bytes.{is_quote}
+use Rattle.gms_lines.specs.Shapes.{longest_label}
 use Rattle.gms_lex.specs.declared.token.Token.{Token}
-use Rattle.gms_lex.specs.Places.{place_of}
+use Rattle.gms_lex.specs.Places.{place_of_byte}
 
 -- the bytes of the source that a token takes
 abbrev pub token_text : List ℕ → Token → List ℕ
@@ -36,5 +36,5 @@ IsSpelled End text = Unit {0}
 pub record IsPlaced (source : List ℕ) (token : Token) : Type 0 where
   pub starts : token.start ≤ token.end
   pub ends : token.end ≤ length source
-  pub at : token.at ≡ place_of source token.start
+  pub at : token.at ≡ place_of_byte source token.start
   pub spelled : IsSpelled token.kind (token_text source token)

@@ -6,11 +6,11 @@ use Rattle.gms_lines.specs.declared.fault.ByteFault.{ByteFault}
 use Rattle.gms_lines.specs.Errors.{IsBefore}
 use Rattle.gms_lines.specs.Lines.{code_text}
 use Rattle.gms_lines.specs.LineFaults.{IsLineFault}
-use Rattle.gms_lexemes.specs.declared.kind.Kind.TheVariants.{End}
-use Rattle.gms_lexemes.specs.declared.lexeme.Piece.{Piece}
-use Rattle.gms_lexemes.specs.declared.lexeme.Piece.TheVariants as piece
-use Rattle.gms_lexemes.specs.declared.lexeme.Lexeme.{Lexeme}
-use Rattle.gms_lexemes.specs.declared.lexeme.Misread.{Misread}
+use Rattle.gms_lines.specs.declared.kind.Kind.TheVariants.{End}
+use Rattle.gms_lines.specs.declared.lexeme.Piece.{Piece}
+use Rattle.gms_lines.specs.declared.lexeme.Piece.TheVariants as piece
+use Rattle.gms_lines.specs.declared.lexeme.Lexeme.{Lexeme}
+use Rattle.gms_lines.specs.declared.lexeme.Misread.{Misread}
 use Rattle.gms_lex.specs.declared.mode.Mode.{Mode}
 use Rattle.gms_lex.specs.declared.mode.Mode.TheVariants.{Code}
 use Rattle.gms_lex.specs.declared.token.Token.{Token}
@@ -19,11 +19,11 @@ use Rattle.gms_lex.specs.declared.fault.LexFaultOrMemory.{LexFaultOrMemory}
 use Rattle.gms_lex.specs.declared.fault.LexFaultOrMemory.TheVariants.{Fault, Memory}
 use Rattle.gms_lex.specs.Modes.{mode_after}
 use Rattle.gms_lex.specs.Pieces.{piece_at}
-use Rattle.gms_lex.specs.Places.{place_of}
+use Rattle.gms_lex.specs.Places.{place_of_byte}
 
 -- how many bytes a source may have
-abbrev pub most_bytes : ℕ
-most_bytes = 1048576
+abbrev pub most_source_bytes : ℕ
+most_source_bytes = 1048576
 
 -- The text begins with these pieces, each the longest of its mode at its start; the pieces before
 -- it determine the mode. The rest follows them, in the mode `last`.
@@ -33,9 +33,9 @@ IsMadeOf mode text (p ∷ pieces) last rest =
     (piece_at mode text ≡ Ok p) × IsMadeOf (mode_after mode p.piece (take p.length text)) (drop p.length text) pieces last rest
 
 -- how many bytes pieces take
-abbrev pub length_of : List Lexeme → ℕ
-length_of [] = 0
-length_of (p ∷ pieces) = p.length + length_of pieces
+abbrev pub bytes_of_pieces : List Lexeme → ℕ
+bytes_of_pieces [] = 0
+bytes_of_pieces (p ∷ pieces) = p.length + bytes_of_pieces pieces
 
 -- the token of a piece, which takes these bytes and has this place
 abbrev pub token_at : Place → Piece → ℕ → ℕ → List Token
@@ -47,11 +47,11 @@ token_at at piece.Remark start end = []
 -- the tokens among pieces, of which the first begins at this byte of the source
 abbrev pub tokens_of : List ℕ → ℕ → List Lexeme → List Token
 tokens_of source start [] = []
-tokens_of source start (p ∷ pieces) = token_at (place_of source start) p.piece start (start + p.length) ++ tokens_of source (start + p.length) pieces
+tokens_of source start (p ∷ pieces) = token_at (place_of_byte source start) p.piece start (start + p.length) ++ tokens_of source (start + p.length) pieces
 
 -- the token at the end of a source
 abbrev pub end_token : List ℕ → Token
-end_token source = record { kind = End; start = length source; end = length source; at = place_of source (length source) }
+end_token source = record { kind = End; start = length source; end = length source; at = place_of_byte source (length source) }
 
 -- The tokens of the source, whose text without comments and control lines is `text`: the text is
 -- made of pieces, and these are the tokens among them, and the source's end.
@@ -71,31 +71,31 @@ pub record StopsAt (text : List ℕ) (fault : ByteFault) : Type 0 where
   pub made : IsMadeOf Code text pieces last rest
   pub some : 0 < length rest
   pub stops : piece_at last rest ≡ Err misread
-  pub at : fault.at ≡ length_of pieces + misread.ahead
+  pub at : fault.at ≡ bytes_of_pieces pieces + misread.ahead
   pub error : fault.error ≡ misread.error
 
 -- A lexical error at this byte of the source: an error of a line, or one where a token is expected.
-abbrev pub Stands : List ℕ → ByteFault → Type 0
-Stands source fault = IsLineFault source fault ⊎ StopsAt (code_text source) fault
+abbrev pub IsByteFault : List ℕ → ByteFault → Type 0
+IsByteFault source fault = IsLineFault source fault ⊎ StopsAt (code_text source) fault
 
 -- these are the tokens of a source without lexical errors
 pub record IsTokens (source : List ℕ) (tokens : List Token) : Type 0 where
-  pub sound : (fault : ByteFault) → Stands source fault → ⊥
+  pub sound : (fault : ByteFault) → IsByteFault source fault → ⊥
   pub has : HasTokens source (code_text source) tokens
 
 -- this is the first lexical error of the source, by place and then by number
-pub record IsFault (source : List ℕ) (fault : LexFault) : Type 0 where
+pub record IsLexFault (source : List ℕ) (fault : LexFault) : Type 0 where
   pub byte : ℕ
-  pub at : fault.at ≡ place_of source byte
-  pub stands : Stands source record { at = byte; error = fault.error }
-  pub first : (other : ByteFault) → Stands source other → IsBefore record { at = byte; error = fault.error } other
+  pub at : fault.at ≡ place_of_byte source byte
+  pub stands : IsByteFault source record { at = byte; error = fault.error }
+  pub first : (other : ByteFault) → IsByteFault source other → IsBefore record { at = byte; error = fault.error } other
 
 -- the meaning of a source for a reader of tokens: its tokens, or its first fault
 abbrev pub Means : List ℕ → Result (List Token) LexFault → Type 0
 Means source (Ok tokens) = IsTokens source tokens
-Means source (Err fault) = IsFault source fault
+Means source (Err fault) = IsLexFault source fault
 
 -- an answer in place of tokens: the first fault of the source, or out of memory
-abbrev pub IsRefusal : List ℕ → LexFaultOrMemory → Type 0
-IsRefusal source (Fault fault) = IsFault source fault
-IsRefusal source Memory = Unit {0}
+abbrev pub IsLexRefusal : List ℕ → LexFaultOrMemory → Type 0
+IsLexRefusal source (Fault fault) = IsLexFault source fault
+IsLexRefusal source Memory = Unit {0}

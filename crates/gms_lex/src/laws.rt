@@ -1,15 +1,15 @@
 //! Laws of tokens.
 ghost use Rattle.std.specs.Prelude.{◌≡◌, ◌<◌, ◌≤◌, ℕ, List, Result, Ok, Err, All, length, take, true};
 ghost use Rattle.gms_lines.specs.Lines.{code_text};
-ghost use Rattle.gms_lexemes.specs.declared.lexeme.Lexeme.{Lexeme};
-ghost use Rattle.gms_lexemes.specs.declared.lexeme.Misread.{Misread};
+ghost use Rattle.gms_lines.specs.declared.lexeme.Lexeme.{Lexeme};
+ghost use Rattle.gms_lines.specs.declared.lexeme.Misread.{Misread};
 ghost use Rattle.gms_lex.specs.declared.mode.Mode.{Mode};
 ghost use Rattle.gms_lex.specs.declared.token.Token.{Token};
 ghost use Rattle.gms_lex.specs.declared.fault.LexFault.{LexFault};
 ghost use Rattle.gms_lex.specs.Apart.{AreApart, IsBreak, IsOneLineEnd, break_of};
-ghost use Rattle.gms_lex.specs.Longest.{IsLongest, IsRefused, has_text};
+ghost use Rattle.gms_lex.specs.Longest.{IsLongest, IsRefusedPiece, has_text};
 ghost use Rattle.gms_lex.specs.Pieces.{piece_at};
-ghost use Rattle.gms_lex.specs.Places.{IsEarlier, place_of};
+ghost use Rattle.gms_lex.specs.Places.{IsEarlier, place_of_byte};
 ghost use Rattle.gms_lex.specs.Tokens.{Means, IsTokens};
 ghost use Rattle.gms_lex.specs.TokenTexts.{IsPlaced};
 
@@ -29,11 +29,11 @@ pub fn token_laws()
     ensures only_one { (source : List ℕ) (one other : Result (List Token) LexFault) →
         Means source one → Means source other → one ≡ other }
     ensures places_in_order { (source : List ℕ) (m n : ℕ) →
-        m < n → n ≤ length source → IsEarlier (place_of source m) (place_of source n) }
+        m < n → n ≤ length source → IsEarlier (place_of_byte source m) (place_of_byte source n) }
     ensures longest { (mode : Mode) (text : List ℕ) (piece : Lexeme) →
         piece_at mode text ≡ Ok piece → has_text piece.piece ≡ true → IsLongest mode text piece }
     ensures refused { (mode : Mode) (text : List ℕ) (misread : Misread) →
-        piece_at mode text ≡ Err misread → IsRefused mode text misread }
+        piece_at mode text ≡ Err misread → IsRefusedPiece mode text misread }
     ensures apart { (source : List ℕ) (tokens : List Token) → IsTokens source tokens → AreApart (code_text source) 0 tokens }
     ensures breaks { (mode : Mode) (text : List ℕ) (bytes : ℕ) →
         piece_at mode text ≡ Ok (break_of bytes) → IsBreak mode text × IsOneLineEnd (take bytes text) }

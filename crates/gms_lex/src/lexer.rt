@@ -1,7 +1,7 @@
 //! The tokens of a source.
 ghost use Rattle.std.specs.Prelude.{◌≡◌, ◌<◌, ◌≤◌, ◌+◌, ◌^◌, ◌++◌, length, IfOk, OnOk, MatchResult};
-ghost use Rattle.gms_lex.specs.Tokens.{most_bytes, IsTokens, IsRefusal, token_at};
-ghost use Rattle.gms_lex.specs.Readings.{is_before, earlier, IsReading};
+ghost use Rattle.gms_lex.specs.Tokens.{most_source_bytes, IsTokens, IsLexRefusal, token_at};
+ghost use Rattle.gms_lex.specs.InnerReadings.{is_before, earlier, IsReading};
 
 use crate::fault::{LexFault, LexFaultOrMemory};
 use crate::mode::Mode;
@@ -10,8 +10,7 @@ use crate::piece::piece_at;
 use crate::place::{SOURCE_START, place_behind, place_of};
 use crate::token::Token;
 use gms_labels::Place;
-use gms_lexemes::{Kind, Piece};
-use gms_lines::{ByteFault, code_text};
+use gms_lines::{ByteFault, Kind, Piece, code_text};
 use std::alloc::{AllocError, Global};
 
 /// How many bytes a source may have.
@@ -52,7 +51,7 @@ fn push_token(
 
 /// The tokens of a source, of which this is the text without comments and control lines.
 fn read_tokens(alloc: Global, source: &[u8], code: &[u8]) -> Result<Reading, AllocError>
-    requires small { length source.now ≤ most_bytes }
+    requires small { length source.now ≤ most_source_bytes }
     requires as_long { length code.now ≡ length source.now }
     ensures { IfOk result (λ read. IsReading source.now code.now read.tokens.items read.fault) }
 {
@@ -119,8 +118,8 @@ fn earlier(a: Option<ByteFault>, b: Option<ByteFault>) -> Option<ByteFault>
 /// control word that is not accepted. `Memory` means out of memory. The source has at most
 /// `MOST_BYTES` bytes.
 pub fn lex(alloc: Global, source: &[u8]) -> Result<Vec<Token>, LexFaultOrMemory>
-    requires { length source.now ≤ most_bytes }
-    ensures { MatchResult result (λ tokens. IsTokens source.now tokens.items) (λ e. IsRefusal source.now e) }
+    requires { length source.now ≤ most_source_bytes }
+    ensures { MatchResult result (λ tokens. IsTokens source.now tokens.items) (λ e. IsLexRefusal source.now e) }
 {
     let code = code_text(alloc, source)?;
     let reading = read_tokens(alloc, source, code.text.as_slice())?;

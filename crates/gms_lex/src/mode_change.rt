@@ -1,11 +1,11 @@
 //! The mode after each piece.
 ghost use Rattle.std.specs.Prelude.{◌≡◌, ◌<◌, ◌≤◌, ◌+◌, ◌^◌};
 ghost use Rattle.gms_lex.specs.Modes.{list_start, begun_by, behind_element, after_plain, after_word, after_item_symbol, after_comma, after_due_symbol, after_element_symbol, after_stray_paren, after_tail_symbol, after_name_symbol, after_domain_symbol, after_table_symbol, after_list_symbol, after_symbol, after_break, after_token, after_gap, after_line, after_remark, mode_after};
-ghost use Rattle.gms_lex.specs.Depths.{depth_of};
+ghost use Rattle.gms_lex.specs.InnerDepths.{depth_of};
 
 use crate::keyword::{Keyword, Shape, keyword_of};
 use crate::mode::{Mode, Stage};
-use gms_lexemes::{Kind, Piece, Sym};
+use gms_lines::{Kind, Piece, Sym};
 
 /// Where a list begins, and where it continues after a comma.
 fn list_start(shape: Shape) -> Mode

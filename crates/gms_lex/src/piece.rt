@@ -2,16 +2,15 @@
 ghost use Rattle.std.specs.Prelude.{◌≡◌, ◌≤◌, ◌<◌, length};
 ghost use Rattle.std.specs.List.{prefix_len};
 ghost use Rattle.gms_lines.specs.Lines.{begins, is_blank};
-ghost use Rattle.gms_lexemes.specs.Shapes.{IsWithin};
-ghost use Rattle.gms_lex.specs.Pieces.{begins_other, space_length, line_end_length, ends_or_begins, passes, line_end, is_item_mark, behind_name, behind_domain, is_element_mark, begins_value_dot, element_tail, behind_label, in_list, token_at, table_piece_of, table_piece, plain_piece, piece_at};
+ghost use Rattle.gms_lines.specs.Shapes.{IsWithinText};
+ghost use Rattle.gms_lex.specs.Pieces.{begins_other, space_length, line_end_length, ends_or_begins, passes, line_end, is_item_mark, behind_name, behind_domain, is_element_mark, begins_value_dot, element_tail, behind_label, in_list, token_read, table_piece_of, table_piece, plain_piece, piece_at};
 
 use crate::keyword::{Shape, begins_statement};
 use crate::mode::{LineEnds, Mode, Stage, line_ends, passes};
-use gms_lexemes::{
-    Kind, Lexeme, Misread, Piece, code_token, label_token, read_symbol, remark, table_bytes,
-    table_line,
+use gms_lines::{
+    Kind, Lexeme, Misread, Piece, code_token, content_length, is_blank, is_line_end, label_token,
+    read_symbol, remark, table_bytes, table_line,
 };
-use gms_lines::{content_length, is_blank, is_line_end};
 
 /// Whether a text begins with a blank.
 fn begins_blank(text: &[u8]) -> bool
@@ -175,7 +174,7 @@ fn in_list(shape: Shape, depth: u32, stage: Stage, text: &[u8]) -> Result<Lexeme
 
 /// The piece at a byte that is no blank and no line end.
 fn token_at(mode: Mode, text: &[u8]) -> Result<Lexeme, Misread>
-    ensures { result ≡ token_at mode text.now }
+    ensures { result ≡ token_read mode text.now }
 {
     match mode {
         Mode::Named(_) | Mode::TableNamed => behind_name(text),
@@ -229,7 +228,7 @@ fn plain_piece(mode: Mode, text: &[u8]) -> Result<Lexeme, Misread>
 /// The first piece of a text, the longest of its mode, or the error instead of one.
 pub(crate) fn piece_at(mode: Mode, text: &[u8]) -> Result<Lexeme, Misread>
     ensures value { result ≡ piece_at mode text.now }
-    ensures within { IsWithin text.now result }
+    ensures within { IsWithinText text.now result }
 {
     match mode {
         Mode::TableLines => table_piece(text),

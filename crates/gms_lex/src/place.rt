@@ -1,10 +1,10 @@
 //! Places after bytes.
 ghost use Rattle.std.specs.Prelude.{◌≡◌, ◌<◌, ◌≤◌, ◌+◌, ◌*◌, ◌^◌, length};
-ghost use Rattle.gms_lex.specs.Places.{place_after, place_behind, place_of};
-ghost use Rattle.gms_lex.specs.Tokens.{most_bytes};
+ghost use Rattle.gms_lex.specs.Places.{place_after, place_behind, place_of_byte};
+ghost use Rattle.gms_lex.specs.Tokens.{most_source_bytes};
 
 use gms_labels::Place;
-use gms_lexemes::column_after;
+use gms_lines::column_after;
 
 /// Where a source begins.
 pub(crate) const SOURCE_START: Place = Place { line: 1, column: 1 };
@@ -43,9 +43,9 @@ pub(crate) fn place_behind(mut at: Place, bytes: &[u8]) -> Place
 
 /// The place of a byte of a source, or of its end.
 pub(crate) fn place_of(source: &[u8], count: usize) -> Place
-    requires small { length source.now ≤ most_bytes }
+    requires small { length source.now ≤ most_source_bytes }
     requires within { count ≤ length source.now }
-    ensures { result ≡ place_of source.now count }
+    ensures { result ≡ place_of_byte source.now count }
 {
     place_behind(SOURCE_START, &source[..count])
 }

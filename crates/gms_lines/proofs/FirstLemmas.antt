@@ -10,10 +10,10 @@ use Rattle.gms_lines.specs.declared.line.Class.TheVariants.{Comment, Control, Co
 use Rattle.gms_lines.specs.declared.fault.LexError.{LexError}
 use Rattle.gms_lines.specs.declared.fault.LexError.TheVariants.{BadByte, OpenQuote, OpenText, LongLabel, LongLine, UnknownControl}
 use Rattle.gms_lines.specs.declared.fault.ByteFault.{ByteFault}
-use Rattle.gms_lines.specs.Errors.{error_code, IsFirstFault}
+use Rattle.gms_lines.specs.Errors.{lex_error_code, IsFirstFault}
 use Rattle.gms_lines.specs.Lines.{before, is_line_end, content, class_of, closes, opens, inside_after, blanked, read_as, code_of, lines, put_first}
-use Rattle.gms_lines.specs.LineFaults.{longest_line, is_bad, is_unknown, IsLineError, StandsInLines, IsLineFault}
-use Rattle.gms_lines.specs.LineSearch.{fault_at, good_length, head_error, first_of_line, first_in_line, first_in_lines}
+use Rattle.gms_lines.specs.LineFaults.{longest_line, is_bad, is_unknown_control, IsLineError, StandsInLines, IsLineFault}
+use Rattle.gms_lines.specs.InnerLineSearch.{fault_at, good_length, head_error, first_of_line, first_in_line, first_in_lines}
 use Rattle.gms_lines.proofs.LineLemmas.{true_or_false, below_or, before-le-length}
 
 -- the fault is in a line that begins at this byte
@@ -21,7 +21,7 @@ abbrev pub StandsInLine : ℕ → Bool → List ℕ → List (List ℕ) → Byte
 StandsInLine start inside line others fault = (k : ℕ) × (fault.at ≡ start + k) × IsLineError inside line others k fault.error
 
 -- each number is at least that of a bad byte
-least_code : (e : LexError) → 1 ≤ error_code e
+least_code : (e : LexError) → 1 ≤ lex_error_code e
 least_code BadByte = omega arith
 least_code OpenQuote = omega arith
 least_code OpenText = omega arith
@@ -42,7 +42,7 @@ head_is false false false e h = cc
 
 -- an error with a number of at most this
 abbrev AtMost : Option LexError → ℕ → Type 0
-AtMost found n = (d : LexError) × (found ≡ Some d) × (error_code d ≤ n)
+AtMost found n = (d : LexError) × (found ≡ Some d) × (lex_error_code d ≤ n)
 
 head_open : (a b c : Bool) → a ≡ true → AtMost (head a b c) 3
 head_open true b c h = (OpenText, refl, omega arith)
@@ -70,7 +70,7 @@ true_both a b h g = grind arith
 -- the error found for the first byte is an error of the line there
 head_stands : (inside : Bool) (line : List ℕ) (others : List (List ℕ)) (e : LexError) → head_error inside line others ≡ Some e → IsLineError inside line others 0 e
 head_stands inside line others e h =
-    elim (head_is (opens inside line && not (list_any closes others)) (nat_lt longest_line (length (content line))) (is_unknown (class_of inside line) line) e h) [
+    elim (head_is (opens inside line && not (list_any closes others)) (nat_lt longest_line (length (content line))) (is_unknown_control (class_of inside line) line) e h) [
       | inl p ↦ let both = both_true (opens inside line) (list_any closes others) p.0 in subst (IsLineError inside line others 0) (sym p.1) (refl, both.0, both.1)
       | inr q ↦ elim q [
         | inl p ↦ let long : longest_line < length (content line) = grind (arith, nat_tests) in subst (IsLineError inside line others 0) (sym p.1) (refl, long)
@@ -79,7 +79,7 @@ head_stands inside line others e h =
     ]
 
 -- it is the least of the errors at the first byte, bad bytes apart
-head_least : (inside : Bool) (line : List ℕ) (others : List (List ℕ)) (k : ℕ) (e : LexError) → IsLineError inside line others k e → (e ≡ BadByte) ⊎ ((k ≡ 0) × AtMost (head_error inside line others) (error_code e))
+head_least : (inside : Bool) (line : List ℕ) (others : List (List ℕ)) (k : ℕ) (e : LexError) → IsLineError inside line others k e → (e ≡ BadByte) ⊎ ((k ≡ 0) × AtMost (head_error inside line others) (lex_error_code e))
 head_least inside line others k BadByte h = inl refl
 head_least inside line others k OpenText h = inr (h.0, head_open _ _ _ (true_both (opens inside line) (list_any closes others) h.1 h.2))
 head_least inside line others k LongLine h =
@@ -96,21 +96,21 @@ record Searched (inside : Bool) (line : List ℕ) (others : List (List ℕ)) (go
   clean : (k : ℕ) → IsLineError inside line others k BadByte → good ≤ k
   bad : good < length (content line) → IsLineError inside line others good BadByte
   stands : (e : LexError) → found ≡ Some e → IsLineError inside line others 0 e
-  least : (k : ℕ) (e : LexError) → IsLineError inside line others k e → (e ≡ BadByte) ⊎ ((k ≡ 0) × AtMost found (error_code e))
+  least : (k : ℕ) (e : LexError) → IsLineError inside line others k e → (e ≡ BadByte) ⊎ ((k ≡ 0) × AtMost found (lex_error_code e))
 
 -- a fault is either a bad byte after the good ones, or at the first byte, with a number no less
 -- than that of the error found there
-fault_cases : (start : ℕ) (inside : Bool) (line : List ℕ) (others : List (List ℕ)) (good : ℕ) (found : Option LexError) → Searched inside line others good found → (f : ByteFault) → StandsInLine start inside line others f → ((k : ℕ) × (f.at ≡ start + k) × (good ≤ k) × (k < length (content line)) × (error_code f.error ≡ 1)) ⊎ ((f.at ≡ start) × AtMost found (error_code f.error))
+fault_cases : (start : ℕ) (inside : Bool) (line : List ℕ) (others : List (List ℕ)) (good : ℕ) (found : Option LexError) → Searched inside line others good found → (f : ByteFault) → StandsInLine start inside line others f → ((k : ℕ) × (f.at ≡ start + k) × (good ≤ k) × (k < length (content line)) × (lex_error_code f.error ≡ 1)) ⊎ ((f.at ≡ start) × AtMost found (lex_error_code f.error))
 fault_cases start inside line others good found s f (k, at, h) = elim (s.least k f.error h) [
-  | inl e ↦ let bad : IsLineError inside line others k BadByte = subst (IsLineError inside line others k) e h in inl (k, at, s.clean k bad, bad.0, ap error_code e)
+  | inl e ↦ let bad : IsLineError inside line others k BadByte = subst (IsLineError inside line others k) e h in inl (k, at, s.clean k bad, bad.0, ap lex_error_code e)
   | inr p ↦ inr (omega (arith, p.0, at), p.1)
 ]
 
 none_found : (n : ℕ) → AtMost None n → ⊥
 none_found n (d, h, le) = let z : ⊥ = cc in z
 
-found_code : (e : LexError) (n : ℕ) → AtMost (Some e) n → error_code e ≤ n
-found_code e n (d, h, le) = let same : d ≡ e = cc in subst (λ x. error_code x ≤ n) same le
+found_code : (e : LexError) (n : ℕ) → AtMost (Some e) n → lex_error_code e ≤ n
+found_code e n (d, h, le) = let same : d ≡ e = cc in subst (λ x. lex_error_code x ≤ n) same le
 
 -- one place is before another, or is it, and so for numbers
 before_or : (a b x y : ℕ) → a ≤ b → x ≤ y → (a < b) ⊎ ((a ≡ b) × (x ≤ y))
@@ -135,7 +135,7 @@ first_at_once : (start : ℕ) (inside : Bool) (line : List ℕ) (others : List (
 first_at_once start inside line others good found s more zero = (
   (0, omega arith, subst (λ k. IsLineError inside line others k BadByte) zero (s.bad more)),
   λ f h. elim (fault_cases start inside line others good found s f h) [
-    | inl (k, at, ge, lt, code) ↦ before_or start f.at 1 (error_code f.error) (omega arith) (least_code f.error)
+    | inl (k, at, ge, lt, code) ↦ before_or start f.at 1 (lex_error_code f.error) (omega arith) (least_code f.error)
     | inr p ↦ inr (sym p.0, least_code f.error)
   ],
 )
@@ -145,7 +145,7 @@ first_later : (start : ℕ) (inside : Bool) (line : List ℕ) (others : List (Li
 first_later start inside line others good None s more some = (
   (good, refl, s.bad more),
   λ f h. elim (fault_cases start inside line others good None s f h) [
-    | inl (k, at, ge, lt, code) ↦ before_or (start + good) f.at 1 (error_code f.error) (omega arith) (least_code f.error)
+    | inl (k, at, ge, lt, code) ↦ before_or (start + good) f.at 1 (lex_error_code f.error) (omega arith) (least_code f.error)
     | inr p ↦ absurd (none_found _ p.1)
   ],
 )

@@ -17,5 +17,5 @@ control_words =
     codes "$title" ∷ codes "$ontext" ∷ codes "$offtext" ∷ codes "$offsymxref" ∷ codes "$offsymlist" ∷ codes "$offlisting" ∷ codes "$onlisting" ∷ codes "$offupper" ∷ codes "$onupper" ∷ codes "$eject" ∷ []
 
 -- the word is among these, letter case ignored
-abbrev pub is_among : List ℕ → List (List ℕ) → Bool
-is_among word words = list_any (λ other. str_eq_ignore_ascii_case word other) words
+abbrev pub is_word_among : List ℕ → List (List ℕ) → Bool
+is_word_among word words = list_any (λ other. str_eq_ignore_ascii_case word other) words

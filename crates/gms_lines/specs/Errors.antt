@@ -5,26 +5,26 @@ use Rattle.gms_lines.specs.declared.fault.LexError.TheVariants.{BadByte, OpenQuo
 use Rattle.gms_lines.specs.declared.fault.ByteFault.{ByteFault}
 
 -- the number of a lexical error
-abbrev pub error_code : LexError → ℕ
-error_code BadByte = 1
-error_code OpenQuote = 2
-error_code OpenText = 3
-error_code LongLabel = 4
-error_code LongLine = 5
-error_code UnknownControl = 6
+abbrev pub lex_error_code : LexError → ℕ
+lex_error_code BadByte = 1
+lex_error_code OpenQuote = 2
+lex_error_code OpenText = 3
+lex_error_code LongLabel = 4
+lex_error_code LongLine = 5
+lex_error_code UnknownControl = 6
 
 -- the name of a lexical error
-abbrev pub error_name : LexError → List ℕ
-error_name BadByte = codes "BadByte"
-error_name OpenQuote = codes "OpenQuote"
-error_name OpenText = codes "OpenText"
-error_name LongLabel = codes "LongLabel"
-error_name LongLine = codes "LongLine"
-error_name UnknownControl = codes "UnknownControl"
+abbrev pub lex_error_name : LexError → List ℕ
+lex_error_name BadByte = codes "BadByte"
+lex_error_name OpenQuote = codes "OpenQuote"
+lex_error_name OpenText = codes "OpenText"
+lex_error_name LongLabel = codes "LongLabel"
+lex_error_name LongLine = codes "LongLine"
+lex_error_name UnknownControl = codes "UnknownControl"
 
 -- A fault comes before another, or is the same: by its place, and at one place by its number.
 abbrev pub IsBefore : ByteFault → ByteFault → Type 0
-IsBefore f g = (f.at < g.at) ⊎ ((f.at ≡ g.at) × (error_code f.error ≤ error_code g.error))
+IsBefore f g = (f.at < g.at) ⊎ ((f.at ≡ g.at) × (lex_error_code f.error ≤ lex_error_code g.error))
 
 -- Of these faults, this is the first; or there is none.
 abbrev pub IsFirstFault : (ByteFault → Type 0) → Option ByteFault → Type 0

@@ -2,4 +2,11 @@ pub mod Errors
 pub mod Lines
 pub mod ControlWords
 pub mod LineFaults
-pub mod LineSearch
+pub mod InnerLineSearch
+pub mod Bytes
+pub mod Numbers
+pub mod Symbols
+pub mod Shapes
+pub mod Stretches
+pub mod Columns
+pub mod TableLines

@@ -8,7 +8,7 @@ use Rattle.gms_lines.specs.declared.line.Class.TheVariants.{Comment, Control, Co
 use Rattle.gms_lines.specs.declared.fault.LexError.{LexError}
 use Rattle.gms_lines.specs.declared.fault.LexError.TheVariants.{BadByte, OpenQuote, OpenText, LongLabel, LongLine, UnknownControl}
 use Rattle.gms_lines.specs.declared.fault.ByteFault.{ByteFault}
-use Rattle.gms_lines.specs.ControlWords.{control_words, is_among}
+use Rattle.gms_lines.specs.ControlWords.{control_words, is_word_among}
 use Rattle.gms_lines.specs.Lines.{content, class_of, first_word, closes, opens, inside_after, lines}
 
 -- how many bytes a line may have, its end not counted
@@ -27,17 +27,17 @@ is_bad Control b = is_control_byte b || nat_lt 127 b
 is_bad Code b = is_control_byte b
 
 -- a control line whose first word is not accepted
-abbrev pub is_unknown : Class → List ℕ → Bool
-is_unknown Control line = not (is_among (first_word line) control_words)
-is_unknown Comment line = false
-is_unknown Code line = false
+abbrev pub is_unknown_control : Class → List ℕ → Bool
+is_unknown_control Control line = not (is_word_among (first_word line) control_words)
+is_unknown_control Comment line = false
+is_unknown_control Code line = false
 
 -- The error is at byte k of this line, which these others follow.
 abbrev pub IsLineError : Bool → List ℕ → List (List ℕ) → ℕ → LexError → Type 0
 IsLineError inside line others k BadByte = (k < length (content line)) × (is_bad (class_of inside line) (get_or (content line) k 0) ≡ true)
 IsLineError inside line others k OpenText = (k ≡ 0) × (opens inside line ≡ true) × (list_any closes others ≡ false)
 IsLineError inside line others k LongLine = (k ≡ 0) × (longest_line < length (content line))
-IsLineError inside line others k UnknownControl = (k ≡ 0) × (is_unknown (class_of inside line) line ≡ true)
+IsLineError inside line others k UnknownControl = (k ≡ 0) × (is_unknown_control (class_of inside line) line ≡ true)
 IsLineError inside line others k OpenQuote = ⊥
 IsLineError inside line others k LongLabel = ⊥
 

@@ -1,6 +1,6 @@
 //! Lexical errors, and the bytes at which they occur.
 ghost use Rattle.std.specs.Prelude.{◌≡◌};
-ghost use Rattle.gms_lines.specs.Errors.{error_code, error_name};
+ghost use Rattle.gms_lines.specs.Errors.{lex_error_code, lex_error_name};
 
 use thiserror::Error;
 
@@ -31,7 +31,7 @@ pub enum LexError {
 impl LexError {
     /// The number of this error in a listing.
     pub fn code(self) -> u8
-        ensures { result ≡ error_code self }
+        ensures { result ≡ lex_error_code self }
     {
         match self {
             LexError::BadByte => 1,
@@ -45,7 +45,7 @@ impl LexError {
 
     /// The name of this error in a listing.
     pub fn name(self) -> &'static str
-        ensures { result.now ≡ error_name self }
+        ensures { result.now ≡ lex_error_name self }
     {
         match self {
             LexError::BadByte => "BadByte",

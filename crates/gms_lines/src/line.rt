@@ -3,7 +3,7 @@ ghost use Rattle.std.specs.Prelude.{◌≡◌, ◌<◌, ◌≤◌, ◌+◌, not,
 ghost use Rattle.gms_lines.specs.Lines.{before, is_line_end, content, class_by_column, class_of, first_word, closes, opens, inside_after, is_blank, before_feed, line_length, lines};
 ghost use Rattle.std.specs.Str.{str_eq_ignore_ascii_case};
 ghost use Rattle.std.specs.List.{prefix_len, list_any};
-ghost use Rattle.gms_lines.specs.ControlWords.{control_words, is_among};
+ghost use Rattle.gms_lines.specs.ControlWords.{control_words, is_word_among};
 
 /// What a line is.
 #[derive(Clone, Copy)]
@@ -173,7 +173,7 @@ pub fn is_among(word: &[u8], words: &[&str]) -> bool
 
 /// Whether the first word of a line is a control word that is accepted.
 pub(crate) fn has_control_word(line: &[u8]) -> bool
-    ensures { result ≡ is_among (first_word line.now) control_words }
+    ensures { result ≡ is_word_among (first_word line.now) control_words }
 {
     is_among(first_word(line), &CONTROL_WORDS)
 }

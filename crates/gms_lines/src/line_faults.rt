@@ -2,8 +2,8 @@
 ghost use Rattle.std.specs.Prelude.{◌≡◌, ◌<◌, ◌≤◌, ◌+◌, ◌^◌, not, length};
 ghost use Rattle.std.specs.List.{list_any};
 ghost use Rattle.gms_lines.specs.Lines.{closes, lines};
-ghost use Rattle.gms_lines.specs.LineFaults.{is_control_byte, is_bad, is_unknown};
-ghost use Rattle.gms_lines.specs.LineSearch.{good_length, head_error, first_of_line, first_in_line};
+ghost use Rattle.gms_lines.specs.LineFaults.{is_control_byte, is_bad, is_unknown_control};
+ghost use Rattle.gms_lines.specs.InnerLineSearch.{good_length, head_error, first_of_line, first_in_line};
 
 use crate::fault::{ByteFault, LexError};
 use crate::line::{Class, class_of, closes, content, has_control_word, opens, split_line};
@@ -41,7 +41,7 @@ fn good_length(class: Class, content: &[u8]) -> usize
 
 /// Whether a line is a control line whose first word is not accepted.
 fn is_unknown(class: Class, line: &[u8]) -> bool
-    ensures { result ≡ is_unknown class line.now }
+    ensures { result ≡ is_unknown_control class line.now }
 {
     match class {
         Class::Control => !has_control_word(line),

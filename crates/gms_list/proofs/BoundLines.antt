@@ -11,7 +11,7 @@ use Rattle.lp_core.specs.declared.answer.StepName.TheVariants.{Check}
 use Rattle.lp_core.specs.declared.program.Lp.{Lp}
 use Rattle.lp_core.specs.Numbers.{lp_numbers}
 use Rattle.lp_core.specs.Steps.{Due, AllFit, FirstStop}
-use Rattle.lp_check.specs.BoundSteps.{bound_steps, bound_of}
+use Rattle.lp_check.specs.BoundSteps.{bound_steps, objective_bound}
 use Rattle.lp_check.specs.Partials.{first_unfit}
 use Rattle.gms_list.specs.SolveText.{bound_line, bound_lines, step_text}
 use Rattle.gms_list.proofs.BoundNumbers.{itself, fits_over, fits_same, bound_same}
@@ -53,13 +53,13 @@ module _ {F : Type 0} (value : F → Number) (limit : ℕ) (lp : Lp F) (duals : 
   steps_are true = refl
   steps_are false = refl
 
-  lines_are : (with_objective : Bool) (unfit : Option ℕ) (bound : Option Number) → first_unfit (fits_over value limit with_objective lp duals) ≡ unfit → bound_of value with_objective lp duals ≡ bound →
+  lines_are : (with_objective : Bool) (unfit : Option ℕ) (bound : Option Number) → first_unfit (fits_over value limit with_objective lp duals) ≡ unfit → objective_bound value with_objective lp duals ≡ bound →
       bound_line unfit bound ≡ bound_lines limit (lp_numbers value lp) duals with_objective
   lines_are with_objective unfit bound e f =
       sym (ap₂ bound_line (ap first_unfit (fits_same value limit lp duals with_objective) ∙ e) (bound_same value lp duals with_objective ∙ f))
 
   -- each step fits
-  pub bound_shown : (with_objective : Bool) (bound : Number) → AllFit (bound_steps value limit with_objective lp duals) → bound_of value with_objective lp duals ≡ Some bound →
+  pub bound_shown : (with_objective : Bool) (bound : Number) → AllFit (bound_steps value limit with_objective lp duals) → objective_bound value with_objective lp duals ≡ Some bound →
       bound_line None (Some bound) ≡ bound_lines limit (lp_numbers value lp) duals with_objective
   bound_shown with_objective bound all e =
       lines_are with_objective None (Some bound) (none_unfit 0 (fits_over value limit with_objective lp duals) (subst AllFit (steps_are with_objective) all)) e
@@ -78,4 +78,4 @@ module _ {F : Type 0} (value : F → Number) (limit : ℕ) (lp : Lp F) (duals : 
       e
       ∙ ap (λ t. codes "  bound not shown, " ++ (t ++ codes "\n")) (f ∙ ap step_text at.1)
       ∙ behind_word (codes "  bound not shown, ") (codes "Check part ") (decimal at.0) (10 ∷ [])
-      ∙ lines_are with_objective (Some at.0) (bound_of value with_objective lp duals) at.2 refl
+      ∙ lines_are with_objective (Some at.0) (objective_bound value with_objective lp duals) at.2 refl

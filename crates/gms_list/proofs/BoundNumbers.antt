@@ -8,12 +8,12 @@ use Rattle.lp_core.specs.declared.program.Column.{Column}
 use Rattle.lp_core.specs.declared.program.Row.{Row}
 use Rattle.lp_core.specs.declared.program.Lp.{Lp}
 use Rattle.lp_core.specs.Feasible.{bound_value}
-use Rattle.lp_core.specs.Sums.{coefficient}
+use Rattle.lp_core.specs.Sums.{column_coefficient}
 use Rattle.lp_core.specs.Steps.{asks_nothing}
 use Rattle.lp_core.specs.Numbers.{entries_numbers, column_numbers, row_numbers, lp_numbers}
 use Rattle.lp_core.specs.DualBound.{row_lower, row_upper, used, total, both, objective_costs, no_costs, reduced_cost, rows_low, columns_low, low, rows_high, columns_high, high}
-use Rattle.lp_check.specs.BoundSteps.{plus_steps, plus_product, less_steps, less_product, bound_used, entry_of, entry_in, row_bound, column_bound, rows_sum, reduced_steps, all_reduced_steps, rows_steps, columns_steps, steps_of_bound, bound_of}
-use Rattle.gms_list.specs.SolveText.{bound_fits}
+use Rattle.lp_check.specs.BoundSteps.{plus_steps, plus_product, less_steps, less_product, bound_used, entry_of, entry_in, row_bound, column_bound, rows_sum, reduced_cost_bound_steps, all_reduced_steps, row_bound_steps, columns_steps, steps_of_bound, objective_bound}
+use Rattle.gms_list.specs.SolveText.{bound_steps_fit}
 
 -- a number, as the number that it means
 abbrev pub itself : Number → Number
@@ -41,14 +41,14 @@ module _ {F : Type 0} (value : F → Number) where
   column_bound_same true column d = ap₂ (bound_used d) (told_twice column.upper) (told_twice column.lower)
   column_bound_same false column d = ap₂ (bound_used d) (told_twice column.lower) (told_twice column.upper)
 
-  coefficient_same : (entries : List (ℕ × F)) (j : ℕ) → coefficient itself (entries_numbers value entries) j ≡ coefficient value entries j
+  coefficient_same : (entries : List (ℕ × F)) (j : ℕ) → column_coefficient itself (entries_numbers value entries) j ≡ column_coefficient value entries j
   unfolding sum_by_ℚ
   coefficient_same [] j = refl
   coefficient_same (e ∷ entries) j = ap (λ s. (if e.0 == j then value e.1 else whole (pos 0)) +ℚ s) (coefficient_same entries j)
 
   weighted_same : (rows : List (Row F)) (duals : List Number) (j : ℕ) →
-      sum_by_ℚ (λ (p : Row Number × Number). p.1 *ℚ coefficient itself p.0.entries j) (zip (map (row_numbers value) rows) duals)
-      ≡ sum_by_ℚ (λ (p : Row F × Number). p.1 *ℚ coefficient value p.0.entries j) (zip rows duals)
+      sum_by_ℚ (λ (p : Row Number × Number). p.1 *ℚ column_coefficient itself p.0.entries j) (zip (map (row_numbers value) rows) duals)
+      ≡ sum_by_ℚ (λ (p : Row F × Number). p.1 *ℚ column_coefficient value p.0.entries j) (zip rows duals)
   unfolding sum_by_ℚ
   weighted_same [] duals j = refl
   weighted_same (row ∷ rows) [] j = refl
@@ -59,11 +59,11 @@ module _ {F : Type 0} (value : F → Number) where
 
   -- ---- the steps
 
-  reduced_steps_same : (limit j : ℕ) (s : Number) (rows : List (Row F)) (duals : List Number) → reduced_steps itself limit j s (map (row_numbers value) rows) duals ≡ reduced_steps value limit j s rows duals
+  reduced_steps_same : (limit j : ℕ) (s : Number) (rows : List (Row F)) (duals : List Number) → reduced_cost_bound_steps itself limit j s (map (row_numbers value) rows) duals ≡ reduced_cost_bound_steps value limit j s rows duals
   reduced_steps_same limit j s [] duals = refl
   reduced_steps_same limit j s (row ∷ rows) [] = refl
   reduced_steps_same limit j s (row ∷ rows) (y ∷ duals) =
-      ap (λ e. less_steps limit s y e ++ reduced_steps itself limit j (less_product s y e) (map (row_numbers value) rows) duals) (asked_same row j)
+      ap (λ e. less_steps limit s y e ++ reduced_cost_bound_steps itself limit j (less_product s y e) (map (row_numbers value) rows) duals) (asked_same row j)
       ∙ ap (λ t. less_steps limit s y (entry_in value j row) ++ t) (reduced_steps_same limit j (less_product s y (entry_in value j row)) rows duals)
 
   all_reduced_same : (limit : ℕ) (costs : ℕ → Number) (rows : List (Row F)) (duals : List Number) (j : ℕ) (columns : List (Column F)) →
@@ -72,11 +72,11 @@ module _ {F : Type 0} (value : F → Number) where
   all_reduced_same limit costs rows duals j (column ∷ columns) =
       ap₂ (λ a b. a ++ b) (reduced_steps_same limit j (costs j) rows duals) (all_reduced_same limit costs rows duals (j + 1) columns)
 
-  rows_steps_same : (limit : ℕ) (above : Bool) (s : Number) (rows : List (Row F)) (duals : List Number) → rows_steps itself limit above s (map (row_numbers value) rows) duals ≡ rows_steps value limit above s rows duals
+  rows_steps_same : (limit : ℕ) (above : Bool) (s : Number) (rows : List (Row F)) (duals : List Number) → row_bound_steps itself limit above s (map (row_numbers value) rows) duals ≡ row_bound_steps value limit above s rows duals
   rows_steps_same limit above s [] duals = refl
   rows_steps_same limit above s (row ∷ rows) [] = refl
   rows_steps_same limit above s (row ∷ rows) (y ∷ duals) =
-      ap (λ b. plus_steps limit s y b ++ rows_steps itself limit above (plus_product s y b) (map (row_numbers value) rows) duals) (row_bound_same above row y)
+      ap (λ b. plus_steps limit s y b ++ row_bound_steps itself limit above (plus_product s y b) (map (row_numbers value) rows) duals) (row_bound_same above row y)
       ∙ ap (λ t. plus_steps limit s y (row_bound value above row y) ++ t) (rows_steps_same limit above (plus_product s y (row_bound value above row y)) rows duals)
 
   rows_sum_same : (above : Bool) (s : Number) (rows : List (Row F)) (duals : List Number) → rows_sum itself above s (map (row_numbers value) rows) duals ≡ rows_sum value above s rows duals
@@ -106,7 +106,7 @@ module _ {F : Type 0} (value : F → Number) where
   fits_over limit true lp duals = steps_of_bound value limit lp.maximize (objective_costs lp) lp duals
   fits_over limit false lp duals = steps_of_bound value limit false no_costs lp duals
 
-  pub fits_same : (limit : ℕ) (lp : Lp F) (duals : List Number) (with_objective : Bool) → bound_fits limit (lp_numbers value lp) duals with_objective ≡ fits_over limit with_objective lp duals
+  pub fits_same : (limit : ℕ) (lp : Lp F) (duals : List Number) (with_objective : Bool) → bound_steps_fit limit (lp_numbers value lp) duals with_objective ≡ fits_over limit with_objective lp duals
   fits_same limit lp duals true = steps_same limit lp.maximize (objective_costs lp) lp duals
   fits_same limit lp duals false = steps_same limit false no_costs lp duals
 
@@ -140,6 +140,6 @@ module _ {F : Type 0} (value : F → Number) where
       (ap total (rows_terms_same (λ (p : Row Number × Number). used p.1 (row_upper p.0.sense p.0.right) (row_lower p.0.sense p.0.right)) (λ (p : Row F × Number). used p.1 (row_upper p.0.sense (value p.0.right)) (row_lower p.0.sense (value p.0.right))) (λ row y. refl) lp.rows duals))
       (ap total (columns_terms_same (λ (p : ℕ × Column Number). used (reduced_cost itself (lp_numbers value lp) costs duals p.0) (bound_value itself p.1.upper) (bound_value itself p.1.lower)) (λ (p : ℕ × Column F). used (reduced_cost value lp costs duals p.0) (bound_value value p.1.upper) (bound_value value p.1.lower)) (λ j column. used_same _ _ column.upper column.lower (reduced_cost_same lp costs duals j)) 0 lp.columns))
 
-  pub bound_same : (lp : Lp F) (duals : List Number) (with_objective : Bool) → bound_of itself with_objective (lp_numbers value lp) duals ≡ bound_of value with_objective lp duals
+  pub bound_same : (lp : Lp F) (duals : List Number) (with_objective : Bool) → objective_bound itself with_objective (lp_numbers value lp) duals ≡ objective_bound value with_objective lp duals
   bound_same lp duals true = ap₂ (λ a b. if lp.maximize then a else b) (high_same lp (objective_costs lp) duals) (low_same lp (objective_costs lp) duals)
   bound_same lp duals false = low_same lp no_costs duals

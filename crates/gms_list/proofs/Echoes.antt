@@ -7,7 +7,7 @@ use Rattle.std.specs.Fmt.{format_spec, styled_decimal}
 use Rattle.gms_fmt.specs.Columns.{right_in}
 use Rattle.gms_lines.specs.Lines.{put_first, lines, begins, is_line_end, before, content}
 use Rattle.gms_lines.proofs.LineLemmas.{before_stops, before_more}
-use Rattle.gms_list.specs.LineEnds.{behind_end}
+use Rattle.gms_list.specs.InnerLineEnds.{behind_end}
 use Rattle.gms_list.specs.ListingText.{numbered_line, numbered_from, echo_text}
 
 either : (b : Bool) (P : Type 0) → (b ≡ true → P) → (b ≡ false → P) → P

@@ -7,7 +7,7 @@ use Rattle.lp_core.specs.declared.program.Lp.{Lp}
 use Rattle.lp_core.specs.Numbers.{entries_numbers}
 use Rattle.gms_fmt.specs.ElementTexts.{element_text}
 use Rattle.gms_list.specs.Amounts.{line_of}
-use Rattle.gms_list.specs.SolveText.{amount, more_text, equation_text, variable_text, variables, rows_listing, columns_listing, entry_line}
+use Rattle.gms_list.specs.SolveText.{amount, more_text, equation_text, variable_text, variables, rows_listing, columns_listing, column_entry_line}
 
 -- none is to be listed
 pub no_rows : (names labels : List (List ℕ)) (limit : ℕ) (lp : Lp Number) (most : ℕ) (equations : List ℕ) → (most == 0) ≡ true → [] ≡ rows_listing names labels limit lp most equations

@@ -3,8 +3,8 @@ use Rattle.std.proofs.Common.{◌≡◌, ℕ, ◌+◌, ◌<◌, ◌≤◌, ◌==
 use Rattle.std.specs.List.{list_any}
 use Rattle.std.proofs.lemmas.Bool.Decides.{nat_tests}
 use Rattle.std.proofs.lemmas.List.{append_assoc, append-nil, drop_all}
-use Rattle.gms_list.specs.SolveText.{each_once}
-use Rattle.gms_list.specs.Walks.{once_more}
+use Rattle.gms_list.specs.SolveText.{distinct_names}
+use Rattle.gms_list.specs.InnerSolves.{once_more}
 use Rattle.gms_list.proofs.Walks.{drop_at}
 
 abbrev pub has : List ℕ → ℕ → Bool
@@ -12,7 +12,7 @@ has ns n = list_any (λ m. m == n) ns
 
 -- what is gathered, and what is left of the numbers that are not there yet
 abbrev pub gathered : List ℕ → List ℕ → List ℕ
-gathered ns rest = ns ++ filter (λ m. not (has ns m)) (each_once rest)
+gathered ns rest = ns ++ filter (λ m. not (has ns m)) (distinct_names rest)
 
 keep : (b : Bool) (x : ℕ) (xs ys : List ℕ) → xs ≡ ys → (if b then x ∷ xs else xs) ≡ (if b then x ∷ ys else ys)
 keep true x xs ys e = ap (λ zs. x ∷ zs) e
@@ -54,18 +54,18 @@ is_same : (m n : ℕ) → (m == n) ≡ true → n ≡ m
 is_same m n e = grind (arith, nat_tests)
 
 gathered_by : (ns rest : List ℕ) (n : ℕ) (b : Bool) → has ns n ≡ b →
-    (if b then ns else ns ++ n ∷ []) ++ filter (λ m. not (has (if b then ns else ns ++ n ∷ []) m)) (each_once rest) ≡ gathered ns (n ∷ rest)
+    (if b then ns else ns ++ n ∷ []) ++ filter (λ m. not (has (if b then ns else ns ++ n ∷ []) m)) (distinct_names rest) ≡ gathered ns (n ∷ rest)
 gathered_by ns rest n true e =
     sym (ap (λ t. ns ++ t)
-    (ap (λ b. if not b then n ∷ filter (λ m. not (has ns m)) (filter (λ m. not (m == n)) (each_once rest)) else filter (λ m. not (has ns m)) (filter (λ m. not (m == n)) (each_once rest))) e
-    ∙ filter_twice (λ m. not (has ns m)) (λ m. not (m == n)) (each_once rest)
-    ∙ filter_same (λ m. not (m == n) && not (has ns m)) (λ m. not (has ns m)) (λ m. hidden (has ns m) (m == n) (λ f. ap (has ns) (sym (is_same m n f)) ∙ e)) (each_once rest)))
+    (ap (λ b. if not b then n ∷ filter (λ m. not (has ns m)) (filter (λ m. not (m == n)) (distinct_names rest)) else filter (λ m. not (has ns m)) (filter (λ m. not (m == n)) (distinct_names rest))) e
+    ∙ filter_twice (λ m. not (has ns m)) (λ m. not (m == n)) (distinct_names rest)
+    ∙ filter_same (λ m. not (m == n) && not (has ns m)) (λ m. not (has ns m)) (λ m. hidden (has ns m) (m == n) (λ f. ap (has ns) (sym (is_same m n f)) ∙ e)) (distinct_names rest)))
 gathered_by ns rest n false e =
-    append_assoc ns (n ∷ []) (filter (λ m. not (has (ns ++ n ∷ []) m)) (each_once rest))
+    append_assoc ns (n ∷ []) (filter (λ m. not (has (ns ++ n ∷ []) m)) (distinct_names rest))
     ∙ sym (ap (λ t. ns ++ t)
-    (ap (λ b. if not b then n ∷ filter (λ m. not (has ns m)) (filter (λ m. not (m == n)) (each_once rest)) else filter (λ m. not (has ns m)) (filter (λ m. not (m == n)) (each_once rest))) e
-    ∙ ap (λ t. n ∷ t) (filter_twice (λ m. not (has ns m)) (λ m. not (m == n)) (each_once rest)
-    ∙ filter_same (λ m. not (m == n) && not (has ns m)) (λ m. not (has (ns ++ n ∷ []) m)) (λ m. without (has ns m) (m == n) ∙ ap not (sym (has_more ns n m))) (each_once rest))))
+    (ap (λ b. if not b then n ∷ filter (λ m. not (has ns m)) (filter (λ m. not (m == n)) (distinct_names rest)) else filter (λ m. not (has ns m)) (filter (λ m. not (m == n)) (distinct_names rest))) e
+    ∙ ap (λ t. n ∷ t) (filter_twice (λ m. not (has ns m)) (λ m. not (m == n)) (distinct_names rest)
+    ∙ filter_same (λ m. not (m == n) && not (has ns m)) (λ m. not (has (ns ++ n ∷ []) m)) (λ m. without (has ns m) (m == n) ∙ ap not (sym (has_more ns n m))) (distinct_names rest))))
 
 -- one number further
 pub gathered_step : {X : Type 0} (v : X → ℕ) (xs : List X) (i : ℕ) (x : X) (ns next all : List ℕ) → i < length xs → x ≡ get_or xs i x →
@@ -81,8 +81,8 @@ all_of : (xs : List ℕ) → filter (λ m. true) xs ≡ xs
 all_of [] = refl
 all_of (x ∷ xs) = ap (λ ys. x ∷ ys) (all_of xs)
 
-pub gathered_none : (xs : List ℕ) → gathered [] xs ≡ each_once xs
-gathered_none xs = all_of (each_once xs)
+pub gathered_none : (xs : List ℕ) → gathered [] xs ≡ distinct_names xs
+gathered_none xs = all_of (distinct_names xs)
 
 -- a number that is in the list, and one that is not
 pub once_has : (ns : List ℕ) (n : ℕ) → has ns n ≡ true → ns ≡ once_more ns n

@@ -11,7 +11,7 @@ use Rattle.lp_core.specs.declared.program.Column.{Column}
 use Rattle.lp_core.specs.declared.program.Lp.{Lp}
 use Rattle.lp_core.specs.Numbers.{lp_numbers, column_numbers, end_numbers}
 use Rattle.gms_list.specs.Amounts.{line_of}
-use Rattle.gms_list.specs.SolveText.{column_numbers as column_texts, row_numbers as row_texts, bound_lines, crossed_line, infeasible_text, step_text, proof_text}
+use Rattle.gms_list.specs.SolveText.{column_number_lines as column_texts, row_number_lines as row_texts, bound_lines, crossed_line, infeasible_text, step_text, proof_text}
 
 -- four pieces after a line
 four_behind : (w a b c d : List ℕ) → w ++ (a ++ (b ++ (c ++ d))) ≡ w ++ a ++ b ++ c ++ d

@@ -2,14 +2,14 @@
 use Rattle.std.proofs.Common.{◌≡◌, ◌≢◌, ℕ, zero, suc, ◌+◌, ◌*◌, ◌/◌, ◌%◌, ◌-◌, ◌^◌, ◌<◌, ◌≤◌, ◌==◌, Bool, true, false, List, [], ◌∷◌, ◌++◌, length, refl, sym, ap, ap₂, ◌∙◌, subst, arith, inl, inr, codes, decimal, ℤ, pos, negsuc, neg_ℤ, nat_abs, get_or, replicate, add-one, if◌then◌else◌, length-append, append_assoc, mul-le-mul_right, ◌&&◌, nat_lt}
 use Rattle.std.proofs.lemmas.List.{length-replicate}
 use Rattle.std.specs.Int.RustNames.{int_lt}
-use Rattle.gq_text.specs.Appends.{sign_text}
+use Rattle.gq_text.specs.InnerAppends.{sign_text}
 use Rattle.std.proofs.Math.Nat.{div-le_self, div-le_of_le-mul, mod-lt, mod-le, mul-le-mul_left, pow-le-pow_right}
 use Rattle.std.proofs.lemmas.Bool.Decides.{nat_tests}
 use Rattle.std.proofs.lemmas.Fmt.{length-decimal-le_wide}
 use Rattle.gq_number.specs.Number.{Number, whole, ◌*ℚ◌, rounded}
 use Rattle.gq_field.specs.Fits.{fits}
 use Rattle.gq_text.specs.Numeral.{AreDigits, spelled, WithSign}
-use Rattle.gq_text.specs.Shown.{with_point, IsFixed, IsFixedSigned, IsRoundedText}
+use Rattle.gq_text.specs.Shown.{with_decimal_point, IsFixed, IsFixedSigned, IsRoundedText}
 use Rattle.gq_text.proofs.Numerals.{spelled-append, AreDigits-append}
 use Rattle.gq_text.proofs.Literals.{tens_above}
 use Rattle.gq_text.proofs.Showings.{with_sign_of, units, rounded_units, WithSign_from}
@@ -44,7 +44,7 @@ in_places_are d n some small wide =
       spells = spelled-append zeros (decimal n) ∙ ap (λ k. k * 10 ^ length (decimal n) + spelled (decimal n)) (spelled-replicate (d - length (decimal n))) ∙ (let s = m.spells in omega (arith, s));
     }
 
-point_behind : (text : List ℕ) → 0 < length text → codes "." ++ text ≡ with_point text
+point_behind : (text : List ℕ) → 0 < length text → codes "." ++ text ≡ with_decimal_point text
 point_behind [] h = absurd (omega arith)
 point_behind (b ∷ bs) h = refl
 

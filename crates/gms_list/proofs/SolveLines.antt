@@ -16,7 +16,7 @@ use Rattle.gms_list.specs.declared.solution.Solution.{Solution as OwnSolution}
 use Rattle.gms_list.specs.declared.solves.Solved.{Solved as OwnSolved}
 use Rattle.gms_list.specs.Amounts.{line_of}
 use Rattle.gms_list.specs.SolveText.{Solution, amount, head_text, rows_listing, columns_listing, solver_status_text, model_status_text, summary_text, solution_text, solution_of, proof_text, solve_text}
-use Rattle.gms_list.specs.Walks.{solution_in, solved_in, status_lines}
+use Rattle.gms_list.specs.InnerSolves.{solution_in, solved_in, status_lines}
 use Rattle.gms_list.proofs.Shapes.{statuses, summary_lines}
 use Rattle.gms_list.proofs.Walks.{Walked, walk}
 

@@ -4,7 +4,7 @@ use Rattle.std.proofs.lemmas.Bool.Decides.{nat_tests}
 use Rattle.std.specs.Prelude.{IsErr}
 use Rattle.std.specs.List.{enumerate_from}
 use Rattle.std.proofs.lemmas.List.{append_assoc, append-nil, drop_all}
-use Rattle.gms_fmt.specs.Columns.{BeginsWith, Appends}
+use Rattle.gms_fmt.specs.Columns.{IsExtendedByPrefix, Appends}
 use Rattle.gms_fmt.proofs.Appending.{failed, begins_first, begins_second, appended}
 
 -- a text is an old one followed by a prefix of a whole, of which this remains
@@ -23,12 +23,12 @@ step {old} {whole} {now} {new} t rest w e =
     record { front = w.front ++ t; now_is = e ∙ ap (λ x. x ++ t) w.now_is ∙ append_assoc old w.front t; whole_is = append_assoc w.front t rest ∙ w.whole_is }
 
 -- a prefix of the next piece gives a prefix of the whole
-pub front_of_whole : {old whole now new : List ℕ} (t rest : List ℕ) → Walked old whole now (t ++ rest) → BeginsWith now t new → BeginsWith old whole new
+pub front_of_whole : {old whole now new : List ℕ} (t rest : List ℕ) → Walked old whole now (t ++ rest) → IsExtendedByPrefix now t new → IsExtendedByPrefix old whole new
 front_of_whole {old} {whole} {now} {new} t rest w b =
-    subst (λ x. BeginsWith old x new) w.whole_is (begins_second old now new w.front (t ++ rest) w.now_is (begins_first now new t rest b))
+    subst (λ x. IsExtendedByPrefix old x new) w.whole_is (begins_second old now new w.front (t ++ rest) w.now_is (begins_first now new t rest b))
 
 -- the next piece failed
-pub broke : {A E : Type 0} {old whole now new : List ℕ} (result : Result A E) → IsErr result → (t rest : List ℕ) → Walked old whole now (t ++ rest) → BeginsWith now t new → Appends result old new whole
+pub broke : {A E : Type 0} {old whole now new : List ℕ} (result : Result A E) → IsErr result → (t rest : List ℕ) → Walked old whole now (t ++ rest) → IsExtendedByPrefix now t new → Appends result old new whole
 broke {A} {E} {old} {whole} {now} {new} result is t rest w b = failed old new whole result is (front_of_whole t rest w b)
 
 -- a call failed that appends nothing
@@ -76,7 +76,7 @@ loop_step f v xs i x h e w a =
     step (f (v x)) _ (rest_is _ (texts_at f v xs i x h ∙ ap (λ y. f (v y) ++ flat_map f (map v (drop (i + 1) xs))) (sym e)) w) a
 
 pub loop_broke : {X Y A E : Type 0} {old whole now new : List ℕ} (f : Y → List ℕ) (v : X → Y) (xs : List X) (i : ℕ) (x : X) → i < length xs → x ≡ get_or xs i x →
-    Walked old whole now (flat_map f (map v (drop i xs))) → (result : Result A E) → IsErr result → BeginsWith now (f (v x)) new → Appends result old new whole
+    Walked old whole now (flat_map f (map v (drop i xs))) → (result : Result A E) → IsErr result → IsExtendedByPrefix now (f (v x)) new → Appends result old new whole
 loop_broke f v xs i x h e w result is b =
     broke result is (f (v x)) _ (rest_is _ (texts_at f v xs i x h ∙ ap (λ y. f (v y) ++ flat_map f (map v (drop (i + 1) xs))) (sym e)) w) b
 
@@ -118,7 +118,7 @@ pub placed_step : {X Y : Type 0} {old whole now new : List ℕ} (f : ℕ × Y �
 placed_step f v xs i x h e w a = step (f (i, v x)) _ (rest_is _ (ap (flat_map f) (placed_at v xs i x h e)) w) a
 
 pub placed_broke : {X Y A E : Type 0} {old whole now new : List ℕ} (f : ℕ × Y → List ℕ) (v : X → Y) (xs : List X) (i : ℕ) (x : X) → i < length xs → x ≡ get_or xs i x →
-    Walked old whole now (flat_map f (placed v i xs)) → (result : Result A E) → IsErr result → BeginsWith now (f (i, v x)) new → Appends result old new whole
+    Walked old whole now (flat_map f (placed v i xs)) → (result : Result A E) → IsErr result → IsExtendedByPrefix now (f (i, v x)) new → Appends result old new whole
 placed_broke f v xs i x h e w result is b = broke result is (f (i, v x)) _ (rest_is _ (ap (flat_map f) (placed_at v xs i x h e)) w) b
 
 pub placed_end : {X Y : Type 0} {old whole now : List ℕ} (f : ℕ × Y → List ℕ) (v : X → Y) (xs : List X) (i : ℕ) → length xs ≤ i →
@@ -161,7 +161,7 @@ taken_step f q v xs i x left next h e w a n =
     rest_is _ (ap (λ k. flat_map f (take k (filter q (placed v (i + 1) xs)))) (sym n)) (step (while_left (q (i, v x)) left (f (i, v x))) _ (rest_is _ (taken_at f q v xs i x left h e) w) a)
 
 pub taken_broke : {X Y A E : Type 0} {old whole now new : List ℕ} (f : ℕ × Y → List ℕ) (q : ℕ × Y → Bool) (v : X → Y) (xs : List X) (i : ℕ) (x : X) (left : ℕ) → i < length xs → x ≡ get_or xs i x →
-    Walked old whole now (flat_map f (take left (filter q (placed v i xs)))) → (result : Result A E) → IsErr result → BeginsWith now (while_left (q (i, v x)) left (f (i, v x))) new → Appends result old new whole
+    Walked old whole now (flat_map f (take left (filter q (placed v i xs)))) → (result : Result A E) → IsErr result → IsExtendedByPrefix now (while_left (q (i, v x)) left (f (i, v x))) new → Appends result old new whole
 taken_broke f q v xs i x left h e w result is b =
     broke result is (while_left (q (i, v x)) left (f (i, v x))) _ (rest_is _ (taken_at f q v xs i x left h e) w) b
 
@@ -190,7 +190,7 @@ pub kept_step : {X Y : Type 0} {old whole now new : List ℕ} (f : ℕ × Y → 
 kept_step f q v xs i x h e w a = step (where_kept (q (i, v x)) (f (i, v x))) _ (rest_is _ (kept_at f q v xs i x h e) w) a
 
 pub kept_broke : {X Y A E : Type 0} {old whole now new : List ℕ} (f : ℕ × Y → List ℕ) (q : ℕ × Y → Bool) (v : X → Y) (xs : List X) (i : ℕ) (x : X) → i < length xs → x ≡ get_or xs i x →
-    Walked old whole now (flat_map f (filter q (placed v i xs))) → (result : Result A E) → IsErr result → BeginsWith now (where_kept (q (i, v x)) (f (i, v x))) new → Appends result old new whole
+    Walked old whole now (flat_map f (filter q (placed v i xs))) → (result : Result A E) → IsErr result → IsExtendedByPrefix now (where_kept (q (i, v x)) (f (i, v x))) new → Appends result old new whole
 kept_broke f q v xs i x h e w result is b = broke result is (where_kept (q (i, v x)) (f (i, v x))) _ (rest_is _ (kept_at f q v xs i x h e) w) b
 
 pub kept_end : {X Y : Type 0} {old whole now : List ℕ} (f : ℕ × Y → List ℕ) (q : ℕ × Y → Bool) (v : X → Y) (xs : List X) (i : ℕ) → length xs ≤ i →

@@ -4,11 +4,11 @@ use Rattle.std.specs.List.{fold}
 use Rattle.std.proofs.lemmas.List.{drop_all}
 use Rattle.gq_extended.specs.Extended.{Extended}
 use Rattle.gms_fmt.specs.ElementTexts.{dotted_text}
-use Rattle.gms_list.specs.ListingText.{Entries}
+use Rattle.gms_list.specs.ListingText.{TupleValues}
 use Rattle.gms_list.proofs.Walks.{drop_at}
 
 -- the length of the longest of these, from an initial width
-abbrev pub width_from : List (List ℕ) → ℕ → Entries → ℕ
+abbrev pub width_from : List (List ℕ) → ℕ → TupleValues → ℕ
 width_from labels width entries = fold (λ width (entry : List ℕ × Extended). max (length (dotted_text labels entry.0)) width) width entries
 
 pub width_step : {X : Type 0} (labels : List (List ℕ)) (v : X → List ℕ × Extended) (xs : List X) (i : ℕ) (x : X) (width next all : ℕ) → i < length xs → x ≡ get_or xs i x →

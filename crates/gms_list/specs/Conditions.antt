@@ -14,20 +14,20 @@ use Rattle.lp_core.specs.WellFormed.{IsWellFormed}
 
 module _ {F : Type 0} (value : F → Number) (lp : Lp F) where
   -- an answer has a certificate of its end
-  abbrev pub IsProved : End F → Type 0
-  IsProved (Optimal levels row_levels duals reduced) = ProvesOptimal value lp (map value levels) (map value row_levels) (map value duals) (map value reduced)
-  IsProved (Infeasible duals None) = ProvesInfeasible value lp (map value duals)
-  IsProved (Infeasible duals (Some j)) = ProvesCrossed value lp j (map value duals)
-  IsProved (Unbounded levels row_levels ray) = ProvesUnbounded value lp (map value levels) (map value row_levels) (map value ray)
-  IsProved (Interrupted phase levels row_levels) = phase ≡ 2 → (length levels ≡ length lp.columns) × (length row_levels ≡ length lp.rows)
-  IsProved (Refused step) = Unit {0}
+  abbrev pub HasProof : End F → Type 0
+  HasProof (Optimal levels row_levels duals reduced) = ProvesOptimal value lp (map value levels) (map value row_levels) (map value duals) (map value reduced)
+  HasProof (Infeasible duals None) = ProvesInfeasible value lp (map value duals)
+  HasProof (Infeasible duals (Some j)) = ProvesCrossed value lp j (map value duals)
+  HasProof (Unbounded levels row_levels ray) = ProvesUnbounded value lp (map value levels) (map value row_levels) (map value ray)
+  HasProof (Interrupted phase levels row_levels) = phase ≡ 2 → (length levels ≡ length lp.columns) × (length row_levels ≡ length lp.rows)
+  HasProof (Refused step) = Unit {0}
 
 module _ {F : Type 0} (value : F → Number) (answers : List (Answer F)) where
   -- a solve with a well-formed linear program, whose answer at this place, if there is one, has a
   -- certificate
   pub record IsListableSolve (lp : Lp F) (answer : ℕ) : Type 0 where
     pub formed : IsWellFormed value lp
-    pub stands : IfSome (slice_get answers answer) (λ a. IsProved value lp a.end)
+    pub stands : IfSome (slice_get answers answer) (λ a. HasProof value lp a.end)
 
   -- an event whose numbers have few enough decimals, or a solve whose answer has a certificate
   abbrev pub IsListable : Event F → Type 0

@@ -1,6 +1,6 @@
 pub mod Amounts
 pub mod Conditions
-pub mod LineEnds
+pub mod InnerLineEnds
 pub mod ListingText
 pub mod SolveText
-pub mod Walks
+pub mod InnerSolves

@@ -17,11 +17,11 @@ use Rattle.gms_event.specs.Events.{Shown, Event, displays, solves, aborts, stops
 use Rattle.gms_parse.specs.declared.fault.SourceError.{SourceError}
 use Rattle.gms_parse.specs.declared.fault.SourceError.TheVariants.{TooLong}
 use Rattle.gms_parse.specs.declared.fault.SourceFault.{SourceFault}
-use Rattle.gms_parse.specs.Faults.{error_code as source_code, error_name as source_name}
+use Rattle.gms_parse.specs.Faults.{source_error_code as source_code, source_error_name as source_name}
 use Rattle.gms_check.specs.declared.error.CompileError.{CompileError}
 use Rattle.gms_check.specs.Errors.{error_code as kind_code, error_name as kind_name}
 use Rattle.gms_fmt.specs.Columns.{right_in, left_in}
-use Rattle.gms_fmt.specs.ElementTexts.{text_of, dotted_text}
+use Rattle.gms_fmt.specs.ElementTexts.{label_in_table, dotted_text}
 use Rattle.lp_core.specs.declared.answer.Answer.{Answer}
 use Rattle.gms_list.specs.Amounts.{line_of, rounded_text}
 use Rattle.gms_list.specs.SolveText.{solve_text}
@@ -70,11 +70,11 @@ compile_errors_text errors = flat_map compile_error_text errors
 -- ---- values
 
 -- a value: a number rounded to a number of decimals, or the word for another
-abbrev pub value_text : ℕ → Extended → List ℕ
-value_text decimals (number x) = rounded_text decimals x
-value_text decimals plus_infinity = codes "+INF"
-value_text decimals minus_infinity = codes "-INF"
-value_text decimals na = codes "NA"
+abbrev pub rounded_value_text : ℕ → Extended → List ℕ
+rounded_value_text decimals (number x) = rounded_text decimals x
+rounded_value_text decimals plus_infinity = codes "+INF"
+rounded_value_text decimals minus_infinity = codes "-INF"
+rounded_value_text decimals na = codes "NA"
 
 -- ---- what is displayed
 
@@ -98,8 +98,8 @@ suffix_text suffix.ModelStat = codes ".modelstat"
 suffix_text suffix.SolveStat = codes ".solvestat"
 
 -- entries: tuples with their values
-abbrev pub Entries : Type 0
-Entries = List (List ℕ × Extended)
+abbrev pub TupleValues : Type 0
+TupleValues = List (List ℕ × Extended)
 
 -- the line of a symbol with indices that has no entry
 abbrev pub nothing_text : SymbolKind → List ℕ
@@ -108,7 +108,7 @@ nothing_text kind = line_of (codes "  (all zero)")
 
 -- the text of the value of an entry
 abbrev pub number_text : ℕ → List ℕ × Extended → List ℕ
-number_text decimals entry = value_text decimals entry.1
+number_text decimals entry = rounded_value_text decimals entry.1
 
 -- the text of the value of a symbol without indices
 abbrev pub single_text : Shown → List ℕ
@@ -131,8 +131,8 @@ count_text kind count = if has_count kind then codes " count " ++ decimal count 
 
 module _ (labels : List (List ℕ)) where
   -- the length of the longest text of the tuples of entries
-  abbrev pub width_of : Entries → ℕ
-  width_of entries = fold (λ width entry. max (length (dotted_text labels entry.0)) width) 0 entries
+  abbrev pub tuple_width : TupleValues → ℕ
+  tuple_width entries = fold (λ width entry. max (length (dotted_text labels entry.0)) width) 0 entries
 
   -- an entry of a set: its tuple
   abbrev pub member_text : List ℕ × Extended → List ℕ
@@ -141,12 +141,12 @@ module _ (labels : List (List ℕ)) where
   -- any other entry: its tuple left in the width of the longest, and its value right in 14 places
   abbrev pub entry_text : ℕ → ℕ → List ℕ × Extended → List ℕ
   entry_text width decimals entry =
-      line_of (codes "  " ++ left_in width (dotted_text labels entry.0) ++ codes " " ++ right_in 14 (value_text decimals entry.1))
+      line_of (codes "  " ++ left_in width (dotted_text labels entry.0) ++ codes " " ++ right_in 14 (rounded_value_text decimals entry.1))
 
   -- the entries of a symbol that has some
-  abbrev pub entries_text : SymbolKind → ℕ → Entries → List ℕ
+  abbrev pub entries_text : SymbolKind → ℕ → TupleValues → List ℕ
   entries_text Set decimals entries = flat_map member_text entries
-  entries_text kind decimals entries = flat_map (entry_text (width_of entries) decimals) entries
+  entries_text kind decimals entries = flat_map (entry_text (tuple_width entries) decimals) entries
 
   -- the text after the name: for a symbol without indices its value, otherwise the lines of its
   -- entries
@@ -160,7 +160,7 @@ module _ (names labels : List (List ℕ)) where
   -- the name of a symbol with what it is, and its values
   abbrev pub symbol_text : ℕ → Shown → List ℕ
   symbol_text name item =
-      kind_text item.kind item.indexed ++ codes " " ++ text_of names name ++ suffix_text item.suffix ++ values_text labels item
+      kind_text item.kind item.indexed ++ codes " " ++ label_in_table names name ++ suffix_text item.suffix ++ values_text labels item
 
   -- what an item shows, after the line of its statement: a text or a symbol
   abbrev pub item_text : ℕ → Shown → List ℕ
@@ -173,7 +173,7 @@ module _ (names labels : List (List ℕ)) where
 
   -- a set and the label that it stands for
   abbrev pub pair_text : ℕ × ℕ → List ℕ
-  pair_text pair = text_of names pair.0 ++ codes "=" ++ text_of labels pair.1
+  pair_text pair = label_in_table names pair.0 ++ codes "=" ++ label_in_table labels pair.1
 
   -- pairs after the first
   abbrev pub further_pairs : Pairs → List ℕ

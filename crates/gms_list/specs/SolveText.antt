@@ -7,8 +7,8 @@ use Rattle.gms_ast.specs.declared.expression.Suffix.{Suffix}
 use Rattle.gms_store.specs.State.{same_number}
 use Rattle.gms_event.specs.Events.{Solved}
 use Rattle.gms_fmt.specs.Columns.{right_in, left_in}
-use Rattle.gms_fmt.specs.ElementTexts.{text_of, element_text, joined_by}
-use Rattle.lp_check.specs.BoundSteps.{steps_of_bound, bound_of}
+use Rattle.gms_fmt.specs.ElementTexts.{label_in_table, element_text, joined_by}
+use Rattle.lp_check.specs.BoundSteps.{steps_of_bound, objective_bound}
 use Rattle.lp_check.specs.Partials.{first_unfit}
 use Rattle.gms_store.specs.Statuses.{model_number, model_text, solver_number, solver_text}
 use Rattle.gms_event.specs.Endings.{solve_status}
@@ -34,26 +34,26 @@ abbrev pub amount : Number → List ℕ
 amount x = rounded_text 3 x
 
 -- a bound with three decimals, or the word for none
-abbrev pub bound_text : List ℕ → Option Number → List ℕ
-bound_text none None = none
-bound_text none (Some x) = amount x
+abbrev pub rounded_bound_text : List ℕ → Option Number → List ℕ
+rounded_bound_text none None = none
+rounded_bound_text none (Some x) = amount x
 
 -- whether a number is 0
-abbrev pub is_zero : Number → Bool
-is_zero x = same_number x (whole (pos 0))
+abbrev pub is_zero_amount : Number → Bool
+is_zero_amount x = same_number x (whole (pos 0))
 
 -- whether a number is below 0
-abbrev pub is_below : ℤ → Bool
-is_below (pos n) = false
-is_below (negsuc n) = true
+abbrev pub is_negative : ℤ → Bool
+is_negative (pos n) = false
+is_negative (negsuc n) = true
 
 -- the magnitude of a number
-abbrev pub magnitude : Number → Number
-magnitude x = if is_below x.numerator then neg_ℚ x else x
+abbrev pub number_magnitude : Number → Number
+number_magnitude x = if is_negative x.numerator then neg_ℚ x else x
 
 -- a number right in 12 places after a blank; 0 is a dot
 abbrev pub cell : Number → List ℕ
-cell x = codes " " ++ right_in 12 (if is_zero x then codes "." else amount x)
+cell x = codes " " ++ right_in 12 (if is_zero_amount x then codes "." else amount x)
 
 -- a bound right in 12 places after a blank, or the word for none
 abbrev pub bound_cell : List ℕ → Option Number → List ℕ
@@ -89,12 +89,12 @@ pub record Solution : Type 0 where
   pub mark : ℕ → List ℕ
 
 -- the number at a place; 0 if there is none
-abbrev pub number_at : List Number → ℕ → Number
-number_at numbers place = slice_index_or numbers place (whole (pos 0))
+abbrev pub number_at_place : List Number → ℕ → Number
+number_at_place numbers place = slice_index_or numbers place (whole (pos 0))
 
 -- the mark of a column that a ray moves
 abbrev pub ray_mark : List Number → ℕ → List ℕ
-ray_mark ray j = if is_zero (number_at ray j) then [] else codes " UNBND"
+ray_mark ray j = if is_zero_amount (number_at_place ray j) then [] else codes " UNBND"
 
 -- the mark of the objective after an interrupt
 abbrev pub objective_mark : ℕ → ℕ → List ℕ
@@ -126,9 +126,9 @@ step_text (step.Check part) = codes "Check part " ++ decimal part
 -- ---- the bound that duals give
 
 -- whether each step of computing the bound fits: the bound of the objective, or of 0
-abbrev pub bound_fits : ℕ → Lp Number → List Number → Bool → List Bool
-bound_fits limit lp duals true = steps_of_bound (λ x. x) limit lp.maximize (objective_costs lp) lp duals
-bound_fits limit lp duals false = steps_of_bound (λ x. x) limit false no_costs lp duals
+abbrev pub bound_steps_fit : ℕ → Lp Number → List Number → Bool → List Bool
+bound_steps_fit limit lp duals true = steps_of_bound (λ x. x) limit lp.maximize (objective_costs lp) lp duals
+bound_steps_fit limit lp duals false = steps_of_bound (λ x. x) limit false no_costs lp duals
 
 -- the line of a bound, or of the step that does not fit
 abbrev pub bound_line : Option ℕ → Option Number → List ℕ
@@ -139,16 +139,16 @@ bound_line None None = []
 -- the lines of the bound that duals give, or of the step that does not fit
 abbrev pub bound_lines : ℕ → Lp Number → List Number → Bool → List ℕ
 bound_lines limit lp duals with_objective =
-    bound_line (first_unfit (bound_fits limit lp duals with_objective)) (bound_of (λ x. x) with_objective lp duals)
+    bound_line (first_unfit (bound_steps_fit limit lp duals with_objective)) (objective_bound (λ x. x) with_objective lp duals)
 
 -- a bound of the column whose bounds cross
 abbrev pub crossed_text : Number → List ℕ
 crossed_text bound = codes " " ++ exact_text bound
 
 -- distinct numbers of names, each where it occurs first
-abbrev pub each_once : List ℕ → List ℕ
-each_once [] = []
-each_once (n ∷ ns) = n ∷ filter (λ m. not (m == n)) (each_once ns)
+abbrev pub distinct_names : List ℕ → List ℕ
+distinct_names [] = []
+distinct_names (n ∷ ns) = n ∷ filter (λ m. not (m == n)) (distinct_names ns)
 
 -- the line that says how many rows or columns are not shown
 abbrev pub more_text : ℕ → ℕ → List ℕ → List ℕ
@@ -183,22 +183,22 @@ module _ (names labels : List (List ℕ)) (limit : ℕ) (lp : Lp Number) where
   placed_columns = enumerate_from 0 lp.columns
 
   -- the rows of an equation, and the columns of a variable
-  abbrev pub rows_of : ℕ → List (ℕ × Row Number)
-  rows_of equation = filter (λ (p : ℕ × Row Number). p.1.key.symbol == equation) placed_rows
+  abbrev pub rows_of_equation : ℕ → List (ℕ × Row Number)
+  rows_of_equation equation = filter (λ (p : ℕ × Row Number). p.1.key.symbol == equation) placed_rows
 
-  abbrev pub columns_of : ℕ → List (ℕ × Column Number)
-  columns_of variable = filter (λ (p : ℕ × Column Number). p.1.key.symbol == variable) placed_columns
+  abbrev pub columns_of_variable : ℕ → List (ℕ × Column Number)
+  columns_of_variable variable = filter (λ (p : ℕ × Column Number). p.1.key.symbol == variable) placed_columns
 
   -- the variables that have columns
   abbrev pub variables : List ℕ
-  variables = each_once (map (λ (column : Column Number). column.key.symbol) lp.columns)
+  variables = distinct_names (map (λ (column : Column Number). column.key.symbol) lp.columns)
 
   -- ---- rows and columns
 
   -- the text of a term of a row
   abbrev pub term_text : ℕ × Number → List ℕ
   term_text entry =
-      (if is_below entry.1.numerator then codes " - " else codes " + ") ++ amount (magnitude entry.1) ++ codes "*" ++ column_text entry.0
+      (if is_negative entry.1.numerator then codes " - " else codes " + ") ++ amount (number_magnitude entry.1) ++ codes "*" ++ column_text entry.0
 
   -- the text of the terms of a row
   abbrev pub terms_text : List (ℕ × Number) → List ℕ
@@ -213,25 +213,25 @@ module _ (names labels : List (List ℕ)) (limit : ℕ) (lp : Lp Number) where
   -- the lines of the first rows of an equation
   abbrev pub equation_text : ℕ → ℕ → List ℕ
   equation_text most equation =
-      line_of (codes "EQUATION " ++ text_of names equation) ++ flat_map row_text (take most (rows_of equation))
-      ++ (if length (rows_of equation) == 0 then line_of (codes " (no rows)") else more_text most (length (rows_of equation)) (codes "rows"))
+      line_of (codes "EQUATION " ++ label_in_table names equation) ++ flat_map row_text (take most (rows_of_equation equation))
+      ++ (if length (rows_of_equation equation) == 0 then line_of (codes " (no rows)") else more_text most (length (rows_of_equation equation)) (codes "rows"))
 
   -- the line of an entry of a column, for each row that has one
-  abbrev pub entry_line : ℕ → ℕ × Row Number → List ℕ
-  entry_line j p =
+  abbrev pub column_entry_line : ℕ → ℕ × Row Number → List ℕ
+  column_entry_line j p =
       flat_map (λ (e : ℕ × Number). line_of (codes "  " ++ amount e.1 ++ codes " " ++ key_text p.1.key)) (filter (λ (e : ℕ × Number). e.0 == j) p.1.entries)
 
   -- the lines of a column, with its bounds and its entries
   abbrev pub column_lines : ℕ × Column Number → List ℕ
   column_lines p =
-      line_of (codes " " ++ key_text p.1.key ++ codes " lower " ++ bound_text (codes "-INF") p.1.lower ++ codes " upper " ++ bound_text (codes "+INF") p.1.upper)
-      ++ flat_map (entry_line p.0) placed_rows
+      line_of (codes " " ++ key_text p.1.key ++ codes " lower " ++ rounded_bound_text (codes "-INF") p.1.lower ++ codes " upper " ++ rounded_bound_text (codes "+INF") p.1.upper)
+      ++ flat_map (column_entry_line p.0) placed_rows
 
   -- the lines of the first columns of a variable
   abbrev pub variable_text : ℕ → ℕ → List ℕ
   variable_text most variable =
-      line_of (codes "VARIABLE " ++ text_of names variable) ++ flat_map column_lines (take most (columns_of variable))
-      ++ more_text most (length (columns_of variable)) (codes "columns")
+      line_of (codes "VARIABLE " ++ label_in_table names variable) ++ flat_map column_lines (take most (columns_of_variable variable))
+      ++ more_text most (length (columns_of_variable variable)) (codes "columns")
 
   -- the rows of the model's equations, and the columns, as far as the settings list them
   abbrev pub rows_listing : ℕ → List ℕ → List ℕ
@@ -243,29 +243,29 @@ module _ (names labels : List (List ℕ)) (limit : ℕ) (lp : Lp Number) where
   -- ---- levels and marginals
 
   -- the length of the longest element
-  abbrev pub longest : List Key → ℕ
-  longest keys = fold (λ width key. max (length (key_text key)) width) 0 keys
+  abbrev pub longest_element : List Key → ℕ
+  longest_element keys = fold (λ width key. max (length (key_text key)) width) 0 keys
 
   abbrev pub row_point : Solution → ℕ → ℕ × Row Number → List ℕ
   row_point solution width p =
-      point_text names labels width p.1.key (row_lower p.1.sense p.1.right) (number_at solution.row_levels p.0) (row_upper p.1.sense p.1.right) (number_at solution.duals p.0) []
+      point_text names labels width p.1.key (row_lower p.1.sense p.1.right) (number_at_place solution.row_levels p.0) (row_upper p.1.sense p.1.right) (number_at_place solution.duals p.0) []
 
   abbrev pub column_point : Solution → ℕ → ℕ × Column Number → List ℕ
   column_point solution width p =
-      point_text names labels width p.1.key p.1.lower (number_at solution.levels p.0) p.1.upper (number_at solution.reduced p.0) (solution.mark p.0)
+      point_text names labels width p.1.key p.1.lower (number_at_place solution.levels p.0) p.1.upper (number_at_place solution.reduced p.0) (solution.mark p.0)
 
   -- the lines of the rows of an equation, if it has some
   abbrev pub equation_points : Solution → ℕ → List ℕ
   equation_points solution equation =
-      if length (rows_of equation) == 0 then [] else
-      line_of (codes "EQU " ++ text_of names equation ++ codes " LOWER LEVEL UPPER MARGINAL")
-      ++ flat_map (row_point solution (longest (map (λ (p : ℕ × Row Number). p.1.key) (rows_of equation)))) (rows_of equation)
+      if length (rows_of_equation equation) == 0 then [] else
+      line_of (codes "EQU " ++ label_in_table names equation ++ codes " LOWER LEVEL UPPER MARGINAL")
+      ++ flat_map (row_point solution (longest_element (map (λ (p : ℕ × Row Number). p.1.key) (rows_of_equation equation)))) (rows_of_equation equation)
 
   -- the lines of the columns of a variable
   abbrev pub variable_points : Solution → ℕ → List ℕ
   variable_points solution variable =
-      line_of (codes "VAR " ++ text_of names variable ++ codes " LOWER LEVEL UPPER MARGINAL")
-      ++ flat_map (column_point solution (longest (map (λ (p : ℕ × Column Number). p.1.key) (columns_of variable)))) (columns_of variable)
+      line_of (codes "VAR " ++ label_in_table names variable ++ codes " LOWER LEVEL UPPER MARGINAL")
+      ++ flat_map (column_point solution (longest_element (map (λ (p : ℕ × Column Number). p.1.key) (columns_of_variable variable)))) (columns_of_variable variable)
 
   abbrev pub solution_text : List ℕ → Option Solution → List ℕ
   solution_text equations None = []
@@ -276,30 +276,30 @@ module _ (names labels : List (List ℕ)) (limit : ℕ) (lp : Lp Number) where
   -- the line of an element with a number, unless that is 0
   abbrev pub number_line : List ℕ → Key → Number → List ℕ
   number_line word key x =
-      if is_zero x then [] else line_of (codes "  " ++ word ++ codes " " ++ key_text key ++ codes " = " ++ exact_text x)
+      if is_zero_amount x then [] else line_of (codes "  " ++ word ++ codes " " ++ key_text key ++ codes " = " ++ exact_text x)
 
-  abbrev pub column_numbers : List ℕ → List Number → List ℕ
-  column_numbers word numbers = flat_map (λ (p : ℕ × Column Number). number_line word p.1.key (number_at numbers p.0)) placed_columns
+  abbrev pub column_number_lines : List ℕ → List Number → List ℕ
+  column_number_lines word numbers = flat_map (λ (p : ℕ × Column Number). number_line word p.1.key (number_at_place numbers p.0)) placed_columns
 
-  abbrev pub row_numbers : List ℕ → List Number → List ℕ
-  row_numbers word numbers = flat_map (λ (p : ℕ × Row Number). number_line word p.1.key (number_at numbers p.0)) placed_rows
+  abbrev pub row_number_lines : List ℕ → List Number → List ℕ
+  row_number_lines word numbers = flat_map (λ (p : ℕ × Row Number). number_line word p.1.key (number_at_place numbers p.0)) placed_rows
 
   -- why no point is feasible: a column, or a combination of rows with its bound
   abbrev pub infeasible_text : List Number → Option ℕ → List ℕ
   infeasible_text duals (Some j) = flat_map (crossed_line names labels) (option_to_list (slice_get lp.columns j))
-  infeasible_text duals None = row_numbers (codes "row") duals ++ bound_lines limit lp duals false
+  infeasible_text duals None = row_number_lines (codes "row") duals ++ bound_lines limit lp duals false
 
   -- what proves an end, or what is known of one that has no proof, after this many pivots
   abbrev pub proof_text : ℕ → End Number → List ℕ
   proof_text pivots (Optimal levels row_levels duals reduced) =
-      line_of (codes "PROOF Optimal") ++ column_numbers (codes "level") levels ++ row_numbers (codes "marginal") duals
-      ++ column_numbers (codes "marginal") reduced ++ bound_lines limit lp duals true
+      line_of (codes "PROOF Optimal") ++ column_number_lines (codes "level") levels ++ row_number_lines (codes "marginal") duals
+      ++ column_number_lines (codes "marginal") reduced ++ bound_lines limit lp duals true
   proof_text pivots (Infeasible duals crossed) = line_of (codes "PROOF Infeasible") ++ infeasible_text duals crossed
   proof_text pivots (Unbounded levels row_levels ray) =
-      line_of (codes "PROOF Unbounded") ++ column_numbers (codes "point") levels ++ column_numbers (codes "ray") ray
+      line_of (codes "PROOF Unbounded") ++ column_number_lines (codes "point") levels ++ column_number_lines (codes "ray") ray
   proof_text pivots (Interrupted phase levels row_levels) =
       line_of (codes "PROOF Interrupted") ++ line_of (codes "  phase " ++ decimal phase ++ codes " pivots " ++ decimal pivots)
-      ++ column_numbers (codes "point") levels
+      ++ column_number_lines (codes "point") levels
   proof_text pivots (Refused name) = line_of (codes "PROOF Refused") ++ line_of (codes "  step " ++ step_text name)
 
 -- ---- the whole solve
@@ -309,9 +309,9 @@ abbrev pub nonzeros : Lp Number → ℕ
 nonzeros lp = sum (map (λ (row : Row Number). length row.entries) lp.rows)
 
 -- the text of the direction of the objective
-abbrev pub direction : Bool → List ℕ
-direction true = codes " maximizing "
-direction false = codes " minimizing "
+abbrev pub direction_text : Bool → List ℕ
+direction_text true = codes " maximizing "
+direction_text false = codes " minimizing "
 
 -- the counts, the solver, the statuses and the objective's level
 abbrev pub summary_text : Solved → Answer Number → List ℕ
@@ -324,7 +324,7 @@ module _ (names labels : List (List ℕ)) (limit : ℕ) where
   -- the line of a solve's statement: the model, the direction and the objective
   abbrev pub head_text : Solved → List ℕ
   head_text s =
-      line_of (codes "---- " ++ decimal s.line ++ codes " SOLVE " ++ text_of names s.model ++ direction s.lp.maximize ++ column_text names labels limit s.lp s.lp.objective)
+      line_of (codes "---- " ++ decimal s.line ++ codes " SOLVE " ++ label_in_table names s.model ++ direction_text s.lp.maximize ++ column_text names labels limit s.lp s.lp.objective)
 
   -- what a solve shows
   abbrev pub solve_text : Solved → Answer Number → List ℕ

@@ -1,7 +1,7 @@
 //! Numbers of a solve in a listing: with three decimals, or exactly.
 ghost use Rattle.std.specs.Prelude.{◌≡◌, option_map};
 ghost use Rattle.gq_text.specs.ExactText.{exact_text};
-ghost use Rattle.gms_list.specs.SolveText.{amount, bound_text};
+ghost use Rattle.gms_list.specs.SolveText.{amount, rounded_bound_text};
 
 use gq_field::ExactField;
 use gq_text::{Digits, put_exact, put_rounded};
@@ -31,7 +31,7 @@ pub(crate) fn bound<'d, F: ExactField>(
     none: &'static str,
     digits: &'d mut Digits,
 ) -> &'d str
-    ensures { result.now ≡ bound_text none.now (option_map F.value x) }
+    ensures { result.now ≡ rounded_bound_text none.now (option_map F.value x) }
 {
     match x {
         Some(x) => amount(x, digits),

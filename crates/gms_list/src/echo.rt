@@ -3,7 +3,7 @@ ghost use Rattle.std.specs.Prelude.{◌≡◌, ◌∷◌, ◌<◌, length, take,
 ghost use Rattle.gms_lines.specs.Lines.{lines, content, before, is_line_end};
 ghost use Rattle.gms_fmt.specs.Columns.{Appends};
 ghost use Rattle.gms_list.specs.ListingText.{echo_text, numbered_line};
-ghost use Rattle.gms_list.specs.LineEnds.{behind_end};
+ghost use Rattle.gms_list.specs.InnerLineEnds.{behind_end};
 
 use crate::listing::Listing;
 use gms_lines::content_length;

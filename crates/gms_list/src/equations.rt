@@ -1,11 +1,11 @@
 //! The rows and the columns that a solve lists before its answer.
 ghost use Rattle.std.specs.Prelude.{◌≡◌, ◌++◌, ◌-◌, [], ◌==◌, length, map, flat_map, filter, take, codes, if◌then◌else◌, string_bytes, IfOk, OnOk};
 ghost use Rattle.gms_fmt.specs.Columns.{Appends};
-ghost use Rattle.gms_fmt.specs.ElementTexts.{text_of, element_text};
+ghost use Rattle.gms_fmt.specs.ElementTexts.{label_in_table, element_text};
 ghost use Rattle.lp_core.specs.Numbers.{lp_numbers, row_numbers, column_numbers, entries_numbers};
 ghost use Rattle.gms_list.specs.Amounts.{line_of};
-ghost use Rattle.gms_list.specs.Walks.{once_more};
-ghost use Rattle.gms_list.specs.SolveText.{amount, sense_text, each_once, is_below, magnitude, column_text, term_text, terms_text, row_text, rows_of, more_text, equation_text, rows_listing, placed_rows, entry_line, column_lines, columns_of, variable_text, columns_listing};
+ghost use Rattle.gms_list.specs.InnerSolves.{once_more};
+ghost use Rattle.gms_list.specs.SolveText.{amount, sense_text, distinct_names, is_negative, number_magnitude, column_text, term_text, terms_text, row_text, rows_of_equation, more_text, equation_text, rows_listing, placed_rows, column_entry_line, column_lines, columns_of_variable, variable_text, columns_listing};
 
 use crate::amounts::{amount, bound};
 use crate::listing::Listing;
@@ -59,7 +59,7 @@ fn push_once(numbers: &mut Vec<u32>, n: u32) -> Result<(), AllocError>
 
 /// The variables that have columns, in order, without repetition.
 pub(crate) fn variables_of<F>(alloc: Global, columns: &[Column<F>]) -> Result<Vec<u32>, AllocError>
-    ensures { IfOk result (λ variables. variables.items ≡ each_once (map (λ column. column.key.symbol) columns.now)) }
+    ensures { IfOk result (λ variables. variables.items ≡ distinct_names (map (λ column. column.key.symbol) columns.now)) }
 {
     let mut variables: Vec<u32> = Vec::new(alloc);
     for column in columns {
@@ -70,7 +70,7 @@ pub(crate) fn variables_of<F>(alloc: Global, columns: &[Column<F>]) -> Result<Ve
 
 /// The magnitude of a number.
 fn magnitude<F: ExactField>(x: F) -> F
-    ensures { F.value result ≡ magnitude (F.value x) }
+    ensures { F.value result ≡ number_magnitude (F.value x) }
 {
     if x.sign() < 0 { x.neg() } else { x }
 }
@@ -103,7 +103,7 @@ pub(crate) fn column_text<F: ExactField>(
 
 /// The sign of a term, between blanks.
 fn term_sign<F: ExactField>(x: F) -> &'static str
-    ensures { result.now ≡ (if is_below (F.value x).numerator then codes " - " else codes " + ") }
+    ensures { result.now ≡ (if is_negative (F.value x).numerator then codes " - " else codes " + ") }
 {
     if x.sign() < 0 { " - " } else { " + " }
 }
@@ -118,7 +118,7 @@ impl Listing {
         name: u32,
         behind: &str,
     ) -> Result<(), AllocError>
-        ensures { Appends result self.old self.new (word.now ++ text_of p.now.names name ++ behind.now) }
+        ensures { Appends result self.old self.new (word.now ++ label_in_table p.now.names name ++ behind.now) }
     {
         let text = text_of(&p.names, name);
         let line = format!(in alloc; "{word}{text}{behind}")?;
@@ -254,7 +254,7 @@ impl Listing {
         most: usize,
     ) -> Result<(), AllocError>
         ensures { Appends result self.old self.new
-            (flat_map (row_text p.now.names p.now.labels F.limit (lp_numbers F.value lp.now)) (take most (rows_of p.now.names p.now.labels F.limit (lp_numbers F.value lp.now) equation))) }
+            (flat_map (row_text p.now.names p.now.labels F.limit (lp_numbers F.value lp.now)) (take most (rows_of_equation p.now.names p.now.labels F.limit (lp_numbers F.value lp.now) equation))) }
     {
         let mut left = most;
         let rows = lp.rows.as_slice();
@@ -347,7 +347,7 @@ impl Listing {
         place: usize,
         row: &Row<F>,
     ) -> Result<(), AllocError>
-        ensures { Appends result self.old self.new (entry_line p.now.names p.now.labels F.limit (lp_numbers F.value lp.now) j (place, row_numbers F.value row.now)) }
+        ensures { Appends result self.old self.new (column_entry_line p.now.names p.now.labels F.limit (lp_numbers F.value lp.now) j (place, row_numbers F.value row.now)) }
     {
         let entries = row.entries.as_slice();
         for (column, x) in entries {
@@ -365,7 +365,7 @@ impl Listing {
         j: usize,
     ) -> Result<(), AllocError>
         ensures { Appends result self.old self.new
-            (flat_map (entry_line p.now.names p.now.labels F.limit (lp_numbers F.value lp.now) j) (placed_rows p.now.names p.now.labels F.limit (lp_numbers F.value lp.now))) }
+            (flat_map (column_entry_line p.now.names p.now.labels F.limit (lp_numbers F.value lp.now) j) (placed_rows p.now.names p.now.labels F.limit (lp_numbers F.value lp.now))) }
     {
         let rows = lp.rows.as_slice();
         for (place, row) in rows.iter().enumerate() {
@@ -431,7 +431,7 @@ impl Listing {
         most: usize,
     ) -> Result<(), AllocError>
         ensures { Appends result self.old self.new
-            (flat_map (column_lines p.now.names p.now.labels F.limit (lp_numbers F.value lp.now)) (take most (columns_of p.now.names p.now.labels F.limit (lp_numbers F.value lp.now) variable))) }
+            (flat_map (column_lines p.now.names p.now.labels F.limit (lp_numbers F.value lp.now)) (take most (columns_of_variable p.now.names p.now.labels F.limit (lp_numbers F.value lp.now) variable))) }
     {
         let mut left = most;
         let columns = lp.columns.as_slice();

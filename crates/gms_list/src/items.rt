@@ -5,7 +5,7 @@ ghost use Rattle.gms_fmt.specs.Columns.{Appends};
 ghost use Rattle.gms_fmt.specs.ElementTexts.{dotted_text};
 ghost use Rattle.gms_event.specs.EventView.{shown_in};
 ghost use Rattle.gms_list.specs.Amounts.{line_of};
-ghost use Rattle.gms_list.specs.ListingText.{items_text, item_text, symbol_text, width_of, values_text, number_text, member_text, entry_text, entries_text, nothing_text, single_text};
+ghost use Rattle.gms_list.specs.ListingText.{items_text, item_text, symbol_text, tuple_width, values_text, number_text, member_text, entry_text, entries_text, nothing_text, single_text};
 
 use crate::listing::Listing;
 use crate::values::value_text;
@@ -30,7 +30,7 @@ fn width<F: ExactField>(
     labels: &Labels,
     entries: &[(Tuple, Ext<F>)],
 ) -> Result<usize, AllocError>
-    ensures { IfOk result (λ width. width ≡ width_of labels.now (map (λ entry. (entry.0, extended F.value entry.1)) entries.now)) }
+    ensures { IfOk result (λ width. width ≡ tuple_width labels.now (map (λ entry. (entry.0, extended F.value entry.1)) entries.now)) }
 {
     let mut width = 0;
     for (t, _) in entries {
@@ -214,7 +214,7 @@ impl Listing {
     ) -> Result<(), AllocError>
         requires { item.now.decimals ≤ 8 }
         ensures { Appends result self.old self.new
-            (flat_map (entry_text labels.now (width_of labels.now (shown_in F.value item.now).entries) item.now.decimals) (shown_in F.value item.now).entries) }
+            (flat_map (entry_text labels.now (tuple_width labels.now (shown_in F.value item.now).entries) item.now.decimals) (shown_in F.value item.now).entries) }
     {
         let entries = item.entries.as_slice();
         let width = width(alloc, labels, entries)?;

@@ -2,13 +2,13 @@
 ghost use Rattle.std.specs.Prelude.{◌≡◌, ◌++◌, true, false, length, map, flat_map, codes, string_bytes, option_to_list, IfOk, ◌≢◌, None};
 ghost use Rattle.gms_fmt.specs.Columns.{Appends};
 ghost use Rattle.lp_core.specs.Numbers.{lp_numbers, column_numbers, end_numbers};
-ghost use Rattle.lp_check.specs.BoundSteps.{bound_of};
+ghost use Rattle.lp_check.specs.BoundSteps.{objective_bound};
 ghost use Rattle.lp_core.specs.Feasible.{bound_value};
 ghost use Rattle.lp_core.specs.WellFormed.{IsWellFormed};
 ghost use Rattle.gq_text.specs.ExactText.{exact_text};
 ghost use Rattle.gms_list.specs.Amounts.{line_of};
-ghost use Rattle.gms_list.specs.Conditions.{IsProved};
-ghost use Rattle.gms_list.specs.SolveText.{number_at, number_line, column_numbers as column_lines, row_numbers as row_lines, bound_lines, crossed_text, crossed_line, infeasible_text, step_text, proof_text};
+ghost use Rattle.gms_list.specs.Conditions.{HasProof};
+ghost use Rattle.gms_list.specs.SolveText.{number_at_place, number_line, column_number_lines as column_lines, row_number_lines as row_lines, bound_lines, crossed_text, crossed_line, infeasible_text, step_text, proof_text};
 
 use crate::amounts::exact;
 use crate::equations::key_text;
@@ -138,7 +138,7 @@ impl Listing {
     ) -> Result<(), AllocError>
         requires formed { IsWellFormed F.value lp.now }
         requires sized { length duals.now ≡ length lp.now.rows }
-        requires there { bound_of F.value with_objective lp.now (map F.value duals.now) ≢ None }
+        requires there { objective_bound F.value with_objective lp.now (map F.value duals.now) ≢ None }
         ensures { Appends result self.old self.new (bound_lines F.limit (lp_numbers F.value lp.now) (map F.value duals.now) with_objective) }
     {
         match dual_bound(alloc, lp, with_objective, duals) {
@@ -183,7 +183,7 @@ impl Listing {
     ) -> Result<(), AllocError>
         requires formed { IsWellFormed F.value lp.now }
         requires sized { crossed ≡ None → length duals.now ≡ length lp.now.rows }
-        requires there { crossed ≡ None → bound_of F.value false lp.now (map F.value duals.now) ≢ None }
+        requires there { crossed ≡ None → objective_bound F.value false lp.now (map F.value duals.now) ≢ None }
         ensures { Appends result self.old self.new (infeasible_text p.now.names p.now.labels F.limit (lp_numbers F.value lp.now) (map F.value duals.now) crossed) }
     {
         match crossed {
@@ -210,7 +210,7 @@ impl Listing {
     ) -> Result<(), AllocError>
         requires formed { IsWellFormed F.value lp.now }
         requires sized { length duals.now ≡ length lp.now.rows }
-        requires there { bound_of F.value true lp.now (map F.value duals.now) ≢ None }
+        requires there { objective_bound F.value true lp.now (map F.value duals.now) ≢ None }
         ensures { Appends result self.old self.new
             (column_lines p.now.names p.now.labels F.limit (lp_numbers F.value lp.now) (codes "level") (map F.value levels.now)
             ++ (row_lines p.now.names p.now.labels F.limit (lp_numbers F.value lp.now) (codes "marginal") (map F.value duals.now)
@@ -233,7 +233,7 @@ impl Listing {
         pivots: usize,
     ) -> Result<(), AllocError>
         requires formed { IsWellFormed F.value lp.now }
-        requires proved { IsProved F.value lp.now end.now }
+        requires proved { HasProof F.value lp.now end.now }
         ensures { Appends result self.old self.new (proof_text p.now.names p.now.labels F.limit (lp_numbers F.value lp.now) pivots (end_numbers F.value end.now)) }
     {
         match end {

@@ -4,8 +4,8 @@ ghost use Rattle.lp_core.specs.DualBound.{row_lower, row_upper};
 ghost use Rattle.lp_core.specs.Numbers.{lp_numbers, row_numbers, column_numbers};
 ghost use Rattle.gms_fmt.specs.Columns.{Appends};
 ghost use Rattle.gms_fmt.specs.ElementTexts.{element_text};
-ghost use Rattle.gms_list.specs.SolveText.{cell, bound_cell, number_at, point_text, row_point, column_point, rows_of, columns_of, variables, longest, equation_points, variable_points, solution_text};
-ghost use Rattle.gms_list.specs.Walks.{mark_in, solution_in};
+ghost use Rattle.gms_list.specs.SolveText.{cell, bound_cell, number_at_place, point_text, row_point, column_point, rows_of_equation, columns_of_variable, variables, longest_element, equation_points, variable_points, solution_text};
+ghost use Rattle.gms_list.specs.InnerSolves.{mark_in, solution_in};
 
 use crate::amounts::amount;
 use crate::equations::{key_text, rows_of, variables_of};
@@ -48,7 +48,7 @@ pub(crate) struct Solution<'s, F> {
 
 /// The number at a place; 0 if there is none.
 pub(crate) fn number_at<F: ExactField>(numbers: &[F], place: usize) -> F
-    ensures { F.value result ≡ number_at (map F.value numbers.now) place }
+    ensures { F.value result ≡ number_at_place (map F.value numbers.now) place }
 {
     match numbers.get(place) {
         Some(x) => *x,
@@ -111,7 +111,7 @@ fn rows_width<F: ExactField>(
     lp: &Lp<F>,
     equation: u32,
 ) -> Result<usize, AllocError>
-    ensures { IfOk result (λ width. width ≡ longest p.now.names p.now.labels F.limit (lp_numbers F.value lp.now) (map (λ q. q.1.key) (rows_of p.now.names p.now.labels F.limit (lp_numbers F.value lp.now) equation))) }
+    ensures { IfOk result (λ width. width ≡ longest_element p.now.names p.now.labels F.limit (lp_numbers F.value lp.now) (map (λ q. q.1.key) (rows_of_equation p.now.names p.now.labels F.limit (lp_numbers F.value lp.now) equation))) }
 {
     let mut width = 0;
     let rows = lp.rows.as_slice();
@@ -128,7 +128,7 @@ fn columns_width<F: ExactField>(
     lp: &Lp<F>,
     variable: u32,
 ) -> Result<usize, AllocError>
-    ensures { IfOk result (λ width. width ≡ longest p.now.names p.now.labels F.limit (lp_numbers F.value lp.now) (map (λ q. q.1.key) (columns_of p.now.names p.now.labels F.limit (lp_numbers F.value lp.now) variable))) }
+    ensures { IfOk result (λ width. width ≡ longest_element p.now.names p.now.labels F.limit (lp_numbers F.value lp.now) (map (λ q. q.1.key) (columns_of_variable p.now.names p.now.labels F.limit (lp_numbers F.value lp.now) variable))) }
 {
     let mut width = 0;
     let columns = lp.columns.as_slice();
@@ -281,7 +281,7 @@ impl Listing {
         width: usize,
     ) -> Result<(), AllocError>
         ensures { Appends result self.old self.new
-            (flat_map (row_point p.now.names p.now.labels F.limit (lp_numbers F.value lp.now) (solution_in F.value solution.entry) width) (rows_of p.now.names p.now.labels F.limit (lp_numbers F.value lp.now) equation)) }
+            (flat_map (row_point p.now.names p.now.labels F.limit (lp_numbers F.value lp.now) (solution_in F.value solution.entry) width) (rows_of_equation p.now.names p.now.labels F.limit (lp_numbers F.value lp.now) equation)) }
     {
         let rows = lp.rows.as_slice();
         for (place, row) in rows.iter().enumerate() {
@@ -320,7 +320,7 @@ impl Listing {
         width: usize,
     ) -> Result<(), AllocError>
         ensures { Appends result self.old self.new
-            (flat_map (column_point p.now.names p.now.labels F.limit (lp_numbers F.value lp.now) (solution_in F.value solution.entry) width) (columns_of p.now.names p.now.labels F.limit (lp_numbers F.value lp.now) variable)) }
+            (flat_map (column_point p.now.names p.now.labels F.limit (lp_numbers F.value lp.now) (solution_in F.value solution.entry) width) (columns_of_variable p.now.names p.now.labels F.limit (lp_numbers F.value lp.now) variable)) }
     {
         let columns = lp.columns.as_slice();
         for (j, column) in columns.iter().enumerate() {

@@ -5,9 +5,9 @@ ghost use Rattle.gms_store.specs.Statuses.{model_number, model_text, solver_numb
 ghost use Rattle.lp_core.specs.Numbers.{lp_numbers, end_numbers, answer_numbers};
 ghost use Rattle.lp_core.specs.WellFormed.{IsWellFormed};
 ghost use Rattle.gms_list.specs.Amounts.{line_of};
-ghost use Rattle.gms_list.specs.Conditions.{IsProved};
-ghost use Rattle.gms_list.specs.SolveText.{direction, head_text, solution_of, solution_text, summary_text, solve_text};
-ghost use Rattle.gms_list.specs.Walks.{solution_in, solved_in, status_lines};
+ghost use Rattle.gms_list.specs.Conditions.{HasProof};
+ghost use Rattle.gms_list.specs.SolveText.{direction_text, head_text, solution_of, solution_text, summary_text, solve_text};
+ghost use Rattle.gms_list.specs.InnerSolves.{solution_in, solved_in, status_lines};
 
 use crate::amounts::amount;
 use crate::equations::column_text;
@@ -97,7 +97,7 @@ fn solution<'s, F: ExactField>(end: &'s End<F>, objective: u32) -> Option<Soluti
 
 /// The direction of the objective, between blanks.
 fn direction(maximize: bool) -> &'static str
-    ensures { result.now ≡ direction maximize }
+    ensures { result.now ≡ direction_text maximize }
 {
     if maximize {
         " maximizing "
@@ -213,7 +213,7 @@ impl Listing {
         answer: &Answer<F>,
     ) -> Result<(), AllocError>
         requires formed { IsWellFormed F.value s.now.lp.now }
-        requires proved { IsProved F.value s.now.lp.now answer.now.end }
+        requires proved { HasProof F.value s.now.lp.now answer.now.end }
         ensures { (place : ℕ) → Appends result self.old self.new
             (solve_text p.now.names p.now.labels F.limit (solved_in F.value place s.now) (answer_numbers F.value answer.now)) }
     {

@@ -3,7 +3,7 @@ ghost use Rattle.std.specs.Prelude.{◌≡◌, ◌++◌, string_bytes, IfOk};
 ghost use Rattle.gms_fmt.specs.Columns.{Appends};
 ghost use Rattle.gms_list.specs.ListingText.{pair_text, further_pairs, pairs_text, has_count, count_text, stop_text};
 ghost use Rattle.gms_list.specs.Amounts.{line_of};
-ghost use Rattle.gms_eval.specs.Gives.{shown_by};
+ghost use Rattle.gms_eval.specs.Gives.{fault_of_stop};
 
 use crate::listing::Listing;
 use gms_ast::Program;
@@ -42,7 +42,7 @@ impl Listing {
         p: &Program<F>,
         stop: &ExecStop<F>,
     ) -> Result<(), AllocError>
-        ensures { Appends result self.old self.new (stop_text p.now.names p.now.labels (shown_by F.value stop.now)) }
+        ensures { Appends result self.old self.new (stop_text p.now.names p.now.labels (fault_of_stop F.value stop.now)) }
     {
         let pairs = stop.binding.pairs();
         let code = stop.kind.code();

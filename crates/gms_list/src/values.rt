@@ -1,7 +1,7 @@
 //! Values in a listing.
 ghost use Rattle.std.specs.Prelude.{◌≡◌, ◌≤◌};
 ghost use Rattle.gq_extended.specs.Meaning.{extended};
-ghost use Rattle.gms_list.specs.ListingText.{value_text};
+ghost use Rattle.gms_list.specs.ListingText.{rounded_value_text};
 
 use gq_extended::Ext;
 use gq_field::ExactField;
@@ -14,7 +14,7 @@ pub(crate) fn value_text<'d, F: ExactField>(
     digits: &'d mut Digits,
 ) -> &'d str
     requires { decimals ≤ 8 }
-    ensures { result.now ≡ value_text decimals (extended F.value value) }
+    ensures { result.now ≡ rounded_value_text decimals (extended F.value value) }
 {
     match value {
         Ext::Number(x) => {

@@ -6,23 +6,23 @@ use Rattle.gms_grammar.specs.Grammar.{one, the, ◌·◌, ◌∣◌, opt, many, 
 use Rattle.gms_grammar.specs.GamsGrammar.{Nonterminal, productions}
 use Rattle.gms_grammar.proofs.Checks.{left_and, right_and}
 use Rattle.gms_expressions.proofs.TokenKinds.{implies, implied, also}
-use Rattle.gms_parse.specs.Walks.{Seen}
-use Rattle.gms_parse.specs.Readings.{Derivation, GamsPart}
+use Rattle.gms_parse.specs.Walks.{KindedToken}
+use Rattle.gms_parse.specs.InnerReadings.{Derivation, GamsPart}
 
 -- the kind of each token passes a test
-abbrev pub AllPass : (Terminal → Bool) → List Seen → Type 0
+abbrev pub AllPass : (Terminal → Bool) → List KindedToken → Type 0
 AllPass test [] = ⊤
 AllPass test (t ∷ ts) = (test t.0 ≡ true) × AllPass test ts
 
-pub pass_append : (test : Terminal → Bool) (u v : List Seen) → AllPass test u → AllPass test v → AllPass test (u ++ v)
+pub pass_append : (test : Terminal → Bool) (u v : List KindedToken) → AllPass test u → AllPass test v → AllPass test (u ++ v)
 pass_append test [] v h k = k
 pass_append test (t ∷ u) v h k = (h.0, pass_append test u v h.1 k)
 
-pub pass_front : (test : Terminal → Bool) (u v : List Seen) → AllPass test (u ++ v) → AllPass test u
+pub pass_front : (test : Terminal → Bool) (u v : List KindedToken) → AllPass test (u ++ v) → AllPass test u
 pass_front test [] v h = tt
 pass_front test (t ∷ u) v h = (h.0, pass_front test u v h.1)
 
-pub pass_rest : (test : Terminal → Bool) (u v : List Seen) → AllPass test (u ++ v) → AllPass test v
+pub pass_rest : (test : Terminal → Bool) (u v : List KindedToken) → AllPass test (u ++ v) → AllPass test v
 pass_rest test [] v h = h
 pass_rest test (t ∷ u) v h = pass_rest test u v h.1
 

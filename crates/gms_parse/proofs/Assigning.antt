@@ -24,9 +24,9 @@ use Rattle.gms_parse.specs.declared.assign.Relation.{Relation}
 use Rattle.gms_parse.specs.declared.reader.Reader.{Reader}
 use Rattle.gms_parse.specs.declared.reader.Tables.{Tables}
 use Rattle.gms_parse.specs.Statements.{side_of, assignment_act, assigned}
-use Rattle.gms_parse.specs.Walks.{Walk}
-use Rattle.gms_parse.specs.Readings.{Derivation, GamsPart, Sense, IsGot, Has, Stays, StaysOpen, IsNext, seen_from}
-use Rattle.gms_parse.specs.Meanings.{IsExpression, IsTarget, IsCondition, IsAssigned, IsDefined, IsRightSide, IsRelated, IsRelation, IsAct, has_lag}
+use Rattle.gms_parse.specs.Walks.{ReaderState}
+use Rattle.gms_parse.specs.InnerReadings.{Derivation, GamsPart, Sense, IsGot, Has, Stays, StaysOpen, IsNext, seen_from}
+use Rattle.gms_parse.specs.InnerMeanings.{IsExpression, IsTarget, IsCondition, IsAssigned, IsDefined, IsRightSide, IsRelated, IsRelation, IsAct, has_lag}
 use Rattle.gms_parse.proofs.Steps.{got_by, gives_both, gives_the}
 use Rattle.gms_parse.proofs.Nexts.{past, gives_exact, kind_stays, stays_then, earlier}
 use Rattle.gms_expressions.proofs.Chains.{place_read}
@@ -34,7 +34,7 @@ use Rattle.gms_parse.proofs.Views.{view-Assign, view-Define}
 
 -- ---- right sides
 
-pub right_value_got : {F : Type 0} (value : F → Number) {limit : ℕ} {reader : Reader} {at behind next : ℕ} {place : Place} {t : Token} {old new : Tables} {w : Walk} {e : Expr F} → Has reader old w → IsNext (is Equals) reader at t behind →
+pub right_value_got : {F : Type 0} (value : F → Number) {limit : ℕ} {reader : Reader} {at behind next : ℕ} {place : Place} {t : Token} {old new : Tables} {w : ReaderState} {e : Expr F} → Has reader old w → IsNext (is Equals) reader at t behind →
     place ≡ next_place reader.source.now (seen_from reader behind) →
     IsGot limit (IsExpression value reader.source.now) (StaysOpen reader new (past reader w Equals t behind)) (the Expression) reader behind new (past reader w Equals t behind) e next →
     IsGot limit (IsRightSide value reader.source.now) (Stays reader new w) (token Equals · the Expression) reader at new w (place, e) next
@@ -43,14 +43,14 @@ right_value_got value {reader = reader} {t = t} h n placed got = got_by (gives_b
 
 -- ---- sides
 
-pub related_got : {F : Type 0} (value : F → Number) {limit : ℕ} {reader : Reader} {at behind next : ℕ} {place : Place} {side : Side} {t : Token} {old new : Tables} {w : Walk} {e : Expr F} → Has reader old w → IsNext (is SenseMark) reader at t behind →
+pub related_got : {F : Type 0} (value : F → Number) {limit : ℕ} {reader : Reader} {at behind next : ℕ} {place : Place} {side : Side} {t : Token} {old new : Tables} {w : ReaderState} {e : Expr F} → Has reader old w → IsNext (is SenseMark) reader at t behind →
     side ≡ side_of t.kind → place ≡ next_place reader.source.now (seen_from reader behind) →
     IsGot limit (IsExpression value reader.source.now) (StaysOpen reader new (past reader w SenseMark t behind)) (the Expression) reader behind new (past reader w SenseMark t behind) e next →
     IsGot limit (IsRelated value reader.source.now) (Stays reader new w) (token SenseMark · the Expression) reader at new w (side, place, e) next
 related_got value {reader = reader} {t = t} h n told placed got = got_by (gives_both (gives_exact {kind = SenseMark} n refl) got.gives) (stays_then (kind_stays SenseMark n refl h) got.leaves.stays)
     (λ sense s. (told, (placed ∙ sym (place_read (the Expression) refl got.gives), got.means sense s))) (let a = n.further in let b = got.further in omega arith)
 
-pub relation_got : {F : Type 0} (value : F → Number) {limit : ℕ} {reader : Reader} {at middle next : ℕ} {between new : Tables} {w : Walk} {l r : Expr F} {left_at right_at : Place} {side : Side} → left_at ≡ next_place reader.source.now (seen_from reader at) →
+pub relation_got : {F : Type 0} (value : F → Number) {limit : ℕ} {reader : Reader} {at middle next : ℕ} {between new : Tables} {w : ReaderState} {l r : Expr F} {left_at right_at : Place} {side : Side} → left_at ≡ next_place reader.source.now (seen_from reader at) →
     (one : IsGot limit (IsExpression value reader.source.now) (StaysOpen reader between w) (the Expression) reader at between w l middle) →
     IsGot limit (IsRelated value reader.source.now) (Stays reader new one.behind) (token SenseMark · the Expression) reader middle new one.behind (side, right_at, r) next →
     IsGot limit (IsRelation value reader.source.now) (Stays reader new w) (the SidesPart) reader at new w (record { left_at = left_at; left = l; side = side; right_at = right_at; right = r }) next
@@ -63,16 +63,16 @@ relation_got value placed one other = got_by (gives_the SidesPart (gives_both on
     (let a = one.further in let b = other.further in omega arith)
 
 -- what was read, as what is made of it
-pub made_of : {T U : Type 0} {limit : ℕ} {Means : Sense → Derivation → T → Type 0} {Meant : Sense → Derivation → U → Type 0} {Leaves : Walk → Type 0} {part : GamsPart} {reader : Reader} {at next : ℕ} {new : Tables} {w : Walk} {x : T} {y : U} →
+pub made_of : {T U : Type 0} {limit : ℕ} {Means : Sense → Derivation → T → Type 0} {Meant : Sense → Derivation → U → Type 0} {Leaves : ReaderState → Type 0} {part : GamsPart} {reader : Reader} {at next : ℕ} {new : Tables} {w : ReaderState} {x : T} {y : U} →
     ((sense : Sense) (tree : Derivation) → Means sense tree x → Meant sense tree y) → IsGot limit Means Leaves part reader at new w x next → IsGot limit Meant Leaves part reader at new w y next
 made_of turned got = got_by got.gives got.leaves (λ sense s. turned sense got.tree (got.means sense s)) got.further
 
-pub assigned_as : {F : Type 0} (value : F → Number) {limit : ℕ} {Leaves : Walk → Type 0} {part : GamsPart} {reader : Reader} {at next : ℕ} {new : Tables} {w : Walk} (target : TargetNode F) (condition : Maybe (Expr F)) (found : Place × Expr F) →
+pub assigned_as : {F : Type 0} (value : F → Number) {limit : ℕ} {Leaves : ReaderState → Type 0} {part : GamsPart} {reader : Reader} {at next : ℕ} {new : Tables} {w : ReaderState} (target : TargetNode F) (condition : Maybe (Expr F)) (found : Place × Expr F) →
     IsGot limit (IsRightSide value reader.source.now) Leaves part reader at new w found next → IsGot limit (IsAssigned value reader.source.now target condition) Leaves part reader at new w (Assign target condition found.0 (right.Value found.1)) next
 assigned_as value target condition found got =
     made_of (λ sense tree same. view-Assign value target condition found.0 (right.Value found.1) ∙ ap₂ (assigns (shown_target value target) (option_map (shown_tree value) condition)) same.0 same.1) got
 
-pub defined_as : {F : Type 0} (value : F → Number) {limit : ℕ} {Leaves : Walk → Type 0} {part : GamsPart} {reader : Reader} {at next : ℕ} {new : Tables} {w : Walk} (equation : TargetNode F) (condition : Maybe (Expr F)) (found : Relation F) →
+pub defined_as : {F : Type 0} (value : F → Number) {limit : ℕ} {Leaves : ReaderState → Type 0} {part : GamsPart} {reader : Reader} {at next : ℕ} {new : Tables} {w : ReaderState} (equation : TargetNode F) (condition : Maybe (Expr F)) (found : Relation F) →
     IsGot limit (IsRelation value reader.source.now) Leaves part reader at new w found next →
     IsGot limit (IsDefined value reader.source.now equation condition) Leaves part reader at new w (Define (record { at = equation.at; name = equation.name }) equation.indices condition found.left_at found.left found.side found.right_at found.right) next
 defined_as value equation condition found got =
@@ -87,7 +87,7 @@ mapped P' f (Err e) made m k same p q = rw k (q e m)
 
 -- ---- assignments in loops
 
-pub assignment_got : {F : Type 0} (value : F → Number) {limit : ℕ} {reader : Reader} {at middle further next : ℕ} {first second new : Tables} {w : Walk} {target : TargetNode F} {condition : Maybe (Expr F)} {act : ActNode F} →
+pub assignment_got : {F : Type 0} (value : F → Number) {limit : ℕ} {reader : Reader} {at middle further next : ℕ} {first second new : Tables} {w : ReaderState} {target : TargetNode F} {condition : Maybe (Expr F)} {act : ActNode F} →
     (t : IsGot limit (IsTarget value reader.source.now) (StaysOpen reader first w) (the TargetPart) reader at first w target middle) → (c : IsGot limit (IsCondition value reader.source.now) (StaysOpen reader second t.behind) (opt (the Condition)) reader middle second t.behind condition further) →
     IsGot limit (IsAssigned value reader.source.now target condition) (Stays reader new c.behind) (token Equals · the Expression) reader further new c.behind act next → IsGot limit (IsAct value reader.source.now assignment_act) (Stays reader new w) (the Assignment) reader at new w act next
 assignment_got value {reader = reader} t c r = got_by (gives_the Assignment (gives_both t.gives (gives_the AfterTarget (gives_both c.gives r.gives)))) (stays_then t.leaves.stays (stays_then c.leaves.stays r.leaves))

@@ -9,7 +9,7 @@ use Rattle.gq_number.proofs.Means.{number_from_parts}
 use Rattle.gq_text.specs.Decimal.{MeansNumber}
 use Rattle.gq_text.specs.Literal.{HasNoZeroBehind, FitsLiteral}
 use Rattle.gq_text.proofs.Literals.{tens_above}
-use Rattle.gms_table.specs.CellNumbers.{unsigned, signed, IsValue}
+use Rattle.gms_table.specs.CellNumbers.{unsigned, signed_number, IsValue}
 use Rattle.gms_table.proofs.NumberLemmas.{no_value, no_shape}
 use Rattle.gms_expressions.proofs.Valued.{Told as Known, number_told}
 
@@ -148,7 +148,7 @@ pub value_told : (limit : ℕ) (text : List ℕ) → ((x : Number) × IsValue li
 value_told limit text = by_number (number_told (unsigned text))
   where
     by_fit : (x : Number) → MeansNumber (unsigned text) x → Told (FitsLiteral limit x) → ((x : Number) × IsValue limit text x) ⊎ ((x : Number) → IsValue limit text x → ⊥)
-    by_fit x means (inl fits) = inl (signed text x, record { magnitude = x; means = means; fits = fits; value = refl })
+    by_fit x means (inl fits) = inl (signed_number text x, record { magnitude = x; means = means; fits = fits; value = refl })
     by_fit x means (inr none) = inr (no_value limit text x means none)
 
     by_number : Known (MeansNumber (unsigned text)) → ((x : Number) × IsValue limit text x) ⊎ ((x : Number) → IsValue limit text x → ⊥)

@@ -15,7 +15,7 @@ use Rattle.gms_grammar.specs.declared.terminal.Terminal.TheVariants.{Set, Parame
 use Rattle.gms_grammar.specs.Grammar.{the, ◌·◌, opt, leaf, node}
 use Rattle.gms_grammar.specs.LookAhead.{may_begin}
 use Rattle.gms_grammar.specs.Reading.{leads}
-use Rattle.gms_grammar.specs.Terminals.{is, is_among}
+use Rattle.gms_grammar.specs.Terminals.{is, is_terminal_among}
 use Rattle.gms_grammar.specs.GamsGrammar.{SetItems, ParameterItems, ScalarItems, PlainItems, VariableStatement, productions, token, name, items}
 use Rattle.gms_grammar.specs.GamsLookAhead.{look_ahead}
 use Rattle.gms_expressions.proofs.TokenKinds.{also, same_test}
@@ -26,9 +26,9 @@ use Rattle.gms_parse.specs.declared.fault.SourceFaultOrMemory.{SourceFaultOrMemo
 use Rattle.gms_parse.specs.declared.reader.Reader.{Reader}
 use Rattle.gms_parse.specs.declared.reader.Tables.{Tables}
 use Rattle.gms_parse.specs.Declarations.{items_in, variable_kind, variable_act}
-use Rattle.gms_parse.specs.Walks.{Seen, Walk}
-use Rattle.gms_parse.specs.Readings.{Derivation, GamsPart, Gives, Refuses, IsGot, Holds, Starts, Stays, Ends, Tableless, IsNext, seen_from}
-use Rattle.gms_parse.specs.Meanings.{AreDeclared, IsDeclaration, IsVariableType, IsAct, item_part, items_part, item_meaning, act_view}
+use Rattle.gms_parse.specs.Walks.{KindedToken, ReaderState}
+use Rattle.gms_parse.specs.InnerReadings.{Derivation, GamsPart, Gives, Refuses, IsGot, Holds, Starts, Stays, Ends, Tableless, IsNext, seen_from}
+use Rattle.gms_parse.specs.InnerMeanings.{AreDeclared, IsDeclaration, IsVariableType, IsAct, item_part, items_part, item_meaning, act_view}
 use Rattle.gms_parse.proofs.TokenKinds.{begins, is_quiet, leads_alike}
 use Rattle.gms_parse.proofs.Steps.{got_by, Within, within_the, gives_both, gives_the, gives_none, gives_some, refuses_the, refuses_second}
 use Rattle.gms_parse.proofs.Nexts.{past, led_next, gives_exact, begun_starts, begun_keyword, quiet_holds, earlier}
@@ -41,11 +41,11 @@ items_production form.Parameter = refl
 items_production form.Scalar = refl
 items_production form.Plain = refl
 
-pub items_heads : (form : Form) (ts : List Seen) → leads productions look_ahead (the (items_part form)) ts ≡ leads productions look_ahead name ts
-items_heads form.Set ts = leads_alike (the SetItems) name ts refl refl (same_test (may_begin look_ahead (the SetItems)) (is_among (Name ∷ Suffix ∷ [])) refl)
-items_heads form.Parameter ts = leads_alike (the ParameterItems) name ts refl refl (same_test (may_begin look_ahead (the ParameterItems)) (is_among (Name ∷ Suffix ∷ [])) refl)
-items_heads form.Scalar ts = leads_alike (the ScalarItems) name ts refl refl (same_test (may_begin look_ahead (the ScalarItems)) (is_among (Name ∷ Suffix ∷ [])) refl)
-items_heads form.Plain ts = leads_alike (the PlainItems) name ts refl refl (same_test (may_begin look_ahead (the PlainItems)) (is_among (Name ∷ Suffix ∷ [])) refl)
+pub items_heads : (form : Form) (ts : List KindedToken) → leads productions look_ahead (the (items_part form)) ts ≡ leads productions look_ahead name ts
+items_heads form.Set ts = leads_alike (the SetItems) name ts refl refl (same_test (may_begin look_ahead (the SetItems)) (is_terminal_among (Name ∷ Suffix ∷ [])) refl)
+items_heads form.Parameter ts = leads_alike (the ParameterItems) name ts refl refl (same_test (may_begin look_ahead (the ParameterItems)) (is_terminal_among (Name ∷ Suffix ∷ [])) refl)
+items_heads form.Scalar ts = leads_alike (the ScalarItems) name ts refl refl (same_test (may_begin look_ahead (the ScalarItems)) (is_terminal_among (Name ∷ Suffix ∷ [])) refl)
+items_heads form.Plain ts = leads_alike (the PlainItems) name ts refl refl (same_test (may_begin look_ahead (the PlainItems)) (is_terminal_among (Name ∷ Suffix ∷ [])) refl)
 
 pub form_items : (form : Form) → ItemPart (item_part form) (items_part form)
 form_items form = record {
@@ -56,12 +56,12 @@ form_items form = record {
 -- ---- keywords of declarations
 
 abbrev pub is_declaring : Terminal → Bool
-is_declaring = is_among (Set ∷ Parameter ∷ Scalar ∷ Variable ∷ Equation ∷ [])
+is_declaring = is_terminal_among (Set ∷ Parameter ∷ Scalar ∷ Variable ∷ Equation ∷ [])
 
-module _ (keyword : Terminal) {reader : Reader} {at behind : ℕ} {t : Token} {old : Tables} {w : Walk} (declaring : is_declaring keyword ≡ true) (h : Holds reader old w) (n : IsNext (is keyword) reader at t behind) where
+module _ (keyword : Terminal) {reader : Reader} {at behind : ℕ} {t : Token} {old : Tables} {w : ReaderState} (declaring : is_declaring keyword ≡ true) (h : Holds reader old w) (n : IsNext (is keyword) reader at t behind) where
   pub keyword_starts : Starts reader old (past reader w keyword t behind)
   keyword_starts = begun_starts reader w keyword t behind (also is_declaring is_quiet refl keyword declaring) (also is_declaring begins refl keyword declaring)
-      (not-true _ (also is_declaring (λ k. not (is Option k)) refl keyword declaring)) (not-true _ (also is_declaring (λ k. not (is_among (Dot ∷ Using ∷ []) k)) refl keyword declaring)) h
+      (not-true _ (also is_declaring (λ k. not (is Option k)) refl keyword declaring)) (not-true _ (also is_declaring (λ k. not (is_terminal_among (Dot ∷ Using ∷ []) k)) refl keyword declaring)) h
 
   pub keyword_tableless : Tableless (past reader w keyword t behind)
   keyword_tableless = ap (is Table) (begun_keyword reader w keyword t behind (also is_declaring begins refl keyword declaring)) ∙ not-true _ (also is_declaring (λ k. not (is Table k)) refl keyword declaring)
@@ -80,21 +80,21 @@ module _ (keyword : Terminal) {reader : Reader} {at behind : ℕ} {t : Token} {o
 
 -- ---- variables
 
-pub type_got : {limit : ℕ} {reader : Reader} {at behind : ℕ} {t : Token} {tables : Tables} {w : Walk} (kind : DeclKind) → IsNext (is VariableType) reader at t behind → kind ≡ variable_kind (token_text reader.source.now t) → Holds reader tables w →
+pub type_got : {limit : ℕ} {reader : Reader} {at behind : ℕ} {t : Token} {tables : Tables} {w : ReaderState} (kind : DeclKind) → IsNext (is VariableType) reader at t behind → kind ≡ variable_kind (token_text reader.source.now t) → Holds reader tables w →
     IsGot limit (IsVariableType reader.source.now) (Holds reader tables) (opt (token VariableType)) reader at tables w kind behind
 type_got {reader = reader} {behind = behind} {t = t} {w = w} kind n told h = got_by (gives_some (led_next n) (gives_exact {kind = VariableType} n refl)) (quiet_holds reader w VariableType t behind refl h) (λ sense s. told)
     (let g = n.further in omega arith)
 
-pub type_none : {limit : ℕ} {reader : Reader} {at : ℕ} {tables : Tables} {w : Walk} → leads productions look_ahead (token VariableType) (seen_from reader at) ≡ false → Holds reader tables w →
+pub type_none : {limit : ℕ} {reader : Reader} {at : ℕ} {tables : Tables} {w : ReaderState} → leads productions look_ahead (token VariableType) (seen_from reader at) ≡ false → Holds reader tables w →
     IsGot limit (IsVariableType reader.source.now) (Holds reader tables) (opt (token VariableType)) reader at tables w decl_kind.Free at
 type_none {w = w} unled h = got_by (gives_none unled) h (λ sense s. refl) (omega arith)
 
-pub variables_got : {F : Type 0} (value : F → Rational) {limit : ℕ} {reader : Reader} {at middle next : ℕ} {old new : Tables} {w : Walk} {kind : DeclKind} {act : ActNode F} →
+pub variables_got : {F : Type 0} (value : F → Rational) {limit : ℕ} {reader : Reader} {at middle next : ℕ} {old new : Tables} {w : ReaderState} {kind : DeclKind} {act : ActNode F} →
     (k : IsGot limit (IsVariableType reader.source.now) (Holds reader old) (opt (token VariableType)) reader at old w kind middle) → IsGot limit (IsDeclaration value reader.source.now kind form.Plain) (Ends reader new) (token Variable · the PlainItems) reader middle new k.behind act next →
     IsGot limit (IsAct value reader.source.now variable_act) (Ends reader new) (the VariableStatement) reader at new w act next
 variables_got value {reader = reader} k got = got_by (gives_the VariableStatement (gives_both k.gives got.gives)) got.leaves
     (λ sense s. got.means sense s ∙ ap (λ kind. declares kind (items_in (item_meaning form.Plain reader.source.now sense.names sense.labels) (second_in got.tree))) (k.means sense (earlier got.gives k.leaves got.leaves.holds s)))
     (let a = k.further in let b = got.further in omega arith)
 
-pub variables_refused : {limit : ℕ} {source : List ℕ} {w v : Walk} {ts between : List Seen} {a : Derivation} {e : SourceFaultOrMemory} → Gives limit source (opt (token VariableType)) w ts a v between → Refuses limit source (token Variable · the PlainItems) v between e → Refuses limit source (the VariableStatement) w ts e
+pub variables_refused : {limit : ℕ} {source : List ℕ} {w v : ReaderState} {ts between : List KindedToken} {a : Derivation} {e : SourceFaultOrMemory} → Gives limit source (opt (token VariableType)) w ts a v between → Refuses limit source (token Variable · the PlainItems) v between e → Refuses limit source (the VariableStatement) w ts e
 variables_refused g r = refuses_the VariableStatement (refuses_second g r)

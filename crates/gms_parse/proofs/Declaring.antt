@@ -17,9 +17,9 @@ use Rattle.gms_parse.specs.declared.reader.Reader.{Reader}
 use Rattle.gms_parse.specs.declared.reader.Tables.{Tables}
 use Rattle.gms_parse.specs.DataLists.{optional_in, between}
 use Rattle.gms_parse.specs.Declarations.{named_in, optional_domain}
-use Rattle.gms_parse.specs.Walks.{Seen, Walk}
-use Rattle.gms_parse.specs.Readings.{Derivation, GamsPart, Gives, Refuses, IsGot, Stays}
-use Rattle.gms_parse.specs.Meanings.{IsNamed, IsOptionalDomain, AreListed, IsScalarValue, IsDeclared, form_of, item_part, item_meaning, list_part, list_meaning}
+use Rattle.gms_parse.specs.Walks.{KindedToken, ReaderState}
+use Rattle.gms_parse.specs.InnerReadings.{Derivation, GamsPart, Gives, Refuses, IsGot, Stays}
+use Rattle.gms_parse.specs.InnerMeanings.{IsNamed, IsOptionalDomain, AreListed, IsScalarValue, IsDeclared, form_of, item_part, item_meaning, list_part, list_meaning}
 use Rattle.gms_parse.proofs.Steps.{got_by, gives_both, gives_the, refuses_the}
 use Rattle.gms_parse.proofs.Nexts.{stays_then, earlier}
 
@@ -37,13 +37,13 @@ data_meant : (list : ListOf) (source : List ℕ) (names labels : List (List ℕ)
 data_meant list_of_kind.Elements source names labels a b d = refl
 data_meant list_of_kind.Entries source names labels a b d = refl
 
-pub refuses_data : (list : ListOf) {limit : ℕ} {source : List ℕ} {w : Walk} {ts : List Seen} {e : SourceFaultOrMemory} → Refuses limit source (data_part list) w ts e → Refuses limit source (the (item_part (form_of list))) w ts e
+pub refuses_data : (list : ListOf) {limit : ℕ} {source : List ℕ} {w : ReaderState} {ts : List KindedToken} {e : SourceFaultOrMemory} → Refuses limit source (data_part list) w ts e → Refuses limit source (the (item_part (form_of list))) w ts e
 refuses_data list {limit} {source} {w} {ts} {e} r = refuses_the (item_part (form_of list)) (subst (λ (p : GamsPart). Refuses limit source p w ts e) (sym (data_production list)) r)
 
-gives_data : (list : ListOf) {limit : ℕ} {source : List ℕ} {w v : Walk} {ts rest : List Seen} {tree : Derivation} → Gives limit source (data_part list) w ts tree v rest → Gives limit source (the (item_part (form_of list))) w ts (node tree) v rest
+gives_data : (list : ListOf) {limit : ℕ} {source : List ℕ} {w v : ReaderState} {ts rest : List KindedToken} {tree : Derivation} → Gives limit source (data_part list) w ts tree v rest → Gives limit source (the (item_part (form_of list))) w ts (node tree) v rest
 gives_data list {limit} {source} {w} {v} {ts} {rest} {tree} g = gives_the (item_part (form_of list)) (subst (λ (p : GamsPart). Gives limit source p w ts tree v rest) (sym (data_production list)) g)
 
-pub data_got : {F : Type 0} (value : F → Rational) (list : ListOf) {limit : ℕ} {reader : Reader} {at middle further next : ℕ} {first second new : Tables} {w : Walk} {named : Named} {domain : Vec (Maybe Named) Global} {items : Vec (Item F) Global} (decl : Decl F) →
+pub data_got : {F : Type 0} (value : F → Rational) (list : ListOf) {limit : ℕ} {reader : Reader} {at middle further next : ℕ} {first second new : Tables} {w : ReaderState} {named : Named} {domain : Vec (Maybe Named) Global} {items : Vec (Item F) Global} (decl : Decl F) →
     declared_in value decl ≡ record { named = named; domain = domain.items; items = map (item_in value) items.items } →
     (n : IsGot limit (IsNamed reader.source.now) (Stays reader first w) name reader at first w named middle) → (d : IsGot limit (IsOptionalDomain reader.source.now) (Stays reader second n.behind) (opt (the Domain)) reader middle second n.behind domain further) →
     IsGot limit (AreListed value reader.source.now list) (Stays reader new d.behind) (opt (token Slash · the (list_part list) · token Slash)) reader further new d.behind items next → IsGot limit (IsDeclared value reader.source.now (form_of list)) (Stays reader new w) (the (item_part (form_of list))) reader at new w decl next
@@ -57,7 +57,7 @@ data_got value list {reader = reader} {items = items} decl shown n d l = got_by 
 
 -- ---- scalars
 
-pub scalar_got : {F : Type 0} (value : F → Rational) {limit : ℕ} {reader : Reader} {at middle next : ℕ} {new : Tables} {w : Walk} {named : Named} {items : Vec (Item F) Global} (decl : Decl F) → declared_in value decl ≡ record { named = named; domain = []; items = map (item_in value) items.items } →
+pub scalar_got : {F : Type 0} (value : F → Rational) {limit : ℕ} {reader : Reader} {at middle next : ℕ} {new : Tables} {w : ReaderState} {named : Named} {items : Vec (Item F) Global} (decl : Decl F) → declared_in value decl ≡ record { named = named; domain = []; items = map (item_in value) items.items } →
     (n : IsGot limit (IsNamed reader.source.now) (Stays reader new w) name reader at new w named middle) → IsGot limit (IsScalarValue value reader.source.now) (Stays reader new n.behind) (opt (token Slash · the Value · token Slash)) reader middle new n.behind items next →
     IsGot limit (IsDeclared value reader.source.now form.Scalar) (Stays reader new w) (the ScalarItem) reader at new w decl next
 scalar_got value decl shown n l = got_by (gives_the ScalarItem (gives_both n.gives l.gives)) (stays_then n.leaves l.leaves)
@@ -65,7 +65,7 @@ scalar_got value decl shown n l = got_by (gives_the ScalarItem (gives_both n.giv
 
 -- ---- variables and equations
 
-pub plain_got : {F : Type 0} (value : F → Rational) {limit : ℕ} {reader : Reader} {at middle next : ℕ} {first new : Tables} {w : Walk} {named : Named} {domain : Vec (Maybe Named) Global} (decl : Decl F) → declared_in value decl ≡ record { named = named; domain = domain.items; items = [] } →
+pub plain_got : {F : Type 0} (value : F → Rational) {limit : ℕ} {reader : Reader} {at middle next : ℕ} {first new : Tables} {w : ReaderState} {named : Named} {domain : Vec (Maybe Named) Global} (decl : Decl F) → declared_in value decl ≡ record { named = named; domain = domain.items; items = [] } →
     (n : IsGot limit (IsNamed reader.source.now) (Stays reader first w) name reader at first w named middle) → IsGot limit (IsOptionalDomain reader.source.now) (Stays reader new n.behind) (opt (the Domain)) reader middle new n.behind domain next →
     IsGot limit (IsDeclared value reader.source.now form.Plain) (Stays reader new w) (the PlainItem) reader at new w decl next
 plain_got value decl shown n d = got_by (gives_the PlainItem (gives_both n.gives d.gives)) (stays_then n.leaves d.leaves)

@@ -4,39 +4,39 @@ use Rattle.std.specs.Bool.{⊤}
 use Rattle.gms_grammar.specs.declared.terminal.Terminal.{Terminal}
 use Rattle.gms_grammar.specs.declared.terminal.Terminal.TheVariants.{Text, LeftParen, RightParen}
 use Rattle.gms_grammar.specs.Grammar.{one, the, ◌·◌, ◌∣◌, opt, many, leaf, pair, left, right, none, some, more, node, yield, IsTree}
-use Rattle.gms_grammar.specs.Terminals.{is_among}
+use Rattle.gms_grammar.specs.Terminals.{is_terminal_among}
 use Rattle.gms_grammar.specs.GamsGrammar.{Nonterminal, Expression, Conjunction, Negation, Comparison, Sum, Product, PowerTerm, Guarded, Condition, Primary, Target, Attribute, IndexList, Index, Lag, LagAmount, Call, ExpressionList, Fold, Control, NameList, productions, token, bracketed}
 use Rattle.gms_expressions.proofs.TokenKinds.{implies, also}
 use Rattle.gms_expressions.specs.Outcomes.{open_after}
-use Rattle.gms_parse.specs.Walks.{Seen}
-use Rattle.gms_parse.specs.Readings.{Derivation, GamsPart}
+use Rattle.gms_parse.specs.Walks.{KindedToken}
+use Rattle.gms_parse.specs.InnerReadings.{Derivation, GamsPart}
 use Rattle.gms_parse.proofs.TokenKinds.{same_kind}
 
 -- how many parentheses are open after tokens
-abbrev pub depth_after : ℕ → List Seen → ℕ
+abbrev pub depth_after : ℕ → List KindedToken → ℕ
 depth_after n [] = n
 depth_after n (t ∷ ts) = depth_after (open_after n t.0) ts
 
 -- with n parentheses open before tokens, each text among them is inside more than `least`
-abbrev pub TextsAbove : ℕ → ℕ → List Seen → Type 0
+abbrev pub TextsAbove : ℕ → ℕ → List KindedToken → Type 0
 TextsAbove least n [] = ⊤
 TextsAbove least n (t ∷ ts) = (t.0 ≡ Text → least < n) × TextsAbove least (open_after n t.0) ts
 
-pub depth_append : (n : ℕ) (u v : List Seen) → depth_after n (u ++ v) ≡ depth_after (depth_after n u) v
+pub depth_append : (n : ℕ) (u v : List KindedToken) → depth_after n (u ++ v) ≡ depth_after (depth_after n u) v
 depth_append n [] v = refl
 depth_append n (t ∷ u) v = depth_append (open_after n t.0) u v
 
-pub above_append : (least n : ℕ) (u v : List Seen) → TextsAbove least n u → TextsAbove least (depth_after n u) v → TextsAbove least n (u ++ v)
+pub above_append : (least n : ℕ) (u v : List KindedToken) → TextsAbove least n u → TextsAbove least (depth_after n u) v → TextsAbove least n (u ++ v)
 above_append least n [] v h k = k
 above_append least n (t ∷ u) v h k = (h.0, above_append least (open_after n t.0) u v h.1 k)
 
-pub above_front : (least n : ℕ) (u v : List Seen) → TextsAbove least n (u ++ v) → TextsAbove least n u
+pub above_front : (least n : ℕ) (u v : List KindedToken) → TextsAbove least n (u ++ v) → TextsAbove least n u
 above_front least n [] v h = tt
 above_front least n (t ∷ u) v h = (h.0, above_front least (open_after n t.0) u v h.1)
 
 -- a token that opens and closes nothing, and is no text
 abbrev pub is_level : Terminal → Bool
-is_level kind = not (is_among (LeftParen ∷ RightParen ∷ Text ∷ []) kind)
+is_level kind = not (is_terminal_among (LeftParen ∷ RightParen ∷ Text ∷ []) kind)
 
 -- the nonterminals of expressions whose texts are inside their parentheses
 abbrev pub is_deep : Nonterminal → Bool
@@ -115,14 +115,14 @@ open_any true least n h = omega (arith, h)
 open_any false least n h = h
 
 -- texts are above, and parentheses close
-pub record Closes (least n : ℕ) (ts : List Seen) : Type 0 where
+pub record Closes (least n : ℕ) (ts : List KindedToken) : Type 0 where
   pub above : TextsAbove least n ts
   pub closed : depth_after n ts ≡ n
 
 closes_nil : (least n : ℕ) → Closes least n []
 closes_nil least n = record { above = tt; closed = refl }
 
-closes_both : (least n : ℕ) (u v : List Seen) → Closes least n u → Closes least n v → Closes least n (u ++ v)
+closes_both : (least n : ℕ) (u v : List KindedToken) → Closes least n u → Closes least n v → Closes least n (u ++ v)
 closes_both least n u v h k = record {
   above = above_append least n u v h.above (subst (λ (x : ℕ). TextsAbove least x v) (sym h.closed) k.above);
   closed = depth_append n u v ∙ ap (λ x. depth_after x v) h.closed ∙ k.closed;
@@ -134,10 +134,10 @@ level_after RightParen n h = cc
 level_after Text n h = cc
 level_after _ n h = refl
 
-closes_one : (least n : ℕ) (t : Seen) → is_level t.0 ≡ true → Closes least n (t ∷ [])
+closes_one : (least n : ℕ) (t : KindedToken) → is_level t.0 ≡ true → Closes least n (t ∷ [])
 closes_one least n t h = record { above = (λ e. let f : is_level t.0 ≡ false = ap is_level e in cc, tt); closed = level_after t.0 n h }
 
-closes_in : (least n : ℕ) (l r : Seen) (u : List Seen) → l.0 ≡ LeftParen → r.0 ≡ RightParen → Closes least (n + 1) u → Closes least n (l ∷ (u ++ r ∷ []))
+closes_in : (least n : ℕ) (l r : KindedToken) (u : List KindedToken) → l.0 ≡ LeftParen → r.0 ≡ RightParen → Closes least (n + 1) u → Closes least n (l ∷ (u ++ r ∷ []))
 closes_in least n l r u el er h =
     let opens : open_after n l.0 ≡ n + 1 = ap (open_after n) el in
     let shut : depth_after (n + 1) (r ∷ []) ≡ n = (ap (open_after (n + 1)) er ∙ (let e : n + 1 - 1 ≡ n = omega arith in e)) in
@@ -172,6 +172,6 @@ closes _ _ _ k least n o = absurd k
 pub deep_closes : (m : Nonterminal) → is_deep m ≡ true → (tree : Derivation) → IsTree productions (the m) tree → (least n : ℕ) → least ≤ n → Closes least n (yield tree)
 deep_closes m h tree k least n o = closes false (fits_the {b = false} h) tree k least n o
 
-pub above_rest : (least n : ℕ) (u v : List Seen) → TextsAbove least n (u ++ v) → TextsAbove least (depth_after n u) v
+pub above_rest : (least n : ℕ) (u v : List KindedToken) → TextsAbove least n (u ++ v) → TextsAbove least (depth_after n u) v
 above_rest least n [] v h = h
 above_rest least n (t ∷ u) v h = above_rest least (open_after n t.0) u v h.1

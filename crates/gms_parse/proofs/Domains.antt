@@ -24,9 +24,9 @@ use Rattle.gms_grammar.proofs.Sound.{sound}
 use Rattle.gms_parse.specs.declared.fault.SourceError.TheVariants as source_error
 use Rattle.gms_table.specs.declared.fault.TableError.TheVariants.{NoHeading}
 use Rattle.gms_parse.specs.declared.fault.SourceFaultOrMemory.TheVariants.{Fault}
-use Rattle.gms_parse.specs.Walks.{Seen, Walk, ends_statement, last_kind, table_name, kind_ahead, walk_after, walk_behind, IsFaulty, without_lines}
-use Rattle.gms_parse.specs.Readings.{Derivation, Gives, Refuses, Sense, Has, Starts, Stays, IsNext, IsGot, IsOpened, AnswersDomain, AnswersBehind, ends_head, seen_from, kind_of}
-use Rattle.gms_parse.specs.Meanings.{IsNamed, IsPosition, IsDomain, IsOptionalDomain}
+use Rattle.gms_parse.specs.Walks.{KindedToken, ReaderState, ends_statement, last_kind, table_name, kind_ahead, reader_after, reader_after_all, IsFaulty, without_lines}
+use Rattle.gms_parse.specs.InnerReadings.{Derivation, Gives, Refuses, Sense, Has, Starts, Stays, IsNext, IsGot, IsOpened, AnswersDomain, AnswersBehind, ends_head, seen_from, kind_of}
+use Rattle.gms_parse.specs.InnerMeanings.{IsNamed, IsPosition, IsDomain, IsOptionalDomain}
 use Rattle.gms_parse.proofs.TokenKinds.{leads_alike, same_kind}
 use Rattle.gms_parse.proofs.Alphabet.{AllPass, only, all_pass}
 use Rattle.gms_parse.proofs.Steps.{got_by, gives_the, gives_left, gives_right, gives_none, gives_some, refuses_the, refuses_second, refuses_some, refuses_token, takes_next}
@@ -35,15 +35,15 @@ use Rattle.gms_grammar.proofs.Eithers.{led_given, refuses_other}
 use Rattle.gms_parse.proofs.Listing.{AreAll, all_meant, list_of}
 
 -- `*`
-pub star_got : {limit : ℕ} {reader : Reader} {at : ℕ} {old : Tables} {w : Walk} {t : Token} {behind : ℕ} → Starts reader old w → IsNext (is Star) reader at t behind → IsGot limit (IsPosition reader.source.now) (Stays reader old w) (the DomainPosition) reader at old w None behind
+pub star_got : {limit : ℕ} {reader : Reader} {at : ℕ} {old : Tables} {w : ReaderState} {t : Token} {behind : ℕ} → Starts reader old w → IsNext (is Star) reader at t behind → IsGot limit (IsPosition reader.source.now) (Stays reader old w) (the DomainPosition) reader at old w None behind
 star_got {reader = reader} {w = w} {t = t} {behind = behind} s n = got_by (gives_the DomainPosition (gives_left (led_next n) (gives_exact n refl))) (plain_stays reader w Star t behind refl s.has) (λ sense m. refl) (let g = n.further in omega arith)
 
 -- a set
-pub position_got : {limit : ℕ} {reader : Reader} {at : ℕ} {w : Walk} {new : Tables} {named : Named} {next : ℕ} → leads productions look_ahead (token Star) (seen_from reader at) ≡ false → IsGot limit (IsNamed reader.source.now) (Stays reader new w) name reader at new w named next →
+pub position_got : {limit : ℕ} {reader : Reader} {at : ℕ} {w : ReaderState} {new : Tables} {named : Named} {next : ℕ} → leads productions look_ahead (token Star) (seen_from reader at) ≡ false → IsGot limit (IsNamed reader.source.now) (Stays reader new w) name reader at new w named next →
     IsGot limit (IsPosition reader.source.now) (Stays reader new w) (the DomainPosition) reader at new w (Some named) next
 position_got unled got = got_by (gives_the DomainPosition (gives_right unled (led_given got.gives) got.gives)) got.leaves (λ sense m. ap Some (got.means sense m)) got.further
 
-pub position_refused : {limit : ℕ} {source : List ℕ} {w : Walk} {ts : List Seen} {e : SourceFaultOrMemory} → leads productions look_ahead (token Star) ts ≡ false → Refuses limit source name w ts e → Refuses limit source (the DomainPosition) w ts e
+pub position_refused : {limit : ℕ} {source : List ℕ} {w : ReaderState} {ts : List KindedToken} {e : SourceFaultOrMemory} → leads productions look_ahead (token Star) ts ≡ false → Refuses limit source name w ts e → Refuses limit source (the DomainPosition) w ts e
 position_refused unled r = refuses_the DomainPosition (refuses_other unled r)
 
 -- positions as they are meant
@@ -64,7 +64,7 @@ domains_other : (n : Nonterminal) → (not (is_domain_list n) || only is_domain_
 domains_other Expression = refl
 domains_other _ = refl
 
-pub name_pushed : (x : Seen) (before : List Seen) → is Table (last_kind before) ≡ false → table_name (x ∷ before) ≡ table_name before
+pub name_pushed : (x : KindedToken) (before : List KindedToken) → is Table (last_kind before) ≡ false → table_name (x ∷ before) ≡ table_name before
 name_pushed x [] h = refl
 name_pushed x (y ∷ before) h = ap (λ b. cond b x.1.at (table_name (y ∷ before))) h
 
@@ -73,13 +73,13 @@ not_no true h = cc
 not_no false h = refl
 
 -- other tokens keep the place of a table's name
-pub name_kept : (source : List ℕ) (w : Walk) (u : List Seen) (ahead : Terminal) → AllPass no_table u → is Table (last_kind w.before) ≡ false → table_name (walk_behind source w u ahead).before ≡ table_name w.before
+pub name_kept : (source : List ℕ) (w : ReaderState) (u : List KindedToken) (ahead : Terminal) → AllPass no_table u → is Table (last_kind w.before) ≡ false → table_name (reader_after_all source w u ahead).before ≡ table_name w.before
 name_kept source w [] ahead h k = refl
-name_kept source w (t ∷ u) ahead h k = name_kept source (walk_after source w t (kind_ahead u ahead)) u ahead h.1 (not_no (is Table t.0) h.0) ∙ name_pushed t w.before k
+name_kept source w (t ∷ u) ahead h k = name_kept source (reader_after source w t (kind_ahead u ahead)) u ahead h.1 (not_no (is Table t.0) h.0) ∙ name_pushed t w.before k
 
 -- ---- domains
 
-module _ {reader : Reader} {at start : ℕ} {inner : Reader} {old : Tables} {w : Walk} (o : IsOpened reader at inner start) (h : Has reader old w) where
+module _ {reader : Reader} {at start : ℕ} {inner : Reader} {old : Tables} {w : ReaderState} (o : IsOpened reader at inner start) (h : Has reader old w) where
   -- positions between parentheses
   pub domain_got : {limit : ℕ} {new : Tables} {positions : Vec (Maybe Named) Global} {next behind : ℕ} {t : Token} →
       IsGot limit (AreAll (IsPosition reader.source.now)) (Stays inner new (opened w o)) (list_of (is Comma) (the DomainPosition)) reader start new (opened w o) positions.items next → IsNext (is RightParen) reader next t behind →
@@ -100,15 +100,15 @@ module _ {reader : Reader} {at start : ℕ} {inner : Reader} {old : Tables} {w :
           let ends = right_and (is Table w.keyword) (ends_statement (kind_of (seen_from reader behind))) true_there in
           let kinds = all_pass is_domain_list no_table domains_other (the DomainList) (node got.tree) (sound productions look_ahead listed.reads).0 refl in
           let where_it_is : table_name got.behind.before ≡ table_name w.before =
-          ap (λ (x : Walk). table_name x.before) listed.leaves ∙ name_kept reader.source.now (opened w o) (yield got.tree) (kind_of (seen_from reader next)) kinds refl ∙ name_pushed (LeftParen, o.token) w.before last in
+          ap (λ (x : ReaderState). table_name x.before) listed.leaves ∙ name_kept reader.source.now (opened w o) (yield got.tree) (kind_of (seen_from reader next)) kinds refl ∙ name_pushed (LeftParen, o.token) w.before last in
           refuses_the Domain (refuses_second (gives_open o h) (refuses_second listed
           (refuses_token (takes_next (exact n) refl) (subst (λ (x : Place). IsFaulty limit reader.source.now got.behind (RightParen, t) (kind_of (seen_from reader behind)) (record { error = source_error.Table NoHeading; at = x })) where_it_is (without_lines refl (got.leaves.keyword ∙ sym table) ends)) refl)))
 
 -- a parenthesis leads into a domain
-pub leads_domain : (ts : List Seen) → leads productions look_ahead (the Domain) ts ≡ leads productions look_ahead (token LeftParen) ts
+pub leads_domain : (ts : List KindedToken) → leads productions look_ahead (the Domain) ts ≡ leads productions look_ahead (token LeftParen) ts
 leads_domain ts = leads_alike (the Domain) (token LeftParen) ts refl refl (same_test (may_begin look_ahead (the Domain)) (is LeftParen) refl)
 
-pub no_domain : {limit : ℕ} {reader : Reader} {at : ℕ} {old : Tables} {w : Walk} (positions : Vec (Maybe Named) Global) → positions.items ≡ [] → Has reader old w → leads productions look_ahead (token LeftParen) (seen_from reader at) ≡ false →
+pub no_domain : {limit : ℕ} {reader : Reader} {at : ℕ} {old : Tables} {w : ReaderState} (positions : Vec (Maybe Named) Global) → positions.items ≡ [] → Has reader old w → leads productions look_ahead (token LeftParen) (seen_from reader at) ≡ false →
     IsGot limit (IsOptionalDomain reader.source.now) (Stays reader old w) (opt (the Domain)) reader at old w positions at
 no_domain {reader = reader} {at = at} {w = w} positions is h unled = got_by (gives_none (leads_domain (seen_from reader at) ∙ unled)) (stays_same h) (λ sense m. is) (omega arith)
 

@@ -16,17 +16,17 @@ use Rattle.gms_parse.specs.declared.data.Part.{Part as Position}
 use Rattle.gms_parse.specs.declared.fault.SourceFaultOrMemory.{SourceFaultOrMemory}
 use Rattle.gms_parse.specs.declared.reader.Reader.{Reader}
 use Rattle.gms_parse.specs.declared.reader.Tables.{Tables}
-use Rattle.gms_parse.specs.DataLists.{listed_in, each_in, joined, any_true, labels_in_range, is_bad_range}
-use Rattle.gms_parse.specs.Walks.{Seen, Walk, ends_statement}
-use Rattle.gms_parse.specs.Readings.{Derivation, GamsPart, Refuses, Sense, IsSense, IsGot, Has, Stays, Tableless, IsNext, IsLacking, IsOpened, IsUnopened, seen_from, kind_of}
-use Rattle.gms_parse.specs.Meanings.{IsAdded, IsPart}
+use Rattle.gms_parse.specs.DataLists.{listed_in, each_in, concatenated, any_true, labels_in_range, is_bad_range}
+use Rattle.gms_parse.specs.Walks.{KindedToken, ReaderState, ends_statement}
+use Rattle.gms_parse.specs.InnerReadings.{Derivation, GamsPart, Refuses, Sense, IsSense, IsGot, Has, Stays, Tableless, IsNext, IsLacking, IsOpened, IsUnopened, seen_from, kind_of}
+use Rattle.gms_parse.specs.InnerMeanings.{IsAdded, IsPart}
 use Rattle.gms_parse.proofs.TokenKinds.{unled_next, led_first, leads_alike, same_kind}
 use Rattle.gms_parse.proofs.Steps.{got_by, Within, within_second, within_then, within_again, gives_both, gives_the, gives_left, gives_right, gives_no_more, refuses_the, refuses_second, refuses_right, refuses_again, by_cause, stuck_as, wrong_as}
 use Rattle.gms_parse.proofs.Nexts.{past, exact, opened, leads_next, gives_exact, gives_bracketed, refuses_inside, refuses_unclosed, close_stays, closes_on, plain_stays, stays_then, earlier, got_inside, refuses_unopened}
 
 -- the labels of ranges, and whether one of them is none
 abbrev pub labels_of : List ℕ → Sense → List Derivation → List ℕ
-labels_of source sense ranges = joined (map (labels_in_range source sense.labels) ranges)
+labels_of source sense ranges = concatenated (map (labels_in_range source sense.labels) ranges)
 
 abbrev pub bad_of : List ℕ → Sense → List Derivation → Bool
 bad_of source sense ranges = any_true (map (is_bad_range source sense.labels) ranges)
@@ -38,16 +38,16 @@ abbrev pub other_ranges : Derivation → List Derivation
 other_ranges tree = each_in (λ other. second_in other) tree
 
 -- the ranges added so far to a position
-pub record Gathering (limit : ℕ) (reader : Reader) (start : ℕ) (w : Walk) (new : Tables) (part : Position) (at : ℕ) : Type 0 where
+pub record Gathering (limit : ℕ) (reader : Reader) (start : ℕ) (w : ReaderState) (new : Tables) (part : Position) (at : ℕ) : Type 0 where
   pub context : Derivation → Derivation
-  pub behind : Walk
+  pub behind : ReaderState
   pub within : Within limit reader.source.now (the Range · many (token Comma · the Range)) w (seen_from reader start) (many (token Comma · the Range)) behind (seen_from reader at) context
   pub stays : Stays reader new w behind
   pub labels : (sense : Sense) → IsSense new sense → (b : Derivation) → labels_of reader.source.now sense (first_ranges (context b)) ≡ part.labels.items ++ labels_of reader.source.now sense (other_ranges b)
   pub bad : (sense : Sense) → IsSense new sense → (b : Derivation) → bad_of reader.source.now sense (first_ranges (context b)) ≡ (part.bad_range || bad_of reader.source.now sense (other_ranges b))
   pub further : start ≤ at
 
-module _ {limit : ℕ} {reader : Reader} {start : ℕ} {w : Walk} where
+module _ {limit : ℕ} {reader : Reader} {start : ℕ} {w : ReaderState} where
   pub gathering_start : (was : Position) {new : Tables} {part : Position} {at : ℕ} → was.labels.items ≡ [] → was.bad_range ≡ false → IsGot limit (λ sense tree x. IsAdded reader.source.now sense tree was x) (Stays reader new w) (the Range) reader start new w part at → Gathering limit reader start w new part at
   gathering_start was {part = part} none_yet sound_yet got = record {
     context = λ b. pair got.tree b;
@@ -89,14 +89,14 @@ module _ {limit : ℕ} {reader : Reader} {start : ℕ} {w : Walk} where
 -- ---- positions
 
 -- a label leads into a range
-leads_range : (ts : List Seen) → leads productions look_ahead (the Range) ts ≡ leads productions look_ahead (token Label) ts
+leads_range : (ts : List KindedToken) → leads productions look_ahead (the Range) ts ≡ leads productions look_ahead (token Label) ts
 leads_range ts = leads_alike (the Range) (token Label) ts refl refl (same_test (may_begin look_ahead (the Range)) (is Label) refl)
 
-range_read : {ts rest : List Seen} {tree : Derivation} → Reads productions look_ahead (the Range) ts (read tree rest) → leads productions look_ahead (token Label) ts ≡ true
+range_read : {ts rest : List KindedToken} {tree : Derivation} → Reads productions look_ahead (the Range) ts (read tree rest) → leads productions look_ahead (token Label) ts ≡ true
 range_read (entered (both (taken h) s)) = h
 
 -- a range alone
-pub lone_got : {limit : ℕ} {reader : Reader} {at next : ℕ} {new : Tables} {w : Walk} (was : Position) (part : Position) → was.labels.items ≡ [] → was.bad_range ≡ false → IsGot limit (λ sense tree x. IsAdded reader.source.now sense tree was x) (Stays reader new w) (the Range) reader at new w part next →
+pub lone_got : {limit : ℕ} {reader : Reader} {at next : ℕ} {new : Tables} {w : ReaderState} (was : Position) (part : Position) → was.labels.items ≡ [] → was.bad_range ≡ false → IsGot limit (λ sense tree x. IsAdded reader.source.now sense tree was x) (Stays reader new w) (the Range) reader at new w part next →
     IsGot limit (IsPart reader.source.now) (Stays reader new w) (the ElementPart) reader at new w part next
 lone_got {reader = reader} {at = at} was part none_yet sound_yet got = got_by (gives_the ElementPart (gives_left (leads_range (seen_from reader at) ∙ range_read got.gives.reads) got.gives)) got.leaves
     (λ sense s. (
@@ -106,18 +106,18 @@ lone_got {reader = reader} {at = at} was part none_yet sound_yet got = got_by (g
     got.further
 
 -- it is refused
-pub lone_refused : {limit : ℕ} {source : List ℕ} {w : Walk} {ts : List Seen} {e : SourceFaultOrMemory} → leads productions look_ahead (token LeftParen) ts ≡ false → Refuses limit source (the Range) w ts e → Refuses limit source (the ElementPart) w ts e
+pub lone_refused : {limit : ℕ} {source : List ℕ} {w : ReaderState} {ts : List KindedToken} {e : SourceFaultOrMemory} → leads productions look_ahead (token LeftParen) ts ≡ false → Refuses limit source (the Range) w ts e → Refuses limit source (the ElementPart) w ts e
 lone_refused {ts = ts} unled r = refuses_the ElementPart (by_cause r (λ fault s. stuck_as s (stuck_range (unled_next (is LeftParen) (the RangeList · token RightParen) ts unled) s.reads)) (λ fault s. wrong_as s (takes_left s.takes)))
   where
-    stuck_in : {p : GamsPart} {us front rest : List Seen} → leads productions look_ahead p us ≡ false → Reads productions look_ahead (productions Range) us (stuck front rest) → Reads productions look_ahead (the Range) us (stuck front rest) → Reads productions look_ahead (the Range ∣ p) us (stuck front rest)
+    stuck_in : {p : GamsPart} {us front rest : List KindedToken} → leads productions look_ahead p us ≡ false → Reads productions look_ahead (productions Range) us (stuck front rest) → Reads productions look_ahead (the Range) us (stuck front rest) → Reads productions look_ahead (the Range ∣ p) us (stuck front rest)
     stuck_in {us = us} k (first_stuck (refused h)) r = in_neither (leads_range us ∙ h) k
     stuck_in {us = us} k (second_stuck (taken h) s) r = in_left_stuck (leads_range us ∙ h) r
 
-    stuck_range : {p : GamsPart} {us front rest : List Seen} → leads productions look_ahead p us ≡ false → Reads productions look_ahead (the Range) us (stuck front rest) → Reads productions look_ahead (the Range ∣ p) us (stuck front rest)
+    stuck_range : {p : GamsPart} {us front rest : List KindedToken} → leads productions look_ahead p us ≡ false → Reads productions look_ahead (the Range) us (stuck front rest) → Reads productions look_ahead (the Range ∣ p) us (stuck front rest)
     stuck_range k (entered_stuck r) = stuck_in k r (entered_stuck r)
 
 -- ranges in parentheses
-module _ {reader : Reader} {at start : ℕ} {inner : Reader} {old : Tables} {w : Walk} (o : IsOpened reader at inner start) (h : Has reader old w) where
+module _ {reader : Reader} {at start : ℕ} {inner : Reader} {old : Tables} {w : ReaderState} (o : IsOpened reader at inner start) (h : Has reader old w) where
   led_in : leads productions look_ahead (bracketed (the RangeList)) (seen_from reader at) ≡ true
   led_in = leads_next (the RangeList · token RightParen) o.next
 
@@ -143,10 +143,10 @@ module _ {reader : Reader} {at start : ℕ} {inner : Reader} {old : Tables} {w :
         (gives_the ElementPart (gives_right unled_range led_in (gives_bracketed o h outer_got.leaves (gives_the RangeList outer_got.gives) n (closes_on w.keyword (ends_statement (kind_of (seen_from reader behind))) other))))
         (close_stays o h outer_got.leaves t behind) outer_got.means (let a = o.next.further in let b = outer_got.further in let c = n.further in omega arith)
 
-pub unopened_part : {limit : ℕ} {reader : Reader} {at : ℕ} {old : Tables} {w : Walk} {e : SourceFaultOrMemory} → Has reader old w → IsUnopened reader at e → leads productions look_ahead (token LeftParen) (seen_from reader at) ≡ true → Refuses limit reader.source.now (the ElementPart) w (seen_from reader at) e
+pub unopened_part : {limit : ℕ} {reader : Reader} {at : ℕ} {old : Tables} {w : ReaderState} {e : SourceFaultOrMemory} → Has reader old w → IsUnopened reader at e → leads productions look_ahead (token LeftParen) (seen_from reader at) ≡ true → Refuses limit reader.source.now (the ElementPart) w (seen_from reader at) e
 unopened_part {reader = reader} {at = at} h u led =
     refuses_the ElementPart (refuses_right (no_range_led (seen_from reader at) led) (led_first (is LeftParen) (the RangeList · token RightParen) (seen_from reader at) led) (refuses_unopened (the RangeList) u h.holds))
   where
-    no_range_led : (ts : List Seen) → leads productions look_ahead (token LeftParen) ts ≡ true → leads productions look_ahead (the Range) ts ≡ false
+    no_range_led : (ts : List KindedToken) → leads productions look_ahead (token LeftParen) ts ≡ true → leads productions look_ahead (the Range) ts ≡ false
     no_range_led [] k = cc
     no_range_led (t ∷ ts) k = leads_range (t ∷ ts) ∙ ap (is Label) (sym (same_kind LeftParen t.0 k))

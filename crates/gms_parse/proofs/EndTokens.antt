@@ -7,17 +7,17 @@ use Rattle.std.specs.List.{prefix_len}
 use Rattle.std.specs.Char.{is_ascii_alphabetic, is_ascii_alphanumeric}
 use Rattle.gms_labels.specs.declared.place.Place.{Place}
 use Rattle.gms_lines.specs.Lines.{begins, is_blank, is_line_end, content}
-use Rattle.gms_lexemes.specs.declared.kind.Kind.{Kind}
-use Rattle.gms_lexemes.specs.declared.kind.Kind.TheVariants as kind
-use Rattle.gms_lexemes.specs.declared.kind.Sym.{Sym}
-use Rattle.gms_lexemes.specs.declared.lexeme.Piece.{Piece}
-use Rattle.gms_lexemes.specs.declared.lexeme.Piece.TheVariants as piece
-use Rattle.gms_lexemes.specs.declared.lexeme.Lexeme.{Lexeme}
-use Rattle.gms_lexemes.specs.Bytes.{is_quote, is_plain, is_name_byte, is_label_byte, is_text_byte}
-use Rattle.gms_lexemes.specs.Numbers.{begins_number}
-use Rattle.gms_lexemes.specs.Symbols.{symbol_at}
-use Rattle.gms_lexemes.specs.Shapes.{Read, longest_label, symbol_of, symbol, quoted_length, is_closed, is_label, quoted, code_token, label_token, remark}
-use Rattle.gms_lexemes.specs.TableLines.{table_bytes}
+use Rattle.gms_lines.specs.declared.kind.Kind.{Kind}
+use Rattle.gms_lines.specs.declared.kind.Kind.TheVariants as kind
+use Rattle.gms_lines.specs.declared.kind.Sym.{Sym}
+use Rattle.gms_lines.specs.declared.lexeme.Piece.{Piece}
+use Rattle.gms_lines.specs.declared.lexeme.Piece.TheVariants as piece
+use Rattle.gms_lines.specs.declared.lexeme.Lexeme.{Lexeme}
+use Rattle.gms_lines.specs.Bytes.{is_quote, is_ascii, is_name_byte, is_label_byte, is_text_byte}
+use Rattle.gms_lines.specs.Numbers.{begins_number}
+use Rattle.gms_lines.specs.Symbols.{longest_symbol}
+use Rattle.gms_lines.specs.Shapes.{Read, longest_label, symbol_read, symbol, quoted_length, is_closed, is_label, quoted, code_token, label_token, remark}
+use Rattle.gms_lines.specs.TableLines.{table_bytes}
 use Rattle.gms_lex.specs.declared.keyword.Shape.{Shape}
 use Rattle.gms_lex.specs.declared.keyword.Shape.TheVariants.{Set, Parameter, Scalar, Model}
 use Rattle.gms_lex.specs.declared.mode.Stage.{Stage}
@@ -29,8 +29,8 @@ use Rattle.gms_lex.specs.declared.mode.LineEnds.TheVariants.{Skipped, EndItem, E
 use Rattle.gms_lex.specs.declared.token.Token.{Token}
 use Rattle.gms_lex.specs.Keywords.{begins_statement}
 use Rattle.gms_lex.specs.Modes.{mode_after}
-use Rattle.gms_lex.specs.Places.{place_of}
-use Rattle.gms_lex.specs.Pieces.{passes, ends_or_begins, space_length, line_ends, line_end, is_item_mark, is_element_mark, behind_name, behind_domain, begins_value_dot, element_tail, behind_label, in_list, token_at, table_piece, plain_piece, piece_at}
+use Rattle.gms_lex.specs.Places.{place_of_byte}
+use Rattle.gms_lex.specs.Pieces.{passes, ends_or_begins, space_length, line_ends, line_end, is_item_mark, is_element_mark, behind_name, behind_domain, begins_value_dot, element_tail, behind_label, in_list, token_read, table_piece, plain_piece, piece_at}
 use Rattle.gms_lex.specs.TokenTexts.{token_text}
 use Rattle.gms_lex.specs.Tokens.{IsMadeOf, tokens_of, end_token, IsTokens, token_at as token_of_piece}
 use Rattle.gms_grammar.specs.declared.terminal.Terminal.{Terminal}
@@ -39,9 +39,9 @@ use Rattle.gms_grammar.specs.Grammar.{the, yield, IsTree, Begins}
 use Rattle.gms_grammar.specs.Terminals.{is}
 use Rattle.gms_grammar.specs.GamsGrammar.{Nonterminal, Expression, Program, productions}
 use Rattle.gms_expressions.specs.Words.{terminal_of}
-use Rattle.gms_expressions.specs.Outcomes.{seen}
-use Rattle.gms_parse.specs.Walks.{Seen}
-use Rattle.gms_parse.specs.Readings.{Derivation, kind_of}
+use Rattle.gms_expressions.specs.Outcomes.{kinded_tokens}
+use Rattle.gms_parse.specs.Walks.{KindedToken}
+use Rattle.gms_parse.specs.InnerReadings.{Derivation, kind_of}
 use Rattle.gms_parse.proofs.Alphabet.{AllPass, pass_front, only, all_pass}
 use Rattle.gms_parse.proofs.Spelled.{lone_as}
 use Rattle.gms_parse.proofs.TokenKinds.{same_kind}
@@ -65,15 +65,15 @@ quoted_goes : (p : Piece) (text : List ℕ) → is_end_piece p ≡ false → Goe
 quoted_goes p [] h = tt
 quoted_goes p (mark ∷ text) h =
     let inner = quoted_length mark text in
-    let plain = prefix_len is_plain (take inner text) in
+    let plain = prefix_len is_ascii (take inner text) in
     either_goes (not (is_closed mark text)) _ _ tt (either_goes (is_label p && nat_lt longest_label inner) _ _ tt (either_goes (nat_lt plain inner) _ _ tt h))
 
-symbol_of_goes : (found : Option (ℕ × Sym)) → Goes (symbol_of found)
+symbol_of_goes : (found : Option (ℕ × Sym)) → Goes (symbol_read found)
 symbol_of_goes None = tt
 symbol_of_goes (Some s) = refl
 
 symbol_goes : (text : List ℕ) → Goes (symbol text)
-symbol_goes text = symbol_of_goes (symbol_at text)
+symbol_goes text = symbol_of_goes (longest_symbol text)
 
 code_goes : (k : Kind) (text : List ℕ) → is_end_piece (piece.Token k) ≡ false → Goes (code_token k text)
 code_goes k text h =
@@ -115,7 +115,7 @@ behind_name_goes text = either_goes (begins (λ b. b == 40 || is_item_mark b) te
 behind_domain_goes : (text : List ℕ) → Goes (behind_domain text)
 behind_domain_goes text = either_goes (begins is_item_mark text) _ _ (symbol_goes text) (remark_goes text)
 
-token_goes : (current : Mode) (text : List ℕ) → Goes (token_at current text)
+token_goes : (current : Mode) (text : List ℕ) → Goes (token_read current text)
 token_goes (Named s) text = behind_name_goes text
 token_goes TableNamed text = behind_name_goes text
 token_goes (Bare s) text = behind_domain_goes text
@@ -134,7 +134,7 @@ table_goes text =
     let bytes = table_bytes (content text) in
     either_goes (is_line_end text) _ _ refl
     (either_goes (nat_lt 0 blanks && (nat_le bytes blanks || begins_statement (drop blanks text))) _ _ refl
-    (either_goes (bytes == 0 || begins_statement text) _ _ (code_goes kind.Text text refl) (either_goes (nat_lt (prefix_len is_plain (take bytes text)) bytes) _ _ tt refl)))
+    (either_goes (bytes == 0 || begins_statement text) _ _ (code_goes kind.Text text refl) (either_goes (nat_lt (prefix_len is_ascii (take bytes text)) bytes) _ _ tt refl)))
 
 -- no piece of a text is an end
 piece_goes : (current : Mode) (text : List ℕ) → Goes (piece_at current text)
@@ -153,30 +153,30 @@ kind_other k text h = ap not (not_true (is End (terminal_of k text)) (λ e.
     let not_end : is_end_piece (piece.Token kind.End) ≡ false = sym (ap (λ (x : Kind). is_end_piece (piece.Token x)) end) ∙ h in
     cc))
 
-front_other : (source : List ℕ) (at : Place) (p : Piece) (from to : ℕ) (others : List Token) → is_end_piece p ≡ false → AllPass is_other (seen source others) → AllPass is_other (seen source (token_of_piece at p from to ++ others))
+front_other : (source : List ℕ) (at : Place) (p : Piece) (from to : ℕ) (others : List Token) → is_end_piece p ≡ false → AllPass is_other (kinded_tokens source others) → AllPass is_other (kinded_tokens source (token_of_piece at p from to ++ others))
 front_other source at (piece.Token k) from to others h rest = (kind_other k (token_text source (record { kind = k; start = from; end = to; at = at })) h, rest)
 front_other source at piece.Gap from to others h rest = rest
 front_other source at piece.LineEnd from to others h rest = rest
 front_other source at piece.Remark from to others h rest = rest
 
-tokens_other : (source : List ℕ) (from : ℕ) (current : Mode) (text : List ℕ) (pieces : List Lexeme) (last : Mode) → IsMadeOf current text pieces last [] → AllPass is_other (seen source (tokens_of source from pieces))
+tokens_other : (source : List ℕ) (from : ℕ) (current : Mode) (text : List ℕ) (pieces : List Lexeme) (last : Mode) → IsMadeOf current text pieces last [] → AllPass is_other (kinded_tokens source (tokens_of source from pieces))
 tokens_other source from current text [] last made = tt
 tokens_other source from current text (p ∷ pieces) last made =
-    front_other source (place_of source from) p.piece from (from + p.length) (tokens_of source (from + p.length) pieces) (subst (λ (x : Read). Goes x) made.0 (piece_goes current text))
+    front_other source (place_of_byte source from) p.piece from (from + p.length) (tokens_of source (from + p.length) pieces) (subst (λ (x : Read). Goes x) made.0 (piece_goes current text))
     (tokens_other source (from + p.length) (mode_after current p.piece (take p.length text)) (drop p.length text) pieces last made.1)
 
 -- the last of the tokens is the end, and no other is
-pub record HasEnd (ts : List Seen) : Type 0 where
-  pub before : List Seen
+pub record HasEnd (ts : List KindedToken) : Type 0 where
+  pub before : List KindedToken
   pub end : Token
   pub parts : ts ≡ before ++ (End, end) ∷ []
   pub others : AllPass is_other before
 
-pub has_end : (source : List ℕ) (tokens : List Token) → IsTokens source tokens → HasEnd (seen source tokens)
+pub has_end : (source : List ℕ) (tokens : List Token) → IsTokens source tokens → HasEnd (kinded_tokens source tokens)
 has_end source tokens h = record {
-  before = seen source (tokens_of source 0 h.has.pieces);
+  before = kinded_tokens source (tokens_of source 0 h.has.pieces);
   end = end_token source;
-  parts = ap (seen source) h.has.tokens_are ∙ map_push (λ (token : Token). (terminal_of token.kind (token_text source token), token)) (tokens_of source 0 h.has.pieces) (end_token source);
+  parts = ap (kinded_tokens source) h.has.tokens_are ∙ map_push (λ (token : Token). (terminal_of token.kind (token_text source token), token)) (tokens_of source 0 h.has.pieces) (end_token source);
   others = tokens_other source 0 Code _ h.has.pieces h.has.last h.has.made;
 }
 
@@ -190,14 +190,14 @@ each_known _ = refl
 tree_other : (tree : Derivation) → IsTree productions (the Program) tree → AllPass is_other (yield tree)
 tree_other tree k = all_pass (λ n. true) is_other each_known (the Program) tree k refl
 
-pub begins_other : (front : List Seen) → Begins productions (the Program) front → AllPass is_other front
-begins_other front b = pass_front is_other front b.further (subst (λ (u : List Seen). AllPass is_other u) b.derives.yields (tree_other b.derives.tree b.derives.is_tree))
+pub begins_other : (front : List KindedToken) → Begins productions (the Program) front → AllPass is_other front
+begins_other front b = pass_front is_other front b.further (subst (λ (u : List KindedToken). AllPass is_other u) b.derives.yields (tree_other b.derives.tree b.derives.is_tree))
 
-ends_at_once : (u v rest : List Seen) (end : Token) → u ++ (End, end) ∷ [] ≡ v ++ rest → AllPass is_other u → AllPass is_other v → kind_of rest ≡ End → rest ≡ (End, end) ∷ []
+ends_at_once : (u v rest : List KindedToken) (end : Token) → u ++ (End, end) ∷ [] ≡ v ++ rest → AllPass is_other u → AllPass is_other v → kind_of rest ≡ End → rest ≡ (End, end) ∷ []
 ends_at_once [] [] rest end e h k is_end = sym e
 ends_at_once [] (y ∷ v) rest end e h k is_end =
     let same : y ≡ (End, end) = cc in
-    let no : is_other End ≡ true = sym (ap (λ (x : Seen). is_other x.0) same) ∙ k.0 in
+    let no : is_other End ≡ true = sym (ap (λ (x : KindedToken). is_other x.0) same) ∙ k.0 in
     cc
 ends_at_once (x ∷ u) [] rest end e h k is_end =
     let same : x.0 ≡ End = ap kind_of e ∙ is_end in
@@ -208,5 +208,5 @@ ends_at_once (x ∷ u) (y ∷ v) rest end e h k is_end =
     ends_at_once u v rest end tails h.1 k.1 is_end
 
 -- after the tokens of a program, there is only the end
-pub end_alone : {ts : List Seen} → (h : HasEnd ts) (tree : Derivation) (rest : List Seen) → IsTree productions (the Program) tree → ts ≡ yield tree ++ rest → kind_of rest ≡ End → rest ≡ (End, h.end) ∷ []
+pub end_alone : {ts : List KindedToken} → (h : HasEnd ts) (tree : Derivation) (rest : List KindedToken) → IsTree productions (the Program) tree → ts ≡ yield tree ++ rest → kind_of rest ≡ End → rest ≡ (End, h.end) ∷ []
 end_alone h tree rest k e is_end = ends_at_once h.before (yield tree) rest h.end (sym h.parts ∙ e) h.others (tree_other tree k) is_end

@@ -13,12 +13,12 @@ use Rattle.gms_grammar.specs.GamsLookAhead.{look_ahead}
 use Rattle.gms_grammar.specs.Terminals.{is}
 use Rattle.gms_expressions.specs.Words.{terminal_of}
 use Rattle.gms_parse.specs.declared.reader.Reader.{Reader}
-use Rattle.gms_parse.specs.Walks.{Seen}
-use Rattle.gms_parse.specs.Readings.{GamsPart, IsReady, IsNext, seen_from}
+use Rattle.gms_parse.specs.Walks.{KindedToken}
+use Rattle.gms_parse.specs.InnerReadings.{GamsPart, IsReady, IsNext, seen_from}
 use Rattle.gms_parse.proofs.TokenKinds.{same_kind}
 
 -- a token as the grammar sees it
-abbrev pub seen_token : Reader → Token → Seen
+abbrev pub seen_token : Reader → Token → KindedToken
 seen_token reader t = (terminal_of t.kind (token_text reader.source.now t), t)
 
 pub length_seen : (reader : Reader) (at : ℕ) → length (seen_from reader at) ≡ length reader.tokens.now - at
@@ -40,14 +40,14 @@ module _ {reader : Reader} {test : Terminal → Bool} {at behind : ℕ} {t : Tok
 
   one_left : (us : List Token) → map (seen_token reader) us ≡ (n.kind, t) ∷ [] → us ≡ t ∷ []
   one_left [] e = cc
-  one_left (u ∷ []) e = let p : seen_token reader u ≡ (n.kind, t) = cc in ap (λ (x : Seen). x.1 ∷ []) p
+  one_left (u ∷ []) e = let p : seen_token reader u ≡ (n.kind, t) = cc in ap (λ (x : KindedToken). x.1 ∷ []) p
   one_left (u ∷ (v ∷ us)) e = cc
 
   -- after a token other than the end there is another token
   pub more_behind : is End n.kind ≡ false → behind < length reader.tokens.now
   more_behind other = go (seen_from reader behind) refl
     where
-      go : (rest : List Seen) → seen_from reader behind ≡ rest → behind < length reader.tokens.now
+      go : (rest : List KindedToken) → seen_from reader behind ≡ rest → behind < length reader.tokens.now
       go [] e =
           let last = alone (one_left (drop at reader.tokens.now) (n.is ∙ ap (λ u. (n.kind, t) ∷ u) e)) in
           let yes : is End n.kind ≡ true = ap (is End) last in
@@ -62,6 +62,6 @@ behind_within kind ready n other = more_behind ready n (ap (is End) (sym (same_k
 pub led_within : (part : GamsPart) (reader : Reader) (at : ℕ) → leads productions look_ahead part (seen_from reader at) ≡ true → at < length reader.tokens.now
 led_within part reader at led = go (seen_from reader at) refl
   where
-    go : (ts : List Seen) → seen_from reader at ≡ ts → at < length reader.tokens.now
+    go : (ts : List KindedToken) → seen_from reader at ≡ ts → at < length reader.tokens.now
     go [] e = let no_token : leads productions look_ahead part (seen_from reader at) ≡ false = ap (leads productions look_ahead part) e in cc
     go (x ∷ ts) e = let l = sym (length_seen reader at) ∙ ap length e in omega (arith, l)

@@ -12,14 +12,14 @@ use Rattle.gms_expressions.specs.declared.fault.SyntaxFaultOrMemory.TheVariants 
 use Rattle.gms_expressions.specs.Outcomes as inner
 use Rattle.gms_expressions.specs.Words.{terminal_of}
 use Rattle.gms_lex.specs.TokenTexts.{token_text}
-use Rattle.gms_expressions.specs.Calls.{walk_from, IsRead, IsRefusal}
+use Rattle.gms_expressions.specs.Calls.{walk_from, IsRead, IsSyntaxRefusal}
 use Rattle.gms_parse.specs.declared.fault.SourceFaultOrMemory.TheVariants as answer
 use Rattle.gms_parse.specs.declared.fault.SourceFault.{SourceFault}
 use Rattle.gms_parse.specs.declared.reader.Reader.{Reader}
 use Rattle.gms_parse.specs.declared.reader.Tables.{Tables}
 use Rattle.gms_parse.specs.Faults.{fault_of_syntax, source_fault}
-use Rattle.gms_parse.specs.Walks.{Seen, Walk, walk_after, walk_behind, kind_ahead, IsFaulty}
-use Rattle.gms_parse.specs.Readings.{Derivation, Sense, Starts, StaysOpen, Tableless, IsGot, IsStuck, IsWrong, Refuses, seen_from, kind_of}
+use Rattle.gms_parse.specs.Walks.{KindedToken, ReaderState, reader_after, reader_after_all, kind_ahead, IsFaulty}
+use Rattle.gms_parse.specs.InnerReadings.{Derivation, Sense, Starts, StaysOpen, Tableless, IsGot, IsStuck, IsWrong, Refuses, seen_from, kind_of}
 use Rattle.gms_parse.proofs.Steps.{refuses_memory}
 use Rattle.gms_parse.proofs.Alphabet.{AllPass, pass_front, pass_rest, only, all_pass}
 use Rattle.gms_parse.proofs.Depths.{TextsAbove, depth_after, above_front, above_rest, is_deep, is_shallow, deep_closes}
@@ -33,15 +33,15 @@ formulas_inner : (n : Nonterminal) → (not (is_formula n) || only is_formula is
 formulas_inner Expression = refl
 formulas_inner _ = refl
 
-open_behind : (source : List ℕ) (w : Walk) (u : List Seen) (ahead : Terminal) → (walk_behind source w u ahead).open_count ≡ depth_after w.open_count u
+open_behind : (source : List ℕ) (w : ReaderState) (u : List KindedToken) (ahead : Terminal) → (reader_after_all source w u ahead).open_count ≡ depth_after w.open_count u
 open_behind source w [] ahead = refl
-open_behind source w (t ∷ u) ahead = open_behind source (walk_after source w t (kind_ahead u ahead)) u ahead
+open_behind source w (t ∷ u) ahead = open_behind source (reader_after source w t (kind_ahead u ahead)) u ahead
 
 -- the state that the other crate begins with
-abbrev before : Reader → Tables → inner.Walk
+abbrev before : Reader → Tables → inner.ExpressionState
 before reader old = walk_from reader.unclosed old.names old.labels
 
-begin : {reader : Reader} {old : Tables} {w : Walk} → Starts reader old w → Tableless w → Agrees w (before reader old)
+begin : {reader : Reader} {old : Tables} {w : ReaderState} → Starts reader old w → Tableless w → Agrees w (before reader old)
 begin s other = record {
   open_count = s.has.holds.open_count;
   names = s.has.holds.names;
@@ -51,7 +51,7 @@ begin s other = record {
   tableless = other;
 }
 
-module _ {reader : Reader} {old : Tables} {w : Walk} (n : Nonterminal) (formula : is_deep n ≡ true) (s : Starts reader old w) (other : Tableless w) where
+module _ {reader : Reader} {old : Tables} {w : ReaderState} (n : Nonterminal) (formula : is_deep n ≡ true) (s : Starts reader old w) (other : Tableless w) where
   -- the tokens of a tree are those of expressions
   inner_tokens : (tree : Derivation) → IsTree productions (the n) tree → AllPass is_inner (yield tree)
   inner_tokens tree k = all_pass is_formula is_inner formulas_inner (the n) tree k (ap (λ b. b || is_shallow n) formula)
@@ -67,15 +67,15 @@ module _ {reader : Reader} {old : Tables} {w : Walk} (n : Nonterminal) (formula 
       let p = r.is_part in
       let g : Agreed limit reader.source.now w (before reader old) (yield r.tree) (kind_of (seen_from reader next)) = agree limit reader.source.now w (before reader old) (yield r.tree) (kind_of (seen_from reader next)) (inner_tokens r.tree p.is_tree) (above_tokens r.tree p.is_tree) (begin s other) p.are_sound in
       let a = g.agrees in
-      let names : (walk_behind reader.source.now w (yield r.tree) (kind_of (seen_from reader next))).names ≡ new.names = a.names ∙ ap (λ (y : inner.Walk). y.names) (sym p.leaves) in
-      let labels : (walk_behind reader.source.now w (yield r.tree) (kind_of (seen_from reader next))).labels ≡ new.labels = a.labels ∙ ap (λ (y : inner.Walk). y.labels) (sym p.leaves) in
-      let opened : (walk_behind reader.source.now w (yield r.tree) (kind_of (seen_from reader next))).open_count ≡ reader.unclosed = a.open_count ∙ ap (λ (y : inner.Walk). y.open_count) (sym p.leaves) in
+      let names : (reader_after_all reader.source.now w (yield r.tree) (kind_of (seen_from reader next))).names ≡ new.names = a.names ∙ ap (λ (y : inner.ExpressionState). y.names) (sym p.leaves) in
+      let labels : (reader_after_all reader.source.now w (yield r.tree) (kind_of (seen_from reader next))).labels ≡ new.labels = a.labels ∙ ap (λ (y : inner.ExpressionState). y.labels) (sym p.leaves) in
+      let opened : (reader_after_all reader.source.now w (yield r.tree) (kind_of (seen_from reader next))).open_count ≡ reader.unclosed = a.open_count ∙ ap (λ (y : inner.ExpressionState). y.open_count) (sym p.leaves) in
       let lower = s.has.level in
       let same = s.has.holds.open_count in
       let level = g.level in
       record {
         tree = r.tree;
-        behind = walk_behind reader.source.now w (yield r.tree) (kind_of (seen_from reader next));
+        behind = reader_after_all reader.source.now w (yield r.tree) (kind_of (seen_from reader next));
         gives = record { reads = reads_of n (seen_from reader at) (seen_from reader next) r.tree p.is_tree p.stops; are_sound = g.sound; leaves = refl };
         leaves = record {
           stays = record {
@@ -86,25 +86,25 @@ module _ {reader : Reader} {old : Tables} {w : Walk} (n : Nonterminal) (formula 
             keyword = g.keyword;
             level = g.level;
           };
-          undotted = a.dotted ∙ ap (λ (y : inner.Walk). y.dotted) (sym p.leaves);
+          undotted = a.dotted ∙ ap (λ (y : inner.ExpressionState). y.dotted) (sym p.leaves);
         };
         means = λ sense k. says sense r.tree p.is_tree (r.means sense.names sense.labels k.names k.labels);
         further = ahead_of reader at next (yield r.tree) within p.stops.parts;
       }
     where
-      ahead_of : (reader : Reader) (at next : ℕ) (front : List Seen) → at < length reader.tokens.now → seen_from reader at ≡ front ++ seen_from reader next → at ≤ next
+      ahead_of : (reader : Reader) (at next : ℕ) (front : List KindedToken) → at < length reader.tokens.now → seen_from reader at ≡ front ++ seen_from reader next → at ≤ next
       ahead_of reader at next front within e =
-          let seen_token : Token → Seen = (λ t. (terminal_of t.kind (token_text reader.source.now t), t)) in
+          let seen_token : Token → KindedToken = (λ t. (terminal_of t.kind (token_text reader.source.now t), t)) in
           let l : length reader.tokens.now - at ≡ length front + (length reader.tokens.now - next) =
           sym (length-drop at reader.tokens.now) ∙ sym (length-map (drop at reader.tokens.now) seen_token) ∙ ap length e ∙ length-append front (seen_from reader next) ∙ ap (λ m. length front + m) (length-map (drop next reader.tokens.now) seen_token ∙ length-drop next reader.tokens.now) in
           omega (arith, l, within)
 
   -- a part that was refused
-  pub formula_refused : {limit : ℕ} (at : ℕ) (e : SyntaxFaultOrMemory) → IsRefusal limit reader.source.now n (walk_from reader.unclosed old.names old.labels) (seen_from reader at) e → Refuses limit reader.source.now (the n) w (seen_from reader at) (fault_of_syntax e)
+  pub formula_refused : {limit : ℕ} (at : ℕ) (e : SyntaxFaultOrMemory) → IsSyntaxRefusal limit reader.source.now n (walk_from reader.unclosed old.names old.labels) (seen_from reader at) e → Refuses limit reader.source.now (the n) w (seen_from reader at) (fault_of_syntax e)
   formula_refused at syntax.Memory r = refuses_memory refl
   formula_refused {limit} at (syntax.Fault found) r = record { why = λ fault same. elim r.cause [ inl c ↦ inr (wrong fault (told fault same) c) | inr c ↦ inl (stopped fault (told fault same) c) ] }
     where
-      ts : List Seen
+      ts : List KindedToken
       ts = seen_from reader at
 
       source : List ℕ
@@ -114,15 +114,15 @@ module _ {reader : Reader} {old : Tables} {w : Walk} (n : Nonterminal) (formula 
       whole = r.stops.begins.derives.tree
 
       inner_front : AllPass is_inner r.front
-      inner_front = pass_front is_inner r.front r.stops.begins.further (subst (λ (u : List Seen). AllPass is_inner u) r.stops.begins.derives.yields (inner_tokens whole r.stops.begins.derives.is_tree))
+      inner_front = pass_front is_inner r.front r.stops.begins.further (subst (λ (u : List KindedToken). AllPass is_inner u) r.stops.begins.derives.yields (inner_tokens whole r.stops.begins.derives.is_tree))
 
       above_all : TextsAbove w.level w.open_count r.front
-      above_all = above_front w.level w.open_count r.front r.stops.begins.further (subst (λ (u : List Seen). TextsAbove w.level w.open_count u) r.stops.begins.derives.yields (above_tokens whole r.stops.begins.derives.is_tree))
+      above_all = above_front w.level w.open_count r.front r.stops.begins.further (subst (λ (u : List KindedToken). TextsAbove w.level w.open_count u) r.stops.begins.derives.yields (above_tokens whole r.stops.begins.derives.is_tree))
 
       told : (fault : SourceFault) → fault_of_syntax (syntax.Fault found) ≡ answer.Fault fault → source_fault found ≡ fault
       told fault same = cc
 
-      stopped : (fault : SourceFault) → source_fault found ≡ fault → rules.IsUnexpected inner.syntax_rule (limit, source) (Derives productions (the n) r.front → ⊥) (before reader old) r.front r.rest found → IsStuck limit source (the n) w ts fault
+      stopped : (fault : SourceFault) → source_fault found ≡ fault → rules.IsUnexpectedByRule inner.syntax_rule (limit, source) (Derives productions (the n) r.front → ⊥) (before reader old) r.front r.rest found → IsStuck limit source (the n) w ts fault
       stopped fault is c = record {
         front = r.front;
         rest = r.rest;
@@ -133,8 +133,8 @@ module _ {reader : Reader} {old : Tables} {w : Walk} (n : Nonterminal) (formula 
 
       wrong : (fault : SourceFault) → source_fault found ≡ fault → rules.IsFirstFaulty inner.syntax_rule (limit, source) (before reader old) r.front (kind_of r.rest) found → IsWrong limit source (the n) w ts fault
       wrong fault is c =
-          let inner_all = subst (λ (u : List Seen). AllPass is_inner u) c.parts inner_front in
-          let above = subst (λ (u : List Seen). TextsAbove w.level w.open_count u) c.parts above_all in
+          let inner_all = subst (λ (u : List KindedToken). AllPass is_inner u) c.parts inner_front in
+          let above = subst (λ (u : List KindedToken). TextsAbove w.level w.open_count u) c.parts above_all in
           let g : Agreed limit source w (before reader old) c.before c.token.0 = agree limit source w (before reader old) c.before c.token.0 (pass_front is_inner c.before (c.token ∷ c.behind) inner_all) (above_front w.level w.open_count c.before (c.token ∷ c.behind) above) (begin s other) c.are_sound in
           let deep_here = above_rest w.level w.open_count c.before (c.token ∷ c.behind) above in
           let level = g.level in
@@ -145,7 +145,7 @@ module _ {reader : Reader} {old : Tables} {w : Walk} (n : Nonterminal) (formula 
             behind = c.behind ++ r.rest;
             takes = takes_of n ts r.front r.rest r.stops c.before c.token c.behind c.parts;
             are_sound = g.sound;
-            is_faulty = subst (λ (x : SourceFault). IsFaulty limit source (walk_behind source w c.before c.token.0) c.token (kind_of (c.behind ++ r.rest)) x) is
-                (fault_outside limit source (walk_behind source w c.before c.token.0) (inner.walk_behind source (before reader old) c.before c.token.0) c.token (kind_of (c.behind ++ r.rest)) (pass_rest is_inner c.before (c.token ∷ c.behind) inner_all).0
+            is_faulty = subst (λ (x : SourceFault). IsFaulty limit source (reader_after_all source w c.before c.token.0) c.token (kind_of (c.behind ++ r.rest)) x) is
+                (fault_outside limit source (reader_after_all source w c.before c.token.0) (inner.state_after_tokens source (before reader old) c.before c.token.0) c.token (kind_of (c.behind ++ r.rest)) (pass_rest is_inner c.before (c.token ∷ c.behind) inner_all).0
                 (λ text. let l = deep_here.0 text in omega (arith, l, level, count)) g.agrees found c.is_faulty);
           }

@@ -9,7 +9,7 @@ use Rattle.gms_ast.specs.StatementTrees.{Target as TargetTree}
 use Rattle.gms_grammar.specs.declared.terminal.Terminal.TheVariants.{Name, Suffix as SuffixWord, Text, Comma, LeftParen, RightParen, Equals, DotDot}
 use Rattle.gms_grammar.specs.Grammar.{the, ◌·◌, ◌∣◌, opt, many, leaf, pair, left, right, none, some, more, node, yield}
 use Rattle.gms_grammar.specs.Reading.{read, stuck, leads, Reads, Takes, taken, refused, entered, entered_stuck, both, first_stuck, second_stuck, in_left, in_left_stuck, in_right, in_right_stuck, in_neither, left_out, there, there_stuck, no_more, again, again_stuck, later_stuck, takes_one, takes_the, takes_first, takes_second, takes_left, takes_right, takes_opt, takes_many, takes_later}
-use Rattle.gms_grammar.specs.Terminals.{is, is_among}
+use Rattle.gms_grammar.specs.Terminals.{is, is_terminal_among}
 use Rattle.gms_grammar.specs.GamsGrammar.{Nonterminal, Expression, Condition, Target, Attribute, IndexList, Index, Lag, NamedStatement, AfterName, HeadIndices, AfterHeadName, AfterHeadIndex, AfterLag, AfterHead, AfterTarget, Sides, productions, token, name, bracketed}
 use Rattle.gms_grammar.specs.GamsLookAhead.{look_ahead}
 use Rattle.gms_grammar.proofs.Basics.{and_first, both_ways, end_nil}
@@ -17,23 +17,23 @@ use Rattle.gms_lex.specs.TokenTexts.{token_text}
 use Rattle.gms_expressions.specs.ExpressionTrees.{is_word, suffix_of, suffix_in, token_of, index, more_indices}
 use Rattle.gms_expressions.proofs.TokenKinds.{same_test}
 use Rattle.gms_parse.specs.Statements.{target_at, target_in, head_indices, act_of_head, after_head, after_target, named_act}
-use Rattle.gms_parse.specs.Walks.{Seen}
-use Rattle.gms_parse.specs.Readings.{Derivation, GamsPart, Sense}
-use Rattle.gms_parse.specs.Meanings.{has_lag, is_unsuffixed, is_plain_target}
+use Rattle.gms_parse.specs.Walks.{KindedToken}
+use Rattle.gms_parse.specs.InnerReadings.{Derivation, GamsPart, Sense}
+use Rattle.gms_parse.specs.InnerMeanings.{has_lag, is_unsuffixed, is_plain_target}
 use Rattle.gms_parse.proofs.TokenKinds.{leads_alike, unled_less, led_more, unled_next, led_first, unled_either}
 
 -- ---- a part that continues with another after some tokens
 
-pub record Leading (part : GamsPart) (ts front : List Seen) (inner : GamsPart) (rest : List Seen) (context : Derivation → Derivation) : Type 0 where
-  pub reads : (a : Derivation) (behind : List Seen) → Reads productions look_ahead inner rest (read a behind) → Reads productions look_ahead part ts (read (context a) behind)
+pub record Leading (part : GamsPart) (ts front : List KindedToken) (inner : GamsPart) (rest : List KindedToken) (context : Derivation → Derivation) : Type 0 where
+  pub reads : (a : Derivation) (behind : List KindedToken) → Reads productions look_ahead inner rest (read a behind) → Reads productions look_ahead part ts (read (context a) behind)
   pub yields : (a : Derivation) → yield (context a) ≡ front ++ yield a
-  pub sticks : (u behind : List Seen) → Reads productions look_ahead inner rest (stuck u behind) → Reads productions look_ahead part ts (stuck (front ++ u) behind)
-  pub takes : (u behind : List Seen) → Takes productions look_ahead inner rest u behind → Takes productions look_ahead part ts (front ++ u) behind
+  pub sticks : (u behind : List KindedToken) → Reads productions look_ahead inner rest (stuck u behind) → Reads productions look_ahead part ts (stuck (front ++ u) behind)
+  pub takes : (u behind : List KindedToken) → Takes productions look_ahead inner rest u behind → Takes productions look_ahead part ts (front ++ u) behind
 
-lead_here : {p : GamsPart} {ts : List Seen} → Leading p ts [] p ts (λ a. a)
+lead_here : {p : GamsPart} {ts : List KindedToken} → Leading p ts [] p ts (λ a. a)
 lead_here = record { reads = λ a behind r. r; yields = λ a. refl; sticks = λ u behind r. r; takes = λ u behind t. t }
 
-lead_the : (n : Nonterminal) {inner : GamsPart} {ts front rest : List Seen} {c : Derivation → Derivation} → Leading (productions n) ts front inner rest c → Leading (the n) ts front inner rest (λ a. node (c a))
+lead_the : (n : Nonterminal) {inner : GamsPart} {ts front rest : List KindedToken} {c : Derivation → Derivation} → Leading (productions n) ts front inner rest c → Leading (the n) ts front inner rest (λ a. node (c a))
 lead_the n l = record {
   reads = λ a behind r. entered (l.reads a behind r);
   yields = λ a. l.yields a;
@@ -41,7 +41,7 @@ lead_the n l = record {
   takes = λ u behind t. takes_the (l.takes u behind t);
 }
 
-lead_left : {p q inner : GamsPart} {ts front rest : List Seen} {c : Derivation → Derivation} → leads productions look_ahead p ts ≡ true → Leading p ts front inner rest c → Leading (p ∣ q) ts front inner rest (λ a. left (c a))
+lead_left : {p q inner : GamsPart} {ts front rest : List KindedToken} {c : Derivation → Derivation} → leads productions look_ahead p ts ≡ true → Leading p ts front inner rest c → Leading (p ∣ q) ts front inner rest (λ a. left (c a))
 lead_left h l = record {
   reads = λ a behind r. in_left h (l.reads a behind r);
   yields = λ a. l.yields a;
@@ -49,7 +49,7 @@ lead_left h l = record {
   takes = λ u behind t. takes_left (l.takes u behind t);
 }
 
-lead_right : {p q inner : GamsPart} {ts front rest : List Seen} {c : Derivation → Derivation} → leads productions look_ahead p ts ≡ false → leads productions look_ahead q ts ≡ true → Leading q ts front inner rest c → Leading (p ∣ q) ts front inner rest (λ a. right (c a))
+lead_right : {p q inner : GamsPart} {ts front rest : List KindedToken} {c : Derivation → Derivation} → leads productions look_ahead p ts ≡ false → leads productions look_ahead q ts ≡ true → Leading q ts front inner rest c → Leading (p ∣ q) ts front inner rest (λ a. right (c a))
 lead_right h k l = record {
   reads = λ a behind r. in_right h k (l.reads a behind r);
   yields = λ a. l.yields a;
@@ -57,34 +57,34 @@ lead_right h k l = record {
   takes = λ u behind t. takes_right (l.takes u behind t);
 }
 
-lead_second : {p q inner : GamsPart} {ts between front rest : List Seen} {a : Derivation} {c : Derivation → Derivation} → Reads productions look_ahead p ts (read a between) → Leading q between front inner rest c → Leading (p · q) ts (yield a ++ front) inner rest (λ b. pair a (c b))
+lead_second : {p q inner : GamsPart} {ts between front rest : List KindedToken} {a : Derivation} {c : Derivation → Derivation} → Reads productions look_ahead p ts (read a between) → Leading q between front inner rest c → Leading (p · q) ts (yield a ++ front) inner rest (λ b. pair a (c b))
 lead_second {p} {q} {ts = ts} {front = front} {a = a} r l = record {
   reads = λ b behind s. both r (l.reads b behind s);
   yields = λ b. ap (λ w. yield a ++ w) (l.yields b) ∙ sym (append_assoc (yield a) front (yield b));
-  sticks = λ u behind s. subst (λ (w : List Seen). Reads productions look_ahead (p · q) ts (stuck w behind)) (sym (append_assoc (yield a) front u)) (second_stuck r (l.sticks u behind s));
-  takes = λ u behind t. subst (λ (w : List Seen). Takes productions look_ahead (p · q) ts w behind) (sym (append_assoc (yield a) front u)) (takes_second r (l.takes u behind t));
+  sticks = λ u behind s. subst (λ (w : List KindedToken). Reads productions look_ahead (p · q) ts (stuck w behind)) (sym (append_assoc (yield a) front u)) (second_stuck r (l.sticks u behind s));
+  takes = λ u behind t. subst (λ (w : List KindedToken). Takes productions look_ahead (p · q) ts w behind) (sym (append_assoc (yield a) front u)) (takes_second r (l.takes u behind t));
 }
 
-lead_then : {p q inner : GamsPart} {ts between u v rest : List Seen} {c d : Derivation → Derivation} → Leading p ts u q between c → Leading q between v inner rest d → Leading p ts (u ++ v) inner rest (λ a. c (d a))
+lead_then : {p q inner : GamsPart} {ts between u v rest : List KindedToken} {c d : Derivation → Derivation} → Leading p ts u q between c → Leading q between v inner rest d → Leading p ts (u ++ v) inner rest (λ a. c (d a))
 lead_then {p} {ts = ts} {u = u} {v = v} {d = d} l m = record {
   reads = λ a behind r. l.reads (d a) behind (m.reads a behind r);
   yields = λ a. l.yields (d a) ∙ ap (λ w. u ++ w) (m.yields a) ∙ sym (append_assoc u v (yield a));
-  sticks = λ x behind s. subst (λ (w : List Seen). Reads productions look_ahead p ts (stuck w behind)) (sym (append_assoc u v x)) (l.sticks (v ++ x) behind (m.sticks x behind s));
-  takes = λ x behind t. subst (λ (w : List Seen). Takes productions look_ahead p ts w behind) (sym (append_assoc u v x)) (l.takes (v ++ x) behind (m.takes x behind t));
+  sticks = λ x behind s. subst (λ (w : List KindedToken). Reads productions look_ahead p ts (stuck w behind)) (sym (append_assoc u v x)) (l.sticks (v ++ x) behind (m.sticks x behind s));
+  takes = λ x behind t. subst (λ (w : List KindedToken). Takes productions look_ahead p ts w behind) (sym (append_assoc u v x)) (l.takes (v ++ x) behind (m.takes x behind t));
 }
 
-lead_same : {p inner : GamsPart} {ts rest u v : List Seen} {c : Derivation → Derivation} → u ≡ v → Leading p ts u inner rest c → Leading p ts v inner rest c
-lead_same {p} {inner} {ts} {rest} {c = c} e l = subst (λ (w : List Seen). Leading p ts w inner rest c) e l
+lead_same : {p inner : GamsPart} {ts rest u v : List KindedToken} {c : Derivation → Derivation} → u ≡ v → Leading p ts u inner rest c → Leading p ts v inner rest c
+lead_same {p} {inner} {ts} {rest} {c = c} e l = subst (λ (w : List KindedToken). Leading p ts w inner rest c) e l
 
 -- ---- which tokens lead where
 
-name_led : (ts : List Seen) → leads productions look_ahead (name · opt (the Lag)) ts ≡ true → leads productions look_ahead (name · the AfterHeadName) ts ≡ true
+name_led : (ts : List KindedToken) → leads productions look_ahead (name · opt (the Lag)) ts ≡ true → leads productions look_ahead (name · the AfterHeadName) ts ≡ true
 name_led ts h = led_more (name · opt (the Lag)) (name · the AfterHeadName) ts refl refl refl h
 
-lag_alike : (ts : List Seen) → leads productions look_ahead (the Lag) ts ≡ leads productions look_ahead (the Lag · the AfterLag) ts
+lag_alike : (ts : List KindedToken) → leads productions look_ahead (the Lag) ts ≡ leads productions look_ahead (the Lag · the AfterLag) ts
 lag_alike ts = leads_alike (the Lag) (the Lag · the AfterLag) ts refl refl (same_test _ _ refl)
 
-comma_alike : (ts : List Seen) → leads productions look_ahead (token Comma · the Index) ts ≡ leads productions look_ahead (token Comma · the HeadIndices) ts
+comma_alike : (ts : List KindedToken) → leads productions look_ahead (token Comma · the Index) ts ≡ leads productions look_ahead (token Comma · the HeadIndices) ts
 comma_alike ts = leads_alike (token Comma · the Index) (token Comma · the HeadIndices) ts refl refl (same_test _ _ refl)
 
 abbrev suffixed_rest : GamsPart
@@ -93,19 +93,19 @@ suffixed_rest = the Attribute · opt (bracketed (the IndexList)) · the AfterTar
 abbrev plain_rest : GamsPart
 plain_rest = token LeftParen · the HeadIndices ∣ the AfterHead
 
-dotted_alike : (ts : List Seen) → leads productions look_ahead (the Attribute) ts ≡ leads productions look_ahead suffixed_rest ts
+dotted_alike : (ts : List KindedToken) → leads productions look_ahead (the Attribute) ts ≡ leads productions look_ahead suffixed_rest ts
 dotted_alike ts = leads_alike (the Attribute) suffixed_rest ts refl refl (same_test _ _ refl)
 
-paren_alike : (ts : List Seen) → leads productions look_ahead (bracketed (the IndexList)) ts ≡ leads productions look_ahead (token LeftParen · the HeadIndices) ts
+paren_alike : (ts : List KindedToken) → leads productions look_ahead (bracketed (the IndexList)) ts ≡ leads productions look_ahead (token LeftParen · the HeadIndices) ts
 paren_alike ts = leads_alike (bracketed (the IndexList)) (token LeftParen · the HeadIndices) ts refl refl (same_test _ _ refl)
 
-plain_led : (ts : List Seen) → leads productions look_ahead (bracketed (the IndexList)) ts ≡ true → leads productions look_ahead plain_rest ts ≡ true
+plain_led : (ts : List KindedToken) → leads productions look_ahead (bracketed (the IndexList)) ts ≡ true → leads productions look_ahead plain_rest ts ≡ true
 plain_led ts h = led_more (bracketed (the IndexList)) plain_rest ts refl refl refl h
 
 -- ---- an index
 
 -- after a name without a lag
-behind_name : (ts : List Seen) → leads productions look_ahead (the Lag) ts ≡ false → Leading (the AfterHeadName) ts [] (the AfterHeadIndex) ts (λ b. node (right b))
+behind_name : (ts : List KindedToken) → leads productions look_ahead (the Lag) ts ≡ false → Leading (the AfterHeadName) ts [] (the AfterHeadIndex) ts (λ b. node (right b))
 behind_name ts h = record {
   reads = λ a behind r. entered (in_right (sym (lag_alike ts) ∙ h) (led r) r);
   yields = λ a. refl;
@@ -113,20 +113,20 @@ behind_name ts h = record {
   takes = λ u behind t. takes_the (takes_right t);
 }
   where
-    led : {a : Derivation} {behind : List Seen} → Reads productions look_ahead (the AfterHeadIndex) ts (read a behind) → leads productions look_ahead (the AfterHeadIndex) ts ≡ true
+    led : {a : Derivation} {behind : List KindedToken} → Reads productions look_ahead (the AfterHeadIndex) ts (read a behind) → leads productions look_ahead (the AfterHeadIndex) ts ≡ true
     led (entered (in_left k r)) = led_more (token Comma · the HeadIndices) (the AfterHeadIndex) ts refl refl refl k
     led (entered (in_right j k r)) = led_more (token RightParen · the AfterHead) (the AfterHeadIndex) ts refl refl refl k
 
     alike : leads productions look_ahead (the AfterHeadIndex) ts ≡ leads productions look_ahead (productions AfterHeadIndex) ts
     alike = leads_alike (the AfterHeadIndex) (productions AfterHeadIndex) ts refl refl (same_test _ _ refl)
 
-    sticks_on : {u behind : List Seen} → Reads productions look_ahead (the AfterHeadIndex) ts (stuck u behind) → Reads productions look_ahead (productions AfterHeadName) ts (stuck u behind)
+    sticks_on : {u behind : List KindedToken} → Reads productions look_ahead (the AfterHeadIndex) ts (stuck u behind) → Reads productions look_ahead (productions AfterHeadName) ts (stuck u behind)
     sticks_on (entered_stuck (in_left_stuck k r)) = in_right_stuck (sym (lag_alike ts) ∙ h) (led_more (token Comma · the HeadIndices) (the AfterHeadIndex) ts refl refl refl k) (entered_stuck (in_left_stuck k r))
     sticks_on (entered_stuck (in_right_stuck j k r)) = in_right_stuck (sym (lag_alike ts) ∙ h) (led_more (token RightParen · the AfterHead) (the AfterHeadIndex) ts refl refl refl k) (entered_stuck (in_right_stuck j k r))
     sticks_on (entered_stuck (in_neither j k)) = in_neither (sym (lag_alike ts) ∙ h) (alike ∙ unled_either (token Comma · the HeadIndices) (token RightParen · the AfterHead) ts j k)
 
 -- an index without a lag: a comma and a further index, or the closing parenthesis, follow it
-record PlainIndex (first : Derivation) (ts between : List Seen) : Type 0 where
+record PlainIndex (first : Derivation) (ts between : List KindedToken) : Type 0 where
   wrap : Derivation → Derivation
   leading : Leading (the HeadIndices) ts (yield first) (the AfterHeadIndex) between wrap
   act_on : (source : List ℕ) (s : Sense) (target : TargetTree Number) (comma t : Derivation) → act_of_head source s.names s.labels target (wrap (node (left (pair comma t)))) ≡ act_of_head source s.names s.labels target t
@@ -136,14 +136,14 @@ record PlainIndex (first : Derivation) (ts between : List Seen) : Type 0 where
   lagless : (source : List ℕ) (s : Sense) (rest : Indices Number) → has_lag (index source s.names s.labels first rest) ≡ has_lag rest
 
 -- an index with a lag, after which an assignment continues
-record LaggedIndex (first : Derivation) (ts between : List Seen) : Type 0 where
+record LaggedIndex (first : Derivation) (ts between : List KindedToken) : Type 0 where
   wrap : Derivation → Derivation
   leading : Leading (the HeadIndices) ts (yield first) (the AfterLag) between wrap
   act_is : (source : List ℕ) (s : Sense) (target : TargetTree Number) (others closing t : Derivation) → act_of_head source s.names s.labels target (wrap (node (pair others (pair closing t)))) ≡ after_target source s.names s.labels target t
   indices_are : (source : List ℕ) (s : Sense) (others t : Derivation) → head_indices source s.names s.labels (wrap (node (pair others t))) ≡ index source s.names s.labels first (more_indices source s.names s.labels others)
   lagged : (source : List ℕ) (s : Sense) (rest : Indices Number) → has_lag (index source s.names s.labels first rest) ≡ true
 
-index_goes : {ts between : List Seen} {first : Derivation} → Reads productions look_ahead (the Index) ts (read first between) → PlainIndex first ts between ⊎ LaggedIndex first ts between
+index_goes : {ts between : List KindedToken} {first : Derivation} → Reads productions look_ahead (the Index) ts (read first between) → PlainIndex first ts between ⊎ LaggedIndex first ts between
 index_goes {ts} (entered (in_left h (taken {token = t} k))) = inl (record {
   wrap = λ b. node (left (pair (leaf t) b));
   leading = lead_the HeadIndices (lead_left (led_first (is Text) (the AfterHeadIndex) ts h) (lead_second (taken k) lead_here));
@@ -174,7 +174,7 @@ index_goes {ts} (entered (in_right h k (both {between = us} {a = w} r (there l (
 -- ---- indices
 
 -- indices of which none has a lag, where no further one follows
-record PlainList (first others : Derivation) (ts rest : List Seen) : Type 0 where
+record PlainList (first others : Derivation) (ts rest : List KindedToken) : Type 0 where
   wrap : Derivation → Derivation
   leading : Leading (the HeadIndices) ts (yield first ++ yield others) (the AfterHeadIndex) rest wrap
   over : leads productions look_ahead (token Comma · the Index) rest ≡ false
@@ -183,7 +183,7 @@ record PlainList (first others : Derivation) (ts rest : List Seen) : Type 0 wher
   lagless : (source : List ℕ) (s : Sense) → has_lag (index source s.names s.labels first (more_indices source s.names s.labels others)) ≡ false
 
 -- indices of which some has a lag
-record LaggedList (first others : Derivation) (ts rest : List Seen) : Type 0 where
+record LaggedList (first others : Derivation) (ts rest : List KindedToken) : Type 0 where
   wrap : Derivation → Derivation
   leading : Leading (the HeadIndices) ts (yield first ++ yield others) (token RightParen · the AfterTarget) rest wrap
   act_closed : (source : List ℕ) (s : Sense) (target : TargetTree Number) (closing t : Derivation) → act_of_head source s.names s.labels target (wrap (pair closing t)) ≡ after_target source s.names s.labels target t
@@ -191,7 +191,7 @@ record LaggedList (first others : Derivation) (ts rest : List Seen) : Type 0 whe
   lagged : (source : List ℕ) (s : Sense) → has_lag (index source s.names s.labels first (more_indices source s.names s.labels others)) ≡ true
 
 -- others are listed after an index with a lag
-lag_goes : {ts between rest : List Seen} (first others : Derivation) → LaggedIndex first ts between → Reads productions look_ahead (many (token Comma · the Index)) between (read others rest) → LaggedList first others ts rest
+lag_goes : {ts between rest : List KindedToken} (first others : Derivation) → LaggedIndex first ts between → Reads productions look_ahead (many (token Comma · the Index)) between (read others rest) → LaggedList first others ts rest
 lag_goes first others l m = record {
   wrap = λ b. l.wrap (node (pair others b));
   leading = lead_same (ap (λ v. yield first ++ v) (end_nil (yield others))) (lead_then l.leading (lead_the AfterLag (lead_second m lead_here)));
@@ -201,7 +201,7 @@ lag_goes first others l m = record {
 }
 
 -- one more index before others
-before_plain : {ts between us rest : List Seen} {comma : Seen} (first second others : Derivation) → PlainIndex first ts between → leads productions look_ahead (token Comma · the Index) between ≡ true → Reads productions look_ahead (token Comma) between (read (leaf comma) us) →
+before_plain : {ts between us rest : List KindedToken} {comma : KindedToken} (first second others : Derivation) → PlainIndex first ts between → leads productions look_ahead (token Comma · the Index) between ≡ true → Reads productions look_ahead (token Comma) between (read (leaf comma) us) →
     PlainList second others us rest → PlainList first (more (pair (leaf comma) second) others) ts rest
 before_plain {between = between} {comma = comma} first second others p h c l = record {
   wrap = λ b. p.wrap (node (left (pair (leaf comma) (l.wrap b))));
@@ -212,7 +212,7 @@ before_plain {between = between} {comma = comma} first second others p h c l = r
   lagless = λ source s. p.lagless source s (index source s.names s.labels second (more_indices source s.names s.labels others)) ∙ l.lagless source s;
 }
 
-before_lagged : {ts between us rest : List Seen} {comma : Seen} (first second others : Derivation) → PlainIndex first ts between → leads productions look_ahead (token Comma · the Index) between ≡ true → Reads productions look_ahead (token Comma) between (read (leaf comma) us) →
+before_lagged : {ts between us rest : List KindedToken} {comma : KindedToken} (first second others : Derivation) → PlainIndex first ts between → leads productions look_ahead (token Comma · the Index) between ≡ true → Reads productions look_ahead (token Comma) between (read (leaf comma) us) →
     LaggedList second others us rest → LaggedList first (more (pair (leaf comma) second) others) ts rest
 before_lagged {between = between} {comma = comma} first second others p h c l = record {
   wrap = λ b. p.wrap (node (left (pair (leaf comma) (l.wrap b))));
@@ -222,7 +222,7 @@ before_lagged {between = between} {comma = comma} first second others p h c l = 
   lagged = λ source s. p.lagless source s (index source s.names s.labels second (more_indices source s.names s.labels others)) ∙ l.lagged source s;
 }
 
-last_plain : {ts rest : List Seen} (first : Derivation) → PlainIndex first ts rest → leads productions look_ahead (token Comma · the Index) rest ≡ false → PlainList first none ts rest
+last_plain : {ts rest : List KindedToken} (first : Derivation) → PlainIndex first ts rest → leads productions look_ahead (token Comma · the Index) rest ≡ false → PlainList first none ts rest
 last_plain first p h = record {
   wrap = p.wrap;
   leading = lead_same (sym (end_nil (yield first))) p.leading;
@@ -232,7 +232,7 @@ last_plain first p h = record {
   lagless = λ source s. p.lagless source s no_index;
 }
 
-list_goes : {ts between rest : List Seen} {first others : Derivation} → Reads productions look_ahead (the Index) ts (read first between) → Reads productions look_ahead (many (token Comma · the Index)) between (read others rest) → PlainList first others ts rest ⊎ LaggedList first others ts rest
+list_goes : {ts between rest : List KindedToken} {first others : Derivation} → Reads productions look_ahead (the Index) ts (read first between) → Reads productions look_ahead (many (token Comma · the Index)) between (read others rest) → PlainList first others ts rest ⊎ LaggedList first others ts rest
 list_goes {first = first} r (no_more h) = elim (index_goes r) [
   | inl p ↦ inl (last_plain first p h)
   | inr l ↦ inr (lag_goes first none l (no_more h))
@@ -244,54 +244,54 @@ list_goes {first = first} r (again {b = others} h (both {b = second} (taken k) s
 
 -- ---- where indices are not read to their end
 
-index_stuck : {ts u behind : List Seen} → Reads productions look_ahead (the Index) ts (stuck u behind) → Reads productions look_ahead (the HeadIndices) ts (stuck u behind)
+index_stuck : {ts u behind : List KindedToken} → Reads productions look_ahead (the Index) ts (stuck u behind) → Reads productions look_ahead (the HeadIndices) ts (stuck u behind)
 index_stuck {ts} (entered_stuck (in_left_stuck h (refused k))) = absurd (both_ways _ h k)
-index_stuck {ts} (entered_stuck (in_right_stuck h k (first_stuck (refused l)))) = absurd (both_ways _ k (unled_next (is_among (Name ∷ SuffixWord ∷ [])) (opt (the Lag)) ts l))
+index_stuck {ts} (entered_stuck (in_right_stuck h k (first_stuck (refused l)))) = absurd (both_ways _ k (unled_next (is_terminal_among (Name ∷ SuffixWord ∷ [])) (opt (the Lag)) ts l))
 index_stuck {ts} (entered_stuck (in_right_stuck h k (second_stuck {between = us} r (there_stuck l s)))) =
     entered_stuck (in_right_stuck (unled_next (is Text) (the AfterHeadIndex) ts h) (name_led ts k) (second_stuck r (entered_stuck (in_left_stuck (sym (lag_alike us) ∙ l) (first_stuck s)))))
 index_stuck {ts} (entered_stuck (in_neither h k)) =
     entered_stuck (in_neither (unled_next (is Text) (the AfterHeadIndex) ts h) (unled_less (name · the AfterHeadName) (name · opt (the Lag)) ts refl refl refl k))
 
-index_taken : {ts u behind : List Seen} → Takes productions look_ahead (the Index) ts u behind → Takes productions look_ahead (the HeadIndices) ts u behind
+index_taken : {ts u behind : List KindedToken} → Takes productions look_ahead (the Index) ts u behind → Takes productions look_ahead (the HeadIndices) ts u behind
 index_taken (takes_the (takes_left (takes_one h))) = takes_the (takes_left (takes_first (takes_one h)))
 index_taken (takes_the (takes_right (takes_first (takes_one h)))) = takes_the (takes_right (takes_first (takes_one h)))
 index_taken (takes_the (takes_right (takes_second r (takes_opt t)))) = takes_the (takes_right (takes_second r (takes_the (takes_left (takes_first t)))))
 
 -- after an index: either form continues
-stuck_behind : {ts between u behind : List Seen} {first : Derivation} → Reads productions look_ahead (the Index) ts (read first between) → Reads productions look_ahead (the AfterHeadIndex) between (stuck u behind) → Reads productions look_ahead (many (token Comma · the Index)) between (stuck u behind) →
+stuck_behind : {ts between u behind : List KindedToken} {first : Derivation} → Reads productions look_ahead (the Index) ts (read first between) → Reads productions look_ahead (the AfterHeadIndex) between (stuck u behind) → Reads productions look_ahead (many (token Comma · the Index)) between (stuck u behind) →
     Reads productions look_ahead (the HeadIndices) ts (stuck (yield first ++ u) behind)
 stuck_behind {u = u} {behind = behind} r a m = elim (index_goes r) [ inl p ↦ p.leading.sticks u behind a | inr l ↦ l.leading.sticks u behind (entered_stuck (first_stuck m)) ]
 
-taken_behind : {ts between u behind : List Seen} {first : Derivation} → Reads productions look_ahead (the Index) ts (read first between) → Takes productions look_ahead (the AfterHeadIndex) between u behind → Takes productions look_ahead (many (token Comma · the Index)) between u behind →
+taken_behind : {ts between u behind : List KindedToken} {first : Derivation} → Reads productions look_ahead (the Index) ts (read first between) → Takes productions look_ahead (the AfterHeadIndex) between u behind → Takes productions look_ahead (many (token Comma · the Index)) between u behind →
     Takes productions look_ahead (the HeadIndices) ts (yield first ++ u) behind
 taken_behind {u = u} {behind = behind} r a m = elim (index_goes r) [ inl p ↦ p.leading.takes u behind a | inr l ↦ l.leading.takes u behind (takes_the (takes_first m)) ]
 
-others_stuck : {ts between u behind : List Seen} {first : Derivation} → Reads productions look_ahead (the Index) ts (read first between) → Reads productions look_ahead (many (token Comma · the Index)) between (stuck u behind) → Reads productions look_ahead (the HeadIndices) ts (stuck (yield first ++ u) behind)
+others_stuck : {ts between u behind : List KindedToken} {first : Derivation} → Reads productions look_ahead (the Index) ts (read first between) → Reads productions look_ahead (many (token Comma · the Index)) between (stuck u behind) → Reads productions look_ahead (the HeadIndices) ts (stuck (yield first ++ u) behind)
 others_stuck {between = between} r (again_stuck h (first_stuck (refused k))) = absurd (both_ways _ h (unled_next (is Comma) (the Index) between k))
 others_stuck {between = between} r (again_stuck h (second_stuck c s)) = stuck_behind r (entered_stuck (in_left_stuck (sym (comma_alike between) ∙ h) (second_stuck c (index_stuck s)))) (again_stuck h (second_stuck c s))
 others_stuck {between = between} r (later_stuck h (both (taken k) s) m) = stuck_behind r (entered_stuck (in_left_stuck (sym (comma_alike between) ∙ h) (second_stuck (taken k) (others_stuck s m)))) (later_stuck h (both (taken k) s) m)
 
-others_taken : {ts between u behind : List Seen} {first : Derivation} → Reads productions look_ahead (the Index) ts (read first between) → Takes productions look_ahead (many (token Comma · the Index)) between u behind → Takes productions look_ahead (the HeadIndices) ts (yield first ++ u) behind
+others_taken : {ts between u behind : List KindedToken} {first : Derivation} → Reads productions look_ahead (the Index) ts (read first between) → Takes productions look_ahead (many (token Comma · the Index)) between u behind → Takes productions look_ahead (the HeadIndices) ts (yield first ++ u) behind
 others_taken r (takes_many (takes_first (takes_one h))) = taken_behind r (takes_the (takes_left (takes_first (takes_one h)))) (takes_many (takes_first (takes_one h)))
 others_taken r (takes_many (takes_second c t)) = taken_behind r (takes_the (takes_left (takes_second c (index_taken t)))) (takes_many (takes_second c t))
 others_taken r (takes_later (both (taken k) s) t) = taken_behind r (takes_the (takes_left (takes_second (taken k) (others_taken s t)))) (takes_later (both (taken k) s) t)
 
-list_stuck : {ts u behind : List Seen} → Reads productions look_ahead (the IndexList) ts (stuck u behind) → Reads productions look_ahead (the HeadIndices) ts (stuck u behind)
+list_stuck : {ts u behind : List KindedToken} → Reads productions look_ahead (the IndexList) ts (stuck u behind) → Reads productions look_ahead (the HeadIndices) ts (stuck u behind)
 list_stuck (entered_stuck (first_stuck r)) = index_stuck r
 list_stuck (entered_stuck (second_stuck r m)) = others_stuck r m
 
-list_taken : {ts u behind : List Seen} → Takes productions look_ahead (the IndexList) ts u behind → Takes productions look_ahead (the HeadIndices) ts u behind
+list_taken : {ts u behind : List KindedToken} → Takes productions look_ahead (the IndexList) ts u behind → Takes productions look_ahead (the HeadIndices) ts u behind
 list_taken (takes_the (takes_first t)) = index_taken t
 list_taken (takes_the (takes_second r t)) = others_taken r t
 
 -- no parenthesis closes them
-unclosed : {ts rest : List Seen} {list : Derivation} → Reads productions look_ahead (the IndexList) ts (read list rest) → leads productions look_ahead (token RightParen) rest ≡ false → Reads productions look_ahead (the HeadIndices) ts (stuck (yield list ++ []) rest)
+unclosed : {ts rest : List KindedToken} {list : Derivation} → Reads productions look_ahead (the IndexList) ts (read list rest) → leads productions look_ahead (token RightParen) rest ≡ false → Reads productions look_ahead (the HeadIndices) ts (stuck (yield list ++ []) rest)
 unclosed {rest = rest} (entered (both r m)) h = elim (list_goes r m) [
   | inl p ↦ p.leading.sticks [] rest (entered_stuck (in_neither (sym (comma_alike rest) ∙ p.over) (unled_next (is RightParen) (the AfterHead) rest h)))
   | inr l ↦ l.leading.sticks [] rest (first_stuck (refused h))
 ]
 
-closed_taken : {ts rest u behind : List Seen} {list : Derivation} → Reads productions look_ahead (the IndexList) ts (read list rest) → Takes productions look_ahead (token RightParen) rest u behind → Takes productions look_ahead (the HeadIndices) ts (yield list ++ u) behind
+closed_taken : {ts rest u behind : List KindedToken} {list : Derivation} → Reads productions look_ahead (the IndexList) ts (read list rest) → Takes productions look_ahead (token RightParen) rest u behind → Takes productions look_ahead (the HeadIndices) ts (yield list ++ u) behind
 closed_taken {u = u} {behind = behind} (entered (both r m)) t = elim (list_goes r m) [
   | inl p ↦ p.leading.takes u behind (takes_the (takes_right (takes_first t)))
   | inr l ↦ l.leading.takes u behind (takes_first t)
@@ -299,7 +299,7 @@ closed_taken {u = u} {behind = behind} (entered (both r m)) t = elim (list_goes 
 
 -- ---- what is assigned or defined
 
-pub target_stuck : {ts u behind : List Seen} → Reads productions look_ahead (the Target) ts (stuck u behind) → Reads productions look_ahead (the NamedStatement) ts (stuck u behind)
+pub target_stuck : {ts u behind : List KindedToken} → Reads productions look_ahead (the Target) ts (stuck u behind) → Reads productions look_ahead (the NamedStatement) ts (stuck u behind)
 target_stuck (entered_stuck (first_stuck r)) = entered_stuck (first_stuck r)
 target_stuck (entered_stuck (second_stuck {between = us} r (first_stuck (there_stuck h s)))) = entered_stuck (second_stuck r (entered_stuck (in_left_stuck (sym (dotted_alike us) ∙ h) (first_stuck s))))
 target_stuck (entered_stuck (second_stuck {between = us} r (second_stuck (there h s) m))) = entered_stuck (second_stuck r (entered_stuck (in_left_stuck (sym (dotted_alike us) ∙ h) (second_stuck s (first_stuck m)))))
@@ -309,7 +309,7 @@ target_stuck (entered_stuck (second_stuck {between = us} r (second_stuck (left_o
 target_stuck (entered_stuck (second_stuck {between = us} r (second_stuck (left_out h) (there_stuck k (second_stuck (taken l) (second_stuck m (refused j))))))) =
     entered_stuck (second_stuck r (entered_stuck (in_right_stuck (sym (dotted_alike us) ∙ h) (plain_led us k) (in_left_stuck (sym (paren_alike us) ∙ k) (second_stuck (taken l) (unclosed m j))))))
 
-pub target_taken : {ts u behind : List Seen} → Takes productions look_ahead (the Target) ts u behind → Takes productions look_ahead (the NamedStatement) ts u behind
+pub target_taken : {ts u behind : List KindedToken} → Takes productions look_ahead (the Target) ts u behind → Takes productions look_ahead (the NamedStatement) ts u behind
 target_taken (takes_the (takes_first t)) = takes_the (takes_first t)
 target_taken (takes_the (takes_second r (takes_first (takes_opt t)))) = takes_the (takes_second r (takes_the (takes_left (takes_first t))))
 target_taken (takes_the (takes_second r (takes_second (there h s) t))) = takes_the (takes_second r (takes_the (takes_left (takes_second s (takes_first t)))))
@@ -318,14 +318,14 @@ target_taken (takes_the (takes_second r (takes_second (left_out h) (takes_opt (t
 target_taken (takes_the (takes_second r (takes_second (left_out h) (takes_opt (takes_second s (takes_second m t)))))) = takes_the (takes_second r (takes_the (takes_right (takes_left (takes_second s (closed_taken m t))))))
 
 -- the statement continues as an assignment or a definition: the target has no suffix and no lag
-pub record Headed (tree : Derivation) (ts rest : List Seen) : Type 0 where
+pub record Headed (tree : Derivation) (ts rest : List KindedToken) : Type 0 where
   pub wrap : Derivation → Derivation
   pub leading : Leading (the NamedStatement) ts (yield tree) (the AfterHead) rest wrap
   pub acts : (source : List ℕ) (s : Sense) (b : Derivation) → named_act source s.names s.labels (wrap b) ≡ after_head source s.names s.labels (target_in source s.names s.labels tree) b
   pub plain : (source : List ℕ) (s : Sense) → is_plain_target (target_in source s.names s.labels tree) ≡ true
 
 -- it continues as an assignment
-pub record Aimed (tree : Derivation) (ts rest : List Seen) : Type 0 where
+pub record Aimed (tree : Derivation) (ts rest : List KindedToken) : Type 0 where
   pub wrap : Derivation → Derivation
   pub leading : Leading (the NamedStatement) ts (yield tree) (the AfterTarget) rest wrap
   pub acts : (source : List ℕ) (s : Sense) (b : Derivation) → named_act source s.names s.labels (wrap b) ≡ after_target source s.names s.labels (target_in source s.names s.labels tree) b
@@ -342,14 +342,14 @@ suffixed text =
     either_suffixed (is_word text (codes "lo")) _ _ refl (either_suffixed (is_word text (codes "up")) _ _ refl (either_suffixed (is_word text (codes "l")) _ _ refl (either_suffixed (is_word text (codes "m")) _ _ refl (either_suffixed (is_word text (codes "fx")) _ _ refl (either_suffixed (is_word text (codes "modelstat")) _ _ refl refl)))))
 
 -- and so has a reference that continues with one
-attributed : {ts rest : List Seen} {attribute : Derivation} → Reads productions look_ahead (the Attribute) ts (read attribute rest) → (source : List ℕ) (s : Sense) → is_unsuffixed (suffix_in source s.names s.labels (some attribute)) ≡ false
+attributed : {ts rest : List KindedToken} {attribute : Derivation} → Reads productions look_ahead (the Attribute) ts (read attribute rest) → (source : List ℕ) (s : Sense) → is_unsuffixed (suffix_in source s.names s.labels (some attribute)) ≡ false
 attributed (entered (both {b = word} p q)) source s = suffixed (token_text source (token_of word))
 
 abbrev unconditioned : GamsPart
 unconditioned = the Condition ∣ token Equals · the Expression ∣ token DotDot · the Sides
 
 -- neither a suffix nor indices
-bare : (ts : List Seen) → leads productions look_ahead (the Attribute) ts ≡ false → leads productions look_ahead (bracketed (the IndexList)) ts ≡ false → Leading (the AfterName) ts [] (the AfterHead) ts (λ b. node (right (right b)))
+bare : (ts : List KindedToken) → leads productions look_ahead (the Attribute) ts ≡ false → leads productions look_ahead (bracketed (the IndexList)) ts ≡ false → Leading (the AfterName) ts [] (the AfterHead) ts (λ b. node (right (right b)))
 bare ts h k = record {
   reads = λ a behind r. entered (in_right (sym (dotted_alike ts) ∙ h) (led_more (the AfterHead) plain_rest ts refl refl refl (led r)) (in_right (sym (paren_alike ts) ∙ k) (led r) r));
   yields = λ a. refl;
@@ -357,18 +357,18 @@ bare ts h k = record {
   takes = λ u behind t. takes_the (takes_right (takes_right t));
 }
   where
-    led : {a : Derivation} {behind : List Seen} → Reads productions look_ahead (the AfterHead) ts (read a behind) → leads productions look_ahead (the AfterHead) ts ≡ true
+    led : {a : Derivation} {behind : List KindedToken} → Reads productions look_ahead (the AfterHead) ts (read a behind) → leads productions look_ahead (the AfterHead) ts ≡ true
     led (entered (both (there l r) s)) = led_more (the Condition) (the AfterHead) ts refl refl refl l
     led (entered (both (left_out l) (in_left j s))) = led_more (token Equals · the Expression) (the AfterHead) ts refl refl refl j
     led (entered (both (left_out l) (in_right i j s))) = led_more (token DotDot · the Sides) (the AfterHead) ts refl refl refl j
 
-    sticks_led : {u behind : List Seen} → leads productions look_ahead (the AfterHead) ts ≡ true → Reads productions look_ahead (the AfterHead) ts (stuck u behind) → Reads productions look_ahead (the AfterName) ts (stuck u behind)
+    sticks_led : {u behind : List KindedToken} → leads productions look_ahead (the AfterHead) ts ≡ true → Reads productions look_ahead (the AfterHead) ts (stuck u behind) → Reads productions look_ahead (the AfterName) ts (stuck u behind)
     sticks_led l r = entered_stuck (in_right_stuck (sym (dotted_alike ts) ∙ h) (led_more (the AfterHead) plain_rest ts refl refl refl l) (in_right_stuck (sym (paren_alike ts) ∙ k) l r))
 
     alike : leads productions look_ahead plain_rest ts ≡ leads productions look_ahead (token LeftParen · the HeadIndices ∣ unconditioned) ts
     alike = leads_alike plain_rest (token LeftParen · the HeadIndices ∣ unconditioned) ts refl refl (same_test _ _ refl)
 
-    sticks_on : {u behind : List Seen} → Reads productions look_ahead (the AfterHead) ts (stuck u behind) → Reads productions look_ahead (the AfterName) ts (stuck u behind)
+    sticks_on : {u behind : List KindedToken} → Reads productions look_ahead (the AfterHead) ts (stuck u behind) → Reads productions look_ahead (the AfterName) ts (stuck u behind)
     sticks_on (entered_stuck (first_stuck (there_stuck l r))) = sticks_led (led_more (the Condition) (the AfterHead) ts refl refl refl l) (entered_stuck (first_stuck (there_stuck l r)))
     sticks_on (entered_stuck (second_stuck (there l r) s)) = sticks_led (led_more (the Condition) (the AfterHead) ts refl refl refl l) (entered_stuck (second_stuck (there l r) s))
     sticks_on (entered_stuck (second_stuck (left_out l) (in_left_stuck j s))) = sticks_led (led_more (token Equals · the Expression) (the AfterHead) ts refl refl refl j) (entered_stuck (second_stuck (left_out l) (in_left_stuck j s)))
@@ -378,7 +378,7 @@ bare ts h k = record {
         entered_stuck (in_neither (sym (dotted_alike ts) ∙ h) (alike ∙ unled_either (token LeftParen · the HeadIndices) unconditioned ts (sym (paren_alike ts) ∙ k) neither))
 
 -- indices in parentheses
-headed : {ts us vs rest : List Seen} {opening closing : Seen} (word first others : Derivation) → Reads productions look_ahead name ts (read word us) → leads productions look_ahead (the Attribute) us ≡ false → leads productions look_ahead (bracketed (the IndexList)) us ≡ true →
+headed : {ts us vs rest : List KindedToken} {opening closing : KindedToken} (word first others : Derivation) → Reads productions look_ahead name ts (read word us) → leads productions look_ahead (the Attribute) us ≡ false → leads productions look_ahead (bracketed (the IndexList)) us ≡ true →
     Reads productions look_ahead (token LeftParen) us (read (leaf opening) vs) → is RightParen closing.0 ≡ true → PlainList first others vs (closing ∷ rest) → Headed (node (pair word (pair none (some (pair (leaf opening) (pair (node (pair first others)) (leaf closing))))))) ts rest
 headed {us = us} {rest = rest} {opening = opening} {closing = closing} word first others r h k o c l = record {
   wrap = λ b. node (pair word (node (right (left (pair (leaf opening) (l.wrap (node (right (pair (leaf closing) b)))))))));
@@ -391,7 +391,7 @@ headed {us = us} {rest = rest} {opening = opening} {closing = closing} word firs
   plain = λ source s. ap not (l.lagless source s);
 }
 
-aimed : {ts us vs rest : List Seen} {opening closing : Seen} (word first others : Derivation) → Reads productions look_ahead name ts (read word us) → leads productions look_ahead (the Attribute) us ≡ false → leads productions look_ahead (bracketed (the IndexList)) us ≡ true →
+aimed : {ts us vs rest : List KindedToken} {opening closing : KindedToken} (word first others : Derivation) → Reads productions look_ahead name ts (read word us) → leads productions look_ahead (the Attribute) us ≡ false → leads productions look_ahead (bracketed (the IndexList)) us ≡ true →
     Reads productions look_ahead (token LeftParen) us (read (leaf opening) vs) → is RightParen closing.0 ≡ true → LaggedList first others vs (closing ∷ rest) → Aimed (node (pair word (pair none (some (pair (leaf opening) (pair (node (pair first others)) (leaf closing))))))) ts rest
 aimed {us = us} {rest = rest} {opening = opening} {closing = closing} word first others r h k o c l = record {
   wrap = λ b. node (pair word (node (right (left (pair (leaf opening) (l.wrap (pair (leaf closing) b)))))));
@@ -403,7 +403,7 @@ aimed {us = us} {rest = rest} {opening = opening} {closing = closing} word first
   other = λ source s. ap not (l.lagged source s);
 }
 
-dotted : {ts us vs rest : List Seen} (word attribute indices : Derivation) → Reads productions look_ahead name ts (read word us) → leads productions look_ahead (the Attribute) us ≡ true → Reads productions look_ahead (the Attribute) us (read attribute vs) → Reads productions look_ahead (opt (bracketed (the IndexList))) vs (read indices rest) →
+dotted : {ts us vs rest : List KindedToken} (word attribute indices : Derivation) → Reads productions look_ahead name ts (read word us) → leads productions look_ahead (the Attribute) us ≡ true → Reads productions look_ahead (the Attribute) us (read attribute vs) → Reads productions look_ahead (opt (bracketed (the IndexList))) vs (read indices rest) →
     Aimed (node (pair word (pair (some attribute) indices))) ts rest
 dotted {us = us} word attribute indices r h a m = record {
   wrap = λ b. node (pair word (node (left (pair attribute (pair indices b)))));
@@ -412,7 +412,7 @@ dotted {us = us} word attribute indices r h a m = record {
   other = λ source s. and_first _ _ (attributed a source s);
 }
 
-pub target_goes : {ts rest : List Seen} {tree : Derivation} → Reads productions look_ahead (the Target) ts (read tree rest) → Headed tree ts rest ⊎ Aimed tree ts rest
+pub target_goes : {ts rest : List KindedToken} {tree : Derivation} → Reads productions look_ahead (the Target) ts (read tree rest) → Headed tree ts rest ⊎ Aimed tree ts rest
 target_goes (entered (both {a = word} r (both (there {tree = attribute} h a) m))) = inr (dotted word attribute _ r h a m)
 target_goes (entered (both {between = us} {a = word} r (both (left_out h) (left_out k)))) = inl (record {
   wrap = λ b. node (pair word (node (right (right b))));

@@ -12,8 +12,8 @@ use Rattle.gms_parse.specs.declared.fault.SourceFaultOrMemory.{SourceFaultOrMemo
 use Rattle.gms_parse.specs.declared.reader.Reader.{Reader}
 use Rattle.gms_parse.specs.declared.reader.Tables.{Tables}
 use Rattle.gms_parse.specs.Declarations.{items_in, further_items}
-use Rattle.gms_parse.specs.Walks.{Seen, Walk}
-use Rattle.gms_parse.specs.Readings.{Derivation, GamsPart, Refuses, Sense, IsSense, Has, Starts, Stays, Optionless, IsPassed, IsFurther, IsNotFurther, IsBehindLast, IsGot, seen_from}
+use Rattle.gms_parse.specs.Walks.{KindedToken, ReaderState}
+use Rattle.gms_parse.specs.InnerReadings.{Derivation, GamsPart, Refuses, Sense, IsSense, Has, Starts, Stays, Optionless, IsPassed, IsFurther, IsNotFurther, IsBehindLast, IsGot, seen_from}
 use Rattle.gms_parse.proofs.TokenKinds.{unled_next, led_either, led_other, unled_either}
 use Rattle.gms_parse.proofs.Steps.{got_by, Within, within_second, within_some, within_left, within_right, within_then, gives_both, gives_right, gives_none, gives_some, refuses_first}
 use Rattle.gms_parse.proofs.Nexts.{past, exact, led_next, leads_next, falls, gives_exact, plain_stays, plain_starts, stays_then, earlier}
@@ -24,32 +24,32 @@ further_of again = opt (token Comma · the again ∣ token Break · opt (the aga
 
 -- what stands for items, and what an item begins with
 pub record ItemPart (item again : Nonterminal) : Type 0 where
-  pub enters : (limit : ℕ) (source : List ℕ) (v : Walk) (ts : List Seen) → Within limit source (the again) v ts (the item · further_of again) v ts node
-  pub led : (ts : List Seen) → leads productions look_ahead (the again) ts ≡ leads productions look_ahead name ts
+  pub enters : (limit : ℕ) (source : List ℕ) (v : ReaderState) (ts : List KindedToken) → Within limit source (the again) v ts (the item · further_of again) v ts node
+  pub led : (ts : List KindedToken) → leads productions look_ahead (the again) ts ≡ leads productions look_ahead name ts
 
 -- items, each shown as it is meant
 abbrev pub AreItems : {T A : Type 0} → (T → A) → (Sense → Derivation → A) → Sense → Derivation → List T → Type 0
 AreItems show meaning sense tree xs = map show xs ≡ items_in (meaning sense) tree
 
 -- the items read so far
-pub record Itemizing {T A : Type 0} (limit : ℕ) (show : T → A) (meaning : Sense → Derivation → A) (again : Nonterminal) (reader : Reader) (start : ℕ) (w : Walk) (new : Tables) (xs : List T) (at : ℕ) : Type 0 where
+pub record Itemizing {T A : Type 0} (limit : ℕ) (show : T → A) (meaning : Sense → Derivation → A) (again : Nonterminal) (reader : Reader) (start : ℕ) (w : ReaderState) (new : Tables) (xs : List T) (at : ℕ) : Type 0 where
   pub context : Derivation → Derivation
-  pub behind : Walk
+  pub behind : ReaderState
   pub within : Within limit reader.source.now (the again) w (seen_from reader start) (further_of again) behind (seen_from reader at) context
   pub stays : Stays reader new w behind
   pub means : (sense : Sense) → IsSense new sense → (b : Derivation) → items_in (meaning sense) (context b) ≡ map show xs ++ further_items (meaning sense) b
   pub further : start ≤ at
 
 -- the state after the comma or the line end before a further item
-abbrev pub further_walk : (reader : Reader) (at behind : ℕ) → Walk → IsFurther reader at behind → Walk
+abbrev pub further_walk : (reader : Reader) (at behind : ℕ) → ReaderState → IsFurther reader at behind → ReaderState
 further_walk reader at behind v (inl p) = past reader v Comma p.token behind
 further_walk reader at behind v (inr p) = past reader v Break p.0.token behind
 
-pub further_stays : (reader : Reader) (at behind : ℕ) {tables : Tables} {v : Walk} (f : IsFurther reader at behind) → Has reader tables v → Stays reader tables v (further_walk reader at behind v f)
+pub further_stays : (reader : Reader) (at behind : ℕ) {tables : Tables} {v : ReaderState} (f : IsFurther reader at behind) → Has reader tables v → Stays reader tables v (further_walk reader at behind v f)
 further_stays reader at behind {v = v} (inl p) h = plain_stays reader v Comma p.token behind refl h
 further_stays reader at behind {v = v} (inr p) h = plain_stays reader v Break p.0.token behind refl h
 
-pub further_starts : (reader : Reader) (at behind : ℕ) {tables : Tables} {v : Walk} (f : IsFurther reader at behind) → Has reader tables v → Optionless v → Starts reader tables (further_walk reader at behind v f)
+pub further_starts : (reader : Reader) (at behind : ℕ) {tables : Tables} {v : ReaderState} (f : IsFurther reader at behind) → Has reader tables v → Optionless v → Starts reader tables (further_walk reader at behind v f)
 further_starts reader at behind {v = v} (inl p) h o = plain_starts reader v Comma p.token behind refl refl h o
 further_starts reader at behind {v = v} (inr p) h o = plain_starts reader v Break p.0.token behind refl refl h o
 
@@ -67,7 +67,7 @@ further_tree reader at behind (inl p) tree = some (left (pair (leaf (Comma, p.to
 further_tree reader at behind (inr p) tree = some (right (pair (leaf (Break, p.0.token)) (some tree)))
 
 module _ {item again : Nonterminal} (part : ItemPart item again) {limit : ℕ} (reader : Reader) (at behind : ℕ) where
-  further_within : {v : Walk} (f : IsFurther reader at behind) → Within limit reader.source.now (further_of again) v (seen_from reader at) (the again) (further_walk reader at behind v f) (seen_from reader behind) (further_tree reader at behind f)
+  further_within : {v : ReaderState} (f : IsFurther reader at behind) → Within limit reader.source.now (further_of again) v (seen_from reader at) (the again) (further_walk reader at behind v f) (seen_from reader behind) (further_tree reader at behind f)
   further_within (inl p) =
       let led = leads_next (the again) p.next in
       within_then (within_some (led_either (token Comma · the again) (token Break · opt (the again)) (seen_from reader at) led)) (within_then (within_left led) (within_second (gives_exact {kind = Comma} p.next refl)))
@@ -81,7 +81,7 @@ further_meant : {A : Type 0} (meaning : Derivation → A) (reader : Reader) (at 
 further_meant meaning reader at behind (inl p) tree = refl
 further_meant meaning reader at behind (inr p) tree = refl
 
-module _ {T A : Type 0} {limit : ℕ} {show : T → A} {meaning : Sense → Derivation → A} {Means : Sense → Derivation → T → Type 0} (says : (sense : Sense) (tree : Derivation) (x : T) → Means sense tree x → show x ≡ meaning sense tree) {item again : Nonterminal} (part : ItemPart item again) {reader : Reader} {start : ℕ} {w : Walk} where
+module _ {T A : Type 0} {limit : ℕ} {show : T → A} {meaning : Sense → Derivation → A} {Means : Sense → Derivation → T → Type 0} (says : (sense : Sense) (tree : Derivation) (x : T) → Means sense tree x → show x ≡ meaning sense tree) {item again : Nonterminal} (part : ItemPart item again) {reader : Reader} {start : ℕ} {w : ReaderState} where
   -- the first item
   pub items_start : {new : Tables} {x : T} {at : ℕ} → IsGot limit Means (Stays reader new w) (the item) reader start new w x at → (xs : List T) → xs ≡ x ∷ [] → Itemizing limit show meaning again reader start w new xs at
   items_start {x = x} got xs is = record {

@@ -12,7 +12,7 @@ use Rattle.gms_grammar.specs.declared.terminal.Terminal.{Terminal}
 use Rattle.gms_grammar.specs.declared.terminal.Terminal.TheVariants.{Dot, Comma, Break, Slash, Equals}
 use Rattle.gms_grammar.specs.Grammar.{the, ◌·◌, opt, node}
 use Rattle.gms_grammar.specs.Reading.{leads}
-use Rattle.gms_grammar.specs.Terminals.{is, is_among}
+use Rattle.gms_grammar.specs.Terminals.{is, is_terminal_among}
 use Rattle.gms_grammar.specs.GamsGrammar.{Element, ElementPart, Entry, Value, productions, token}
 use Rattle.gms_grammar.specs.GamsLookAhead.{look_ahead}
 use Rattle.gms_labels.specs.declared.place.Place.{Place}
@@ -26,9 +26,9 @@ use Rattle.gms_parse.specs.declared.fault.SourceFaultOrMemory.{SourceFaultOrMemo
 use Rattle.gms_parse.specs.declared.reader.Reader.{Reader}
 use Rattle.gms_parse.specs.declared.reader.Tables.{Tables}
 use Rattle.gms_parse.specs.DataLists.{listed_in, any_true, labels_in_part, has_bad_range}
-use Rattle.gms_parse.specs.Walks.{Seen, Walk}
-use Rattle.gms_parse.specs.Readings.{Derivation, GamsPart, Gives, Refuses, IsGot, Has, Stays, IsNext, IsLacking, seen_from}
-use Rattle.gms_parse.specs.Meanings.{IsPart, IsElement, IsGiven, IsListed, AreListed, listed_part, list_part, listed_meaning, list_meaning}
+use Rattle.gms_parse.specs.Walks.{KindedToken, ReaderState}
+use Rattle.gms_parse.specs.InnerReadings.{Derivation, GamsPart, Gives, Refuses, IsGot, Has, Stays, IsNext, IsLacking, seen_from}
+use Rattle.gms_parse.specs.InnerMeanings.{IsPart, IsElement, IsGiven, IsListed, AreListed, listed_part, list_part, listed_meaning, list_meaning}
 use Rattle.gms_parse.proofs.TokenKinds.{unled_next}
 use Rattle.gms_parse.proofs.Steps.{got_by, gives_both, gives_the, gives_none, gives_some, refuses_the, refuses_first, refuses_second, refuses_some}
 use Rattle.gms_parse.proofs.Nexts.{past, leads_next, gives_exact, refuses_lacking, plain_stays, stays_then, stays_same}
@@ -38,7 +38,7 @@ use Rattle.gms_parse.proofs.Listing.{AreAll, all_meant, list_of, Listing, listin
 -- ---- elements
 
 -- the positions of an element read so far
-pub record Positions (limit : ℕ) (reader : Reader) (start : ℕ) (w : Walk) (new : Tables) (parts : List (List ℕ)) (bad : Bool) (at : ℕ) : Type 0 where
+pub record Positions (limit : ℕ) (reader : Reader) (start : ℕ) (w : ReaderState) (new : Tables) (parts : List (List ℕ)) (bad : Bool) (at : ℕ) : Type 0 where
   pub ghost : List Position
   pub parts_are : parts ≡ map (λ (p : Position). p.labels.items) ghost
   pub bad_is : bad ≡ any_true (map (λ (p : Position). p.bad_range) ghost)
@@ -48,7 +48,7 @@ any_push : (f : Position → Bool) (xs : List Position) (x : Position) → any_t
 any_push f [] x = or-false (f x)
 any_push f (y ∷ xs) x = ap (λ b. f y || b) (any_push f xs x) ∙ sym (or_assoc (f y) (any_true (map f xs)) (f x))
 
-module _ {limit : ℕ} {reader : Reader} {start : ℕ} {w : Walk} where
+module _ {limit : ℕ} {reader : Reader} {start : ℕ} {w : ReaderState} where
   pub positions_start : {new : Tables} {part : Position} {at : ℕ} {bad : Bool} → IsGot limit (IsPart reader.source.now) (Stays reader new w) (the ElementPart) reader start new w part at → (parts : List (List ℕ)) → parts ≡ part.labels.items ∷ [] → bad ≡ part.bad_range → Positions limit reader start w new parts bad at
   positions_start {part = part} got parts one_part bad_is = record { ghost = part ∷ []; parts_are = one_part; bad_is = bad_is ∙ sym (or-false part.bad_range); listing = listing_start got (part ∷ []) refl }
 
@@ -77,13 +77,13 @@ module _ {limit : ℕ} {reader : Reader} {start : ℕ} {w : Walk} where
 -- ---- items
 
 -- an element as an item without a value
-pub lone_item : {F : Type 0} (value : F → Rational) {limit : ℕ} {reader : Reader} {at next : ℕ} {new : Tables} {w : Walk} (element : ElementNode) (item : Item F) → item_in value item ≡ record { at = element.at; parts = element.parts.items; value = None; bad_range = element.bad_range } →
+pub lone_item : {F : Type 0} (value : F → Rational) {limit : ℕ} {reader : Reader} {at next : ℕ} {new : Tables} {w : ReaderState} (element : ElementNode) (item : Item F) → item_in value item ≡ record { at = element.at; parts = element.parts.items; value = None; bad_range = element.bad_range } →
     IsGot limit (IsElement reader.source.now) (Stays reader new w) (the Element) reader at new w element next → IsGot limit (IsListed value reader.source.now list_of_kind.Elements) (Stays reader new w) (the Element) reader at new w item next
 lone_item value element item shown got = got_by got.gives got.leaves
     (λ sense s. let m = got.means sense s in shown ∙ ap₂ (λ (p : Place) (x : List (List ℕ) × Bool). record { at = p; parts = x.0; value = None; bad_range = x.1 }) m.0 (ap₂ (λ a b. (a, b)) m.1 m.2)) got.further
 
 -- an element with a value
-pub entry_got : {F : Type 0} (value : F → Rational) {limit : ℕ} {reader : Reader} {at middle next : ℕ} {new : Tables} {w : Walk} (element : ElementNode) (v : Ext F) (item : Item F) → item_in value item ≡ record { at = element.at; parts = element.parts.items; value = Some (extended_in value v); bad_range = element.bad_range } →
+pub entry_got : {F : Type 0} (value : F → Rational) {limit : ℕ} {reader : Reader} {at middle next : ℕ} {new : Tables} {w : ReaderState} (element : ElementNode) (v : Ext F) (item : Item F) → item_in value item ≡ record { at = element.at; parts = element.parts.items; value = Some (extended_in value v); bad_range = element.bad_range } →
     (got : IsGot limit (IsElement reader.source.now) (Stays reader new w) (the Element) reader at new w element middle) → IsGot limit (λ sense tree v. IsGiven value reader.source.now sense (second_in tree) v) (Stays reader new got.behind) (opt (token Equals) · the Value) reader middle new got.behind v next →
     IsGot limit (IsListed value reader.source.now list_of_kind.Entries) (Stays reader new w) (the Entry) reader at new w item next
 entry_got value element v item shown got given = got_by (gives_the Entry (gives_both got.gives given.gives)) (stays_then got.leaves given.leaves)
@@ -95,7 +95,7 @@ entry_got value element v item shown got given = got_by (gives_the Entry (gives_
 -- ---- lists between slashes
 
 abbrev pub separators : Terminal → Bool
-separators = is_among (Comma ∷ Break ∷ [])
+separators = is_terminal_among (Comma ∷ Break ∷ [])
 
 list_production : (list : ListOf) → productions (list_part list) ≡ list_of separators (the (listed_part list))
 list_production list_of_kind.Elements = refl
@@ -105,15 +105,15 @@ list_meant : (list : ListOf) (source : List ℕ) (labels : List (List ℕ)) (tre
 list_meant list_of_kind.Elements source labels tree = refl
 list_meant list_of_kind.Entries source labels tree = refl
 
-gives_list : (list : ListOf) {limit : ℕ} {source : List ℕ} {w v : Walk} {ts rest : List Seen} {tree : Derivation} → Gives limit source (list_of separators (the (listed_part list))) w ts tree v rest → Gives limit source (the (list_part list)) w ts (node tree) v rest
+gives_list : (list : ListOf) {limit : ℕ} {source : List ℕ} {w v : ReaderState} {ts rest : List KindedToken} {tree : Derivation} → Gives limit source (list_of separators (the (listed_part list))) w ts tree v rest → Gives limit source (the (list_part list)) w ts (node tree) v rest
 gives_list list {limit} {source} {w} {v} {ts} {rest} {tree} g = gives_the (list_part list) (subst (λ (p : GamsPart). Gives limit source p w ts tree v rest) (sym (list_production list)) g)
 
-pub no_list : {F : Type 0} (value : F → Rational) (list : ListOf) {limit : ℕ} {reader : Reader} {at : ℕ} {tables : Tables} {w : Walk} (items : Vec (Item F) Global) → items.items ≡ [] → leads productions look_ahead (token Slash) (seen_from reader at) ≡ false → Has reader tables w →
+pub no_list : {F : Type 0} (value : F → Rational) (list : ListOf) {limit : ℕ} {reader : Reader} {at : ℕ} {tables : Tables} {w : ReaderState} (items : Vec (Item F) Global) → items.items ≡ [] → leads productions look_ahead (token Slash) (seen_from reader at) ≡ false → Has reader tables w →
     IsGot limit (AreListed value reader.source.now list) (Stays reader tables w) (opt (token Slash · the (list_part list) · token Slash)) reader at tables w items at
 no_list value list {reader = reader} {at = at} {w = w} items none_yet unled h = got_by (gives_none (unled_next (is Slash) (the (list_part list) · token Slash) (seen_from reader at) unled)) (stays_same h) (λ sense s. ap (map (item_in value)) none_yet)
     (omega arith)
 
-module _ (list : ListOf) {limit : ℕ} {reader : Reader} {at behind : ℕ} {t : Token} {old : Tables} {w : Walk} (h : Has reader old w) (n : IsNext (is Slash) reader at t behind) where
+module _ (list : ListOf) {limit : ℕ} {reader : Reader} {at behind : ℕ} {t : Token} {old : Tables} {w : ReaderState} (h : Has reader old w) (n : IsNext (is Slash) reader at t behind) where
   pub list_refused : {e : SourceFaultOrMemory} → Refuses limit reader.source.now (list_of separators (the (listed_part list))) (past reader w Slash t behind) (seen_from reader behind) e → Refuses limit reader.source.now (opt (token Slash · the (list_part list) · token Slash)) w (seen_from reader at) e
   list_refused {e} r = refuses_some (leads_next (the (list_part list) · token Slash) n) (refuses_second (gives_exact {kind = Slash} n refl) (refuses_first (refuses_the (list_part list) (subst (λ (p : GamsPart). Refuses limit reader.source.now p (past reader w Slash t behind) (seen_from reader behind) e) (sym (list_production list)) r))))
 

@@ -5,20 +5,20 @@ use Rattle.gms_grammar.specs.declared.terminal.Terminal.{Terminal}
 use Rattle.gms_grammar.specs.declared.terminal.Terminal.TheVariants.{Alias, Equation, Model, Parameter, Scalar, Set, Table, Variable, VariableType, End}
 use Rattle.gms_grammar.specs.Grammar.{the, ◌∣◌, left, right, node}
 use Rattle.gms_grammar.specs.LookAhead.{may_begin}
-use Rattle.gms_grammar.specs.Terminals.{is_among}
+use Rattle.gms_grammar.specs.Terminals.{is_terminal_among}
 use Rattle.gms_grammar.specs.GamsGrammar.{KeywordStatement, SetStatement, ParameterStatement, ScalarStatement, TableStatement, VariableStatement, EquationStatement, ModelStatement, AliasStatement}
 use Rattle.gms_grammar.specs.GamsLookAhead.{look_ahead}
 use Rattle.gms_expressions.proofs.TokenKinds.{implies, also}
-use Rattle.gms_parse.specs.Walks.{Seen, Walk, is_keyword}
-use Rattle.gms_parse.specs.Readings.{GamsPart, kind_of}
-use Rattle.gms_parse.specs.Meanings.{other_statement}
+use Rattle.gms_parse.specs.Walks.{KindedToken, ReaderState, is_keyword}
+use Rattle.gms_parse.specs.InnerReadings.{GamsPart, kind_of}
+use Rattle.gms_parse.specs.InnerMeanings.{other_statement}
 use Rattle.gms_parse.proofs.TokenKinds.{IsNone, not_among, leads_by_kind}
 use Rattle.gms_parse.proofs.Steps.{Within, within_the, within_right, within_then}
 use Rattle.gms_parse.proofs.Choices.{at_once, in_first, in_other, in_node, way_within}
 
 -- ---- variables
 
-pub variable_within : {limit : ℕ} {source : List ℕ} {w : Walk} (ts : List Seen) {k : Terminal} → k ≡ kind_of ts → (k ≡ VariableType) ⊎ (k ≡ Variable) → Within limit source (the KeywordStatement) w ts (the VariableStatement) w ts (λ t. node (right (right (right (right (left t))))))
+pub variable_within : {limit : ℕ} {source : List ℕ} {w : ReaderState} (ts : List KindedToken) {k : Terminal} → k ≡ kind_of ts → (k ≡ VariableType) ⊎ (k ≡ Variable) → Within limit source (the KeywordStatement) w ts (the VariableStatement) w ts (λ t. node (right (right (right (right (left t))))))
 variable_within ts seen (inl e) = way_within {kind = VariableType} (in_node (in_other refl refl (in_other refl refl (in_other refl refl (in_other refl refl (in_first refl at_once)))))) (sym seen ∙ e) refl
 variable_within ts seen (inr e) = way_within {kind = Variable} (in_node (in_other refl refl (in_other refl refl (in_other refl refl (in_other refl refl (in_first refl at_once)))))) (sym seen ∙ e) refl
 
@@ -29,10 +29,10 @@ abbrev pub heads : List Terminal
 heads = Set ∷ Parameter ∷ Scalar ∷ Table ∷ VariableType ∷ Variable ∷ Equation ∷ Model ∷ Alias ∷ []
 
 abbrev is_inner : Terminal → Bool
-is_inner kind = is_keyword kind && not (is_among heads kind)
+is_inner kind = is_keyword kind && not (is_terminal_among heads kind)
 
 -- such a keyword leads into the second alternative
-past_other : {limit : ℕ} {source : List ℕ} {w : Walk} {ts : List Seen} (p q : GamsPart) → may_begin look_ahead p End ≡ false → may_begin look_ahead q End ≡ false → implies is_inner (λ k. not (may_begin look_ahead p k)) ≡ true → implies is_inner (may_begin look_ahead q) ≡ true →
+past_other : {limit : ℕ} {source : List ℕ} {w : ReaderState} {ts : List KindedToken} (p q : GamsPart) → may_begin look_ahead p End ≡ false → may_begin look_ahead q End ≡ false → implies is_inner (λ k. not (may_begin look_ahead p k)) ≡ true → implies is_inner (may_begin look_ahead q) ≡ true →
     is_inner (kind_of ts) ≡ true → Within limit source (p ∣ q) w ts q w ts right
 past_other {ts = ts} p q closed shut none_of all_of inner =
     within_right (leads_by_kind p ts closed ∙ not-true _ (also is_inner (λ k. not (may_begin look_ahead p k)) none_of (kind_of ts) inner)) (leads_by_kind q ts shut ∙ also is_inner (may_begin look_ahead q) all_of (kind_of ts) inner)
@@ -58,10 +58,10 @@ behind_parameters = the ScalarStatement ∣ behind_scalars
 abbrev behind_sets : GamsPart
 behind_sets = the ParameterStatement ∣ behind_parameters
 
-inner_within : {limit : ℕ} {source : List ℕ} {w : Walk} {ts : List Seen} → is_inner (kind_of ts) ≡ true → Within limit source (the KeywordStatement) w ts other_statement w ts (λ t. node (right (right (right (right (right (right (right (right t)))))))))
+inner_within : {limit : ℕ} {source : List ℕ} {w : ReaderState} {ts : List KindedToken} → is_inner (kind_of ts) ≡ true → Within limit source (the KeywordStatement) w ts other_statement w ts (λ t. node (right (right (right (right (right (right (right (right t)))))))))
 inner_within k = within_then (within_the KeywordStatement) (within_then (past_other (the SetStatement) behind_sets refl refl refl refl k) (within_then (past_other (the ParameterStatement) behind_parameters refl refl refl refl k)
     (within_then (past_other (the ScalarStatement) behind_scalars refl refl refl refl k) (within_then (past_other (the TableStatement) behind_tables refl refl refl refl k) (within_then (past_other (the VariableStatement) behind_variables refl refl refl refl k)
     (within_then (past_other (the EquationStatement) behind_equations refl refl refl refl k) (within_then (past_other (the ModelStatement) behind_models refl refl refl refl k) (past_other (the AliasStatement) other_statement refl refl refl refl k))))))))
 
-pub other_within : {limit : ℕ} {source : List ℕ} {w : Walk} (ts : List Seen) {k : Terminal} → k ≡ kind_of ts → is_keyword (kind_of ts) ≡ true → IsNone heads k → Within limit source (the KeywordStatement) w ts other_statement w ts (λ t. node (right (right (right (right (right (right (right (right t)))))))))
-other_within ts {k} seen keyword none_of = inner_within (and_from _ _ keyword (not_from_false (is_among heads (kind_of ts)) (ap (is_among heads) (sym seen) ∙ not_among heads k none_of)))
+pub other_within : {limit : ℕ} {source : List ℕ} {w : ReaderState} (ts : List KindedToken) {k : Terminal} → k ≡ kind_of ts → is_keyword (kind_of ts) ≡ true → IsNone heads k → Within limit source (the KeywordStatement) w ts other_statement w ts (λ t. node (right (right (right (right (right (right (right (right t)))))))))
+other_within ts {k} seen keyword none_of = inner_within (and_from _ _ keyword (not_from_false (is_terminal_among heads (kind_of ts)) (ap (is_terminal_among heads) (sym seen) ∙ not_among heads k none_of)))

@@ -12,7 +12,7 @@ use Rattle.gms_ast.specs.Trees.{Indices}
 use Rattle.gms_ast.specs.TreeView.{index_tree, indices_of}
 use Rattle.gms_ast.specs.StatementView.{shown_target}
 use Rattle.gms_grammar.proofs.Basics.{and_second, and_both}
-use Rattle.gms_parse.specs.Meanings.{has_lag, is_unsuffixed, is_plain_target}
+use Rattle.gms_parse.specs.InnerMeanings.{has_lag, is_unsuffixed, is_plain_target}
 use Rattle.gms_parse.proofs.Assigning.{lag_in_numbers}
 
 -- whether an index has a lag

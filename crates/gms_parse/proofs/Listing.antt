@@ -5,7 +5,7 @@ use Rattle.std.proofs.lemmas.List.{append-nil}
 use Rattle.gms_grammar.specs.declared.terminal.Terminal.{Terminal}
 use Rattle.std.proofs.lemmas.Bool.{not-true}
 use Rattle.gms_grammar.specs.declared.terminal.Terminal.TheVariants.{Dot, Using, Star}
-use Rattle.gms_grammar.specs.Terminals.{is, is_among}
+use Rattle.gms_grammar.specs.Terminals.{is, is_terminal_among}
 use Rattle.gms_grammar.specs.Grammar.{one, ◌·◌, many, leaf, pair, none, more}
 use Rattle.gms_grammar.specs.Reading.{leads}
 use Rattle.gms_grammar.specs.GamsGrammar.{productions}
@@ -16,9 +16,9 @@ use Rattle.gms_expressions.specs.ExpressionTrees.{second_in}
 use Rattle.gms_parse.specs.declared.fault.SourceFaultOrMemory.{SourceFaultOrMemory}
 use Rattle.gms_parse.specs.declared.reader.Reader.{Reader}
 use Rattle.gms_parse.specs.declared.reader.Tables.{Tables}
-use Rattle.gms_parse.specs.Walks.{Walk, last_kind}
+use Rattle.gms_parse.specs.Walks.{ReaderState, last_kind}
 use Rattle.gms_parse.specs.DataLists.{listed_in, each_in}
-use Rattle.gms_parse.specs.Readings.{Derivation, GamsPart, Refuses, Sense, IsSense, Starts, Stays, IsNext, IsGot, seen_from}
+use Rattle.gms_parse.specs.InnerReadings.{Derivation, GamsPart, Refuses, Sense, IsSense, Starts, Stays, IsNext, IsGot, seen_from}
 use Rattle.gms_parse.proofs.TokenKinds.{is_plain, unled_next}
 use Rattle.gms_parse.proofs.Steps.{got_by, Within, within_second, within_then, within_again, gives_both, gives_no_more, refuses_again, refuses_second}
 use Rattle.gms_parse.proofs.Nexts.{past, gives_plain, leads_next, earlier, plain_stays, stays_then, optionless_on}
@@ -48,7 +48,7 @@ all_meant Means show meaning sense says _ _ h = absurd h
 
 -- no dot and no `using`
 abbrev pub is_undotted : Terminal → Bool
-is_undotted kind = not (is_among (Dot ∷ Using ∷ []) kind)
+is_undotted kind = not (is_terminal_among (Dot ∷ Using ∷ []) kind)
 
 -- no `*`
 abbrev pub is_starless : Terminal → Bool
@@ -59,15 +59,15 @@ abbrev pub list_of : (Terminal → Bool) → GamsPart → GamsPart
 list_of separator p = p · many (one separator · p)
 
 -- the parts of a list read so far
-pub record Listing {T : Type 0} (limit : ℕ) (Means : Sense → Derivation → T → Type 0) (separator : Terminal → Bool) (p : GamsPart) (reader : Reader) (start : ℕ) (w : Walk) (new : Tables) (items : List T) (at : ℕ) : Type 0 where
+pub record Listing {T : Type 0} (limit : ℕ) (Means : Sense → Derivation → T → Type 0) (separator : Terminal → Bool) (p : GamsPart) (reader : Reader) (start : ℕ) (w : ReaderState) (new : Tables) (items : List T) (at : ℕ) : Type 0 where
   pub context : Derivation → Derivation
-  pub behind : Walk
+  pub behind : ReaderState
   pub within : Within limit reader.source.now (list_of separator p) w (seen_from reader start) (many (one separator · p)) behind (seen_from reader at) context
   pub stays : Stays reader new w behind
   pub means : (sense : Sense) → IsSense new sense → (b : Derivation) (xs : List T) → AreEach Means sense b xs → AreAll Means sense (context b) (items ++ xs)
   pub further : start ≤ at
 
-module _ {T : Type 0} {limit : ℕ} {Means : Sense → Derivation → T → Type 0} {separator : Terminal → Bool} {p : GamsPart} {reader : Reader} {start : ℕ} {w : Walk} where
+module _ {T : Type 0} {limit : ℕ} {Means : Sense → Derivation → T → Type 0} {separator : Terminal → Bool} {p : GamsPart} {reader : Reader} {start : ℕ} {w : ReaderState} where
   -- the first one
   pub listing_start : {new : Tables} {x : T} {at : ℕ} → IsGot limit Means (Stays reader new w) p reader start new w x at → (items : List T) → items ≡ x ∷ [] → Listing limit Means separator p reader start w new items at
   listing_start got items is = record {
@@ -81,7 +81,7 @@ module _ {T : Type 0} {limit : ℕ} {Means : Sense → Derivation → T → Type
 
   module _ {new : Tables} {items : List T} {at : ℕ} (l : Listing limit Means separator p reader start w new items at) where
     -- the state after a separator
-    abbrev pub separated_walk : {t : Token} {behind : ℕ} → IsNext separator reader at t behind → Walk
+    abbrev pub separated_walk : {t : Token} {behind : ℕ} → IsNext separator reader at t behind → ReaderState
     separated_walk {t} {behind} n = past reader l.behind n.kind t behind
 
     pub separated_stays : {t : Token} {behind : ℕ} (n : IsNext separator reader at t behind) → implies separator is_plain ≡ true → Stays reader new w (separated_walk n)

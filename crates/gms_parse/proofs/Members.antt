@@ -12,15 +12,15 @@ use Rattle.std.proofs.lemmas.List.Sums.{prefix_len_passes, suffix_len-le-length}
 use Rattle.std.proofs.lemmas.Slice.Eq.{bytes_eq-Decides}
 use Rattle.std.proofs.lemmas.Str.Parse.{numerals_by_value, tells_by_index, digits_value_short}
 use Rattle.gms_grammar.proofs.Checks.{left_and, right_and}
-use Rattle.gms_set.specs.Ranges.{text_length, text_of, digits_of, number_of, is_padded, is_numbered, go_together, is_range, width_of, written, members}
+use Rattle.gms_set.specs.Ranges.{text_length, text_before_digits, digits_of, number_in_label, is_padded, is_numbered, go_together, is_range, digit_width, padded_digits, members}
 
 -- texts that differ only in case have equal lengths
 same_length : (a b : List ℕ) → str_eq_ignore_ascii_case a b ≡ true → length a ≡ length b
 same_length a b h = sym (length-map a to_ascii_lowercase) ∙ ap length ((bytes_eq-Decides (str_to_ascii_lowercase a) (str_to_ascii_lowercase b)).0 h) ∙ length-map b to_ascii_lowercase
 
 -- the text of a label, and its digits
-whole_length : (label : List ℕ) → length (text_of label) + length (digits_of label) ≡ length label
-whole_length label = sym (length-append (text_of label) (digits_of label)) ∙ ap length (take-append-drop (text_length label) label)
+whole_length : (label : List ℕ) → length (text_before_digits label) + length (digits_of label) ≡ length label
+whole_length label = sym (length-append (text_before_digits label) (digits_of label)) ∙ ap length (take-append-drop (text_length label) label)
 
 in_range : (c : ℕ) → is_ascii_digit c ≡ true → IsInRange 48 57 c
 in_range c digit = grind arith
@@ -37,10 +37,10 @@ digits_are label i h =
     let same : get_or (reverse label) (n - 1 - i) 0 ≡ get_or (digits_of label) i 0 = get_or-reverse label (n - 1 - i) 0 inside ∙ ap (λ k. get_or label k 0) index ∙ sym (get_or-drop (text_length label) label i 0) in
     in_range (get_or (digits_of label) i 0) (ap is_ascii_digit (sym same) ∙ prefix_len_passes is_ascii_digit (reverse label) (n - 1 - i) 0 below)
 
-number_below : (label : List ℕ) (k : ℕ) → length (digits_of label) ≤ k → number_of label < 10 ^ k
+number_below : (label : List ℕ) (k : ℕ) → length (digits_of label) ≤ k → number_in_label label < 10 ^ k
 number_below label k h = digits_value_short (numerals_by_value (λ ds. (i : ℕ) → i < length ds → IsInRange 48 57 (get_or ds i 0)) tells_by_index) (digits_of label) k (digits_are label) h
 
-written_length : (width n : ℕ) → length (written width n) ≡ width - length (decimal n) + length (decimal n)
+written_length : (width n : ℕ) → length (padded_digits width n) ≡ width - length (decimal n) + length (decimal n)
 written_length width n = length-append (replicate (width - length (decimal n)) 48) (decimal n) ∙ ap (λ k. k + length (decimal n)) (length-replicate (width - length (decimal n)) 48)
 
 width_below : (b : Bool) (n : ℕ) → cond b n 0 ≤ n
@@ -52,26 +52,26 @@ at_least a b h = grind (arith, nat_tests, h)
 
 -- What makes two labels a range, as their members need it.
 record Ranges (from to : List ℕ) : Type 0 where
-  text : length (text_of from) ≡ length (text_of to)
+  text : length (text_before_digits from) ≡ length (text_before_digits to)
   some : 1 ≤ length (digits_of to)
   few : length (digits_of to) ≤ 9
-  order : number_of from ≤ number_of to
+  order : number_in_label from ≤ number_in_label to
 
 ranges_of : (from to : List ℕ) → is_range from to ≡ true → Ranges from to
 ranges_of from to h =
-    let behind = right_and (str_eq_ignore_ascii_case (text_of from) (text_of to)) _ h in
+    let behind = right_and (str_eq_ignore_ascii_case (text_before_digits from) (text_before_digits to)) _ h in
     let numbered = right_and (is_numbered from) _ behind in
     let last = left_and (is_numbered to) _ numbered in
     let short = right_and (go_together (digits_of from) (digits_of to)) _ (right_and (is_numbered to) _ numbered) in
     record {
-      text = same_length (text_of from) (text_of to) (left_and _ _ h);
+      text = same_length (text_before_digits from) (text_before_digits to) (left_and _ _ h);
       some = at_least 1 (length (digits_of to)) (left_and _ _ last);
       few = at_least (length (digits_of to)) 9 (right_and (nat_le 1 (length (digits_of to))) _ last);
-      order = at_least (number_of from) (number_of to) (left_and _ _ short);
+      order = at_least (number_in_label from) (number_in_label to) (left_and _ _ short);
     }
 
 -- a number up to the last, after the text of the first
-numbered_short : (from to : List ℕ) (n : ℕ) → Ranges from to → n ≤ number_of to → length from ≤ 63 → length to ≤ 63 → length (text_of from ++ written (width_of (digits_of from)) n) ≤ 63
+numbered_short : (from to : List ℕ) (n : ℕ) → Ranges from to → n ≤ number_in_label to → length from ≤ 63 → length to ≤ 63 → length (text_before_digits from ++ padded_digits (digit_width (digits_of from)) n) ≤ 63
 numbered_short from to n r h f t =
     let k = length (digits_of to) in
     let power = number_below to k (omega arith) in
@@ -83,17 +83,17 @@ numbered_short from to n r h f t =
     let whole_from = whole_length from in
     let whole_to = whole_length to in
     let text = r.text in
-    let size = length-append (text_of from) (written (width_of (digits_of from)) n) in
-    let number = written_length (width_of (digits_of from)) n in
+    let size = length-append (text_before_digits from) (padded_digits (digit_width (digits_of from)) n) in
+    let number = written_length (digit_width (digits_of from)) n in
     omega (arith, f, t, digits, width, whole_from, whole_to, text, size, number)
 
 -- each member of a range has at most 63 bytes, where its labels have
 pub member_short : (from to : List ℕ) (i : ℕ) → is_range from to ≡ true → i < length (members from to) → length from ≤ 63 → length to ≤ 63 → length (get_or (members from to) i []) ≤ 63
 member_short from to i h within f t =
     let r = ranges_of from to h in
-    let g : ℕ → List ℕ = λ n. text_of from ++ written (width_of (digits_of from)) n in
-    let count = length-map-range_with_len g (number_of from) (number_of to - number_of from + 1) in
+    let g : ℕ → List ℕ = λ n. text_before_digits from ++ padded_digits (digit_width (digits_of from)) n in
+    let count = length-map-range_with_len g (number_in_label from) (number_in_label to - number_in_label from + 1) in
     let order = r.order in
-    let below : i < number_of to - number_of from + 1 = omega (arith, within, count) in
-    let last : number_of from + i ≤ number_of to = omega (arith, below, order) in
-    subst (λ (x : List ℕ). length x ≤ 63) (sym (get_or-map-range_with_len g (number_of from) (number_of to - number_of from + 1) i (number_of from + i) [] below refl)) (numbered_short from to (number_of from + i) r last f t)
+    let below : i < number_in_label to - number_in_label from + 1 = omega (arith, within, count) in
+    let last : number_in_label from + i ≤ number_in_label to = omega (arith, below, order) in
+    subst (λ (x : List ℕ). length x ≤ 63) (sym (get_or-map-range_with_len g (number_in_label from) (number_in_label to - number_in_label from + 1) i (number_in_label from + i) [] below refl)) (numbered_short from to (number_in_label from + i) r last f t)

@@ -20,9 +20,9 @@ use Rattle.gms_parse.specs.declared.fault.SourceFaultOrMemory.{SourceFaultOrMemo
 use Rattle.gms_parse.specs.declared.reader.Reader.{Reader}
 use Rattle.gms_parse.specs.declared.reader.Tables.{Tables}
 use Rattle.gms_parse.specs.Statements.{named_act, target_in, condition_in, assigned, sides_in}
-use Rattle.gms_parse.specs.Walks.{Seen, Walk}
-use Rattle.gms_parse.specs.Readings.{Derivation, GamsPart, Gives, Refuses, Sense, IsSense, IsGot, Starts, Stays, StaysOpen, Tableless, IsNext, seen_from}
-use Rattle.gms_parse.specs.Meanings.{IsTarget, IsCondition, IsAssigned, IsDefined, IsAct, is_plain_target}
+use Rattle.gms_parse.specs.Walks.{KindedToken, ReaderState}
+use Rattle.gms_parse.specs.InnerReadings.{Derivation, GamsPart, Gives, Refuses, Sense, IsSense, IsGot, Starts, Stays, StaysOpen, Tableless, IsNext, seen_from}
+use Rattle.gms_parse.specs.InnerMeanings.{IsTarget, IsCondition, IsAssigned, IsDefined, IsAct, is_plain_target}
 use Rattle.gms_parse.proofs.TokenKinds.{unled_next, led_first}
 use Rattle.gms_parse.proofs.Steps.{got_by, Within, gives_as, gives_both, gives_the, gives_left, gives_right, refuses_the, refuses_first, refuses_second, refuses_right, by_cause, stuck_as, wrong_as, stuck_behind, wrong_behind}
 use Rattle.gms_parse.proofs.Nexts.{past, exact, gives_exact, leads_next, plain_starts, kind_stays, stays_then, earlier, optionless_on, tableless_on}
@@ -30,10 +30,10 @@ use Rattle.gms_parse.proofs.Heads.{Leading, target_stuck, target_taken, target_g
 
 module _ {limit : ℕ} {source : List ℕ} where
   -- what is refused as a target is refused as a statement that begins with one
-  pub target_refused : {w : Walk} {ts : List Seen} {e : SourceFaultOrMemory} → Refuses limit source (the Target) w ts e → Refuses limit source (the NamedStatement) w ts e
+  pub target_refused : {w : ReaderState} {ts : List KindedToken} {e : SourceFaultOrMemory} → Refuses limit source (the Target) w ts e → Refuses limit source (the NamedStatement) w ts e
   target_refused r = by_cause r (λ fault s. stuck_as s (target_stuck s.reads)) (λ fault s. wrong_as s (target_taken s.takes))
 
-  module _ {p inner : GamsPart} {w v : Walk} {ts rest : List Seen} {tree : Derivation} {c : Derivation → Derivation} (g : Gives limit source (the Target) w ts tree v rest) (l : Leading p ts (yield tree) inner rest c) where
+  module _ {p inner : GamsPart} {w v : ReaderState} {ts rest : List KindedToken} {tree : Derivation} {c : Derivation → Derivation} (g : Gives limit source (the Target) w ts tree v rest) (l : Leading p ts (yield tree) inner rest c) where
     -- another part is read after the tokens of a target
     pub within_of : Within limit source p w ts inner v rest c
     within_of = record {
@@ -45,10 +45,10 @@ module _ {limit : ℕ} {source : List ℕ} where
 
 -- ---- `=` or `..`
 
-led_pair : {test : Terminal → Bool} {q : GamsPart} {ts rest : List Seen} {tree : Derivation} → Reads productions look_ahead (one test · q) ts (read tree rest) → leads productions look_ahead (one test · q) ts ≡ true
+led_pair : {test : Terminal → Bool} {q : GamsPart} {ts rest : List KindedToken} {tree : Derivation} → Reads productions look_ahead (one test · q) ts (read tree rest) → leads productions look_ahead (one test · q) ts ≡ true
 led_pair {test} {q} {ts} (both (taken h) r) = led_first test q ts h
 
-stuck_pair : {test : Terminal → Bool} {q r : GamsPart} {ts front rest : List Seen} → leads productions look_ahead r ts ≡ false → Reads productions look_ahead (one test · q) ts (stuck front rest) → Reads productions look_ahead (one test · q ∣ r) ts (stuck front rest)
+stuck_pair : {test : Terminal → Bool} {q r : GamsPart} {ts front rest : List KindedToken} → leads productions look_ahead r ts ≡ false → Reads productions look_ahead (one test · q) ts (stuck front rest) → Reads productions look_ahead (one test · q ∣ r) ts (stuck front rest)
 stuck_pair {test} {q} {ts = ts} k (first_stuck (refused h)) = in_neither (unled_next test q ts h) k
 stuck_pair {test} {q} {ts = ts} k (second_stuck (taken h) s) = in_left_stuck (led_first test q ts h) (second_stuck (taken h) s)
 
@@ -61,7 +61,7 @@ so_far tables = record { names = tables.names; labels = tables.labels }
 pub is_so_far : (tables : Tables) → IsSense tables (so_far tables)
 is_so_far tables = record { names = λ text n h. h; labels = λ text n h. h }
 
-module _ {F : Type 0} (value : F → Number) {limit : ℕ} {reader : Reader} {at middle : ℕ} {first : Tables} {w : Walk} {target : TargetNode F} (t : IsGot limit (IsTarget value reader.source.now) (StaysOpen reader first w) (the Target) reader at first w target middle) where
+module _ {F : Type 0} (value : F → Number) {limit : ℕ} {reader : Reader} {at middle : ℕ} {first : Tables} {w : ReaderState} {target : TargetNode F} (t : IsGot limit (IsTarget value reader.source.now) (StaysOpen reader first w) (the Target) reader at first w target middle) where
   -- a target that is plain, or is none
   plain_as : (b : Bool) → ((source : List ℕ) (s : Sense) → is_plain_target (target_in source s.names s.labels t.tree) ≡ b) → is_plain_target (shown_target value target) ≡ b
   plain_as b h = ap is_plain_target (t.means (so_far first) (is_so_far first)) ∙ h reader.source.now (so_far first)
@@ -125,8 +125,8 @@ module _ {F : Type 0} (value : F → Number) {limit : ℕ} {reader : Reader} {at
       ]
 
 -- after `..` the left side may begin
-pub dots_starts : {reader : Reader} {at behind : ℕ} {dots : Token} {old new : Tables} {w v : Walk} → Starts reader old w → StaysOpen reader new w v → IsNext (is DotDot) reader at dots behind → Starts reader new (past reader v DotDot dots behind)
+pub dots_starts : {reader : Reader} {at behind : ℕ} {dots : Token} {old new : Tables} {w v : ReaderState} → Starts reader old w → StaysOpen reader new w v → IsNext (is DotDot) reader at dots behind → Starts reader new (past reader v DotDot dots behind)
 dots_starts {reader} {behind = behind} {dots = dots} {v = v} s o n = plain_starts reader v DotDot dots behind refl refl o.stays.has (optionless_on o.stays.keyword s.optionless)
 
-pub dots_tableless : {reader : Reader} {at behind : ℕ} {dots : Token} {new : Tables} {w v : Walk} → StaysOpen reader new w v → Tableless w → IsNext (is DotDot) reader at dots behind → Tableless (past reader v DotDot dots behind)
+pub dots_tableless : {reader : Reader} {at behind : ℕ} {dots : Token} {new : Tables} {w v : ReaderState} → StaysOpen reader new w v → Tableless w → IsNext (is DotDot) reader at dots behind → Tableless (past reader v DotDot dots behind)
 dots_tableless o h n = tableless_on (kind_stays DotDot n refl o.stays.has).keyword (tableless_on o.stays.keyword h)

@@ -4,7 +4,7 @@ use Rattle.gms_grammar.specs.declared.terminal.Terminal.{Terminal}
 use Rattle.gms_grammar.specs.declared.terminal.Terminal.TheVariants.{LeftParen, RightParen, Dot, Using, Option, Table, Semicolon}
 use Rattle.gms_grammar.specs.Grammar.{one, ◌·◌, leaf, pair, yield}
 use Rattle.gms_grammar.specs.Reading.{leads, refused}
-use Rattle.gms_grammar.specs.Terminals.{is, is_among}
+use Rattle.gms_grammar.specs.Terminals.{is, is_terminal_among}
 use Rattle.gms_grammar.specs.GamsGrammar.{productions, token, bracketed}
 use Rattle.gms_grammar.specs.GamsLookAhead.{look_ahead}
 use Rattle.gms_grammar.proofs.Checks.{left_and, right_and}
@@ -17,15 +17,15 @@ use Rattle.gms_parse.specs.declared.fault.SourceFault.{SourceFault}
 use Rattle.gms_parse.specs.declared.fault.SourceFaultOrMemory.{SourceFaultOrMemory}
 use Rattle.gms_parse.specs.declared.reader.Reader.{Reader}
 use Rattle.gms_parse.specs.declared.reader.Tables.{Tables}
-use Rattle.gms_parse.specs.Walks.{Seen, Walk, ends_statement, walk_after, IsFaulty, deep, out_of_range, many_names, many_labels, in_table, without_lines}
-use Rattle.gms_parse.specs.Readings.{Derivation, GamsPart, Gives, Refuses, Sense, IsSense, Holds, Has, Starts, Stays, Optionless, IsNext, IsLacking, IsOpened, IsUnopened, inside, seen_from, kind_of, IsGot}
+use Rattle.gms_parse.specs.Walks.{KindedToken, ReaderState, ends_statement, reader_after, IsFaulty, deep, out_of_range, many_names, many_labels, in_table, without_lines}
+use Rattle.gms_parse.specs.InnerReadings.{Derivation, GamsPart, Gives, Refuses, Sense, IsSense, Holds, Has, Starts, Stays, Optionless, IsNext, IsLacking, IsOpened, IsUnopened, inside, seen_from, kind_of, IsGot}
 use Rattle.gms_parse.proofs.TokenKinds.{begins, is_quiet, is_plain, same_kind, led_first}
 use Rattle.gms_parse.proofs.Walks.{quiet_after, quiet_sound, closing_sound, keyword_after, begun_after, room_for_none, names_kept, labels_kept}
 use Rattle.gms_parse.proofs.Steps.{got_by, gives_one, gives_both, refuses_at, refuses_first, refuses_second}
 
 -- what a token leaves, which a reader has passed
-abbrev pub past : Reader → Walk → Terminal → Token → ℕ → Walk
-past reader w kind t behind = walk_after reader.source.now w (kind, t) (kind_of (seen_from reader behind))
+abbrev pub past : Reader → ReaderState → Terminal → Token → ℕ → ReaderState
+past reader w kind t behind = reader_after reader.source.now w (kind, t) (kind_of (seen_from reader behind))
 
 -- the next token leads into a part that it is, or that begins with it
 pub led_next : {test : Terminal → Bool} {reader : Reader} {at behind : ℕ} {t : Token} → IsNext test reader at t behind → leads productions look_ahead (one test) (seen_from reader at) ≡ true
@@ -42,7 +42,7 @@ pub exact : {kind : Terminal} {reader : Reader} {at behind : ℕ} {t : Token} �
 exact {reader = reader} {behind = behind} {t = t} n = n.is ∙ ap (λ (k : Terminal). (k, t) ∷ seen_from reader behind) (sym (exact_kind n))
 
 -- another token is expected
-pub refuses_lacking : {limit : ℕ} {test : Terminal → Bool} {reader : Reader} {at : ℕ} {w : Walk} {e : SourceFaultOrMemory} → IsLacking test reader at e → Refuses limit reader.source.now (one test) w (seen_from reader at) e
+pub refuses_lacking : {limit : ℕ} {test : Terminal → Bool} {reader : Reader} {at : ℕ} {w : ReaderState} {e : SourceFaultOrMemory} → IsLacking test reader at e → Refuses limit reader.source.now (one test) w (seen_from reader at) e
 refuses_lacking l = refuses_at (refused l.not_led) l.is
 
 -- ---- states
@@ -54,21 +54,21 @@ optionless_on e h = ap (is Option) e ∙ h
 pub tableless_on : {j k : Terminal} → k ≡ j → is Table j ≡ false → is Table k ≡ false
 tableless_on e h = ap (is Table) e ∙ h
 
-pub stays_then : {reader : Reader} {between new : Tables} {w v x : Walk} → Stays reader between w v → Stays reader new v x → Stays reader new w x
+pub stays_then : {reader : Reader} {between new : Tables} {w v x : ReaderState} → Stays reader between w v → Stays reader new v x → Stays reader new w x
 stays_then s t = record { has = t.has; keyword = t.keyword ∙ s.keyword; level = t.level ∙ s.level }
 
-pub stays_same : {reader : Reader} {tables : Tables} {w : Walk} → Has reader tables w → Stays reader tables w w
+pub stays_same : {reader : Reader} {tables : Tables} {w : ReaderState} → Has reader tables w → Stays reader tables w w
 stays_same h = record { has = h; keyword = refl; level = refl }
 
 -- what is so of the sense of later tables is so of that of earlier ones
-pub earlier : {limit : ℕ} {source : List ℕ} {part : GamsPart} {reader other : Reader} {old new : Tables} {w v : Walk} {ts rest : List Seen} {tree : Derivation} {sense : Sense} →
+pub earlier : {limit : ℕ} {source : List ℕ} {part : GamsPart} {reader other : Reader} {old new : Tables} {w v : ReaderState} {ts rest : List KindedToken} {tree : Derivation} {sense : Sense} →
     Gives limit source part w ts tree v rest → Holds reader old w → Holds other new v → IsSense new sense → IsSense old sense
 earlier {source = source} {w = w} {v = v} {rest = rest} {tree = tree} g h k s = record {
-  names = λ text n p. s.names text n (subst (λ (x : List (List ℕ)). place_of x text ≡ Some n) k.names (subst (λ (x : Walk). place_of x.names text ≡ Some n) (sym g.leaves) (names_kept source w (yield tree) (kind_of rest) text n (subst (λ (x : List (List ℕ)). place_of x text ≡ Some n) (sym h.names) p))));
-  labels = λ text n p. s.labels text n (subst (λ (x : List (List ℕ)). place_of x text ≡ Some n) k.labels (subst (λ (x : Walk). place_of x.labels text ≡ Some n) (sym g.leaves) (labels_kept source w (yield tree) (kind_of rest) text n (subst (λ (x : List (List ℕ)). place_of x text ≡ Some n) (sym h.labels) p))));
+  names = λ text n p. s.names text n (subst (λ (x : List (List ℕ)). place_of x text ≡ Some n) k.names (subst (λ (x : ReaderState). place_of x.names text ≡ Some n) (sym g.leaves) (names_kept source w (yield tree) (kind_of rest) text n (subst (λ (x : List (List ℕ)). place_of x text ≡ Some n) (sym h.names) p))));
+  labels = λ text n p. s.labels text n (subst (λ (x : List (List ℕ)). place_of x text ≡ Some n) k.labels (subst (λ (x : ReaderState). place_of x.labels text ≡ Some n) (sym g.leaves) (labels_kept source w (yield tree) (kind_of rest) text n (subst (λ (x : List (List ℕ)). place_of x text ≡ Some n) (sym h.labels) p))));
 }
 
-module _ (reader : Reader) (w : Walk) (kind : Terminal) (t : Token) (behind : ℕ) where
+module _ (reader : Reader) (w : ReaderState) (kind : Terminal) (t : Token) (behind : ℕ) where
   -- after a quiet token
   pub quiet_holds : {tables : Tables} → is_quiet kind ≡ true → Holds reader tables w → Holds reader tables (past reader w kind t behind)
   quiet_holds q h =
@@ -89,7 +89,7 @@ module _ (reader : Reader) (w : Walk) (kind : Terminal) (t : Token) (behind : �
       let k = quiet_after reader.source.now w kind t (kind_of (seen_from reader behind)) q in
       stays_by (not-true (begins kind) (right_and (is_quiet kind) (not (begins kind)) p)) h k.open_count (k.names ∙ h.holds.names) (k.labels ∙ h.holds.labels)
 
-  pub plain_starts : {tables : Tables} → is_plain kind ≡ true → is_among (Dot ∷ Using ∷ []) kind ≡ false → Has reader tables w → Optionless w → Starts reader tables (past reader w kind t behind)
+  pub plain_starts : {tables : Tables} → is_plain kind ≡ true → is_terminal_among (Dot ∷ Using ∷ []) kind ≡ false → Has reader tables w → Optionless w → Starts reader tables (past reader w kind t behind)
   plain_starts p d h o = let s = plain_stays p h in record { has = s.has; undotted = d; optionless = optionless_on s.keyword o }
 
   -- after a keyword or a semicolon
@@ -102,23 +102,23 @@ module _ (reader : Reader) (w : Walk) (kind : Terminal) (t : Token) (behind : �
   pub begun_keyword : begins kind ≡ true → (past reader w kind t behind).keyword ≡ kind
   begun_keyword b = (begun_after reader.source.now w (kind, t) (kind_of (seen_from reader behind)) b).0
 
-  pub begun_starts : {tables : Tables} → is_quiet kind ≡ true → begins kind ≡ true → is Option kind ≡ false → is_among (Dot ∷ Using ∷ []) kind ≡ false → Holds reader tables w → Starts reader tables (past reader w kind t behind)
+  pub begun_starts : {tables : Tables} → is_quiet kind ≡ true → begins kind ≡ true → is Option kind ≡ false → is_terminal_among (Dot ∷ Using ∷ []) kind ≡ false → Holds reader tables w → Starts reader tables (past reader w kind t behind)
   begun_starts q b o d h = record { has = begun_has q b h; undotted = d; optionless = ap (is Option) (begun_keyword b) ∙ o }
 
 -- ---- tokens that were read
 
 -- the next token, of a quiet kind
-pub gives_quiet : {limit : ℕ} {test : Terminal → Bool} {reader : Reader} {at behind : ℕ} {t : Token} {w : Walk} (n : IsNext test reader at t behind) → is_quiet n.kind ≡ true →
+pub gives_quiet : {limit : ℕ} {test : Terminal → Bool} {reader : Reader} {at behind : ℕ} {t : Token} {w : ReaderState} (n : IsNext test reader at t behind) → is_quiet n.kind ≡ true →
     Gives limit reader.source.now (one test) w (seen_from reader at) (leaf (n.kind, t)) (past reader w n.kind t behind) (seen_from reader behind)
 gives_quiet {limit = limit} {reader = reader} {behind = behind} {t = t} {w = w} n q = gives_one n.is n.passes (quiet_sound limit reader.source.now w n.kind t (kind_of (seen_from reader behind)) q) refl
 
 -- of one of some plain kinds
-pub gives_plain : {limit : ℕ} {test : Terminal → Bool} {reader : Reader} {at behind : ℕ} {t : Token} {w : Walk} (n : IsNext test reader at t behind) → implies test is_plain ≡ true →
+pub gives_plain : {limit : ℕ} {test : Terminal → Bool} {reader : Reader} {at behind : ℕ} {t : Token} {w : ReaderState} (n : IsNext test reader at t behind) → implies test is_plain ≡ true →
     Gives limit reader.source.now (one test) w (seen_from reader at) (leaf (n.kind, t)) (past reader w n.kind t behind) (seen_from reader behind)
 gives_plain {test = test} n all = gives_quiet n (left_and (is_quiet n.kind) (not (begins n.kind)) (also test is_plain all n.kind n.passes))
 
 -- of this quiet kind
-pub gives_exact : {limit : ℕ} {kind : Terminal} {reader : Reader} {at behind : ℕ} {t : Token} {w : Walk} → IsNext (is kind) reader at t behind → is_quiet kind ≡ true →
+pub gives_exact : {limit : ℕ} {kind : Terminal} {reader : Reader} {at behind : ℕ} {t : Token} {w : ReaderState} → IsNext (is kind) reader at t behind → is_quiet kind ≡ true →
     Gives limit reader.source.now (token kind) w (seen_from reader at) (leaf (kind, t)) (past reader w kind t behind) (seen_from reader behind)
 gives_exact {limit = limit} {kind = kind} {reader = reader} {behind = behind} {t = t} {w = w} n q = gives_one (exact n) (ap (is kind) (exact_kind n) ∙ n.passes) (quiet_sound limit reader.source.now w kind t (kind_of (seen_from reader behind)) q) refl
 
@@ -129,21 +129,21 @@ falls n after h = let w = n.within in let f = n.further in omega arith
 -- ---- parentheses
 
 -- what was read by the reader inside is read by the one outside
-pub got_inside : {T : Type 0} {limit : ℕ} (Means : Reader → Sense → Derivation → T → Type 0) {Leaves : Walk → Type 0} {p : GamsPart} {reader inner : Reader} {at start from next : ℕ} {new : Tables} {w : Walk} {x : T} → IsOpened reader at inner start →
+pub got_inside : {T : Type 0} {limit : ℕ} (Means : Reader → Sense → Derivation → T → Type 0) {Leaves : ReaderState → Type 0} {p : GamsPart} {reader inner : Reader} {at start from next : ℕ} {new : Tables} {w : ReaderState} {x : T} → IsOpened reader at inner start →
     IsGot limit (Means inner) Leaves p inner from new w x next → IsGot limit (Means (inside reader (reader.unclosed + 1))) Leaves p reader from new w x next
 got_inside {limit = limit} Means {Leaves} {p} {reader} {from = from} {next = next} {new = new} {w = w} {x = x} o got =
     let g = subst (λ (r : Reader). IsGot limit (Means r) Leaves p r from new w x next) o.inner_is got in
     got_by g.gives g.leaves g.means g.further
 
-pub refuses_within : {limit : ℕ} {p : GamsPart} {reader inner : Reader} {at start : ℕ} (from : ℕ) {w : Walk} {e : SourceFaultOrMemory} → IsOpened reader at inner start →
+pub refuses_within : {limit : ℕ} {p : GamsPart} {reader inner : Reader} {at start : ℕ} (from : ℕ) {w : ReaderState} {e : SourceFaultOrMemory} → IsOpened reader at inner start →
     Refuses limit inner.source.now p w (seen_from inner from) e → Refuses limit reader.source.now p w (seen_from reader from) e
 refuses_within {limit = limit} {p = p} from {w = w} {e = e} o r = subst (λ (r : Reader). Refuses limit r.source.now p w (seen_from r from) e) o.inner_is r
 
 -- after the opening parenthesis
-abbrev pub opened : {reader : Reader} {at start : ℕ} {inner : Reader} → Walk → IsOpened reader at inner start → Walk
+abbrev pub opened : {reader : Reader} {at start : ℕ} {inner : Reader} → ReaderState → IsOpened reader at inner start → ReaderState
 opened {reader} {at} {start} w o = past reader w LeftParen o.token start
 
-module _ {reader : Reader} {at start : ℕ} {inner : Reader} {old : Tables} {w : Walk} (o : IsOpened reader at inner start) (h : Has reader old w) where
+module _ {reader : Reader} {at start : ℕ} {inner : Reader} {old : Tables} {w : ReaderState} (o : IsOpened reader at inner start) (h : Has reader old w) where
   pub open_has : Has inner old (opened w o)
   open_has = record {
     holds = record { open_count = ap (λ n. n + 1) h.holds.open_count ∙ ap (λ (r : Reader). r.unclosed) (sym o.inner_is); names = h.holds.names; labels = h.holds.labels };
@@ -154,7 +154,7 @@ module _ {reader : Reader} {at start : ℕ} {inner : Reader} {old : Tables} {w :
   open_starts n = record { has = open_has; undotted = refl; optionless = n }
 
   -- after the closing parenthesis
-  pub close_stays : {new : Tables} {v : Walk} → Stays inner new (opened w o) v → (t : Token) (behind : ℕ) → Stays reader new w (past reader v RightParen t behind)
+  pub close_stays : {new : Tables} {v : ReaderState} → Stays inner new (opened w o) v → (t : Token) (behind : ℕ) → Stays reader new w (past reader v RightParen t behind)
   close_stays s t behind =
       let c = s.has.holds.open_count ∙ ap (λ (r : Reader). r.unclosed) o.inner_is in
       let k = h.holds.open_count in
@@ -184,7 +184,7 @@ module _ {reader : Reader} {at start : ℕ} {inner : Reader} {old : Tables} {w :
     pub refuses_inside : {p : GamsPart} {e : SourceFaultOrMemory} → Refuses limit reader.source.now p (opened w o) (seen_from reader start) e → Refuses limit reader.source.now (bracketed p) w (seen_from reader at) e
     refuses_inside r = refuses_second gives_open (refuses_first r)
 
-    module _ {new : Tables} {v : Walk} (s : Stays inner new (opened w o) v) where
+    module _ {new : Tables} {v : ReaderState} (s : Stays inner new (opened w o) v) where
       pub gives_close : {next behind : ℕ} {t : Token} → IsNext (is RightParen) reader next t behind → (is Table w.keyword && ends_statement (kind_of (seen_from reader behind))) ≡ false →
           Gives limit reader.source.now (token RightParen) v (seen_from reader next) (leaf (RightParen, t)) (past reader v RightParen t behind) (seen_from reader behind)
       gives_close {behind = behind} {t = t} n on = gives_one (exact n) refl (closing_sound limit reader.source.now v t (kind_of (seen_from reader behind)) table_on) refl
@@ -209,16 +209,16 @@ pub closes_on : (k : Terminal) (b : Bool) → is Table k ≡ false → (is Table
 closes_on k b h = ap (λ a. a && b) h
 
 -- no parenthesis opens where one is expected
-pub refuses_unopened : {limit : ℕ} {reader : Reader} {at : ℕ} {e : SourceFaultOrMemory} {tables : Tables} {w : Walk} (p : GamsPart) → IsUnopened reader at e → Holds reader tables w → Refuses limit reader.source.now (bracketed p) w (seen_from reader at) e
+pub refuses_unopened : {limit : ℕ} {reader : Reader} {at : ℕ} {e : SourceFaultOrMemory} {tables : Tables} {w : ReaderState} (p : GamsPart) → IsUnopened reader at e → Holds reader tables w → Refuses limit reader.source.now (bracketed p) w (seen_from reader at) e
 refuses_unopened {limit = limit} {tables = tables} {w = w} p u h = refuses_first (u.refuses limit tables w h)
 
 -- some state that a name may follow, to view a loop's step by itself
-abbrev pub somewhere : Reader → Tables → Walk
+abbrev pub somewhere : Reader → Tables → ReaderState
 somewhere reader tables = record { open_count = reader.unclosed; names = tables.names; labels = tables.labels; before = []; keyword = Semicolon; level = 0 }
 
 pub starts_somewhere : (reader : Reader) (tables : Tables) → Starts reader tables (somewhere reader tables)
 starts_somewhere reader tables = record { has = record { holds = record { open_count = refl; names = refl; labels = refl }; level = omega arith }; undotted = refl; optionless = refl }
 
 -- after a token of this plain kind
-pub kind_stays : (kind : Terminal) {reader : Reader} {at behind : ℕ} {t : Token} {tables : Tables} {w : Walk} → IsNext (is kind) reader at t behind → is_plain kind ≡ true → Has reader tables w → Stays reader tables w (past reader w kind t behind)
+pub kind_stays : (kind : Terminal) {reader : Reader} {at behind : ℕ} {t : Token} {tables : Tables} {w : ReaderState} → IsNext (is kind) reader at t behind → is_plain kind ≡ true → Has reader tables w → Stays reader tables w (past reader w kind t behind)
 kind_stays kind {reader} {behind = behind} {t = t} {w = w} n p h = plain_stays reader w kind t behind p h

@@ -3,7 +3,7 @@ use Rattle.std.proofs.Common.{◌≡◌, ℕ, ◌≤◌, true, false, List, [], 
 use Rattle.gq_number.specs.Number.{Number as Rational}
 use Rattle.gms_ast.specs.StatementTrees.{Statements}
 use Rattle.gms_lex.specs.declared.token.Token.{Token}
-use Rattle.gms_lex.specs.Tokens.{most_bytes}
+use Rattle.gms_lex.specs.Tokens.{most_source_bytes}
 use Rattle.gms_lex.proofs.AnswerLemmas.{means_only}
 use Rattle.gms_grammar.specs.declared.terminal.Terminal.{Terminal}
 use Rattle.gms_grammar.specs.declared.terminal.Terminal.TheVariants.{LeftParen, RightParen, Number, TableLine, End}
@@ -15,17 +15,17 @@ use Rattle.gms_grammar.proofs.Stopping.{stops_once}
 use Rattle.gms_grammar.proofs.Language.{gams_unique}
 use Rattle.gms_grammar.specs.Rules as rules
 use Rattle.gms_grammar.proofs.FirstFaults.{no_first, one_refused}
-use Rattle.gms_expressions.specs.Outcomes.{seen}
+use Rattle.gms_expressions.specs.Outcomes.{kinded_tokens}
 use Rattle.gms_parse.specs.declared.fault.SourceError.TheVariants.{Syntax, Table}
 use Rattle.gms_expressions.specs.declared.fault.SyntaxError.TheVariants.{Depth, Number as OutOfRange, TooManyLabels}
 use Rattle.gms_table.specs.declared.fault.TableError.TheVariants.{NoHeading}
 use Rattle.gms_parse.specs.declared.fault.SourceFault.{SourceFault}
 use Rattle.gms_parse.specs.Faults.{lexical_fault}
 use Rattle.gms_parse.specs.Programs.{statements_of}
-use Rattle.gms_parse.specs.Outcomes.{ProgramView, HasProgram, IsProgramOf, IsFault, IsNoProgram, WantsMore}
-use Rattle.gms_parse.specs.Tables.{IsLineFault}
-use Rattle.gms_parse.specs.Walks.{Seen, Walk, start, kind_of, is_name, table_name, LacksRoom, lines_with, new_labels, walk_behind, source_rule, IsFaulty, deep, out_of_range, many_names, many_labels, in_table, without_lines, AreSound}
-use Rattle.gms_parse.specs.Readings.{Derivation}
+use Rattle.gms_parse.specs.Outcomes.{ProgramView, HasProgram, IsProgramOf, IsSourceFault, IsNoProgram, WantsMore}
+use Rattle.gms_parse.specs.Tables.{IsTableLineFault}
+use Rattle.gms_parse.specs.Walks.{KindedToken, ReaderState, start, kind_of, is_name, table_name, LacksRoom, lines_with, new_labels, reader_after_all, source_rule, IsFaulty, deep, out_of_range, many_names, many_labels, in_table, without_lines, AreTokensFaultless}
+use Rattle.gms_parse.specs.InnerReadings.{Derivation}
 use Rattle.gms_parse.proofs.Alphabet.{pass_rest}
 use Rattle.gms_parse.proofs.EndTokens.{begins_other, is_other}
 use Rattle.gms_parse.proofs.Walks.{room_for_none}
@@ -40,7 +40,7 @@ module _ (limit : ℕ) (source : List ℕ) where
   -- ---- programs
 
   -- the tokens cease to begin a program at the end
-  pub program_stops : {tokens : List Seen} {names labels : List (List ℕ)} {statements : Statements Rational} (p : IsProgramOf limit source tokens names labels statements) → Stops productions (the Program) tokens (yield p.tree) ((End, p.end) ∷ [])
+  pub program_stops : {tokens : List KindedToken} {names labels : List (List ℕ)} {statements : Statements Rational} (p : IsProgramOf limit source tokens names labels statements) → Stops productions (the Program) tokens (yield p.tree) ((End, p.end) ∷ [])
   program_stops p = record {
     parts = p.tokens_are;
     begins = record { further = []; derives = record { tree = p.tree; is_tree = p.is_tree; yields = sym (append-nil (yield p.tree)) } };
@@ -51,12 +51,12 @@ module _ (limit : ℕ) (source : List ℕ) where
   }
 
   -- two programs of the same tokens have the same view
-  one_view : (tokens : List Seen) (one other : ProgramView) → IsProgramOf limit source tokens one.names one.labels one.statements → IsProgramOf limit source tokens other.names other.labels other.statements → one ≡ other
+  one_view : (tokens : List KindedToken) (one other : ProgramView) → IsProgramOf limit source tokens one.names one.labels one.statements → IsProgramOf limit source tokens other.names other.labels other.statements → one ≡ other
   one_view tokens one other p q =
       let yields = stops_once productions (the Program) tokens (yield p.tree) ((End, p.end) ∷ []) (yield q.tree) ((End, q.end) ∷ []) (program_stops p) (program_stops q) in
       let trees : p.tree ≡ q.tree = gams_unique Program p.tree q.tree p.is_tree q.is_tree yields in
-      let names : one.names ≡ other.names = p.names_are ∙ ap (λ (t : Derivation). (walk_behind source start (yield t) End).names) trees ∙ sym q.names_are in
-      let labels : one.labels ≡ other.labels = p.labels_are ∙ ap (λ (t : Derivation). (walk_behind source start (yield t) End).labels) trees ∙ sym q.labels_are in
+      let names : one.names ≡ other.names = p.names_are ∙ ap (λ (t : Derivation). (reader_after_all source start (yield t) End).names) trees ∙ sym q.names_are in
+      let labels : one.labels ≡ other.labels = p.labels_are ∙ ap (λ (t : Derivation). (reader_after_all source start (yield t) End).labels) trees ∙ sym q.labels_are in
       let statements : one.statements ≡ other.statements =
       p.statements_are
       ∙ ap (λ (ns : List (List ℕ)). statements_of source ns one.labels p.tree) names
@@ -70,12 +70,12 @@ module _ (limit : ℕ) (source : List ℕ) where
   one_program one other p q =
       let are : Ok p.tokens ≡ Ok q.tokens = means_only source (Ok p.tokens) (Ok q.tokens) p.are_tokens q.are_tokens in
       let same : q.tokens ≡ p.tokens = cc in
-      one_view (seen source p.tokens) one other p.is (subst (λ (ts : List Token). IsProgramOf limit source (seen source ts) other.names other.labels other.statements) same q.is)
+      one_view (kinded_tokens source p.tokens) one other p.is (subst (λ (ts : List Token). IsProgramOf limit source (kinded_tokens source ts) other.names other.labels other.statements) same q.is)
 
   -- ---- a program and a fault
 
   -- tokens that are a program up to the end have no fault
-  no_fault : (tokens : List Seen) (names labels : List (List ℕ)) (statements : Statements Rational) (fault : SourceFault) → IsProgramOf limit source tokens names labels statements → IsNoProgram limit source tokens fault → ⊥
+  no_fault : (tokens : List KindedToken) (names labels : List (List ℕ)) (statements : Statements Rational) (fault : SourceFault) → IsProgramOf limit source tokens names labels statements → IsNoProgram limit source tokens fault → ⊥
   no_fault tokens names labels statements fault p none = by_cause none.cause
     where
       front : yield p.tree ≡ none.front
@@ -87,59 +87,59 @@ module _ (limit : ℕ) (source : List ℕ) where
       ahead : kind_of none.rest ≡ End
       ahead = ap kind_of (sym rest)
 
-      by_cause : rules.IsFirstFaulty source_rule (limit, source) start none.front (kind_of none.rest) fault ⊎ rules.IsUnexpected source_rule (limit, source) (WantsMore none.front none.rest) start none.front none.rest fault → ⊥
+      by_cause : rules.IsFirstFaulty source_rule (limit, source) start none.front (kind_of none.rest) fault ⊎ rules.IsUnexpectedByRule source_rule (limit, source) (WantsMore none.front none.rest) start none.front none.rest fault → ⊥
       by_cause (inl first) =
           no_first source_rule (limit, source) start none.front (kind_of none.rest) fault first
-          (subst (λ (k : Terminal). AreSound limit source start none.front k) (sym ahead) (subst (λ (w : List Seen). AreSound limit source start w End) front p.are_sound))
+          (subst (λ (k : Terminal). AreTokensFaultless limit source start none.front k) (sym ahead) (subst (λ (w : List KindedToken). AreTokensFaultless limit source start w End) front p.are_sound))
       by_cause (inr unexpected) = unexpected.wants ahead (record { tree = p.tree; is_tree = p.is_tree; yields = front })
 
   -- a source that has a program has no fault
-  pub program_or_fault : (view : ProgramView) (fault : SourceFault) → HasProgram limit source view → IsFault limit source fault → ⊥
-  program_or_fault view fault p (inl too) = let few : length source ≤ most_bytes = p.short in omega (arith, few, too.0)
+  pub program_or_fault : (view : ProgramView) (fault : SourceFault) → HasProgram limit source view → IsSourceFault limit source fault → ⊥
+  program_or_fault view fault p (inl too) = let few : length source ≤ most_source_bytes = p.short in omega (arith, few, too.0)
   program_or_fault view fault p (inr (inl lexical)) =
       let one : Ok p.tokens ≡ Err lexical.lexical = means_only source (Ok p.tokens) (Err lexical.lexical) p.are_tokens lexical.is_first in
       cc
   program_or_fault view fault p (inr (inr syntactic)) =
       let one : Ok p.tokens ≡ Ok syntactic.tokens = means_only source (Ok p.tokens) (Ok syntactic.tokens) p.are_tokens syntactic.are_tokens in
       let same : syntactic.tokens ≡ p.tokens = cc in
-      no_fault (seen source p.tokens) view.names view.labels view.statements fault p.is (subst (λ (ts : List Token). IsNoProgram limit source (seen source ts) fault) same syntactic.refused)
+      no_fault (kinded_tokens source p.tokens) view.names view.labels view.statements fault p.is (subst (λ (ts : List Token). IsNoProgram limit source (kinded_tokens source ts) fault) same syntactic.refused)
 
   -- ---- faults
 
   -- what the fault of a token of this kind is
-  abbrev Tells : Walk → Terminal → Token → SourceFault → Type 0
+  abbrev Tells : ReaderState → Terminal → Token → SourceFault → Type 0
   Tells walk LeftParen token fault = fault ≡ record { error = Syntax Depth; at = token.at }
   Tells walk Number token fault = fault ≡ record { error = Syntax OutOfRange; at = token.at }
   Tells walk TableLine token fault =
-      IsLineFault limit source (table_name walk.before) walk.labels (lines_with source walk.before (TableLine, token)) fault
+      IsTableLineFault limit source (table_name walk.before) walk.labels (lines_with source walk.before (TableLine, token)) fault
   Tells walk RightParen token fault = fault ≡ record { error = Table NoHeading; at = table_name walk.before }
   Tells walk _ token fault = fault ≡ record { error = Syntax TooManyLabels; at = token.at }
 
-  names_tell : (walk : Walk) (kind : Terminal) (token : Token) → is_name walk kind ≡ true → Tells walk kind token (record { error = Syntax TooManyLabels; at = token.at })
+  names_tell : (walk : ReaderState) (kind : Terminal) (token : Token) → is_name walk kind ≡ true → Tells walk kind token (record { error = Syntax TooManyLabels; at = token.at })
   names_tell walk LeftParen token h = absurd cc
   names_tell walk Number token h = absurd cc
   names_tell walk TableLine token h = absurd cc
   names_tell walk RightParen token h = absurd cc
   names_tell walk _ token h = refl
 
-  labels_tell : (walk : Walk) (kind : Terminal) (token : Token) (ahead : Terminal) → is TableLine kind ≡ false → LacksRoom walk.labels (new_labels source walk (kind, token) ahead) → Tells walk kind token (record { error = Syntax TooManyLabels; at = token.at })
+  labels_tell : (walk : ReaderState) (kind : Terminal) (token : Token) (ahead : Terminal) → is TableLine kind ≡ false → LacksRoom walk.labels (new_labels source walk (kind, token) ahead) → Tells walk kind token (record { error = Syntax TooManyLabels; at = token.at })
   labels_tell walk LeftParen token ahead h l = absurd (room_for_none walk.labels (new_labels source walk (LeftParen, token) ahead) refl l)
   labels_tell walk Number token ahead h l = absurd (room_for_none walk.labels (new_labels source walk (Number, token) ahead) refl l)
   labels_tell walk RightParen token ahead h l = absurd (room_for_none walk.labels (new_labels source walk (RightParen, token) ahead) refl l)
   labels_tell walk TableLine token ahead h l = absurd cc
   labels_tell walk _ token ahead h l = refl
 
-  tells : {fault : SourceFault} (walk : Walk) (kind : Terminal) (token : Token) (ahead : Terminal) → IsFaulty limit source walk (kind, token) ahead fault → Tells walk kind token fault
+  tells : {fault : SourceFault} (walk : ReaderState) (kind : Terminal) (token : Token) (ahead : Terminal) → IsFaulty limit source walk (kind, token) ahead fault → Tells walk kind token fault
   tells walk kind token ahead (deep e d) = subst (λ (k : Terminal). Tells walk k token (record { error = Syntax Depth; at = token.at })) (sym e) refl
   tells walk kind token ahead (out_of_range e d) = subst (λ (k : Terminal). Tells walk k token (record { error = Syntax OutOfRange; at = token.at })) (sym e) refl
   tells walk kind token ahead (many_names n d) = names_tell walk kind token n
   tells walk kind token ahead (many_labels n d) = labels_tell walk kind token ahead n d
   tells walk kind token ahead (in_table {fault} e d f) =
       subst (λ (k : Terminal). Tells walk k token fault) (sym e)
-      (subst (λ (k : Terminal). IsLineFault limit source (table_name walk.before) walk.labels (lines_with source walk.before (k, token)) fault) e f)
+      (subst (λ (k : Terminal). IsTableLineFault limit source (table_name walk.before) walk.labels (lines_with source walk.before (k, token)) fault) e f)
   tells walk kind token ahead (without_lines e d f) = subst (λ (k : Terminal). Tells walk k token (record { error = Table NoHeading; at = table_name walk.before })) (sym e) refl
 
-  one_told : (walk : Walk) (kind : Terminal) (token : Token) (one other : SourceFault) → Tells walk kind token one → Tells walk kind token other → one ≡ other
+  one_told : (walk : ReaderState) (kind : Terminal) (token : Token) (one other : SourceFault) → Tells walk kind token one → Tells walk kind token other → one ≡ other
   one_told walk TableLine token one other h k =
       one_line_fault limit source (table_name walk.before) walk.labels (lines_with source walk.before (TableLine, token)) one other h k
   one_told walk LeftParen token one other h k = h ∙ sym k
@@ -148,12 +148,12 @@ module _ (limit : ℕ) (source : List ℕ) where
   one_told walk _ token one other h k = h ∙ sym k
 
   -- a source has one first fault
-  pub one_fault : (one other : SourceFault) → IsFault limit source one → IsFault limit source other → one ≡ other
+  pub one_fault : (one other : SourceFault) → IsSourceFault limit source one → IsSourceFault limit source other → one ≡ other
   one_fault one other (inl a) (inl b) = a.1 ∙ sym b.1
-  one_fault one other (inl a) (inr (inl b)) = absurd (let few : length source ≤ most_bytes = b.short in omega (arith, few, a.0))
-  one_fault one other (inl a) (inr (inr b)) = absurd (let few : length source ≤ most_bytes = b.short in omega (arith, few, a.0))
-  one_fault one other (inr (inl a)) (inl b) = absurd (let few : length source ≤ most_bytes = a.short in omega (arith, few, b.0))
-  one_fault one other (inr (inr a)) (inl b) = absurd (let few : length source ≤ most_bytes = a.short in omega (arith, few, b.0))
+  one_fault one other (inl a) (inr (inl b)) = absurd (let few : length source ≤ most_source_bytes = b.short in omega (arith, few, a.0))
+  one_fault one other (inl a) (inr (inr b)) = absurd (let few : length source ≤ most_source_bytes = b.short in omega (arith, few, a.0))
+  one_fault one other (inr (inl a)) (inl b) = absurd (let few : length source ≤ most_source_bytes = a.short in omega (arith, few, b.0))
+  one_fault one other (inr (inr a)) (inl b) = absurd (let few : length source ≤ most_source_bytes = a.short in omega (arith, few, b.0))
   one_fault one other (inr (inl a)) (inr (inl b)) =
       let are : Err a.lexical ≡ Err b.lexical = means_only source (Err a.lexical) (Err b.lexical) a.is_first b.is_first in
       let same : a.lexical ≡ b.lexical = cc in
@@ -167,4 +167,4 @@ module _ (limit : ℕ) (source : List ℕ) where
   one_fault one other (inr (inr a)) (inr (inr b)) =
       let are : Ok a.tokens ≡ Ok b.tokens = means_only source (Ok a.tokens) (Ok b.tokens) a.are_tokens b.are_tokens in
       let same : b.tokens ≡ a.tokens = cc in
-      one_refused source_rule (limit, source) (λ walk token ahead one other h k. one_told walk token.0 token.1 one other (tells walk token.0 token.1 ahead h) (tells walk token.0 token.1 ahead k)) Program start (seen source a.tokens) one other a.refused (subst (λ (ts : List Token). IsNoProgram limit source (seen source ts) other) same b.refused)
+      one_refused source_rule (limit, source) (λ walk token ahead one other h k. one_told walk token.0 token.1 one other (tells walk token.0 token.1 ahead h) (tells walk token.0 token.1 ahead k)) Program start (kinded_tokens source a.tokens) one other a.refused (subst (λ (ts : List Token). IsNoProgram limit source (kinded_tokens source ts) other) same b.refused)

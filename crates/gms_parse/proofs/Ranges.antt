@@ -7,8 +7,8 @@ use Rattle.std.proofs.Math.Seq.{take-suc}
 use Rattle.gms_grammar.proofs.Orders.{order, at_once, earlier, later, some_there}
 use Rattle.gms_labels.specs.Labels.{place_of, entered, IsFullFor}
 use Rattle.gms_labels.proofs.Places.{place_of-entered, place_of-entered_kept}
-use Rattle.gms_lexemes.specs.declared.kind.Kind.{Kind}
-use Rattle.gms_lexemes.specs.declared.kind.Kind.TheVariants as token_kind
+use Rattle.gms_lines.specs.declared.kind.Kind.{Kind}
+use Rattle.gms_lines.specs.declared.kind.Kind.TheVariants as token_kind
 use Rattle.gms_lex.specs.declared.token.Token.{Token}
 use Rattle.gms_lex.specs.TokenTexts.{token_text, unquoted, IsSpelled}
 use Rattle.gms_lex.proofs.UnquotedLemmas.{unquoted_ascii}
@@ -34,9 +34,9 @@ use Rattle.gms_parse.specs.declared.reader.Tables.{Tables}
 use Rattle.gms_parse.specs.DataLists.{range_labels}
 use Rattle.gms_table.specs.WordLabels.{all_entered}
 use Rattle.gms_table.proofs.LabelLemmas.{Stay-all_entered, all_entered-append}
-use Rattle.gms_parse.specs.Walks.{Seen, Walk, last_kind, range_start, range_texts, list_labels, new_labels, LacksRoom, many_labels}
-use Rattle.gms_parse.specs.Readings.{Gives, Refuses, Sense, IsSense, IsGot, Has, Holds, Starless, Stays, IsNext, IsLacking, IsEntered, IsNotEntered, seen_from, kind_of}
-use Rattle.gms_parse.specs.Meanings.{IsLabelToken, IsEnteredRange, IsNotEnteredRange, IsAdded, AreThere, text_of_label}
+use Rattle.gms_parse.specs.Walks.{KindedToken, ReaderState, last_kind, range_start, range_texts, list_labels, new_labels, LacksRoom, many_labels}
+use Rattle.gms_parse.specs.InnerReadings.{Gives, Refuses, Sense, IsSense, IsGot, Has, Holds, Starless, Stays, IsNext, IsLacking, IsEntered, IsNotEntered, seen_from, kind_of}
+use Rattle.gms_parse.specs.InnerMeanings.{IsLabelToken, IsEnteredRange, IsNotEnteredRange, IsAdded, AreThere, text_of_label}
 use Rattle.gms_parse.proofs.TokenKinds.{leads_by_kind, unled_next}
 use Rattle.gms_parse.proofs.Steps.{got_by, gives_one, gives_both, gives_the, gives_none, gives_some, takes_next, refuses_the, refuses_first, refuses_second, refuses_some, refuses_token, refuses_memory}
 use Rattle.gms_parse.proofs.Nexts.{past, exact, leads_next, gives_exact, refuses_lacking, stays_by, plain_stays, stays_then}
@@ -109,34 +109,34 @@ entering_full old now texts was numbers e text more f = lacks_append old texts t
 -- ---- tokens
 
 -- no range begins before
-no_range : (before : List Seen) → is Star (last_kind before) ≡ false → range_start before ≡ None
+no_range : (before : List KindedToken) → is Star (last_kind before) ≡ false → range_start before ≡ None
 no_range [] h = refl
 no_range (star ∷ []) h = refl
 no_range (star ∷ (first ∷ others)) h = ap (λ b. cond (b && is Label first.0) (Some first.1) None) h
 
 -- a label that does not end a range enters itself, or nothing if a range continues
-label_new : (source : List ℕ) (w : Walk) (t : Token) (ahead : Terminal) → Starless w → new_labels source w (Label, t) ahead ≡ cond (is Star ahead) [] (unquoted (token_text source t) ∷ [])
+label_new : (source : List ℕ) (w : ReaderState) (t : Token) (ahead : Terminal) → Starless w → new_labels source w (Label, t) ahead ≡ cond (is Star ahead) [] (unquoted (token_text source t) ∷ [])
 label_new source w t ahead h = ap (λ o. list_labels source o ahead t) (no_range w.before h)
 
 -- what a label leaves, where it enters these
-label_stays : {reader : Reader} (w : Walk) (t : Token) (behind : ℕ) {old new : Tables} (texts : List (List ℕ)) → new_labels reader.source.now w (Label, t) (kind_of (seen_from reader behind)) ≡ texts → Has reader old w → new.names ≡ old.names → new.labels ≡ all_entered old.labels texts →
+label_stays : {reader : Reader} (w : ReaderState) (t : Token) (behind : ℕ) {old new : Tables} (texts : List (List ℕ)) → new_labels reader.source.now w (Label, t) (kind_of (seen_from reader behind)) ≡ texts → Has reader old w → new.names ≡ old.names → new.labels ≡ all_entered old.labels texts →
     Stays reader new w (past reader w Label t behind)
 label_stays {reader} w t behind texts is h names labels = stays_by reader w Label t behind refl h refl (h.holds.names ∙ sym names) (ap (all_entered w.labels) is ∙ ap (λ (ls : List (List ℕ)). all_entered ls texts) h.holds.labels ∙ sym labels)
 
 -- a label that enters these
-label_gives : {limit : ℕ} {reader : Reader} {at behind : ℕ} {t : Token} {w : Walk} {old : Tables} (texts : List (List ℕ)) → IsNext (is Label) reader at t behind → new_labels reader.source.now w (Label, t) (kind_of (seen_from reader behind)) ≡ texts → Holds reader old w → (LacksRoom old.labels texts → ⊥) →
+label_gives : {limit : ℕ} {reader : Reader} {at behind : ℕ} {t : Token} {w : ReaderState} {old : Tables} (texts : List (List ℕ)) → IsNext (is Label) reader at t behind → new_labels reader.source.now w (Label, t) (kind_of (seen_from reader behind)) ≡ texts → Holds reader old w → (LacksRoom old.labels texts → ⊥) →
     Gives limit reader.source.now (token Label) w (seen_from reader at) (leaf (Label, t)) (past reader w Label t behind) (seen_from reader behind)
 label_gives {limit} {reader} {behind = behind} {t = t} {w = w} texts n is h room =
     gives_one (exact {kind = Label} n) refl (free_sound limit reader.source.now w Label t (kind_of (seen_from reader behind)) refl (λ e d. cc) (λ l. room (subst (λ (ls : List (List ℕ)). LacksRoom ls texts) h.labels (subst (λ (x : List (List ℕ)). LacksRoom w.labels x) is l)))) refl
 
-label_refuses : {limit : ℕ} {reader : Reader} {at behind : ℕ} {t : Token} {w : Walk} {old : Tables} (texts : List (List ℕ)) {e : SourceFaultOrMemory} → IsNext (is Label) reader at t behind → new_labels reader.source.now w (Label, t) (kind_of (seen_from reader behind)) ≡ texts → Holds reader old w → LacksRoom old.labels texts →
+label_refuses : {limit : ℕ} {reader : Reader} {at behind : ℕ} {t : Token} {w : ReaderState} {old : Tables} (texts : List (List ℕ)) {e : SourceFaultOrMemory} → IsNext (is Label) reader at t behind → new_labels reader.source.now w (Label, t) (kind_of (seen_from reader behind)) ≡ texts → Holds reader old w → LacksRoom old.labels texts →
     e ≡ Fault (record { error = Syntax TooManyLabels; at = t.at }) → Refuses limit reader.source.now (token Label) w (seen_from reader at) e
 label_refuses {w = w} texts n is h lacks e =
     refuses_token (takes_next (exact {kind = Label} n) refl) (many_labels refl (subst (λ (x : List (List ℕ)). LacksRoom w.labels x) (sym is) (subst (λ (ls : List (List ℕ)). LacksRoom ls texts) (sym h.labels) lacks))) e
 
 -- ---- a label, or a range
 
-module _ {reader : Reader} {at : ℕ} {old : Tables} {w : Walk} {first : Token} {next : ℕ} (h : Has reader old w) (clean : Starless w) (n : IsNext (is Label) reader at first next) where
+module _ {reader : Reader} {at : ℕ} {old : Tables} {w : ReaderState} {first : Token} {next : ℕ} (h : Has reader old w) (clean : Starless w) (n : IsNext (is Label) reader at first next) where
   -- a label by itself
   alone_new : leads productions look_ahead (token Star) (seen_from reader next) ≡ false → new_labels reader.source.now w (Label, first) (kind_of (seen_from reader next)) ≡ text_of_label reader.source.now first ∷ []
   alone_new unled = label_new reader.source.now w first (kind_of (seen_from reader next)) clean ∙ ap (λ b. cond b [] (text_of_label reader.source.now first ∷ [])) (sym (leads_by_kind (token Star) (seen_from reader next) refl) ∙ unled)
@@ -158,7 +158,7 @@ module _ {reader : Reader} {at : ℕ} {old : Tables} {w : Walk} {first : Token} 
   module _ {star : Token} {middle : ℕ} (m : IsNext (is Star) reader next star middle) where
     -- the label that begins a range enters none
     begun_new : new_labels reader.source.now w (Label, first) (kind_of (seen_from reader next)) ≡ []
-    begun_new = label_new reader.source.now w first (kind_of (seen_from reader next)) clean ∙ ap (λ b. cond b [] (text_of_label reader.source.now first ∷ [])) (ap (λ (ts : List Seen). is Star (kind_of ts)) (exact {kind = Star} m))
+    begun_new = label_new reader.source.now w first (kind_of (seen_from reader next)) clean ∙ ap (λ b. cond b [] (text_of_label reader.source.now first ∷ [])) (ap (λ (ts : List KindedToken). is Star (kind_of ts)) (exact {kind = Star} m))
 
     begun_stays : Stays reader old w (past reader w Label first next)
     begun_stays = label_stays w first next [] begun_new h refl refl

@@ -14,7 +14,7 @@ use Rattle.gms_grammar.specs.declared.terminal.Terminal.TheVariants.{Abort, Alia
 use Rattle.gms_grammar.specs.Grammar.{the, opt, many, pair, none, more, node, yield}
 use Rattle.gms_grammar.specs.LookAhead.{may_begin, may_be_empty}
 use Rattle.gms_grammar.specs.Reading.{leads}
-use Rattle.gms_grammar.specs.Terminals.{is_among}
+use Rattle.gms_grammar.specs.Terminals.{is_terminal_among}
 use Rattle.gms_grammar.specs.GamsGrammar.{NamedStatement, KeywordStatement, Segment, productions, any_of}
 use Rattle.gms_grammar.specs.GamsLookAhead.{look_ahead}
 use Rattle.gms_grammar.proofs.Decided.{gams_decided}
@@ -27,9 +27,9 @@ use Rattle.gms_parse.specs.declared.reader.Reader.{Reader}
 use Rattle.gms_parse.specs.declared.reader.Tables.{Tables}
 use Rattle.gms_parse.specs.Programs.{keyword_act, keyword_statements, segment}
 use Rattle.gms_parse.specs.Statements.{named_act}
-use Rattle.gms_parse.specs.Walks.{Seen, Walk, is_keyword}
-use Rattle.gms_parse.specs.Readings.{Derivation, GamsPart, Gives, Refuses, Sense, IsSense, IsGot, Holds, Starts, Stays, kind_of, seen_from}
-use Rattle.gms_parse.specs.Meanings.{IsAct, IsNamedFirst, IsSegment, act_view, put_before}
+use Rattle.gms_parse.specs.Walks.{KindedToken, ReaderState, is_keyword}
+use Rattle.gms_parse.specs.InnerReadings.{Derivation, GamsPart, Gives, Refuses, Sense, IsSense, IsGot, Holds, Starts, Stays, kind_of, seen_from}
+use Rattle.gms_parse.specs.InnerMeanings.{IsAct, IsNamedFirst, IsSegment, act_view, put_before}
 use Rattle.gms_parse.proofs.TokenKinds.{leads_alike}
 use Rattle.gms_parse.proofs.Steps.{got_by, Within, within_the, within_second, within_again, within_then, gives_none, gives_some, gives_no_more, refuses_some, refuses_again}
 use Rattle.gms_parse.proofs.Nexts.{earlier}
@@ -50,17 +50,17 @@ module _ {F : Type 0} (value : F → Number) where
 
 -- ---- what was read of a part that is not empty
 
-some_read : {limit : ℕ} {source : List ℕ} (p : GamsPart) {w v : Walk} {ts rest : List Seen} {tree : Derivation} → may_be_empty look_ahead p ≡ false → Gives limit source p w ts tree v rest → length rest < length ts
+some_read : {limit : ℕ} {source : List ℕ} (p : GamsPart) {w v : ReaderState} {ts rest : List KindedToken} {tree : Derivation} → may_be_empty look_ahead p ≡ false → Gives limit source p w ts tree v rest → length rest < length ts
 some_read p {ts = ts} {rest = rest} {tree = tree} full g =
     let found = sound productions look_ahead g.reads in
     go (yield tree) (starts productions look_ahead gams_decided p tree found.0) found.1
   where
-    go : (u : List Seen) → StartsAs productions look_ahead gams_decided p u → ts ≡ u ++ rest → length rest < length ts
+    go : (u : List KindedToken) → StartsAs productions look_ahead gams_decided p u → ts ≡ u ++ rest → length rest < length ts
     go [] s e = cc
     go (t ∷ u) s e = let l = ap length e in let m = length-append u rest in omega (arith, l, m)
 
 -- fewer tokens remain after it
-pub fewer : {T : Type 0} {limit : ℕ} {Means : Sense → Derivation → T → Type 0} {Leaves : Walk → Type 0} (p : GamsPart) {reader : Reader} {at next : ℕ} {new : Tables} {w : Walk} {x : T} → may_be_empty look_ahead p ≡ false → IsGot limit Means Leaves p reader at new w x next → length reader.tokens.now - next < length reader.tokens.now - at
+pub fewer : {T : Type 0} {limit : ℕ} {Means : Sense → Derivation → T → Type 0} {Leaves : ReaderState → Type 0} (p : GamsPart) {reader : Reader} {at next : ℕ} {new : Tables} {w : ReaderState} {x : T} → may_be_empty look_ahead p ≡ false → IsGot limit Means Leaves p reader at new w x next → length reader.tokens.now - next < length reader.tokens.now - at
 fewer p {reader = reader} {at = at} {next = next} full got =
     let l = some_read p full got.gives in
     let a = length_seen reader at in
@@ -69,13 +69,13 @@ fewer p {reader = reader} {at = at} {next = next} full got =
 
 -- ---- a statement that begins with a name
 
-pub leads_named : (ts : List Seen) → leads productions look_ahead (the NamedStatement) ts ≡ leads productions look_ahead (any_of (Name ∷ Suffix ∷ [])) ts
-leads_named ts = leads_alike (the NamedStatement) (any_of (Name ∷ Suffix ∷ [])) ts refl refl (same_test (may_begin look_ahead (the NamedStatement)) (is_among (Name ∷ Suffix ∷ [])) refl)
+pub leads_named : (ts : List KindedToken) → leads productions look_ahead (the NamedStatement) ts ≡ leads productions look_ahead (any_of (Name ∷ Suffix ∷ [])) ts
+leads_named ts = leads_alike (the NamedStatement) (any_of (Name ∷ Suffix ∷ [])) ts refl refl (same_test (may_begin look_ahead (the NamedStatement)) (is_terminal_among (Name ∷ Suffix ∷ [])) refl)
 
-pub named_refused : {limit : ℕ} {source : List ℕ} {w : Walk} {e : SourceFaultOrMemory} (ts : List Seen) → leads productions look_ahead (any_of (Name ∷ Suffix ∷ [])) ts ≡ true → Refuses limit source (the NamedStatement) w ts e → Refuses limit source (opt (the NamedStatement)) w ts e
+pub named_refused : {limit : ℕ} {source : List ℕ} {w : ReaderState} {e : SourceFaultOrMemory} (ts : List KindedToken) → leads productions look_ahead (any_of (Name ∷ Suffix ∷ [])) ts ≡ true → Refuses limit source (the NamedStatement) w ts e → Refuses limit source (opt (the NamedStatement)) w ts e
 named_refused ts led r = refuses_some (leads_named ts ∙ led) r
 
-module _ {F : Type 0} (value : F → Number) {limit : ℕ} {reader : Reader} {at : ℕ} {w : Walk} where
+module _ {F : Type 0} (value : F → Number) {limit : ℕ} {reader : Reader} {at : ℕ} {w : ReaderState} where
   pub named_none : {tables : Tables} → Starts reader tables w → leads productions look_ahead (any_of (Name ∷ Suffix ∷ [])) (seen_from reader at) ≡ false → (statements : Vec (Stmt F) Global) →
       IsGot limit (IsNamedFirst value reader.source.now statements) (Holds reader tables) (opt (the NamedStatement)) reader at tables w statements at
   named_none s unled statements = got_by (gives_none (leads_named (seen_from reader at) ∙ unled)) s.has.holds (λ sense k. ([], sym (append-nil statements.items), λ others. refl)) (omega arith)
@@ -91,13 +91,13 @@ module _ {F : Type 0} (value : F → Number) {limit : ℕ} {reader : Reader} {at
 abbrev pub keyword_kinds : List Terminal
 keyword_kinds = Set ∷ Parameter ∷ Scalar ∷ Table ∷ VariableType ∷ Variable ∷ Equation ∷ Model ∷ Alias ∷ Display ∷ Option ∷ Solve ∷ Abort ∷ Loop ∷ []
 
-pub leads_keyword : (ts : List Seen) → leads productions look_ahead (the KeywordStatement) ts ≡ leads productions look_ahead (any_of keyword_kinds) ts
-leads_keyword ts = leads_alike (the KeywordStatement) (any_of keyword_kinds) ts refl refl (same_test (may_begin look_ahead (the KeywordStatement)) (is_among keyword_kinds) refl)
+pub leads_keyword : (ts : List KindedToken) → leads productions look_ahead (the KeywordStatement) ts ≡ leads productions look_ahead (any_of keyword_kinds) ts
+leads_keyword ts = leads_alike (the KeywordStatement) (any_of keyword_kinds) ts refl refl (same_test (may_begin look_ahead (the KeywordStatement)) (is_terminal_among keyword_kinds) refl)
 
 -- the next token is a keyword
-pub led_keyword : (ts : List Seen) → leads productions look_ahead (any_of keyword_kinds) ts ≡ true → is_keyword (kind_of ts) ≡ true
+pub led_keyword : (ts : List KindedToken) → leads productions look_ahead (any_of keyword_kinds) ts ≡ true → is_keyword (kind_of ts) ≡ true
 led_keyword [] h = cc
-led_keyword (t ∷ ts) h = also (is_among keyword_kinds) is_keyword refl t.0 h
+led_keyword (t ∷ ts) h = also (is_terminal_among keyword_kinds) is_keyword refl t.0 h
 
 -- what the statements so far mean, which were added to those before
 abbrev SegmentMeans : {F : Type 0} → (F → Number) → List ℕ → (Derivation → Derivation) → List (Stmt F) → List (Stmt F) → Sense → Type 0
@@ -105,15 +105,15 @@ SegmentMeans {F} value source context old xs sense =
     (added : List (Stmt F)) × (xs ≡ old ++ added) × ((b : Derivation) → segment source sense.names sense.labels (context b) ≡ put_before value added (keyword_statements source sense.names sense.labels b))
 
 -- the statements of a segment read so far
-pub record Segmenting {F : Type 0} (limit : ℕ) (value : F → Number) (reader : Reader) (start : ℕ) (w : Walk) (old : List (Stmt F)) (new : Tables) (xs : List (Stmt F)) (at : ℕ) : Type 0 where
+pub record Segmenting {F : Type 0} (limit : ℕ) (value : F → Number) (reader : Reader) (start : ℕ) (w : ReaderState) (old : List (Stmt F)) (new : Tables) (xs : List (Stmt F)) (at : ℕ) : Type 0 where
   pub context : Derivation → Derivation
-  pub behind : Walk
+  pub behind : ReaderState
   pub within : Within limit reader.source.now (the Segment) w (seen_from reader start) (many (the KeywordStatement)) behind (seen_from reader at) context
   pub holds : Holds reader new behind
   pub means : (sense : Sense) → IsSense new sense → SegmentMeans value reader.source.now context old xs sense
   pub further : start ≤ at
 
-module _ {F : Type 0} (value : F → Number) {limit : ℕ} {reader : Reader} {start : ℕ} {w : Walk} where
+module _ {F : Type 0} (value : F → Number) {limit : ℕ} {reader : Reader} {start : ℕ} {w : ReaderState} where
   pub segment_start : {new : Tables} (old : Vec (Stmt F) Global) {now : Vec (Stmt F) Global} {at : ℕ} → IsGot limit (IsNamedFirst value reader.source.now old) (Holds reader new) (opt (the NamedStatement)) reader start new w now at → Segmenting limit value reader start w old.items new now.items at
   segment_start old got = record {
     context = λ b. node (pair got.tree b);

@@ -5,7 +5,7 @@ use Rattle.gq_number.specs.Number.{Number}
 use Rattle.gms_ast.specs.declared.program.Stmt.{Stmt}
 use Rattle.gms_ast.specs.StatementView.{statements_view}
 use Rattle.gms_lex.specs.declared.token.Token.{Token}
-use Rattle.gms_lex.specs.Tokens.{IsTokens, most_bytes}
+use Rattle.gms_lex.specs.Tokens.{IsTokens, most_source_bytes}
 use Rattle.gms_lex.proofs.PlacedLemmas.{tokens_placed}
 use Rattle.gms_grammar.specs.declared.terminal.Terminal.{Terminal}
 use Rattle.gms_grammar.specs.declared.terminal.Terminal.TheVariants.{End}
@@ -16,24 +16,24 @@ use Rattle.gms_grammar.proofs.Sound.{sound}
 use Rattle.gms_grammar.proofs.Language.{gams_read_stops}
 use Rattle.gms_grammar.proofs.FirstFaults.{stuck_refused, wrong_refused}
 use Rattle.gms_expressions.specs.ExpressionTrees.{no_token}
-use Rattle.gms_expressions.specs.Outcomes.{seen}
+use Rattle.gms_expressions.specs.Outcomes.{kinded_tokens}
 use Rattle.gms_expressions.proofs.Opening.{ends_at}
 use Rattle.gms_parse.specs.declared.fault.SourceFault.{SourceFault}
 use Rattle.gms_parse.specs.declared.fault.SourceFaultOrMemory.{SourceFaultOrMemory}
 use Rattle.gms_parse.specs.declared.fault.SourceFaultOrMemory.TheVariants.{Fault, Memory}
 use Rattle.gms_parse.specs.declared.reader.Reader.{Reader}
 use Rattle.gms_parse.specs.declared.reader.Tables.{Tables}
-use Rattle.gms_parse.specs.Outcomes.{HaveItems, IsProgramOf, IsNoProgram, WantsMore, IsRefusal}
-use Rattle.gms_parse.specs.Walks.{Seen, Walk, start, walk_behind, AreSound}
-use Rattle.gms_parse.specs.Readings.{IsStuck, IsWrong, IsOver, IsWhole, RefusesWhole, IsReady, seen_from}
-use Rattle.gms_parse.specs.Meanings.{AreStatements}
+use Rattle.gms_parse.specs.Outcomes.{HaveItems, IsProgramOf, IsNoProgram, WantsMore, IsSourceRefusal}
+use Rattle.gms_parse.specs.Walks.{KindedToken, ReaderState, start, reader_after_all, AreTokensFaultless}
+use Rattle.gms_parse.specs.InnerReadings.{IsStuck, IsWrong, IsOver, IsWhole, RefusesWhole, IsReady, seen_from}
+use Rattle.gms_parse.specs.InnerMeanings.{AreStatements}
 use Rattle.gms_parse.proofs.EndTokens.{has_end, end_alone}
 use Rattle.gms_parse.proofs.Named.{so_far, is_so_far}
 use Rattle.gms_parse.proofs.ProgramThere.{tables_have}
 
 -- ---- no program
 
-module _ {limit : ℕ} {source : List ℕ} {ts : List Seen} {fault : SourceFault} where
+module _ {limit : ℕ} {source : List ℕ} {ts : List KindedToken} {fault : SourceFault} where
   over_none : IsOver limit source ts fault → IsNoProgram limit source ts fault
   over_none o = record {
     front = yield o.tree;
@@ -48,7 +48,7 @@ module _ {limit : ℕ} {source : List ℕ} {ts : List Seen} {fault : SourceFault
   none_of (inr o) = over_none o
 
 -- what is refused is no program
-pub refusal_of : {limit : ℕ} (reader : Reader) (e : SourceFaultOrMemory) → IsReady reader → length reader.source.now ≤ most_bytes → RefusesWhole limit reader e → IsRefusal limit reader.source.now e
+pub refusal_of : {limit : ℕ} (reader : Reader) (e : SourceFaultOrMemory) → IsReady reader → length reader.source.now ≤ most_source_bytes → RefusesWhole limit reader e → IsSourceRefusal limit reader.source.now e
 refusal_of reader Memory ready short r = tt
 refusal_of reader (Fault fault) ready short r = inr (inr (record { short = short; tokens = reader.tokens.now; are_tokens = ready.tokens; refused = none_of (r.why fault refl) }))
 
@@ -67,21 +67,21 @@ ready_of reader items n last h same size at is_end few =
 -- ---- a program
 
 pub program_of : {F : Type 0} (value : F → Number) {limit : ℕ} {reader : Reader} {new : Tables} {statements : Vec (Stmt F) Global} → IsReady reader → IsWhole limit (AreStatements value reader.source.now) reader new statements →
-    IsProgramOf limit reader.source.now (seen reader.source.now reader.tokens.now) new.names new.labels (statements_view value statements.items)
+    IsProgramOf limit reader.source.now (kinded_tokens reader.source.now reader.tokens.now) new.names new.labels (statements_view value statements.items)
 program_of value {limit} {reader} {new} {statements} ready whole =
     let got = whole.got in
     let read = sound productions look_ahead got.gives.reads in
     let ended = has_end reader.source.now reader.tokens.now ready.tokens in
-    let behind = got.gives.leaves ∙ ap (walk_behind reader.source.now start (yield got.tree)) whole.at_end in
-    let are_sound = subst (λ (k : Terminal). AreSound limit reader.source.now start (yield got.tree) k) whole.at_end got.gives.are_sound in
-    let labels_are : new.labels ≡ (walk_behind reader.source.now start (yield got.tree) End).labels = sym got.leaves.labels ∙ ap (λ (w : Walk). w.labels) behind in
+    let behind = got.gives.leaves ∙ ap (reader_after_all reader.source.now start (yield got.tree)) whole.at_end in
+    let are_sound = subst (λ (k : Terminal). AreTokensFaultless limit reader.source.now start (yield got.tree) k) whole.at_end got.gives.are_sound in
+    let labels_are : new.labels ≡ (reader_after_all reader.source.now start (yield got.tree) End).labels = sym got.leaves.labels ∙ ap (λ (w : ReaderState). w.labels) behind in
     record {
       tree = got.tree;
       end = ended.end;
       tokens_are = read.1 ∙ ap (λ w. yield got.tree ++ w) (end_alone ended got.tree (seen_from reader whole.next) read.0 read.1 whole.at_end);
       is_tree = read.0;
       are_sound = are_sound;
-      names_are = sym got.leaves.names ∙ ap (λ (w : Walk). w.names) behind;
+      names_are = sym got.leaves.names ∙ ap (λ (w : ReaderState). w.names) behind;
       labels_are = labels_are;
       tables = subst (λ (ls : List (List ℕ)). HaveItems limit reader.source.now ls (yield got.tree)) (sym labels_are) (tables_have limit reader.source.now (yield got.tree) are_sound);
       statements_are = got.means (so_far new) (is_so_far new);

@@ -2,23 +2,23 @@
 use Rattle.std.proofs.Common.{◌≡◌, ℕ, ◌≤◌, Bool, true, false, not, ◌&&◌, cond, ltb, Option, Some, None, List, [], ◌∷◌, length, refl, sym, ap, ◌∙◌}
 use Rattle.std.proofs.lemmas.Bool.{eqb-true, not-true}
 use Rattle.std.specs.Str.{IsAscii}
-use Rattle.gms_lexemes.specs.declared.kind.Kind.{Kind}
-use Rattle.gms_lexemes.specs.declared.kind.Kind.TheVariants as kind
-use Rattle.gms_lexemes.specs.declared.kind.Sym.{Sym}
-use Rattle.gms_lexemes.specs.declared.kind.Sym.TheVariants as sym_kind
+use Rattle.gms_lines.specs.declared.kind.Kind.{Kind}
+use Rattle.gms_lines.specs.declared.kind.Kind.TheVariants as kind
+use Rattle.gms_lines.specs.declared.kind.Sym.{Sym}
+use Rattle.gms_lines.specs.declared.kind.Sym.TheVariants as sym_kind
 use Rattle.gms_lex.specs.declared.token.Token.{Token}
 use Rattle.gms_lex.specs.TokenTexts.{token_text}
 use Rattle.gms_grammar.specs.declared.terminal.Terminal.{Terminal}
 use Rattle.gms_grammar.specs.declared.terminal.Terminal.TheVariants.{Text, LongText, Label, TableLine, Break, End}
-use Rattle.gms_grammar.specs.Terminals.{is, is_among, number_of}
-use Rattle.gms_lines.specs.ControlWords.{is_among as is_listed}
+use Rattle.gms_grammar.specs.Terminals.{is, is_terminal_among, terminal_number}
+use Rattle.gms_lines.specs.ControlWords.{is_word_among as is_listed}
 use Rattle.gms_grammar.proofs.Basics.{both_ways}
 use Rattle.gms_grammar.proofs.Checks.{left_and, right_and}
 use Rattle.gms_grammar.specs.Keywords.{Words, statement_words, kind_among}
 use Rattle.gms_expressions.specs.Words.{expression_words, other_words, or_else, or_name, terminal_of, terminal_of_word, terminal_of_symbol}
-use Rattle.gms_parse.specs.Meanings.{IsLabelToken}
+use Rattle.gms_parse.specs.InnerMeanings.{IsLabelToken}
 use Rattle.gms_parse.specs.declared.reader.Reader.{Reader}
-use Rattle.gms_parse.specs.Readings.{IsNext}
+use Rattle.gms_parse.specs.InnerReadings.{IsNext}
 use Rattle.gms_expressions.proofs.TokenKinds.{same_number}
 use Rattle.gms_expressions.proofs.Spelled.{is_named, named_spelled}
 
@@ -28,7 +28,7 @@ name_spelled {reader = reader} {t = t} n = named_spelled t.kind (token_text read
 
 -- the kinds of the grammar that tokens of one kind alone have
 abbrev is_lone : Terminal → Bool
-is_lone = is_among (Label ∷ TableLine ∷ Break ∷ End ∷ [])
+is_lone = is_terminal_among (Label ∷ TableLine ∷ Break ∷ End ∷ [])
 
 -- the kinds of words are none of these
 abbrev is_of_word : Terminal → Bool
@@ -93,4 +93,4 @@ lone_as x lone k text e = only_kind k text (ap is_lone e ∙ lone) ∙ ap lone_k
 
 pub label_token : {reader : Reader} {at behind : ℕ} {t : Token} → IsNext (is Label) reader at t behind → IsLabelToken reader.source.now t
 label_token {reader = reader} {t = t} n =
-    record { placed = n.placed; is = lone_as Label refl t.kind (token_text reader.source.now t) (sym n.kind_is ∙ sym (same_number Label n.kind (eqb-true (number_of Label) (number_of n.kind) n.passes))) }
+    record { placed = n.placed; is = lone_as Label refl t.kind (token_text reader.source.now t) (sym n.kind_is ∙ sym (same_number Label n.kind (eqb-true (terminal_number Label) (terminal_number n.kind) n.passes))) }

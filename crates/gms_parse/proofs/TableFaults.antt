@@ -4,12 +4,12 @@ use Rattle.gms_labels.specs.declared.place.Place.{Place}
 use Rattle.gms_table.specs.declared.fault.TableError.{TableError}
 use Rattle.gms_table.specs.declared.fault.TableError.TheVariants.{NoColumn, TwoColumns, RepeatedEntry, BadRow, NoHeading, Labels}
 use Rattle.gms_table.specs.declared.fault.TableFault.{TableFault}
-use Rattle.gms_table.specs.Faults.{error_code}
-use Rattle.gms_table.specs.TableEntries.{Part, place_of_part, Stands, AreSound, IsFirstFault}
+use Rattle.gms_table.specs.Faults.{table_error_code}
+use Rattle.gms_table.specs.TableEntries.{TablePart, place_of_part, IsPartFault, ArePartsFaultless, IsFirstPartFault}
 use Rattle.gms_parse.specs.declared.fault.SourceFault.{SourceFault}
 use Rattle.gms_parse.specs.Faults.{error_of_table}
-use Rattle.gms_parse.specs.Tables.{parts_of_tokens, IsLineFault}
-use Rattle.gms_parse.specs.Walks.{Seen}
+use Rattle.gms_parse.specs.Tables.{parts_of_tokens, IsTableLineFault}
+use Rattle.gms_parse.specs.Walks.{KindedToken}
 use Rattle.gms_grammar.proofs.Orders.{Order, at_once, earlier, later, order, some_there}
 
 -- the error of a number
@@ -17,7 +17,7 @@ abbrev error_of_code : ℕ → TableError
 error_of_code n =
     if n == 21 then NoColumn else (if n == 22 then TwoColumns else (if n == 23 then RepeatedEntry else (if n == 24 then BadRow else (if n == 25 then NoHeading else Labels))))
 
-error_is : (error : TableError) → error_of_code (error_code error) ≡ error
+error_is : (error : TableError) → error_of_code (table_error_code error) ≡ error
 error_is NoColumn = refl
 error_is TwoColumns = refl
 error_is RepeatedEntry = refl
@@ -27,24 +27,24 @@ error_is Labels = refl
 
 module _ (limit : ℕ) (labels : List (List ℕ)) where
   -- a sound part has no error
-  pub stands_not : (done before : List Part) (part : Part) (behind : List Part) (error : TableError) → AreSound limit labels done (before ++ (part ∷ behind)) → Stands limit labels (done ++ before) part error → ⊥
-  stands_not done [] part behind error sound h = sound.0 error (subst (λ (ps : List Part). Stands limit labels ps part error) (append-nil done) h)
+  pub stands_not : (done before : List TablePart) (part : TablePart) (behind : List TablePart) (error : TableError) → ArePartsFaultless limit labels done (before ++ (part ∷ behind)) → IsPartFault limit labels (done ++ before) part error → ⊥
+  stands_not done [] part behind error sound h = sound.0 error (subst (λ (ps : List TablePart). IsPartFault limit labels ps part error) (append-nil done) h)
   stands_not done (p ∷ before) part behind error sound h =
-      stands_not (done ++ p ∷ []) before part behind error sound.1 (subst (λ (ps : List Part). Stands limit labels ps part error) (sym (append_assoc done (p ∷ []) before)) h)
+      stands_not (done ++ p ∷ []) before part behind error sound.1 (subst (λ (ps : List TablePart). IsPartFault limit labels ps part error) (sym (append_assoc done (p ∷ []) before)) h)
 
   -- two first faults of a table are one
-  one_first : (parts : List Part) (one other : TableFault) → IsFirstFault limit labels parts one → IsFirstFault limit labels parts other → one ≡ other
+  one_first : (parts : List TablePart) (one other : TableFault) → IsFirstPartFault limit labels parts one → IsFirstPartFault limit labels parts other → one ≡ other
   one_first parts one other f g = by (order f.before f.part f.behind g.before g.part g.behind (sym f.parts_are ∙ g.parts_are))
     where
       by : Order f.before f.part f.behind g.before g.part g.behind → one ≡ other
-      by (earlier w e k) = absurd (stands_not [] f.before f.part w one.error (subst (λ (ps : List Part). AreSound limit labels [] ps) e g.sound) f.stands)
-      by (later w e k) = absurd (stands_not [] g.before g.part w other.error (subst (λ (ps : List Part). AreSound limit labels [] ps) e f.sound) g.stands)
+      by (earlier w e k) = absurd (stands_not [] f.before f.part w one.error (subst (λ (ps : List TablePart). ArePartsFaultless limit labels [] ps) e g.sound) f.stands)
+      by (later w e k) = absurd (stands_not [] g.before g.part w other.error (subst (λ (ps : List TablePart). ArePartsFaultless limit labels [] ps) e f.sound) g.stands)
       by (at_once front part rest) =
-          let there : Stands limit labels f.before f.part other.error = subst (λ (ps : List Part). Stands limit labels ps f.part other.error) (sym front) (subst (λ (p : Part). Stands limit labels g.before p other.error) (sym part) g.stands) in
-          let here : Stands limit labels g.before g.part one.error = subst (λ (ps : List Part). Stands limit labels ps g.part one.error) front (subst (λ (p : Part). Stands limit labels f.before p one.error) part f.stands) in
-          let less : error_code one.error ≤ error_code other.error = f.least other.error there in
-          let more : error_code other.error ≤ error_code one.error = g.least one.error here in
-          let codes : error_code one.error ≡ error_code other.error = omega (arith, less, more) in
+          let there : IsPartFault limit labels f.before f.part other.error = subst (λ (ps : List TablePart). IsPartFault limit labels ps f.part other.error) (sym front) (subst (λ (p : TablePart). IsPartFault limit labels g.before p other.error) (sym part) g.stands) in
+          let here : IsPartFault limit labels g.before g.part one.error = subst (λ (ps : List TablePart). IsPartFault limit labels ps g.part one.error) front (subst (λ (p : TablePart). IsPartFault limit labels f.before p one.error) part f.stands) in
+          let less : table_error_code one.error ≤ table_error_code other.error = f.least other.error there in
+          let more : table_error_code other.error ≤ table_error_code one.error = g.least one.error here in
+          let codes : table_error_code one.error ≡ table_error_code other.error = omega (arith, less, more) in
           ap₂ (λ (e : TableError) (p : Place). record { error = e; at = p }) (sym (error_is one.error) ∙ ap error_of_code codes ∙ error_is other.error) (f.at ∙ ap place_of_part part ∙ sym g.at)
 
 -- what is told of a fault of a table
@@ -52,7 +52,7 @@ abbrev told_of : TableFault → SourceFault
 told_of fault = record { error = error_of_table fault.error; at = fault.at }
 
 -- two faults of the lines of a table are one
-pub one_line_fault : (limit : ℕ) (source : List ℕ) (name : Place) (labels : List (List ℕ)) (lines : List Seen) (one other : SourceFault) → IsLineFault limit source name labels lines one → IsLineFault limit source name labels lines other → one ≡ other
+pub one_line_fault : (limit : ℕ) (source : List ℕ) (name : Place) (labels : List (List ℕ)) (lines : List KindedToken) (one other : SourceFault) → IsTableLineFault limit source name labels lines one → IsTableLineFault limit source name labels lines other → one ≡ other
 one_line_fault limit source name labels lines one other (inl a) (inl b) = a.1 ∙ sym b.1
 one_line_fault limit source name labels lines one other (inl a) (inr b) = absurd (some_there b.1.before b.1.part b.1.behind (sym a.0 ∙ b.1.parts_are))
 one_line_fault limit source name labels lines one other (inr a) (inl b) = absurd (some_there a.1.before a.1.part a.1.behind (sym b.0 ∙ a.1.parts_are))

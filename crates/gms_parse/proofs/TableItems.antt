@@ -6,12 +6,12 @@ use Rattle.gms_labels.specs.Labels.{place_of}
 use Rattle.gms_ast.specs.StatementView.{item_in}
 use Rattle.gms_table.specs.declared.entry.Entry.{Entry}
 use Rattle.gms_table.specs.Words.{Word}
-use Rattle.gms_table.specs.WordLabels.{AreNumbers, names_of}
-use Rattle.gms_table.specs.CellNumbers.{unsigned, signed}
-use Rattle.gms_table.specs.TableEntries.{Part, name, cell, met, IsEntry, AreEntries}
+use Rattle.gms_table.specs.WordLabels.{AreLabelNumbers, labels_of_word}
+use Rattle.gms_table.specs.CellNumbers.{unsigned, signed_number}
+use Rattle.gms_table.specs.TableEntries.{TablePart, name, cell, met, IsEntry, AreEntries}
 use Rattle.gms_expressions.specs.ExpressionTrees.{or_0}
 use Rattle.gms_expressions.proofs.Valued.{number_in_is}
-use Rattle.gms_parse.specs.Tables.{item_of_entry, numbers_of, entry_at, entry_under, entries_in}
+use Rattle.gms_parse.specs.Tables.{item_of_entry, numbers_of_labels, table_entry, entry_under, entries_in}
 
 -- an entry over numbers
 abbrev entry_in : {F : Type 0} → (F → Rational) → Entry F → Entry Rational
@@ -24,7 +24,7 @@ same_entry one other at row column value =
 
 -- where texts keep their numbers
 module _ (labels later : List (List ℕ)) (keep : (text : List ℕ) (n : ℕ) → place_of labels text ≡ Some n → place_of later text ≡ Some n) where
-  numbers_only : (numbers : List ℕ) (texts : List (List ℕ)) → AreNumbers labels numbers texts → numbers ≡ numbers_of later texts
+  numbers_only : (numbers : List ℕ) (texts : List (List ℕ)) → AreLabelNumbers labels numbers texts → numbers ≡ numbers_of_labels later texts
   numbers_only [] [] are = refl
   numbers_only [] (t ∷ ts) are = let bad : [] ≡ place_of labels t ∷ map (place_of labels) ts = are in cc
   numbers_only (n ∷ ns) [] are = let bad : Some n ∷ map Some ns ≡ [] = are in cc
@@ -37,12 +37,12 @@ module _ (labels later : List (List ℕ)) (keep : (text : List ℕ) (n : ℕ) �
   module _ {F : Type 0} (limit : ℕ) (value : F → Rational) where
     entry_only : (row : Word) (headings : List Word) (word : Word) (entry : Entry F) → IsEntry limit value labels row headings word entry → entry_in value entry ≡ entry_under later row word (met headings word)
     entry_only row headings word entry is =
-        let rows = numbers_only entry.row (names_of row) is.row_is in
-        let columns = numbers_only entry.column (names_of is.heading) is.column_is in
-        let values = is.value_is.value ∙ ap (signed word.text) (sym (number_in_is (unsigned word.text) is.value_is.magnitude is.value_is.means)) in
-        same_entry (entry_in value entry) (entry_at later row word is.heading) is.at rows columns values ∙ ap (entry_under later row word) (sym is.under_one)
+        let rows = numbers_only entry.row (labels_of_word row) is.row_is in
+        let columns = numbers_only entry.column (labels_of_word is.heading) is.column_is in
+        let values = is.value_is.value ∙ ap (signed_number word.text) (sym (number_in_is (unsigned word.text) is.value_is.magnitude is.value_is.means)) in
+        same_entry (entry_in value entry) (table_entry later row word is.heading) is.at rows columns values ∙ ap (entry_under later row word) (sym is.under_one)
 
-    pub entries_only : (parts : List Part) (entries : List (Entry F)) → AreEntries limit value labels parts entries → map (entry_in value) entries ≡ entries_in later parts
+    pub entries_only : (parts : List TablePart) (entries : List (Entry F)) → AreEntries limit value labels parts entries → map (entry_in value) entries ≡ entries_in later parts
     entries_only [] entries are = ap (map (entry_in value)) are
     entries_only (name word ∷ parts) entries are = entries_only parts entries are
     entries_only (cell row headings word ∷ parts) [] are = absurd are
@@ -54,6 +54,6 @@ items_shown value [] = refl
 items_shown value (e ∷ es) = ap (λ us. item_in value (item_of_entry e) ∷ us) (items_shown value es)
 
 -- the items of a table, over numbers, are those that its words give
-pub items_only : {F : Type 0} (limit : ℕ) (value : F → Rational) (labels later : List (List ℕ)) → ((text : List ℕ) (n : ℕ) → place_of labels text ≡ Some n → place_of later text ≡ Some n) → (parts : List Part) (es : List (Entry F)) → AreEntries limit value labels parts es →
+pub items_only : {F : Type 0} (limit : ℕ) (value : F → Rational) (labels later : List (List ℕ)) → ((text : List ℕ) (n : ℕ) → place_of labels text ≡ Some n → place_of later text ≡ Some n) → (parts : List TablePart) (es : List (Entry F)) → AreEntries limit value labels parts es →
     map (item_in value) (map item_of_entry es) ≡ map item_of_entry (entries_in later parts)
 items_only limit value labels later keep parts es are = items_shown value es ∙ ap (map item_of_entry) (entries_only labels later keep limit value parts es are)

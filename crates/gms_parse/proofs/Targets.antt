@@ -7,7 +7,7 @@ use Rattle.gms_grammar.specs.Grammar.{the, pair, node, IsTree}
 use Rattle.gms_grammar.specs.GamsGrammar.{Target as TargetPart, productions}
 use Rattle.gms_expressions.specs.ExpressionTrees as trees
 use Rattle.gms_parse.specs.Statements.{target_in}
-use Rattle.gms_parse.specs.Readings.{Derivation}
+use Rattle.gms_parse.specs.InnerReadings.{Derivation}
 
 -- a reference, as a target
 abbrev to_target : Target Number → Syntax Number → Target Number

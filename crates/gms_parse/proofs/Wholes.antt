@@ -7,7 +7,7 @@ use Rattle.gms_lex.specs.declared.token.Token.{Token}
 use Rattle.gms_lex.specs.Tokens.{tokens_of, end_token}
 use Rattle.gms_ast.specs.declared.program.Stmt.{Stmt}
 use Rattle.gms_ast.specs.StatementTrees.{Statements, no_statement, statement, followed_by}
-use Rattle.gms_ast.specs.StatementView.{in_order, statement_view}
+use Rattle.gms_ast.specs.StatementView.{statements_in_order, statement_view}
 use Rattle.gms_grammar.specs.declared.terminal.Terminal.{Terminal}
 use Rattle.gms_grammar.specs.declared.terminal.Terminal.TheVariants.{Semicolon, End}
 use Rattle.gms_grammar.specs.Grammar.{the, ◌·◌, many, leaf, pair, none, more, node, yield}
@@ -20,9 +20,9 @@ use Rattle.gms_parse.specs.declared.fault.SourceFaultOrMemory.{SourceFaultOrMemo
 use Rattle.gms_parse.specs.declared.reader.Reader.{Reader}
 use Rattle.gms_parse.specs.declared.reader.Tables.{Tables}
 use Rattle.gms_parse.specs.Programs.{segments, statements_of}
-use Rattle.gms_parse.specs.Walks.{Seen, Walk, start, unexpected}
-use Rattle.gms_parse.specs.Readings.{Derivation, Gives, Refuses, Sense, IsSense, IsReady, IsGot, IsNext, Holds, Starts, IsWhole, RefusesWhole, unexpected_at, kind_of, seen_from}
-use Rattle.gms_parse.specs.Meanings.{IsSegment, AreStatements, act_view, put_before}
+use Rattle.gms_parse.specs.Walks.{KindedToken, ReaderState, start, unexpected}
+use Rattle.gms_parse.specs.InnerReadings.{Derivation, Gives, Refuses, Sense, IsSense, IsReady, IsGot, IsNext, Holds, Starts, IsWhole, RefusesWhole, unexpected_at, kind_of, seen_from}
+use Rattle.gms_parse.specs.InnerMeanings.{IsSegment, AreStatements, act_view, put_before}
 use Rattle.gms_parse.proofs.TokenKinds.{same_kind, unled_next}
 use Rattle.gms_parse.proofs.Alphabet.{AllPass, pass_rest, only, all_pass}
 use Rattle.gms_parse.proofs.Steps.{got_by, Within, within_the, within_second, within_again, within_then, gives_both, gives_no_more, refuses_second, refuses_again}
@@ -50,7 +50,7 @@ module _ {F : Type 0} (value : F → Number) where
 -- the segments of a program read so far, and the statements that they mean
 pub record Whole {F : Type 0} (limit : ℕ) (value : F → Number) (reader : Reader) (new : Tables) (xs : List (Stmt F)) (at : ℕ) : Type 0 where
   pub context : Derivation → Derivation
-  pub behind : Walk
+  pub behind : ReaderState
   pub within : Within limit reader.source.now (the Program) start (seen_from reader 0) (many (token Semicolon · the Segment)) behind (seen_from reader at) context
   pub holds : Holds reader new behind
   pub means : (sense : Sense) → IsSense new sense → (b : Derivation) → statements_of reader.source.now sense.names sense.labels (context b) ≡ put_before value xs (segments reader.source.now sense.names sense.labels b)
@@ -96,7 +96,7 @@ module _ {F : Type 0} (value : F → Number) {limit : ℕ} {reader : Reader} whe
 
 -- ---- the end
 
-led_end : (ts : List Seen) → leads productions look_ahead (token End) ts ≡ true → kind_of ts ≡ End
+led_end : (ts : List KindedToken) → leads productions look_ahead (token End) ts ≡ true → kind_of ts ≡ End
 led_end [] h = cc
 led_end (t ∷ ts) h = sym (same_kind End t.0 h)
 
@@ -116,15 +116,15 @@ ends {reader} ready pass =
     let front = tokens_of reader.source.now 0 ready.tokens.has.pieces in
     let last = end_token reader.source.now in
     let all : seen_from reader 0 ≡ map (seen_token reader) front ++ map (seen_token reader) (last ∷ []) = ap (map (seen_token reader)) ready.tokens.has.tokens_are ∙ map-append (seen_token reader) front (last ∷ []) in
-    let p = pass_rest no_end (map (seen_token reader) front) (map (seen_token reader) (last ∷ [])) (subst (λ (us : List Seen). AllPass no_end us) all pass) in
+    let p = pass_rest no_end (map (seen_token reader) front) (map (seen_token reader) (last ∷ [])) (subst (λ (us : List KindedToken). AllPass no_end us) all pass) in
     let q : no_end (seen_token reader last).0 ≡ true = p.0 in
     cc
 
 -- a token follows a program
-not_ended : {limit : ℕ} {reader : Reader} {v : Walk} {tree : Derivation} (rest : List Seen) → IsReady reader → Gives limit reader.source.now (the Program) start (seen_from reader 0) tree v rest → leads productions look_ahead (token End) rest ≡ false → kind_of rest ≡ End → ⊥
+not_ended : {limit : ℕ} {reader : Reader} {v : ReaderState} {tree : Derivation} (rest : List KindedToken) → IsReady reader → Gives limit reader.source.now (the Program) start (seen_from reader 0) tree v rest → leads productions look_ahead (token End) rest ≡ false → kind_of rest ≡ End → ⊥
 not_ended {tree = tree} [] ready g unled e =
     let found = sound productions look_ahead g.reads in
-    ends ready (subst (λ (us : List Seen). AllPass no_end us) (sym (found.1 ∙ append-nil (yield tree))) (all_pass everywhere no_end endless (the Program) tree found.0 refl))
+    ends ready (subst (λ (us : List KindedToken). AllPass no_end us) (sym (found.1 ∙ append-nil (yield tree))) (all_pass everywhere no_end endless (the Program) tree found.0 refl))
 not_ended (t ∷ rest) ready g unled e = let k : is End t.0 ≡ true = ap (is End) e in cc
 
 module _ {F : Type 0} (value : F → Number) {limit : ℕ} {reader : Reader} {new : Tables} {xs : List (Stmt F)} {at : ℕ} (l : Whole limit value reader new xs at) (unled : leads productions look_ahead (token Semicolon) (seen_from reader at) ≡ false) where
@@ -134,7 +134,7 @@ module _ {F : Type 0} (value : F → Number) {limit : ℕ} {reader : Reader} {ne
   pub whole_got : leads productions look_ahead (token End) (seen_from reader at) ≡ true → (all : Vec (Stmt F) Global) → all.items ≡ xs → IsWhole limit (AreStatements value reader.source.now) reader new all
   whole_got led all same = record {
     next = at;
-    got = got_by gives_whole l.holds (λ sense s. ap (λ (ys : List (Stmt F)). in_order value (map {B = Statements Number → Statements Number} (statement_view value) ys)) same ∙ in_order_is value xs ∙ sym (l.means sense s none)) (omega arith);
+    got = got_by gives_whole l.holds (λ sense s. ap (λ (ys : List (Stmt F)). statements_in_order value (map {B = Statements Number → Statements Number} (statement_view value) ys)) same ∙ in_order_is value xs ∙ sym (l.means sense s none)) (omega arith);
     at_end = led_end (seen_from reader at) led;
   }
 

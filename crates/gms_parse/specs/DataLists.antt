@@ -6,38 +6,38 @@ use Rattle.gms_lex.specs.declared.token.Token.{Token}
 use Rattle.gms_lex.specs.TokenTexts.{token_text, unquoted}
 use Rattle.gms_grammar.specs.declared.terminal.Terminal.{Terminal}
 use Rattle.gms_grammar.specs.declared.terminal.Terminal.TheVariants as terminal
-use Rattle.gms_grammar.specs.Grammar.{Tree, left, right, some, more}
+use Rattle.gms_grammar.specs.Grammar.{DerivationTree, left, right, some, more}
 use Rattle.gms_grammar.specs.Terminals.{is}
 use Rattle.gms_set.specs.Ranges.{is_range, members}
 use Rattle.gq_extended.specs.declared.extended.Ext.{Ext}
 use Rattle.gq_extended.specs.declared.extended.Ext.TheVariants.{Number, PlusInf, MinusInf, Na}
 use Rattle.gms_ast.specs.declared.declaration.Item.{Item}
 use Rattle.gq_number.specs.Number.{Number as Rational, neg_ℚ}
-use Rattle.gms_expressions.specs.Valuations.{number_in}
+use Rattle.gms_expressions.specs.Valuations.{number_meant}
 use Rattle.gms_expressions.specs.ExpressionTrees.{or_0, token_of, terminal_in, first_in, second_in, inside, is_minus, place_in}
 
 -- what the parts of a repetition mean, in order
-abbrev pub each_in : {A T : Type 0} → (Tree T → A) → Tree T → List A
+abbrev pub each_in : {A T : Type 0} → (DerivationTree T → A) → DerivationTree T → List A
 each_in meaning (more tree others) = meaning tree ∷ each_in meaning others
 each_in meaning _ = []
 
 -- what the parts of a list with separators mean, in order
-abbrev pub listed_in : {A T : Type 0} → (Tree T → A) → Tree T → List A
+abbrev pub listed_in : {A T : Type 0} → (DerivationTree T → A) → DerivationTree T → List A
 listed_in meaning tree = meaning (first_in tree) ∷ each_in (λ other. meaning (second_in other)) (second_in tree)
 
 -- what an optional part means, or the default if it is left out
-abbrev pub optional_in : {A T : Type 0} → A → (Tree T → A) → Tree T → A
+abbrev pub optional_in : {A T : Type 0} → A → (DerivationTree T → A) → DerivationTree T → A
 optional_in absent meaning (some tree) = meaning tree
 optional_in absent meaning _ = absent
 
 -- what is between two marks
-abbrev pub between : {T : Type 0} → Tree T → Tree T
+abbrev pub between : {T : Type 0} → DerivationTree T → DerivationTree T
 between tree = first_in (second_in tree)
 
 -- all lists appended
-abbrev pub joined : {A : Type 0} → List (List A) → List A
-joined [] = []
-joined (xs ∷ others) = xs ++ joined others
+abbrev pub concatenated : {A : Type 0} → List (List A) → List A
+concatenated [] = []
+concatenated (xs ∷ others) = xs ++ concatenated others
 
 -- some test passes
 abbrev pub any_true : List Bool → Bool
@@ -52,14 +52,14 @@ opposed MinusInf = PlusInf
 opposed Na = Na
 
 -- a value with the sign before it, if any
-abbrev pub signed_value : Tree (Terminal × Token) → Ext Rational → Ext Rational
+abbrev pub signed_value : DerivationTree (Terminal × Token) → Ext Rational → Ext Rational
 signed_value (some sign) value = if is_minus (token_of sign).kind then opposed value else value
 signed_value _ value = value
 
 -- In a source with these labels.
 module _ (source : List ℕ) (labels : List (List ℕ)) where
   -- the label of a token
-  abbrev pub label_text : Tree (Terminal × Token) → List ℕ
+  abbrev pub label_text : DerivationTree (Terminal × Token) → List ℕ
   label_text tree = unquoted (token_text source (token_of tree))
 
   -- the number of a label
@@ -71,39 +71,39 @@ module _ (source : List ℕ) (labels : List (List ℕ)) where
   range_labels from to = if is_range from to then map number_of_label (members from to) else []
 
   -- the labels of a range: the one label, or those from the first to the last
-  abbrev pub labels_in_range : Tree (Terminal × Token) → List ℕ
+  abbrev pub labels_in_range : DerivationTree (Terminal × Token) → List ℕ
   labels_in_range tree =
       optional_in (number_of_label (label_text (first_in (inside tree))) ∷ []) (λ last. range_labels (label_text (first_in (inside tree))) (label_text (second_in last))) (second_in (inside tree))
 
   -- a range is invalid
-  abbrev pub is_bad_range : Tree (Terminal × Token) → Bool
+  abbrev pub is_bad_range : DerivationTree (Terminal × Token) → Bool
   is_bad_range tree = optional_in false (λ last. not (is_range (label_text (first_in (inside tree))) (label_text (second_in last)))) (second_in (inside tree))
 
   -- the ranges of a position of an element: one, or those in parentheses
-  abbrev pub ranges_in_part : Tree (Terminal × Token) → List (Tree (Terminal × Token))
+  abbrev pub ranges_in_part : DerivationTree (Terminal × Token) → List (DerivationTree (Terminal × Token))
   ranges_in_part (left range) = range ∷ []
   ranges_in_part (right list) = listed_in (λ range. range) (inside (between list))
   ranges_in_part _ = []
 
   -- the labels at a position of an element
-  abbrev pub labels_in_part : Tree (Terminal × Token) → List ℕ
-  labels_in_part tree = joined (map labels_in_range (ranges_in_part (inside tree)))
+  abbrev pub labels_in_part : DerivationTree (Terminal × Token) → List ℕ
+  labels_in_part tree = concatenated (map labels_in_range (ranges_in_part (inside tree)))
 
   -- a position of an element has an invalid range
-  abbrev pub has_bad_range : Tree (Terminal × Token) → Bool
+  abbrev pub has_bad_range : DerivationTree (Terminal × Token) → Bool
   has_bad_range tree = any_true (map is_bad_range (ranges_in_part (inside tree)))
 
   -- a value: NA, or a number or an infinity, perhaps with a sign
-  abbrev pub value_of_token : Tree (Terminal × Token) → Ext Rational
-  value_of_token tree = if is terminal.Infinity (terminal_in tree) then PlusInf else Number (number_in (token_text source (token_of tree)))
+  abbrev pub value_of_token : DerivationTree (Terminal × Token) → Ext Rational
+  value_of_token tree = if is terminal.Infinity (terminal_in tree) then PlusInf else Number (number_meant (token_text source (token_of tree)))
 
-  abbrev pub value_in : Tree (Terminal × Token) → Ext Rational
-  value_in (left tree) = Na
-  value_in (right tree) = signed_value (first_in tree) (value_of_token (second_in tree))
-  value_in _ = Na
+  abbrev pub parsed_value : DerivationTree (Terminal × Token) → Ext Rational
+  parsed_value (left tree) = Na
+  parsed_value (right tree) = signed_value (first_in tree) (value_of_token (second_in tree))
+  parsed_value _ = Na
 
   -- the item of data of an element, with a value or without
-  abbrev pub item_of : Tree (Terminal × Token) → Option (Ext Rational) → Item Rational
+  abbrev pub item_of : DerivationTree (Terminal × Token) → Option (Ext Rational) → Item Rational
   item_of element value =
       record {
         at = place_in element;
@@ -113,17 +113,17 @@ module _ (source : List ℕ) (labels : List (List ℕ)) where
       }
 
   -- the item of an entry of a parameter: an element, perhaps `=`, and a value
-  abbrev pub entry_of : Tree (Terminal × Token) → Item Rational
-  entry_of tree = item_of (first_in (inside tree)) (Some (value_in (inside (second_in (second_in (inside tree))))))
+  abbrev pub parameter_item : DerivationTree (Terminal × Token) → Item Rational
+  parameter_item tree = item_of (first_in (inside tree)) (Some (parsed_value (inside (second_in (second_in (inside tree))))))
 
   -- the items of a set's list
-  abbrev pub elements_in : Tree (Terminal × Token) → List (Item Rational)
+  abbrev pub elements_in : DerivationTree (Terminal × Token) → List (Item Rational)
   elements_in list = listed_in (λ element. item_of element None) (inside list)
 
   -- the items of a parameter's list
-  abbrev pub entries_in : Tree (Terminal × Token) → List (Item Rational)
-  entries_in list = listed_in entry_of (inside list)
+  abbrev pub parameter_items : DerivationTree (Terminal × Token) → List (Item Rational)
+  parameter_items list = listed_in parameter_item (inside list)
 
   -- the item of a scalar: its value, without positions
-  abbrev pub scalar_in : Tree (Terminal × Token) → List (Item Rational)
-  scalar_in tree = record { at = place_in tree; parts = []; value = Some (value_in (inside tree)); bad_range = false } ∷ []
+  abbrev pub scalar_in : DerivationTree (Terminal × Token) → List (Item Rational)
+  scalar_in tree = record { at = place_in tree; parts = []; value = Some (parsed_value (inside tree)); bad_range = false } ∷ []

@@ -5,7 +5,7 @@ use Rattle.std.specs.Prelude.{ℕ, Bool, true, false, if◌then◌else◌, List,
 use Rattle.gq_number.specs.Number.{Number}
 use Rattle.gms_lex.specs.declared.token.Token.{Token}
 use Rattle.gms_grammar.specs.declared.terminal.Terminal.{Terminal}
-use Rattle.gms_grammar.specs.Grammar.{Tree, pair, left, right, some, node, yield}
+use Rattle.gms_grammar.specs.Grammar.{DerivationTree, pair, left, right, some, node, yield}
 use Rattle.gms_ast.specs.declared.word.Named.{Named}
 use Rattle.gms_ast.specs.declared.declaration.DeclKind.{DeclKind}
 use Rattle.gms_ast.specs.declared.declaration.DeclKind.TheVariants as kind
@@ -15,17 +15,17 @@ use Rattle.gms_ast.specs.declared.declaration.ModelDecl.{ModelDecl}
 use Rattle.gms_lex.specs.TokenTexts.{token_text}
 use Rattle.gms_expressions.specs.ExpressionTrees.{is_word, token_of, first_in, second_in, inside, name_in}
 use Rattle.gms_ast.specs.StatementTrees.{Act, declares, declares_models}
-use Rattle.gms_parse.specs.DataLists.{listed_in, optional_in, between, elements_in, entries_in, scalar_in}
+use Rattle.gms_parse.specs.DataLists.{listed_in, optional_in, between, elements_in, parameter_items, scalar_in}
 use Rattle.gms_parse.specs.Tables.{items_given}
 
 -- The items of a declaration, which its grammar nests: after an item there may be a comma and
 -- further items, or a line end and perhaps further items.
 abbrev mutual
-  pub items_in : {A T : Type 0} → (Tree T → A) → Tree T → List A
+  pub items_in : {A T : Type 0} → (DerivationTree T → A) → DerivationTree T → List A
   items_in meaning (node (pair item others)) = meaning item ∷ further_items meaning others
   items_in meaning _ = []
 
-  pub further_items : {A T : Type 0} → (Tree T → A) → Tree T → List A
+  pub further_items : {A T : Type 0} → (DerivationTree T → A) → DerivationTree T → List A
   further_items meaning (some (left (pair _ tree))) = items_in meaning tree
   further_items meaning (some (right (pair _ (some tree)))) = items_in meaning tree
   further_items meaning _ = []
@@ -38,25 +38,25 @@ variable_kind word =
 -- In a source with these names and labels.
 module _ (source : List ℕ) (names labels : List (List ℕ)) where
   -- a name with its place
-  abbrev pub named_in : Tree (Terminal × Token) → Named
+  abbrev pub named_in : DerivationTree (Terminal × Token) → Named
   named_in tree = record { at = (token_of tree).at; name = name_in source names labels tree }
 
   -- a position of a domain: `*`, or a set
-  abbrev pub position_in : Tree (Terminal × Token) → Option Named
+  abbrev pub position_in : DerivationTree (Terminal × Token) → Option Named
   position_in (node (right name)) = Some (named_in name)
   position_in _ = None
 
   -- a domain in parentheses
-  abbrev pub domain_in : Tree (Terminal × Token) → List (Option Named)
+  abbrev pub domain_in : DerivationTree (Terminal × Token) → List (Option Named)
   domain_in (node (pair _ (pair (node list) _))) = listed_in position_in list
   domain_in _ = []
 
   -- the domain after a name, or one without positions
-  abbrev pub optional_domain : Tree (Terminal × Token) → List (Option Named)
+  abbrev pub optional_domain : DerivationTree (Terminal × Token) → List (Option Named)
   optional_domain tree = optional_in [] domain_in tree
 
   -- a variable or an equation that is declared: its name and its domain
-  abbrev pub plain_in : Tree (Terminal × Token) → Decl Number
+  abbrev pub plain_in : DerivationTree (Terminal × Token) → Decl Number
   plain_in item =
       record {
         named = named_in (first_in (inside item));
@@ -65,17 +65,17 @@ module _ (source : List ℕ) (names labels : List (List ℕ)) where
       }
 
   -- a model has all equations
-  abbrev pub has_all : Tree (Terminal × Token) → Bool
+  abbrev pub has_all : DerivationTree (Terminal × Token) → Bool
   has_all (left all) = true
   has_all _ = false
 
   -- the equations that are named
-  abbrev pub equations_in : Tree (Terminal × Token) → List Named
+  abbrev pub equations_in : DerivationTree (Terminal × Token) → List Named
   equations_in (right list) = listed_in named_in list
   equations_in _ = []
 
   -- a model that is declared: its name, and its equations between slashes
-  abbrev pub model_in : Tree (Terminal × Token) → ModelDecl
+  abbrev pub model_in : DerivationTree (Terminal × Token) → ModelDecl
   model_in item =
       record {
         named = named_in (first_in (inside item));
@@ -84,23 +84,23 @@ module _ (source : List ℕ) (names labels : List (List ℕ)) where
       }
 
   -- the statement of variables, perhaps with a type before the keyword
-  abbrev pub variable_act : Tree (Terminal × Token) → Act Number
+  abbrev pub variable_act : DerivationTree (Terminal × Token) → Act Number
   variable_act statement =
       declares (optional_in kind.Free (λ word. variable_kind (token_text source (token_of word))) (first_in (inside statement))) (items_in plain_in (second_in (second_in (inside statement))))
 
   -- the statement of equations
-  abbrev pub equation_act : Tree (Terminal × Token) → Act Number
+  abbrev pub equation_act : DerivationTree (Terminal × Token) → Act Number
   equation_act statement = declares kind.Equation (items_in plain_in (second_in (inside statement)))
 
   -- the statement of models
-  abbrev pub model_act : Tree (Terminal × Token) → Act Number
+  abbrev pub model_act : DerivationTree (Terminal × Token) → Act Number
   model_act statement = declares_models (items_in model_in (second_in (inside statement)))
 
 -- Declarations with data, which are numbers.
 module _ (source : List ℕ) (names labels : List (List ℕ)) where
   -- what follows the name of a set or a parameter: its domain, and its data between slashes, which
   -- mean these items
-  abbrev pub data_in : (Tree (Terminal × Token) → List (Item Number)) → Tree (Terminal × Token) → Decl Number
+  abbrev pub data_in : (DerivationTree (Terminal × Token) → List (Item Number)) → DerivationTree (Terminal × Token) → Decl Number
   data_in meaning item =
       record {
         named = named_in source names labels (first_in (inside item));
@@ -109,15 +109,15 @@ module _ (source : List ℕ) (names labels : List (List ℕ)) where
       }
 
   -- a set that is declared
-  abbrev pub set_in : Tree (Terminal × Token) → Decl Number
+  abbrev pub set_in : DerivationTree (Terminal × Token) → Decl Number
   set_in item = data_in (elements_in source labels) item
 
   -- a parameter that is declared
-  abbrev pub parameter_in : Tree (Terminal × Token) → Decl Number
-  parameter_in item = data_in (entries_in source labels) item
+  abbrev pub parameter_in : DerivationTree (Terminal × Token) → Decl Number
+  parameter_in item = data_in (parameter_items source labels) item
 
   -- a scalar that is declared: its name, and its value between slashes
-  abbrev pub scalar_item_in : Tree (Terminal × Token) → Decl Number
+  abbrev pub scalar_item_in : DerivationTree (Terminal × Token) → Decl Number
   scalar_item_in item =
       record {
         named = named_in source names labels (first_in (inside item));
@@ -126,19 +126,19 @@ module _ (source : List ℕ) (names labels : List (List ℕ)) where
       }
 
   -- the statement of sets
-  abbrev pub set_act : Tree (Terminal × Token) → Act Number
+  abbrev pub set_act : DerivationTree (Terminal × Token) → Act Number
   set_act statement = declares kind.Set (items_in set_in (second_in (inside statement)))
 
   -- the statement of parameters
-  abbrev pub parameter_act : Tree (Terminal × Token) → Act Number
+  abbrev pub parameter_act : DerivationTree (Terminal × Token) → Act Number
   parameter_act statement = declares kind.Parameter (items_in parameter_in (second_in (inside statement)))
 
   -- the statement of scalars
-  abbrev pub scalar_act : Tree (Terminal × Token) → Act Number
+  abbrev pub scalar_act : DerivationTree (Terminal × Token) → Act Number
   scalar_act statement = declares kind.Scalar (items_in scalar_item_in (second_in (inside statement)))
 
   -- the statement of a table: its name, its domain, and the items that its lines give
-  abbrev pub table_act : Tree (Terminal × Token) → Act Number
+  abbrev pub table_act : DerivationTree (Terminal × Token) → Act Number
   table_act statement =
       let behind = second_in (inside statement) in
       declares kind.Table (record {

@@ -2,16 +2,16 @@
 -- are (GAMS User's Guide, "GAMS Output", compilation errors; the numbers are this project's).
 use Rattle.std.specs.Prelude.{ℕ, List, codes}
 use Rattle.gms_labels.specs.declared.place.Place.{Place}
-use Rattle.gms_lines.specs.Errors.{error_code as lexical_code, error_name as lexical_name}
+use Rattle.gms_lines.specs.Errors.{lex_error_code as lexical_code, lex_error_name as lexical_name}
 use Rattle.gms_lex.specs.declared.fault.LexFault.{LexFault}
 use Rattle.gms_lex.specs.declared.fault.LexFaultOrMemory.{LexFaultOrMemory}
 use Rattle.gms_lex.specs.declared.fault.LexFaultOrMemory.TheVariants as lexed
-use Rattle.gms_expressions.specs.Faults.{error_code as syntax_code, error_name as syntax_name}
+use Rattle.gms_expressions.specs.Faults.{syntax_error_code as syntax_code, syntax_error_name as syntax_name}
 use Rattle.gms_expressions.specs.declared.fault.SyntaxError.TheVariants.{TooManyLabels}
 use Rattle.gms_expressions.specs.declared.fault.SyntaxFault.{SyntaxFault}
 use Rattle.gms_expressions.specs.declared.fault.SyntaxFaultOrMemory.{SyntaxFaultOrMemory}
 use Rattle.gms_expressions.specs.declared.fault.SyntaxFaultOrMemory.TheVariants as read
-use Rattle.gms_table.specs.Faults.{error_code as table_code, error_name as table_name}
+use Rattle.gms_table.specs.Faults.{table_error_code as table_code, table_error_name as table_name}
 use Rattle.gms_table.specs.declared.fault.TableError.{TableError}
 use Rattle.gms_table.specs.declared.fault.TableError.TheVariants as table
 use Rattle.gms_table.specs.declared.fault.TableFaultOrMemory.{TableFaultOrMemory}
@@ -23,18 +23,18 @@ use Rattle.gms_parse.specs.declared.fault.SourceFaultOrMemory.{SourceFaultOrMemo
 use Rattle.gms_parse.specs.declared.fault.SourceFaultOrMemory.TheVariants.{Memory, Fault}
 
 -- the number of an error
-abbrev pub error_code : SourceError → ℕ
-error_code TooLong = 9
-error_code (Lexical error) = lexical_code error
-error_code (Syntax error) = syntax_code error
-error_code (Table error) = table_code error
+abbrev pub source_error_code : SourceError → ℕ
+source_error_code TooLong = 9
+source_error_code (Lexical error) = lexical_code error
+source_error_code (Syntax error) = syntax_code error
+source_error_code (Table error) = table_code error
 
 -- the name of an error
-abbrev pub error_name : SourceError → List ℕ
-error_name TooLong = codes "TooLong"
-error_name (Lexical error) = lexical_name error
-error_name (Syntax error) = syntax_name error
-error_name (Table error) = table_name error
+abbrev pub source_error_name : SourceError → List ℕ
+source_error_name TooLong = codes "TooLong"
+source_error_name (Lexical error) = lexical_name error
+source_error_name (Syntax error) = syntax_name error
+source_error_name (Table error) = table_name error
 
 -- the source fault of a fault in a part of an expression
 abbrev pub source_fault : SyntaxFault → SourceFault

@@ -6,6 +6,6 @@ pub mod Programs
 pub mod Tables
 pub mod Walks
 pub mod Outcomes
-pub mod Readings
-pub mod Meanings
-pub mod TableReadings
+pub mod InnerReadings
+pub mod InnerMeanings
+pub mod InnerTables

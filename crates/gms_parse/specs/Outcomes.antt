@@ -3,14 +3,14 @@
 use Rattle.std.specs.Prelude.{◌≡◌, ◌≢◌, ◌⊎◌, ℕ, ◌<◌, ◌≤◌, List, [], ◌∷◌, ◌++◌, length, All}
 use Rattle.gms_lex.specs.declared.token.Token.{Token}
 use Rattle.gms_lex.specs.declared.fault.LexFault.{LexFault}
-use Rattle.gms_lex.specs.Tokens.{IsTokens, most_bytes, IsFault as IsLexicalFault}
+use Rattle.gms_lex.specs.Tokens.{IsTokens, most_source_bytes, IsLexFault as IsLexicalFault}
 use Rattle.gq_number.specs.Number.{Number}
 use Rattle.gms_grammar.specs.declared.terminal.Terminal.TheVariants as terminal
-use Rattle.gms_grammar.specs.Grammar.{the, Tree, yield, IsTree, Derives}
+use Rattle.gms_grammar.specs.Grammar.{the, DerivationTree, yield, IsTree, Derives}
 use Rattle.gms_grammar.specs.Rules as rules
 use Rattle.gms_grammar.specs.GamsGrammar.{Program, productions}
 use Rattle.gms_ast.specs.declared.program.Program.{Program as ProgramNode}
-use Rattle.gms_expressions.specs.Outcomes.{seen}
+use Rattle.gms_expressions.specs.Outcomes.{kinded_tokens}
 use Rattle.gms_parse.specs.declared.fault.SourceError.TheVariants.{TooLong}
 use Rattle.gms_parse.specs.declared.fault.SourceFault.{SourceFault}
 use Rattle.gms_parse.specs.declared.fault.SourceFaultOrMemory.{SourceFaultOrMemory}
@@ -20,7 +20,7 @@ use Rattle.gms_ast.specs.StatementTrees.{Statements}
 use Rattle.gms_ast.specs.StatementView.{statements_view}
 use Rattle.gms_parse.specs.Programs.{statements_of}
 use Rattle.gms_parse.specs.Tables.{AreTableItems, items_given}
-use Rattle.gms_parse.specs.Walks.{Seen, start, kind_ahead, kind_of, walk_behind, source_rule, AreSound}
+use Rattle.gms_parse.specs.Walks.{KindedToken, start, kind_ahead, kind_of, reader_after_all, source_rule, AreTokensFaultless}
 
 -- The view of a program, wherever its parts are stored: its names, its labels, and the trees of its
 -- statements.
@@ -36,79 +36,79 @@ program_view value_of program =
 
 -- These are all the lines of a table among the tokens: adjacent lines, with no line directly before
 -- or after them.
-pub record IsTableOf (tokens lines : List Seen) : Type 0 where
-  pub before : List Seen
-  pub behind : List Seen
+pub record IsTableOf (tokens lines : List KindedToken) : Type 0 where
+  pub before : List KindedToken
+  pub behind : List KindedToken
   pub parts : tokens ≡ before ++ lines ++ behind
   pub are_lines : All (λ token. token.0 ≡ terminal.TableLine) lines
   pub some : lines ≢ []
-  pub none_before : (others : List Seen) (token : Seen) → before ≡ others ++ token ∷ [] → token.0 ≢ terminal.TableLine
+  pub none_before : (others : List KindedToken) (token : KindedToken) → before ≡ others ++ token ∷ [] → token.0 ≢ terminal.TableLine
   pub none_behind : kind_ahead behind terminal.End ≢ terminal.TableLine
 
 -- Another token is required after this prefix of a source: if only the end remains, the prefix is
 -- no program.
-abbrev pub WantsMore : List Seen → List Seen → Type 0
+abbrev pub WantsMore : List KindedToken → List KindedToken → Type 0
 WantsMore front rest = kind_of rest ≡ terminal.End → Derives productions (the Program) front → ⊥
 
 module _ (limit : ℕ) (source : List ℕ) where
   -- each table among the tokens has items, which are those that its lines give
-  abbrev pub HaveItems : List (List ℕ) → List Seen → Type 0
-  HaveItems labels tokens = (lines : List Seen) → IsTableOf tokens lines → AreTableItems limit source labels lines (items_given source labels lines)
+  abbrev pub HaveItems : List (List ℕ) → List KindedToken → Type 0
+  HaveItems labels tokens = (lines : List KindedToken) → IsTableOf tokens lines → AreTableItems limit source labels lines (items_given source labels lines)
 
   -- The only program of the tokens: they are a program up to the end, and none has a fault. Its
   -- names and labels are those after the tokens, each table has items, and the statements are those
   -- that the derivation means, in which a text has the number that it means, and a table the items
   -- that its lines give.
-  pub record IsProgramOf (tokens : List Seen) (names labels : List (List ℕ)) (statements : Statements Number) : Type 0 where
-    pub tree : Tree Seen
+  pub record IsProgramOf (tokens : List KindedToken) (names labels : List (List ℕ)) (statements : Statements Number) : Type 0 where
+    pub tree : DerivationTree KindedToken
     pub end : Token
     pub tokens_are : tokens ≡ yield tree ++ (terminal.End, end) ∷ []
     pub is_tree : IsTree productions (the Program) tree
-    pub are_sound : AreSound limit source start (yield tree) terminal.End
-    pub names_are : names ≡ (walk_behind source start (yield tree) terminal.End).names
-    pub labels_are : labels ≡ (walk_behind source start (yield tree) terminal.End).labels
+    pub are_sound : AreTokensFaultless limit source start (yield tree) terminal.End
+    pub names_are : names ≡ (reader_after_all source start (yield tree) terminal.End).names
+    pub labels_are : labels ≡ (reader_after_all source start (yield tree) terminal.End).labels
     pub tables : HaveItems labels (yield tree)
     pub statements_are : statements ≡ statements_of source names labels tree
 
   -- The tokens are no program, or a faulty one: this is the first fault. After the longest prefix
   -- that begins a program the next token is unexpected; the end of the source only if the prefix is
   -- no program.
-  abbrev pub IsNoProgram : List Seen → SourceFault → Type 0
-  IsNoProgram tokens fault = rules.IsRefused source_rule (limit, source) WantsMore Program start tokens fault
+  abbrev pub IsNoProgram : List KindedToken → SourceFault → Type 0
+  IsNoProgram tokens fault = rules.IsRefusedByRule source_rule (limit, source) WantsMore Program start tokens fault
 
   -- A source of too many bytes has a fault at its start, and no other.
   abbrev pub IsTooLong : SourceFault → Type 0
-  IsTooLong fault = (most_bytes < length source) × (fault ≡ record { error = TooLong; at = record { line = 1; column = 1 } })
+  IsTooLong fault = (most_source_bytes < length source) × (fault ≡ record { error = TooLong; at = record { line = 1; column = 1 } })
 
   -- Else a lexical fault comes before all others.
   pub record IsLexical (fault : SourceFault) : Type 0 where
-    pub short : length source ≤ most_bytes
+    pub short : length source ≤ most_source_bytes
     pub lexical : LexFault
     pub is_first : IsLexicalFault source lexical
     pub is : fault ≡ lexical_fault lexical
 
   -- Else the fault is the first of the tokens.
   pub record IsSyntactic (fault : SourceFault) : Type 0 where
-    pub short : length source ≤ most_bytes
+    pub short : length source ≤ most_source_bytes
     pub tokens : List Token
     pub are_tokens : IsTokens source tokens
-    pub refused : IsNoProgram (seen source tokens) fault
+    pub refused : IsNoProgram (kinded_tokens source tokens) fault
 
   -- the fault of the source
-  abbrev pub IsFault : SourceFault → Type 0
-  IsFault fault = IsTooLong fault ⊎ (IsLexical fault ⊎ IsSyntactic fault)
+  abbrev pub IsSourceFault : SourceFault → Type 0
+  IsSourceFault fault = IsTooLong fault ⊎ (IsLexical fault ⊎ IsSyntactic fault)
 
   -- an answer in place of a program: the fault of the source, or out of memory
-  abbrev pub IsRefusal : SourceFaultOrMemory → Type 0
-  IsRefusal (Fault fault) = IsFault fault
-  IsRefusal Memory = Unit {0}
+  abbrev pub IsSourceRefusal : SourceFaultOrMemory → Type 0
+  IsSourceRefusal (Fault fault) = IsSourceFault fault
+  IsSourceRefusal Memory = Unit {0}
 
   -- The source has a program with this view.
   pub record HasProgram (view : ProgramView) : Type 0 where
-    pub short : length source ≤ most_bytes
+    pub short : length source ≤ most_source_bytes
     pub tokens : List Token
     pub are_tokens : IsTokens source tokens
-    pub is : IsProgramOf (seen source tokens) view.names view.labels view.statements
+    pub is : IsProgramOf (kinded_tokens source tokens) view.names view.labels view.statements
 
   -- the program of the source
   abbrev pub IsProgram : {F : Type 0} → (F → Number) → ProgramNode F → Type 0

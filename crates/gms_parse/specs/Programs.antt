@@ -4,7 +4,7 @@ use Rattle.std.specs.Prelude.{ℕ, List, []}
 use Rattle.gq_number.specs.Number.{Number}
 use Rattle.gms_lex.specs.declared.token.Token.{Token}
 use Rattle.gms_grammar.specs.declared.terminal.Terminal.{Terminal}
-use Rattle.gms_grammar.specs.Grammar.{Tree, pair, left, right, some, more, node}
+use Rattle.gms_grammar.specs.Grammar.{DerivationTree, pair, left, right, some, more, node}
 use Rattle.gms_expressions.specs.ExpressionTrees.{place_in, control}
 use Rattle.gms_ast.specs.StatementTrees.{Act, loops, displays, Statements, no_statement, statement, followed_by}
 use Rattle.gms_parse.specs.Declarations.{variable_act, equation_act, model_act, set_act, parameter_act, scalar_act, table_act}
@@ -15,32 +15,32 @@ use Rattle.gms_parse.specs.Statements.{named_act, assignment_act, alias_act, dis
 module _ (source : List ℕ) (names labels : List (List ℕ)) where
   abbrev mutual
     -- a loop
-    pub loop_act : Tree (Terminal × Token) → Act Number
-    loop_act (node (pair _ (pair _ (pair tree _)))) = controlled tree
+    pub loop_act : DerivationTree (Terminal × Token) → Act Number
+    loop_act (node (pair _ (pair _ (pair tree _)))) = controlled_act tree
     loop_act _ = displays []
 
     -- its control, and the statements of its body
-    pub controlled : Tree (Terminal × Token) → Act Number
-    controlled (pair sets (pair _ body)) = loops (control source names labels sets) (loop_body body)
-    controlled _ = displays []
+    pub controlled_act : DerivationTree (Terminal × Token) → Act Number
+    controlled_act (pair sets (pair _ body)) = loops (control source names labels sets) (loop_body body)
+    controlled_act _ = displays []
 
     -- the statements of a loop's body
-    pub loop_body : Tree (Terminal × Token) → Statements Number
+    pub loop_body : DerivationTree (Terminal × Token) → Statements Number
     loop_body (node (pair first others)) = statement (place_in first) (inner_act first) (behind_semicolon others)
     loop_body _ = no_statement
 
-    pub behind_semicolon : Tree (Terminal × Token) → Statements Number
+    pub behind_semicolon : DerivationTree (Terminal × Token) → Statements Number
     behind_semicolon (some (pair _ (some tree))) = loop_body tree
     behind_semicolon _ = no_statement
 
     -- a statement in a loop: an assignment, or another
-    pub inner_act : Tree (Terminal × Token) → Act Number
+    pub inner_act : DerivationTree (Terminal × Token) → Act Number
     inner_act (node (left tree)) = assignment_act source names labels tree
     inner_act (node (right tree)) = display_or_other tree
     inner_act _ = displays []
 
     -- a display, options, a solve, an abort, or a loop
-    pub display_or_other : Tree (Terminal × Token) → Act Number
+    pub display_or_other : DerivationTree (Terminal × Token) → Act Number
     display_or_other (left tree) = display_act source names labels tree
     display_or_other (right (left tree)) = option_act source names labels tree
     display_or_other (right (right (left tree))) = solve_act source names labels tree
@@ -49,13 +49,13 @@ module _ (source : List ℕ) (names labels : List (List ℕ)) where
     display_or_other _ = displays []
 
   -- one of two acts, by the alternative of the derivation
-  abbrev pub either : (Tree (Terminal × Token) → Act Number) → (Tree (Terminal × Token) → Act Number) → Tree (Terminal × Token) → Act Number
+  abbrev pub either : (DerivationTree (Terminal × Token) → Act Number) → (DerivationTree (Terminal × Token) → Act Number) → DerivationTree (Terminal × Token) → Act Number
   either one other (left tree) = one tree
   either one other (right tree) = other tree
   either one other _ = displays []
 
   -- a statement that begins with a keyword
-  abbrev pub keyword_act : Tree (Terminal × Token) → Act Number
+  abbrev pub keyword_act : DerivationTree (Terminal × Token) → Act Number
   keyword_act (node tree) =
       either (set_act source names labels) (
       either (parameter_act source names labels) (
@@ -68,26 +68,26 @@ module _ (source : List ℕ) (names labels : List (List ℕ)) where
   keyword_act _ = displays []
 
   -- statements that begin with keywords, in order
-  abbrev pub keyword_statements : Tree (Terminal × Token) → Statements Number
+  abbrev pub keyword_statements : DerivationTree (Terminal × Token) → Statements Number
   keyword_statements (more first others) = statement (place_in first) (keyword_act first) (keyword_statements others)
   keyword_statements _ = no_statement
 
   -- a statement that begins with a name, if any, before others
-  abbrev pub named_first : Tree (Terminal × Token) → Statements Number → Statements Number
+  abbrev pub named_first : DerivationTree (Terminal × Token) → Statements Number → Statements Number
   named_first (some tree) others = statement (place_in tree) (named_act source names labels tree) others
   named_first _ others = others
 
   -- what is between two semicolons
-  abbrev pub segment : Tree (Terminal × Token) → Statements Number
+  abbrev pub segment : DerivationTree (Terminal × Token) → Statements Number
   segment (node (pair named others)) = named_first named (keyword_statements others)
   segment _ = no_statement
 
   -- semicolons, and what follows each
-  abbrev pub segments : Tree (Terminal × Token) → Statements Number
+  abbrev pub segments : DerivationTree (Terminal × Token) → Statements Number
   segments (more (pair _ tree) others) = followed_by (segment tree) (segments others)
   segments _ = no_statement
 
   -- the statements of a program
-  abbrev pub statements_of : Tree (Terminal × Token) → Statements Number
+  abbrev pub statements_of : DerivationTree (Terminal × Token) → Statements Number
   statements_of (node (pair first others)) = followed_by (segment first) (segments others)
   statements_of _ = no_statement

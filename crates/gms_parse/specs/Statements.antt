@@ -2,12 +2,12 @@
 -- "Model and Solve Statements", "Display", "Programming Flow Control Features").
 use Rattle.std.specs.Prelude.{ℕ, Bool, List, [], Option, Some, None, codes}
 use Rattle.gq_number.specs.Number.{Number}
-use Rattle.gms_lexemes.specs.declared.kind.Sym.TheVariants as sym
-use Rattle.gms_lexemes.specs.declared.kind.Kind.{Kind}
-use Rattle.gms_lexemes.specs.declared.kind.Kind.TheVariants as token_kind
+use Rattle.gms_lines.specs.declared.kind.Sym.TheVariants as sym
+use Rattle.gms_lines.specs.declared.kind.Kind.{Kind}
+use Rattle.gms_lines.specs.declared.kind.Kind.TheVariants as token_kind
 use Rattle.gms_lex.specs.declared.token.Token.{Token}
 use Rattle.gms_grammar.specs.declared.terminal.Terminal.{Terminal}
-use Rattle.gms_grammar.specs.Grammar.{Tree, pair, left, right, none, some, node}
+use Rattle.gms_grammar.specs.Grammar.{DerivationTree, pair, left, right, none, some, node}
 use Rattle.gms_ast.specs.declared.word.Word.{Word}
 use Rattle.gms_ast.specs.declared.expression.Suffix.{Suffix}
 use Rattle.gms_ast.specs.declared.expression.Suffix.TheVariants as suffix
@@ -19,7 +19,7 @@ use Rattle.gms_ast.specs.declared.program.Setting.{Setting}
 use Rattle.gms_ast.specs.declared.program.Setting.TheVariants as setting
 use Rattle.gms_ast.specs.Trees as trees
 use Rattle.gms_lex.specs.TokenTexts.{token_text, unquoted}
-use Rattle.gms_expressions.specs.Valuations.{number_in}
+use Rattle.gms_expressions.specs.Valuations.{number_meant}
 use Rattle.gms_expressions.specs.ExpressionTrees.{is_word, token_of, first_in, second_in, inside, place_in, name_in, label_in, suffix_in, expression, condition, more_indices, lag, optional_indices}
 use Rattle.gms_ast.specs.StatementTrees.{Act, aliases, assigns, defines, solves, displays, sets_options, aborts, Target, Sides}
 use Rattle.gms_parse.specs.DataLists.{listed_in, optional_in, between}
@@ -39,26 +39,26 @@ is_maximizing word = is_word word (codes "maximizing")
 -- In a source with these names and labels.
 module _ (source : List ℕ) (names labels : List (List ℕ)) where
   -- the bytes of a token
-  abbrev pub bytes_in : Tree (Terminal × Token) → List ℕ
+  abbrev pub bytes_in : DerivationTree (Terminal × Token) → List ℕ
   bytes_in tree = token_text source (token_of tree)
 
   -- a word, as it is written
-  abbrev pub word_in : Tree (Terminal × Token) → Word
+  abbrev pub word_in : DerivationTree (Terminal × Token) → Word
   word_in tree = record { at = (token_of tree).at; text = bytes_in tree }
 
   -- a text, without its marks
-  abbrev pub text_word : Tree (Terminal × Token) → Word
+  abbrev pub text_word : DerivationTree (Terminal × Token) → Word
   text_word tree = record { at = (token_of tree).at; text = unquoted (bytes_in tree) }
 
   -- the condition of a statement, if any
-  abbrev pub condition_in : Tree (Terminal × Token) → Option (trees.Tree Number)
+  abbrev pub condition_in : DerivationTree (Terminal × Token) → Option (trees.Tree Number)
   condition_in (some tree) = Some (condition source names labels tree)
   condition_in _ = None
 
   -- ---- assignments and definitions
 
   -- the sides of a definition
-  abbrev pub sides_in : Tree (Terminal × Token) → Sides Number
+  abbrev pub sides_in : DerivationTree (Terminal × Token) → Sides Number
   sides_in tree =
       let left_side = first_in (inside tree) in
       let sense = between (inside tree) in
@@ -72,17 +72,17 @@ module _ (source : List ℕ) (names labels : List (List ℕ)) where
       }
 
   -- the assignment to a target, under a condition, of a right side
-  abbrev pub assigned : Target Number → Option (trees.Tree Number) → Tree (Terminal × Token) → Act Number
+  abbrev pub assigned : Target Number → Option (trees.Tree Number) → DerivationTree (Terminal × Token) → Act Number
   assigned target condition right_side = assigns target condition (place_in right_side) (expression source names labels right_side)
 
   -- what follows an assignment's target
-  abbrev pub after_target : Target Number → Tree (Terminal × Token) → Act Number
+  abbrev pub after_target : Target Number → DerivationTree (Terminal × Token) → Act Number
   after_target target (node (pair condition tree)) = assigned target (condition_in condition) (second_in tree)
   after_target target _ = displays []
 
   -- what follows a target without suffix and lags: `=` makes it an assignment, and `..` a
   -- definition
-  abbrev pub after_head : Target Number → Tree (Terminal × Token) → Act Number
+  abbrev pub after_head : Target Number → DerivationTree (Terminal × Token) → Act Number
   after_head target (node (pair condition (left tree))) = assigned target (condition_in condition) (second_in tree)
   after_head target (node (pair condition (right (pair _ sides)))) =
       defines (record { at = target.at; name = target.name }) target.indices (condition_in condition) (sides_in sides)
@@ -91,37 +91,37 @@ module _ (source : List ℕ) (names labels : List (List ℕ)) where
   abbrev mutual
     -- the indices of a head, which the grammar nests as they come; from the first lag on they are a
     -- plain list
-    pub head_indices : Tree (Terminal × Token) → trees.Indices Number
+    pub head_indices : DerivationTree (Terminal × Token) → trees.Indices Number
     head_indices (node (left (pair text tree))) = trees.label (label_in source names labels text) (indices_behind tree)
     head_indices (node (right (pair name (node (left (pair amount (node (pair others _)))))))) =
         lag source names labels (name_in source names labels name) amount (more_indices source names labels others)
     head_indices (node (right (pair name (node (right tree))))) = trees.set (name_in source names labels name) (indices_behind tree)
     head_indices _ = trees.no_index
 
-    indices_behind : Tree (Terminal × Token) → trees.Indices Number
+    indices_behind : DerivationTree (Terminal × Token) → trees.Indices Number
     indices_behind (node (left (pair _ tree))) = head_indices tree
     indices_behind _ = trees.no_index
 
   abbrev mutual
     -- what follows the closing parenthesis of a head: with a lag among the indices it is an
     -- assignment
-    pub act_of_head : Target Number → Tree (Terminal × Token) → Act Number
+    pub act_of_head : Target Number → DerivationTree (Terminal × Token) → Act Number
     act_of_head target (node (left (pair _ tree))) = act_behind target tree
     act_of_head target (node (right (pair _ (node (left (pair _ (node (pair _ (pair _ tree))))))))) = after_target target tree
     act_of_head target (node (right (pair _ (node (right tree))))) = act_behind target tree
     act_of_head target _ = displays []
 
-    act_behind : Target Number → Tree (Terminal × Token) → Act Number
+    act_behind : Target Number → DerivationTree (Terminal × Token) → Act Number
     act_behind target (node (left (pair _ tree))) = act_of_head target tree
     act_behind target (node (right (pair _ tree))) = after_head target tree
     act_behind target _ = displays []
 
   -- the target of this name, with a suffix and indices
-  abbrev pub target_at : Tree (Terminal × Token) → Suffix → trees.Indices Number → Target Number
+  abbrev pub target_at : DerivationTree (Terminal × Token) → Suffix → trees.Indices Number → Target Number
   target_at name suffix indices = record { at = (token_of name).at; name = name_in source names labels name; suffix = suffix; indices = indices }
 
   -- an assignment or a definition: the name is followed by a suffix, indices, or neither
-  abbrev pub named_act : Tree (Terminal × Token) → Act Number
+  abbrev pub named_act : DerivationTree (Terminal × Token) → Act Number
   named_act (node (pair name (node (left (pair dotted (pair indices tree)))))) =
       after_target (target_at name (suffix_in source names labels (some dotted)) (optional_indices source names labels indices)) tree
   named_act (node (pair name (node (right (left (pair _ tree)))))) = act_of_head (target_at name suffix.None (head_indices tree)) tree
@@ -129,64 +129,64 @@ module _ (source : List ℕ) (names labels : List (List ℕ)) where
   named_act _ = displays []
 
   -- the target of an assignment in a loop
-  abbrev pub target_in : Tree (Terminal × Token) → Target Number
+  abbrev pub target_in : DerivationTree (Terminal × Token) → Target Number
   target_in (node (pair name (pair dotted indices))) =
       target_at name (suffix_in source names labels dotted) (optional_indices source names labels indices)
   target_in _ = target_at none suffix.None trees.no_index
 
   -- an assignment in a loop
-  abbrev pub assignment_act : Tree (Terminal × Token) → Act Number
+  abbrev pub assignment_act : DerivationTree (Terminal × Token) → Act Number
   assignment_act (node (pair target tree)) = after_target (target_in target) tree
   assignment_act _ = displays []
 
   -- ---- other statements
 
   -- two names of a set
-  abbrev pub alias_act : Tree (Terminal × Token) → Act Number
+  abbrev pub alias_act : DerivationTree (Terminal × Token) → Act Number
   alias_act (node (pair _ (pair _ (pair both _)))) =
       aliases (named_in source names labels (first_in both)) (named_in source names labels (second_in (second_in both)))
   alias_act _ = displays []
 
   -- what is shown: a text, or a symbol perhaps with a suffix
-  abbrev pub shown_in : Tree (Terminal × Token) → Show
-  shown_in (node (left text)) = show.Text (text_word text)
-  shown_in (node (right (pair name dotted))) = show.Symbol (named_in source names labels name) (suffix_in source names labels dotted)
-  shown_in _ = show.Text (text_word none)
+  abbrev pub parsed_shown : DerivationTree (Terminal × Token) → Show
+  parsed_shown (node (left text)) = show.Text (text_word text)
+  parsed_shown (node (right (pair name dotted))) = show.Symbol (named_in source names labels name) (suffix_in source names labels dotted)
+  parsed_shown _ = show.Text (text_word none)
 
   -- all that is shown
-  abbrev pub shown_list : Tree (Terminal × Token) → List Show
-  shown_list (node list) = listed_in shown_in list
+  abbrev pub shown_list : DerivationTree (Terminal × Token) → List Show
+  shown_list (node list) = listed_in parsed_shown list
   shown_list _ = []
 
   -- a display
-  abbrev pub display_act : Tree (Terminal × Token) → Act Number
+  abbrev pub display_act : DerivationTree (Terminal × Token) → Act Number
   display_act (node (pair _ list)) = displays (shown_list list)
   display_act _ = displays []
 
   -- an abort
-  abbrev pub abort_act : Tree (Terminal × Token) → Act Number
+  abbrev pub abort_act : DerivationTree (Terminal × Token) → Act Number
   abort_act (node (pair _ (pair condition list))) = aborts (condition_in condition) (optional_in [] shown_list list)
   abort_act _ = displays []
 
   -- what an option is set to: a number, or a word
-  abbrev pub setting_value : Tree (Terminal × Token) → Setting Number
-  setting_value (left number) = setting.Number (token_of number).at (number_in (bytes_in number))
+  abbrev pub setting_value : DerivationTree (Terminal × Token) → Setting Number
+  setting_value (left number) = setting.Number (token_of number).at (number_meant (bytes_in number))
   setting_value (right word) = setting.Name (word_in word)
   setting_value _ = setting.Name (word_in none)
 
   -- an option's word, and what it is set to
-  abbrev pub setting_in : Tree (Terminal × Token) → Word × Setting Number
-  setting_in (node (pair word (pair _ tree))) = (word_in word, setting_value tree)
-  setting_in _ = (word_in none, setting_value none)
+  abbrev pub parsed_setting : DerivationTree (Terminal × Token) → Word × Setting Number
+  parsed_setting (node (pair word (pair _ tree))) = (word_in word, setting_value tree)
+  parsed_setting _ = (word_in none, setting_value none)
 
   -- a change of options
-  abbrev pub option_act : Tree (Terminal × Token) → Act Number
-  option_act (node (pair _ list)) = sets_options (listed_in setting_in list)
+  abbrev pub option_act : DerivationTree (Terminal × Token) → Act Number
+  option_act (node (pair _ list)) = sets_options (listed_in parsed_setting list)
   option_act _ = displays []
 
   -- a solve of a model: `using` and its word come before the direction and the objective, or after
   -- them
-  abbrev pub solve_act : Tree (Terminal × Token) → Act Number
+  abbrev pub solve_act : DerivationTree (Terminal × Token) → Act Number
   solve_act (node (pair _ (pair model (left (pair _ (pair method objective)))))) =
       solves (named_in source names labels model) (word_in method) (named_in source names labels (second_in objective)) (is_maximizing (bytes_in (first_in objective)))
   solve_act (node (pair _ (pair model (right (pair direction (pair name method)))))) =

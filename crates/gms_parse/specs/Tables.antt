@@ -10,11 +10,11 @@ use Rattle.gms_ast.specs.declared.declaration.Item.{Item}
 use Rattle.gms_table.specs.declared.entry.Entry.{Entry}
 use Rattle.gms_table.specs.declared.fault.TableFault.{TableFault}
 use Rattle.gms_table.specs.Words.{Word, words_of}
-use Rattle.gms_table.specs.WordLabels.{names_of}
-use Rattle.gms_table.specs.CellNumbers.{unsigned, signed}
-use Rattle.gms_table.specs.TableEntries.{Part, name, cell, met, table_of, texts_of, AreEntries, IsFirstFault}
+use Rattle.gms_table.specs.WordLabels.{labels_of_word}
+use Rattle.gms_table.specs.CellNumbers.{unsigned, signed_number}
+use Rattle.gms_table.specs.TableEntries.{TablePart, name, cell, met, table_of, label_texts, AreEntries, IsFirstPartFault}
 use Rattle.gms_expressions.specs.ExpressionTrees.{or_0}
-use Rattle.gms_expressions.specs.Valuations.{number_in}
+use Rattle.gms_expressions.specs.Valuations.{number_meant}
 use Rattle.gms_labels.specs.declared.place.Place.{Place}
 use Rattle.gms_labels.specs.Labels.{place_of}
 use Rattle.gms_parse.specs.declared.fault.SourceError.TheVariants.{Table}
@@ -23,27 +23,27 @@ use Rattle.gms_parse.specs.declared.fault.SourceFault.{SourceFault}
 use Rattle.gms_parse.specs.Faults.{error_of_table}
 
 -- the words of a table, by the tokens of its lines
-abbrev pub parts_of_tokens : List ℕ → List (Terminal × Token) → List Part
+abbrev pub parts_of_tokens : List ℕ → List (Terminal × Token) → List TablePart
 parts_of_tokens source lines = table_of (map (λ line. words_of line.1.at.line (token_text source line.1)) lines)
 
 -- the labels of a table, in order
 abbrev pub labels_of_lines : List ℕ → List (Terminal × Token) → List (List ℕ)
-labels_of_lines source lines = texts_of (parts_of_tokens source lines)
+labels_of_lines source lines = label_texts (parts_of_tokens source lines)
 
 -- The fault of a table that has lines, given the labels entered before it and the place of its
 -- name: none of the lines has a heading, or the first fault in them.
-abbrev pub IsLineFault : ℕ → List ℕ → Place → List (List ℕ) → List (Terminal × Token) → SourceFault → Type 0
-IsLineFault limit source at labels lines fault =
-    ((parts_of_tokens source lines ≡ []) × (fault ≡ record { error = Table NoHeading; at = at })) ⊎ ((found : TableFault) × IsFirstFault limit labels (parts_of_tokens source lines) found × (fault ≡ record { error = error_of_table found.error; at = found.at }))
+abbrev pub IsTableLineFault : ℕ → List ℕ → Place → List (List ℕ) → List (Terminal × Token) → SourceFault → Type 0
+IsTableLineFault limit source at labels lines fault =
+    ((parts_of_tokens source lines ≡ []) × (fault ≡ record { error = Table NoHeading; at = at })) ⊎ ((found : TableFault) × IsFirstPartFault limit labels (parts_of_tokens source lines) found × (fault ≡ record { error = error_of_table found.error; at = found.at }))
 
 -- positions with one label at each
-abbrev pub positions_of : List ℕ → List (List ℕ)
-positions_of labels = map (λ label. label ∷ []) labels
+abbrev pub labelled_positions : List ℕ → List (List ℕ)
+labelled_positions labels = map (λ label. label ∷ []) labels
 
 -- the item of data of an entry: one label at each position, first those of the row
 abbrev pub item_of_entry : {N : Type 0} → Entry N → Item N
 item_of_entry entry =
-    record { at = entry.at; parts = positions_of (entry.row ++ entry.column); value = Some (ext.Number entry.value); bad_range = false }
+    record { at = entry.at; parts = labelled_positions (entry.row ++ entry.column); value = Some (ext.Number entry.value); bad_range = false }
 
 -- these are the items of a table of these lines, if these labels are all of the source
 abbrev pub AreTableItems : ℕ → List ℕ → List (List ℕ) → List (Terminal × Token) → List (Item Number) → Type 0
@@ -51,21 +51,21 @@ AreTableItems limit source labels lines items =
     (entries : List (Entry Number)) × AreEntries limit (λ x. x) labels (parts_of_tokens source lines) entries × (items ≡ map item_of_entry entries)
 
 -- the numbers of labels among those of the source
-abbrev pub numbers_of : List (List ℕ) → List (List ℕ) → List ℕ
-numbers_of labels texts = map (λ text. or_0 (place_of labels text)) texts
+abbrev pub numbers_of_labels : List (List ℕ) → List (List ℕ) → List ℕ
+numbers_of_labels labels texts = map (λ text. or_0 (place_of labels text)) texts
 
 -- the entry of a number in a row, under a heading
-abbrev pub entry_at : List (List ℕ) → Word → Word → Word → Entry Number
-entry_at labels row word heading =
-    record { at = word.at; row = numbers_of labels (names_of row); column = numbers_of labels (names_of heading); value = signed word.text (number_in (unsigned word.text)) }
+abbrev pub table_entry : List (List ℕ) → Word → Word → Word → Entry Number
+table_entry labels row word heading =
+    record { at = word.at; row = numbers_of_labels labels (labels_of_word row); column = numbers_of_labels labels (labels_of_word heading); value = signed_number word.text (number_meant (unsigned word.text)) }
 
 -- the entry under the first of the headings; the value without headings has no meaning
 abbrev pub entry_under : List (List ℕ) → Word → Word → List Word → Entry Number
-entry_under labels row word [] = entry_at labels row word row
-entry_under labels row word (heading ∷ others) = entry_at labels row word heading
+entry_under labels row word [] = table_entry labels row word row
+entry_under labels row word (heading ∷ others) = table_entry labels row word heading
 
 -- the entries that the words of a table give
-abbrev pub entries_in : List (List ℕ) → List Part → List (Entry Number)
+abbrev pub entries_in : List (List ℕ) → List TablePart → List (Entry Number)
 entries_in labels [] = []
 entries_in labels (name word ∷ parts) = entries_in labels parts
 entries_in labels (cell row headings word ∷ parts) = entry_under labels row word (met headings word) ∷ entries_in labels parts

@@ -11,7 +11,7 @@ use Rattle.gq_text.specs.Literal.{FitsLiteral}
 use Rattle.gq_text.specs.Decimal.{MeansNumber}
 use Rattle.gms_grammar.specs.declared.terminal.Terminal.{Terminal}
 use Rattle.gms_grammar.specs.declared.terminal.Terminal.TheVariants as terminal
-use Rattle.gms_grammar.specs.Terminals.{is, is_among}
+use Rattle.gms_grammar.specs.Terminals.{is, is_terminal_among}
 use Rattle.gms_grammar.specs.Rules as rules
 use Rattle.gms_grammar.specs.Rules.{Rule, left_by}
 pub use Rattle.gms_grammar.specs.Rules.{kind_ahead, kind_of}
@@ -27,65 +27,65 @@ use Rattle.gms_parse.specs.declared.fault.SourceError.TheVariants.{Syntax, Table
 use Rattle.gms_parse.specs.declared.fault.SourceFault.{SourceFault}
 use Rattle.gms_parse.specs.declared.fault.SourceFaultOrMemory.{SourceFaultOrMemory}
 use Rattle.gms_parse.specs.declared.fault.SourceFaultOrMemory.TheVariants.{Fault}
-use Rattle.gms_parse.specs.Tables.{labels_of_lines, IsLineFault}
+use Rattle.gms_parse.specs.Tables.{labels_of_lines, IsTableLineFault}
 
 -- tokens as the grammar views them
-abbrev pub Seen : Type 0
-Seen = Terminal × Token
+abbrev pub KindedToken : Type 0
+KindedToken = Terminal × Token
 
 -- The state after the tokens so far.
-pub record Walk : Type 0 where
+pub record ReaderState : Type 0 where
   -- how many parentheses are open
   pub open_count : ℕ
   -- the names and the labels, numbered by their places
   pub names : List (List ℕ)
   pub labels : List (List ℕ)
   -- the tokens, the last one first
-  pub before : List Seen
+  pub before : List KindedToken
   -- the keyword or the semicolon after which the statement begins, and how many parentheses were
   -- open there
   pub keyword : Terminal
   pub level : ℕ
 
 -- before the first token
-abbrev pub start : Walk
+abbrev pub start : ReaderState
 start = record { open_count = 0; names = []; labels = []; before = []; keyword = terminal.Semicolon; level = 0 }
 
 -- the kind of the last token
-abbrev pub last_kind : List Seen → Terminal
+abbrev pub last_kind : List KindedToken → Terminal
 last_kind [] = terminal.Semicolon
 last_kind (token ∷ tokens) = token.0
 
 -- a keyword, with which a statement begins
 abbrev pub is_keyword : Terminal → Bool
-is_keyword kind = is_among (map (λ words. words.0) statement_words) kind
+is_keyword kind = is_terminal_among (map (λ words. words.0) statement_words) kind
 
 -- A name: no suffix after a dot, no word of an option, and not the word after `using`.
-abbrev pub is_name : Walk → Terminal → Bool
+abbrev pub is_name : ReaderState → Terminal → Bool
 is_name walk kind =
-    is_among (terminal.Name ∷ terminal.Suffix ∷ []) kind && not (is_among (terminal.Dot ∷ terminal.Using ∷ []) (last_kind walk.before) || is terminal.Option walk.keyword)
+    is_terminal_among (terminal.Name ∷ terminal.Suffix ∷ []) kind && not (is_terminal_among (terminal.Dot ∷ terminal.Using ∷ []) (last_kind walk.before) || is terminal.Option walk.keyword)
 
 -- a text that is an index: not one that a display or an abort shows, which is inside no parentheses
 -- of its statement
-abbrev pub is_index : Walk → Terminal → Bool
+abbrev pub is_index : ReaderState → Terminal → Bool
 is_index walk kind =
-    is terminal.Text kind && not (is_among (terminal.Display ∷ terminal.Abort ∷ []) walk.keyword && walk.open_count == walk.level)
+    is terminal.Text kind && not (is_terminal_among (terminal.Display ∷ terminal.Abort ∷ []) walk.keyword && walk.open_count == walk.level)
 
 -- the first label of a range that the tokens so far end in: a label and a `*`
-abbrev pub range_start : List Seen → Option Token
+abbrev pub range_start : List KindedToken → Option Token
 range_start [] = None
 range_start (star ∷ []) = None
 range_start (star ∷ (first ∷ others)) = if is terminal.Star star.0 && is terminal.Label first.0 then Some first.1 else None
 
 -- the place of a table's name: after its keyword
-abbrev pub table_name : List Seen → Place
+abbrev pub table_name : List KindedToken → Place
 table_name [] = record { line = 0; column = 0 }
 table_name (name ∷ []) = record { line = 0; column = 0 }
 table_name (name ∷ (word ∷ others)) = if is terminal.Table word.0 then name.1.at else table_name (word ∷ others)
 
 -- a statement may end before a token of this kind
 abbrev pub ends_statement : Terminal → Bool
-ends_statement kind = is_among (terminal.Semicolon ∷ terminal.End ∷ []) kind || is_keyword kind
+ends_statement kind = is_terminal_among (terminal.Semicolon ∷ terminal.End ∷ []) kind || is_keyword kind
 
 -- the table is full for one of these texts, as they are entered in order
 pub record LacksRoom (labels texts : List (List ℕ)) : Type 0 where
@@ -108,18 +108,18 @@ module _ (source : List ℕ) where
   list_labels None ahead token = if is terminal.Star ahead then [] else unquoted (token_text source token) ∷ []
 
   -- the lines of a table up to this last one
-  abbrev pub lines_with : List Seen → Seen → List Seen
+  abbrev pub lines_with : List KindedToken → KindedToken → List KindedToken
   lines_with before line = reverse (line ∷ take_while (λ token. is terminal.TableLine token.0) before)
 
   -- the labels that a token enters, if one of kind `ahead` follows it: the last line of a table
   -- enters those of the table
-  abbrev pub new_labels : Walk → Seen → Terminal → List (List ℕ)
+  abbrev pub new_labels : ReaderState → KindedToken → Terminal → List (List ℕ)
   new_labels walk token ahead =
       if is_index walk token.0 then unquoted (token_text source token.1) ∷ [] else (if is terminal.Label token.0 then list_labels (range_start walk.before) ahead token.1 else (if is terminal.TableLine token.0 && not (is terminal.TableLine ahead) then labels_of_lines source (lines_with walk.before token) else []))
 
   -- the state after a token, if one of kind `ahead` follows it
-  abbrev pub walk_after : Walk → Seen → Terminal → Walk
-  walk_after walk token ahead =
+  abbrev pub reader_after : ReaderState → KindedToken → Terminal → ReaderState
+  reader_after walk token ahead =
       let begins = is_keyword token.0 || is terminal.Semicolon token.0 in
       record {
         open_count = open_after walk.open_count token.0;
@@ -131,12 +131,12 @@ module _ (source : List ℕ) where
       }
 
   -- the state after tokens, if one of kind `ahead` follows them
-  abbrev pub walk_behind : Walk → List Seen → Terminal → Walk
-  walk_behind walk tokens ahead = left_by walk_after walk tokens ahead
+  abbrev pub reader_after_all : ReaderState → List KindedToken → Terminal → ReaderState
+  reader_after_all walk tokens ahead = left_by reader_after walk tokens ahead
 
   -- the fault of an unexpected token
-  abbrev pub unexpected : List Seen → SourceFault
-  unexpected rest = source_fault (syntax.unexpected source rest)
+  abbrev pub unexpected : List KindedToken → SourceFault
+  unexpected rest = source_fault (syntax.unexpected_token source rest)
 
 module _ (limit : ℕ) (source : List ℕ) where
   -- a number is out of range
@@ -147,7 +147,7 @@ module _ (limit : ℕ) (source : List ℕ) where
   -- follows, has a fault: it opens a parenthesis while 100 are open; it is a number out of range;
   -- it is a new name after 65,536 others, or enters a new label after as many others; it is the
   -- last line of a table that has a fault; or it ends the head of a table without lines.
-  pub data IsFaulty (walk : Walk) (token : Seen) (ahead : Terminal) : SourceFault → Type 0 where
+  pub data IsFaulty (walk : ReaderState) (token : KindedToken) (ahead : Terminal) : SourceFault → Type 0 where
     deep : token.0 ≡ terminal.LeftParen → 100 ≤ walk.open_count → IsFaulty walk token ahead (record { error = Syntax Depth; at = token.1.at })
     out_of_range : token.0 ≡ terminal.Number → IsOutOfRange token.1 → IsFaulty walk token ahead (record { error = Syntax OutOfRange; at = token.1.at })
     many_names : is_name walk token.0 ≡ true → IsFullFor walk.names (token_text source token.1) →
@@ -155,19 +155,19 @@ module _ (limit : ℕ) (source : List ℕ) where
     many_labels : is terminal.TableLine token.0 ≡ false → LacksRoom walk.labels (new_labels source walk token ahead) →
         IsFaulty walk token ahead (record { error = Syntax TooManyLabels; at = token.1.at })
     in_table : {fault : SourceFault} → token.0 ≡ terminal.TableLine → is terminal.TableLine ahead ≡ false →
-        IsLineFault limit source (table_name walk.before) walk.labels (lines_with source walk.before token) fault → IsFaulty walk token ahead fault
+        IsTableLineFault limit source (table_name walk.before) walk.labels (lines_with source walk.before token) fault → IsFaulty walk token ahead fault
     without_lines : token.0 ≡ terminal.RightParen → walk.keyword ≡ terminal.Table → ends_statement ahead ≡ true →
         IsFaulty walk token ahead (record { error = Table NoHeading; at = table_name walk.before })
 
 -- the rule of faults in a source, by the limit of its numbers
-abbrev pub source_rule : ℕ × List ℕ → Rule Token Walk SourceFault SourceFaultOrMemory
+abbrev pub source_rule : ℕ × List ℕ → Rule Token ReaderState SourceFault SourceFaultOrMemory
 source_rule key = record {
-  after = walk_after key.1;
+  after = reader_after key.1;
   Faulty = λ walk token ahead fault. IsFaulty key.0 key.1 walk token ahead fault;
   unexpected = unexpected key.1;
   told = Fault;
 }
 
 -- none of the tokens has a fault, if one of kind `ahead` follows them
-abbrev pub AreSound : ℕ → List ℕ → Walk → List Seen → Terminal → Type 0
-AreSound limit source walk tokens ahead = rules.AreSound (source_rule (limit, source)) walk tokens ahead
+abbrev pub AreTokensFaultless : ℕ → List ℕ → ReaderState → List KindedToken → Terminal → Type 0
+AreTokensFaultless limit source walk tokens ahead = rules.AreFaultless (source_rule (limit, source)) walk tokens ahead

@@ -8,9 +8,9 @@ ghost use Rattle.gms_ast.specs.StatementTrees.{solves};
 ghost use Rattle.gms_parse.specs.declared.fault.SourceFaultOrMemory.TheVariants.{Memory};
 ghost use Rattle.gms_parse.specs.declared.reader.Tables.{Tables};
 ghost use Rattle.gms_parse.specs.Statements.{alias_act, display_act, abort_act, option_act, solve_act};
-ghost use Rattle.gms_parse.specs.Readings.{IsReady, Has, Stays, IsAnswer, AnswersName, AnswersPlain, AnswersNamed, AnswersWord, AnswersShown, AnswersAct};
-ghost use Rattle.gms_parse.specs.Walks.{Walk};
-ghost use Rattle.gms_parse.specs.Meanings.{IsWord, IsMethod, IsObjective, IsSuffix, IsShown, AreShown, IsSetting, IsAct, act_view};
+ghost use Rattle.gms_parse.specs.InnerReadings.{IsReady, Has, Stays, IsAnswer, AnswersName, AnswersPlain, AnswersNamed, AnswersWord, AnswersShown, AnswersAct};
+ghost use Rattle.gms_parse.specs.Walks.{ReaderState};
+ghost use Rattle.gms_parse.specs.InnerMeanings.{IsWord, IsMethod, IsObjective, IsSuffix, IsShown, AreShown, IsSetting, IsAct, act_view};
 
 use crate::fault::SourceFaultOrMemory;
 use crate::reader::{Read, Reader, Tables};
@@ -155,7 +155,7 @@ impl<'s> Reader<'s> {
     /// Reads the word of an option, and the number or word that it is set to.
     fn setting<F: ExactField>(&self, at: usize) -> Read<(Word, Setting<F>)>
         requires { IsReady self.now }
-        ensures { (tables : Tables) (walk : Walk) → Has self.now tables walk → is Option walk.keyword ≡ true →
+        ensures { (tables : Tables) (walk : ReaderState) → Has self.now tables walk → is Option walk.keyword ≡ true →
             IsAnswer F.limit (IsSetting F.value self.now.source.now) (Stays self.now tables walk) (the SettingPart) self.now at tables walk result }
     {
         let (option, next) = self.word(at)?;

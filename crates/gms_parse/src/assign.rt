@@ -7,8 +7,8 @@ ghost use Rattle.gms_ast.specs.Trees.{Indices};
 ghost use Rattle.gms_ast.specs.TreeView.{index_tree};
 ghost use Rattle.gms_ast.specs.StatementView.{shown_target};
 ghost use Rattle.gms_parse.specs.Statements.{assignment_act, named_act};
-ghost use Rattle.gms_parse.specs.Readings.{IsReady, AnswersPart};
-ghost use Rattle.gms_parse.specs.Meanings.{IsAssigned, IsDefined, IsRightSide, IsRelated, IsRelation, IsAct, is_plain_target, has_lag};
+ghost use Rattle.gms_parse.specs.InnerReadings.{IsReady, AnswersPart};
+ghost use Rattle.gms_parse.specs.InnerMeanings.{IsAssigned, IsDefined, IsRightSide, IsRelated, IsRelation, IsAct, is_plain_target, has_lag};
 
 use crate::reader::{Read, Reader, Tables};
 use crate::spelling::side_of;

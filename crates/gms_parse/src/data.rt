@@ -9,9 +9,9 @@ ghost use Rattle.gms_grammar.specs.GamsGrammar.{Range as RangePart, ElementPart,
 ghost use Rattle.gms_grammar.specs.declared.terminal.Terminal.TheVariants.{Slash, Equals, Number, Infinity};
 ghost use Rattle.gms_lex.specs.TokenTexts.{token_text, unquoted, IsPlaced};
 ghost use Rattle.gms_expressions.specs.ExpressionTrees.{second_in};
-ghost use Rattle.gms_parse.specs.Walks.{Walk};
-ghost use Rattle.gms_parse.specs.Readings.{IsReady, IsGot, Refuses, seen_from, Has, Starless, Tableless, Stays, AnswersData, AnswersList, AnswersPlain};
-ghost use Rattle.gms_parse.specs.Meanings.{IsAdded, IsPart, IsElement, IsGiven, IsUnsigned, IsListed, AreListed, IsScalarValue, IsLabelToken, IsEnteredRange, IsNotEnteredRange, listed_part, list_part};
+ghost use Rattle.gms_parse.specs.Walks.{ReaderState};
+ghost use Rattle.gms_parse.specs.InnerReadings.{IsReady, IsGot, Refuses, seen_from, Has, Starless, Tableless, Stays, AnswersData, AnswersList, AnswersPlain};
+ghost use Rattle.gms_parse.specs.InnerMeanings.{IsAdded, IsPart, IsElement, IsGiven, IsUnsigned, IsListed, AreListed, IsScalarValue, IsLabelToken, IsEnteredRange, IsNotEnteredRange, listed_part, list_part};
 
 use crate::fault::SourceFaultOrMemory;
 use crate::reader::{Read, Reader, Tables};
@@ -129,7 +129,7 @@ impl<'s> Reader<'s> {
         at: usize,
     ) -> Result<usize, SourceFaultOrMemory>
         requires { IsReady self.now }
-        ensures { (limit : ℕ) (walk : Walk) → Has self.now tables.old walk → Starless walk → Tableless walk →
+        ensures { (limit : ℕ) (walk : ReaderState) → Has self.now tables.old walk → Starless walk → Tableless walk →
             MatchResult result
             (λ next. IsGot limit (λ sense tree x. IsAdded self.now.source.now sense tree part.old x) (Stays self.now tables.new walk) (the RangePart) self.now at tables.new walk part.new next)
             (λ e. Refuses limit self.now.source.now (the RangePart) walk (seen_from self.now at) e) }

@@ -4,12 +4,12 @@ ghost use Rattle.gms_ast.specs.StatementView.{item_in, declared_in};
 ghost use Rattle.gms_grammar.specs.declared.terminal.Terminal.TheVariants.{VariableType};
 ghost use Rattle.gms_parse.specs.declared.declaration.Form.TheVariants.{Scalar as form_scalar, Plain as form_plain};
 ghost use Rattle.gms_parse.specs.declared.reader.Tables.{Tables};
-ghost use Rattle.gms_parse.specs.Walks.{Walk};
+ghost use Rattle.gms_parse.specs.Walks.{ReaderState};
 ghost use Rattle.gms_grammar.specs.Grammar.{the, opt, ◌·◌};
 ghost use Rattle.gms_grammar.specs.GamsGrammar.{Domain, DomainPosition, ScalarItem, PlainItem, VariableStatement, token};
 ghost use Rattle.gms_parse.specs.Declarations.{variable_kind, variable_act};
-ghost use Rattle.gms_parse.specs.Readings.{IsReady, Holds, IsGot, IsFurther, IsNotFurther, IsBehindLast, AnswersName, AnswersPart, AnswersDomain, AnswersBehind, AnswersDeclaration, AnswersAct};
-ghost use Rattle.gms_parse.specs.Meanings.{IsPosition, IsDomain, IsOptionalDomain, IsDeclared, AreDeclared, IsDeclaration, IsAct, IsVariableType, form_of, item_part, items_part};
+ghost use Rattle.gms_parse.specs.InnerReadings.{IsReady, Holds, IsGot, IsFurther, IsNotFurther, IsBehindLast, AnswersName, AnswersPart, AnswersDomain, AnswersBehind, AnswersDeclaration, AnswersAct};
+ghost use Rattle.gms_parse.specs.InnerMeanings.{IsPosition, IsDomain, IsOptionalDomain, IsDeclared, AreDeclared, IsDeclaration, IsAct, IsVariableType, form_of, item_part, items_part};
 
 use crate::data::ListOf;
 use crate::reader::{NAMES, Read, Reader, Tables};
@@ -213,7 +213,7 @@ impl<'s> Reader<'s> {
     /// Reads a type, if any: what `variable` declares after it.
     fn variable_type(&self, at: usize) -> (DeclKind, usize)
         requires { IsReady self.now }
-        ensures { (limit : ℕ) (tables : Tables) (walk : Walk) → Holds self.now tables walk →
+        ensures { (limit : ℕ) (tables : Tables) (walk : ReaderState) → Holds self.now tables walk →
             IsGot limit (IsVariableType self.now.source.now) (Holds self.now tables) (opt (token VariableType)) self.now at tables walk result.0 result.1 }
     {
         match self.take_if(Terminal::VariableType, at) {

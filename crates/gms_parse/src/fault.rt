@@ -1,7 +1,7 @@
 //! Why a source is no program, and where.
 ghost use Rattle.std.specs.Prelude.{◌≡◌};
 ghost use Rattle.gms_parse.specs.declared.fault.SourceFaultOrMemory.TheVariants.{Memory};
-ghost use Rattle.gms_parse.specs.Faults.{error_code, error_name, fault_at, fault_of_lexical, fault_of_syntax};
+ghost use Rattle.gms_parse.specs.Faults.{source_error_code, source_error_name, fault_at, fault_of_lexical, fault_of_syntax};
 
 use gms_expressions::{SyntaxError, SyntaxFaultOrMemory};
 use gms_labels::Place;
@@ -30,7 +30,7 @@ pub enum SourceError {
 impl SourceError {
     /// The number of this error in a listing.
     pub fn code(self) -> u8
-        ensures { result ≡ error_code self }
+        ensures { result ≡ source_error_code self }
     {
         match self {
             SourceError::TooLong => 9,
@@ -42,7 +42,7 @@ impl SourceError {
 
     /// The name of this error in a listing.
     pub fn name(self) -> &'static str
-        ensures { result.now ≡ error_name self }
+        ensures { result.now ≡ source_error_name self }
     {
         match self {
             SourceError::TooLong => "TooLong",

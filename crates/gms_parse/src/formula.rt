@@ -7,9 +7,9 @@ ghost use Rattle.gms_ast.specs.Trees.{not_so};
 ghost use Rattle.gms_ast.specs.StatementView.{shown_tree};
 ghost use Rattle.gms_parse.specs.declared.fault.SourceFaultOrMemory.TheVariants.{Memory};
 ghost use Rattle.gms_parse.specs.declared.reader.Tables.{Tables};
-ghost use Rattle.gms_parse.specs.Walks.{Walk};
-ghost use Rattle.gms_parse.specs.Readings.{IsReady, Starts, StaysOpen, IsGot, AnswersFormula};
-ghost use Rattle.gms_parse.specs.Meanings.{IsExpression, IsOperand, IsControl, IsTarget, IsCondition, IsGuard, IsNot};
+ghost use Rattle.gms_parse.specs.Walks.{ReaderState};
+ghost use Rattle.gms_parse.specs.InnerReadings.{IsReady, Starts, StaysOpen, IsGot, AnswersFormula};
+ghost use Rattle.gms_parse.specs.InnerMeanings.{IsExpression, IsOperand, IsControl, IsTarget, IsCondition, IsGuard, IsNot};
 
 use crate::fault::SourceFaultOrMemory;
 use crate::reader::{Read, Reader, Tables};
@@ -119,7 +119,7 @@ impl<'s> Reader<'s> {
         requires ready { IsReady self.now }
         requires within { at < length self.now.tokens.now }
         ensures within { result.1 < length self.now.tokens.now }
-        ensures read { (limit : ℕ) (tables : Tables) (walk : Walk) → Starts self.now tables walk →
+        ensures read { (limit : ℕ) (tables : Tables) (walk : ReaderState) → Starts self.now tables walk →
             IsGot limit IsNot (StaysOpen self.now tables walk) (opt (token Not)) self.now at tables walk result.0 result.1 }
     {
         match self.take_if(Terminal::Not, at) {

@@ -1,7 +1,7 @@
 //! Laws of sources.
 ghost use Rattle.std.specs.Prelude.{◌≡◌, ℕ, List};
 ghost use Rattle.gms_parse.specs.declared.fault.SourceFault.{SourceFault};
-ghost use Rattle.gms_parse.specs.Outcomes.{ProgramView, HasProgram, IsFault};
+ghost use Rattle.gms_parse.specs.Outcomes.{ProgramView, HasProgram, IsSourceFault};
 
 /// Each source has one program or one first fault: never both, and never neither (GAMS User's
 /// Guide, "GAMS Programs").
@@ -13,9 +13,9 @@ pub fn source_laws()
     ensures one_program { (limit : ℕ) (source : List ℕ) (one other : ProgramView) →
         HasProgram limit source one → HasProgram limit source other → one ≡ other }
     ensures one_fault { (limit : ℕ) (source : List ℕ) (one other : SourceFault) →
-        IsFault limit source one → IsFault limit source other → one ≡ other }
+        IsSourceFault limit source one → IsSourceFault limit source other → one ≡ other }
     ensures not_both { (limit : ℕ) (source : List ℕ) (view : ProgramView) (fault : SourceFault) →
-        HasProgram limit source view → IsFault limit source fault → ⊥ }
-    ensures not_neither { (limit : ℕ) (source : List ℕ) → ((fault : SourceFault) → IsFault limit source fault → ⊥) →
+        HasProgram limit source view → IsSourceFault limit source fault → ⊥ }
+    ensures not_neither { (limit : ℕ) (source : List ℕ) → ((fault : SourceFault) → IsSourceFault limit source fault → ⊥) →
         (view : ProgramView) × HasProgram limit source view }
 {}

@@ -4,8 +4,8 @@ ghost use Rattle.gms_grammar.specs.Grammar.{the, opt, ◌·◌};
 ghost use Rattle.gms_grammar.specs.GamsGrammar.{ModelList, ModelItem, ModelStatement, token, name, separated};
 ghost use Rattle.gms_grammar.specs.declared.terminal.Terminal.TheVariants.{Slash};
 ghost use Rattle.gms_parse.specs.Declarations.{model_act};
-ghost use Rattle.gms_parse.specs.Readings.{IsReady, AnswersName, AnswersNamed, AnswersAct};
-ghost use Rattle.gms_parse.specs.Meanings.{AreEquations, IsModelList, IsModel, IsAct};
+ghost use Rattle.gms_parse.specs.InnerReadings.{IsReady, AnswersName, AnswersNamed, AnswersAct};
+ghost use Rattle.gms_parse.specs.InnerMeanings.{AreEquations, IsModelList, IsModel, IsAct};
 
 use crate::reader::{Read, Reader, Tables};
 use gms_ast::{Act, ModelDecl, Named, Sequence};

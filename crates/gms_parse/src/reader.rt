@@ -6,14 +6,14 @@ ghost use Rattle.gms_grammar.specs.Grammar.{opt};
 ghost use Rattle.gms_grammar.specs.GamsGrammar.{productions, token, any_of, name};
 ghost use Rattle.gms_grammar.specs.GamsLookAhead.{look_ahead};
 ghost use Rattle.gms_grammar.specs.Reading.{leads};
-ghost use Rattle.gms_grammar.specs.Terminals.{is, is_among};
+ghost use Rattle.gms_grammar.specs.Terminals.{is, is_terminal_among};
 ghost use Rattle.gms_grammar.specs.declared.terminal.Terminal.TheVariants.{Comma, Break, Sign};
 ghost use Rattle.gms_lex.specs.TokenTexts.{token_text, IsPlaced};
 ghost use Rattle.gms_expressions.specs.Outcomes.{next_place};
 ghost use Rattle.gms_parse.specs.declared.reader.Tables.{Tables};
-ghost use Rattle.gms_parse.specs.Walks.{Walk};
-ghost use Rattle.gms_parse.specs.Readings.{seen_from, kind_of, unexpected_at, IsReady, IsAt, IsNext, IsLacking, IsPassed, IsPassedAny, IsOpened, IsUnopened, IsEntered, IsNotEntered, IsValue, IsTooLarge, Has, Stays, IsGot, AnswersName};
-ghost use Rattle.gms_parse.specs.Meanings.{IsNamed, IsSign};
+ghost use Rattle.gms_parse.specs.Walks.{ReaderState};
+ghost use Rattle.gms_parse.specs.InnerReadings.{seen_from, kind_of, unexpected_at, IsReady, IsAt, IsNext, IsLacking, IsPassed, IsPassedAny, IsOpened, IsUnopened, IsEntered, IsNotEntered, IsValue, IsTooLarge, Has, Stays, IsGot, AnswersName};
+ghost use Rattle.gms_parse.specs.InnerMeanings.{IsNamed, IsSign};
 
 use crate::fault::{SourceError, SourceFaultOrMemory};
 use gms_ast::Named;
@@ -122,7 +122,7 @@ impl<'s> Reader<'s> {
         requires { IsReady self.now }
         ensures { MatchOption result
             (leads productions look_ahead (any_of kinds.now) (seen_from self.now at) ≡ false)
-            (λ r. IsNext (is_among kinds.now) self.now at r.0 r.1) }
+            (λ r. IsNext (is_terminal_among kinds.now) self.now at r.0 r.1) }
     {
         let token = self.token(at)?;
         if self.next(at).is_among(kinds) {
@@ -148,8 +148,8 @@ impl<'s> Reader<'s> {
     pub(crate) fn take_any(&self, kinds: &[Terminal], at: usize) -> Read<Token>
         requires { IsReady self.now }
         ensures { MatchResult result
-            (λ r. IsNext (is_among kinds.now) self.now at r.0 r.1)
-            (λ e. IsLacking (is_among kinds.now) self.now at e) }
+            (λ r. IsNext (is_terminal_among kinds.now) self.now at r.0 r.1)
+            (λ e. IsLacking (is_terminal_among kinds.now) self.now at e) }
     {
         match self.take_any_if(kinds, at) {
             Some(found) => Ok(found),
@@ -275,7 +275,7 @@ impl<'s> Reader<'s> {
     /// Whether the next token is `-`, and the place after a sign, if any.
     pub(crate) fn sign(&self, at: usize) -> (bool, usize)
         requires { IsReady self.now }
-        ensures { (limit : ℕ) (tables : Tables) (walk : Walk) → Has self.now tables walk →
+        ensures { (limit : ℕ) (tables : Tables) (walk : ReaderState) → Has self.now tables walk →
             IsGot limit IsSign (Stays self.now tables walk) (opt (token Sign)) self.now at tables walk result.0 result.1 }
     {
         match self.take_if(Terminal::Sign, at) {

@@ -1,6 +1,6 @@
 //! The program of a source.
 ghost use Rattle.std.specs.Prelude.{MatchResult};
-ghost use Rattle.gms_parse.specs.Outcomes.{IsProgram, IsRefusal};
+ghost use Rattle.gms_parse.specs.Outcomes.{IsProgram, IsSourceRefusal};
 
 use crate::fault::{SourceError, SourceFaultOrMemory};
 use crate::reader::{Reader, Tables};
@@ -26,7 +26,7 @@ const START: Place = Place { line: 1, column: 1 };
 /// `RepeatedEntry`, `BadRow`); a table without headings, found where it ends and reported at its
 /// name (`NoHeading`). `Memory` means out of memory.
 pub fn parse<F: ExactField>(alloc: Global, source: &[u8]) -> Result<Program<F>, SourceFaultOrMemory>
-    ensures { MatchResult result (λ program. IsProgram F.limit source.now F.value program) (λ e. IsRefusal F.limit source.now e) }
+    ensures { MatchResult result (λ program. IsProgram F.limit source.now F.value program) (λ e. IsSourceRefusal F.limit source.now e) }
 {
     if source.len() > MOST_BYTES {
         return Err(SourceFaultOrMemory::at(SourceError::TooLong, START));

@@ -5,9 +5,9 @@ ghost use Rattle.gms_grammar.specs.Reading.{leads};
 ghost use Rattle.gms_grammar.specs.GamsGrammar.{KeywordStatement, LoopStatement, LoopBody, InnerStatement, NamedStatement, Segment, productions};
 ghost use Rattle.gms_grammar.specs.GamsLookAhead.{look_ahead};
 ghost use Rattle.gms_parse.specs.Programs.{keyword_act, display_or_other, loop_act, inner_act};
-ghost use Rattle.gms_parse.specs.Walks.{Walk, is_keyword};
-ghost use Rattle.gms_parse.specs.Readings.{IsReady, Holds, Starts, Tableless, IsGot, Refuses, IsWhole, RefusesWhole, seen_from, kind_of, unexpected_at, AnswersAct, AnswersInner, AnswersStatement};
-ghost use Rattle.gms_parse.specs.Meanings.{IsAct, IsInner, IsBody, IsNamedFirst, IsSegment, AreStatements, other_statement};
+ghost use Rattle.gms_parse.specs.Walks.{ReaderState, is_keyword};
+ghost use Rattle.gms_parse.specs.InnerReadings.{IsReady, Holds, Starts, Tableless, IsGot, Refuses, IsWhole, RefusesWhole, seen_from, kind_of, unexpected_at, AnswersAct, AnswersInner, AnswersStatement};
+ghost use Rattle.gms_parse.specs.InnerMeanings.{IsAct, IsInner, IsBody, IsNamedFirst, IsSegment, AreStatements, other_statement};
 
 use crate::declaration::Form;
 use crate::fault::SourceFaultOrMemory;
@@ -170,7 +170,7 @@ impl<'s> Reader<'s> {
         at: usize,
     ) -> Result<usize, SourceFaultOrMemory>
         requires { IsReady self.now }
-        ensures { (walk : Walk) → Starts self.now tables.old walk → Tableless walk →
+        ensures { (walk : ReaderState) → Starts self.now tables.old walk → Tableless walk →
             MatchResult result
             (λ next. IsGot F.limit (IsNamedFirst F.value self.now.source.now statements.old) (Holds self.now tables.new) (opt (the NamedStatement)) self.now at tables.new walk statements.new next)
             (λ e. Refuses F.limit self.now.source.now (opt (the NamedStatement)) walk (seen_from self.now at) e) }
@@ -195,7 +195,7 @@ impl<'s> Reader<'s> {
         at: usize,
     ) -> Result<usize, SourceFaultOrMemory>
         requires { IsReady self.now }
-        ensures { (walk : Walk) → Starts self.now tables.old walk → Tableless walk →
+        ensures { (walk : ReaderState) → Starts self.now tables.old walk → Tableless walk →
             MatchResult result
             (λ next. IsGot F.limit (IsSegment F.value self.now.source.now statements.old) (Holds self.now tables.new) (the Segment) self.now at tables.new walk statements.new next)
             (λ e. Refuses F.limit self.now.source.now (the Segment) walk (seen_from self.now at) e) }

@@ -6,10 +6,10 @@ ghost use Rattle.gms_parse.specs.declared.fault.SourceFaultOrMemory.TheVariants.
 ghost use Rattle.gms_parse.specs.Faults.{fault_of_table};
 ghost use Rattle.gms_parse.specs.Declarations.{table_act};
 ghost use Rattle.gms_parse.specs.Walks.{ends_statement};
-ghost use Rattle.gms_parse.specs.Readings.{IsReady, IsLines, kind_of, seen_from, AnswersStatement};
-ghost use Rattle.gms_parse.specs.Tables.{positions_of, item_of_entry};
-ghost use Rattle.gms_parse.specs.Meanings.{IsAct};
-ghost use Rattle.gms_parse.specs.TableReadings.{IsTableRead, IsTableRefused};
+ghost use Rattle.gms_parse.specs.InnerReadings.{IsReady, IsLines, kind_of, seen_from, AnswersStatement};
+ghost use Rattle.gms_parse.specs.Tables.{labelled_positions, item_of_entry};
+ghost use Rattle.gms_parse.specs.InnerMeanings.{IsAct};
+ghost use Rattle.gms_parse.specs.InnerTables.{IsTableRead, IsTableRefused};
 
 use crate::fault::{SourceError, SourceFaultOrMemory};
 use crate::reader::{Read, Reader, Tables};
@@ -64,7 +64,7 @@ fn add_positions(
     parts: &mut Vec<Sequence<u32>>,
     labels: &[u32],
 ) -> Result<(), AllocError>
-    ensures { OnOk result (parts.new.items ≡ parts.old.items ++ positions_of labels.now) }
+    ensures { OnOk result (parts.new.items ≡ parts.old.items ++ labelled_positions labels.now) }
 {
     for label in labels {
         parts.push(Sequence::new(vec![in alloc; *label]?))?;
@@ -78,7 +78,7 @@ fn positions(
     row: &[u32],
     column: &[u32],
 ) -> Result<Sequence<Sequence<u32>>, AllocError>
-    ensures { IfOk result (λ parts. parts ≡ positions_of (row.now ++ column.now)) }
+    ensures { IfOk result (λ parts. parts ≡ labelled_positions (row.now ++ column.now)) }
 {
     let mut parts = Vec::new(alloc);
     add_positions(alloc, &mut parts, row)?;

@@ -11,7 +11,7 @@ use Rattle.lp_core.specs.declared.program.Row.{Row}
 use Rattle.lp_core.specs.declared.program.Lp.{Lp}
 use Rattle.lp_core.specs.Feasible.{KeepsLower, KeepsUpper, KeepsBounds, KeepsSense, KeepsRow, bound_value, Feasible}
 use Rattle.lp_core.specs.Numbers.{entries_numbers, column_numbers, row_numbers, lp_numbers}
-use Rattle.lp_core.specs.Sums.{number_of, row_sum}
+use Rattle.lp_core.specs.Sums.{value_of_column, row_sum}
 use Rattle.gms_plans.proofs.Bounds.{IsPlaced}
 
 -- a number is what it means
@@ -32,18 +32,18 @@ module _ {F : Type 0} (value : F → Number) where
 
   module _ (x : List Number) where
     abbrev Within : ℕ × Column F → Type 0
-    Within p = KeepsBounds value p.1 (number_of x p.0)
+    Within p = KeepsBounds value p.1 (value_of_column x p.0)
 
     abbrev NumbersWithin : ℕ × Column Number → Type 0
-    NumbersWithin p = KeepsBounds itself p.1 (number_of x p.0)
+    NumbersWithin p = KeepsBounds itself p.1 (value_of_column x p.0)
 
     one-there : (n : ℕ) (column : Column F) → Within (n, column) → NumbersWithin (n, column_numbers value column)
     one-there n column within =
-        (subst (λ (o : Option Number). KeepsLower o (number_of x n)) (sym (same-bound (bound_value value column.lower))) within.0, subst (λ (o : Option Number). KeepsUpper o (number_of x n)) (sym (same-bound (bound_value value column.upper))) within.1)
+        (subst (λ (o : Option Number). KeepsLower o (value_of_column x n)) (sym (same-bound (bound_value value column.lower))) within.0, subst (λ (o : Option Number). KeepsUpper o (value_of_column x n)) (sym (same-bound (bound_value value column.upper))) within.1)
 
     one-back : (n : ℕ) (column : Column F) → NumbersWithin (n, column_numbers value column) → Within (n, column)
     one-back n column within =
-        (subst (λ (o : Option Number). KeepsLower o (number_of x n)) (same-bound (bound_value value column.lower)) within.0, subst (λ (o : Option Number). KeepsUpper o (number_of x n)) (same-bound (bound_value value column.upper)) within.1)
+        (subst (λ (o : Option Number). KeepsLower o (value_of_column x n)) (same-bound (bound_value value column.lower)) within.0, subst (λ (o : Option Number). KeepsUpper o (value_of_column x n)) (same-bound (bound_value value column.upper)) within.1)
 
     bounds-there : (n : ℕ) (columns : List (Column F)) → All Within (enumerate_from n columns) → All NumbersWithin (enumerate_from n (map (column_numbers value) columns))
     bounds-there n [] all = All-nil NumbersWithin
@@ -61,7 +61,7 @@ module _ {F : Type 0} (value : F → Number) where
     -- ---- rows
 
     sum-same : (entries : List (ℕ × F)) → row_sum itself (entries_numbers value entries) x ≡ row_sum value entries x
-    sum-same entries = sum_by_ℚ-map (λ (e : ℕ × Number). e.1 *ℚ number_of x e.0) (λ (e : ℕ × F). (e.0, value e.1)) entries
+    sum-same entries = sum_by_ℚ-map (λ (e : ℕ × Number). e.1 *ℚ value_of_column x e.0) (λ (e : ℕ × F). (e.0, value e.1)) entries
 
     row-there : (row : Row F) → KeepsRow value row x → KeepsRow itself (row_numbers value row) x
     row-there row kept = subst (λ (s : Number). KeepsSense row.sense s (value row.right)) (sym (sum-same row.entries)) kept

@@ -16,13 +16,13 @@ use Rattle.gms_eval.specs.Bindings.{Pairs, label_of, paired, controlled}
 use Rattle.gms_eval.specs.Domain.{elements, sized, those_where}
 use Rattle.gms_eval.specs.Faults.{Answer, ◌and_then◌}
 use Rattle.gms_eval.specs.Holds.{holds}
-use Rattle.gms_eval.specs.Leaders.{index_count}
+use Rattle.gms_eval.specs.Leaders.{number_of_indices}
 use Rattle.gms_eval.specs.Nodes.{in_order}
 use Rattle.gms_eval.specs.References.{all_there}
 use Rattle.gms_eval.specs.Value.{labels, domain, control_over}
 use Rattle.gms_eval.proofs.Simple.{element-length}
 use Rattle.lp_form.specs.declared.key.Key.{Key}
-use Rattle.gms_rows.specs.ElementRows.{sets_of, bound_to, holds_for}
+use Rattle.gms_rows.specs.ElementRows.{sets_of_definition, bound_to, holds_for}
 use Rattle.gms_rows.specs.ModelPoints.{SidesCompare, KeepsDefinition, is_there}
 use Rattle.gms_rows.specs.Rows.{Definition, each_once, has_lag, sets_among}
 use Rattle.gms_rows.proofs.Domains.{given, only_value, first_of, those-All, sized-is}
@@ -131,13 +131,13 @@ module _ {F : Type 0} (v : F → Number) (limit : ℕ) (state : State) (binding 
     pub those : List (Option ℕ)
     pub are : in_order (labels v limit state binding indices) ≡ Ok those
     pub there : is_some (all_there those) ≡ true
-    pub long : length those ≡ index_count indices
+    pub long : length those ≡ number_of_indices indices
 
   some-more : (label : ℕ) (o : Option (List ℕ)) → is_some o ≡ true → is_some (option_map (λ labels. label ∷ labels) o) ≡ true
   some-more label None e = absurd (cc)
   some-more label (Some labels) e = refl
 
-  with-label : (label : ℕ) (index : tree.Indices F → tree.Indices F) (rest : tree.Indices F) → (labels v limit state binding (index rest) ≡ Ok (Some label) ∷ labels v limit state binding rest) → index_count (index rest) ≡ index_count rest + 1 → HaveLabels rest → HaveLabels (index rest)
+  with-label : (label : ℕ) (index : tree.Indices F → tree.Indices F) (rest : tree.Indices F) → (labels v limit state binding (index rest) ≡ Ok (Some label) ∷ labels v limit state binding rest) → number_of_indices (index rest) ≡ number_of_indices rest + 1 → HaveLabels rest → HaveLabels (index rest)
   with-label label index rest same count have =
       let long = have.long in
       record {
@@ -159,7 +159,7 @@ module _ {F : Type 0} (v : F → Number) (limit : ℕ) (state : State) (binding 
           with-label label (λ (is : tree.Indices F). tree.set set is) rest (ap (λ (o : Option ℕ). Ok o ∷ labels v limit state binding rest) e) (omega arith) have
   have-labels (tree.lagged set op at amount rest) none all = absurd (cc)
 
-  are-there : (indices : tree.Indices F) → index_count indices ≤ 10 → HaveLabels indices → is_there (in_order (labels v limit state binding indices)) ≡ true
+  are-there : (indices : tree.Indices F) → number_of_indices indices ≤ 10 → HaveLabels indices → is_there (in_order (labels v limit state binding indices)) ≡ true
   are-there indices few have =
       let long = have.long in
       ap is_there have.are
@@ -171,23 +171,23 @@ module _ {F : Type 0} (v : F → Number) (limit : ℕ) (state : State) (binding 
 -- A definition without lags, with at most 10 indices, as each of an accepted program.
 pub record IsShort {F : Type 0} (d : Definition F) : Type 0 where
   pub no_lag : has_lag d.indices ≡ false
-  pub few : index_count d.indices ≤ 10
+  pub few : number_of_indices d.indices ≤ 10
 
 module _ {F : Type 0} (v : F → Number) (limit : ℕ) (state : State) (point : Key → Number) (d : Definition F) where
   abbrev Satisfied : Type 0
-  Satisfied = (element : List ℕ) → has (elements state (sets_of d)) element ≡ true → holds_for v limit state (bound_to d element) d.condition ≡ Ok true → SidesCompare v limit state point d (bound_to d element)
+  Satisfied = (element : List ℕ) → has (elements state (sets_of_definition d)) element ≡ true → holds_for v limit state (bound_to d element) d.condition ≡ Ok true → SidesCompare v limit state point d (bound_to d element)
 
   pub satisfied-keeps : Satisfied → KeepsDefinition v limit state point d
   satisfied-keeps satisfied found e =
-      let all = domain-all v limit state d.at (sets_of d) d.condition found e in
+      let all = domain-all v limit state d.at (sets_of_definition d) d.condition found e in
       λ k t below there. satisfied (get_or found k t) (all k t below).0 (all k t below).1
 
-  labels-there : IsShort d → (element : List ℕ) → has (elements state (sets_of d)) element ≡ true → is_there (in_order (labels v limit state (bound_to d element) d.indices)) ≡ true
+  labels-there : IsShort d → (element : List ℕ) → has (elements state (sets_of_definition d)) element ≡ true → is_there (in_order (labels v limit state (bound_to d element) d.indices)) ≡ true
   labels-there short element there =
-      let stand = stand-all (bound_to d element) (sets_among d.indices) (paired-stand (sets_of d) element (element-length state (sets_of d) element there)) in
+      let stand = stand-all (bound_to d element) (sets_among d.indices) (paired-stand (sets_of_definition d) element (element-length state (sets_of_definition d) element there)) in
       are-there v limit state (bound_to d element) d.indices short.few (have-labels v limit state (bound_to d element) d.indices short.no_lag stand)
 
-  pub keeps-satisfied : IsShort d → (found : List (List ℕ)) → domain v limit state [] d.at (control_over (sets_of d) d.condition) ≡ Ok found → KeepsDefinition v limit state point d → Satisfied
+  pub keeps-satisfied : IsShort d → (found : List (List ℕ)) → domain v limit state [] d.at (control_over (sets_of_definition d) d.condition) ≡ Ok found → KeepsDefinition v limit state point d → Satisfied
   keeps-satisfied short found e keeps element there holds =
-      let among = domain-have v limit state d.at (sets_of d) d.condition found element e there holds in
+      let among = domain-have v limit state d.at (sets_of_definition d) d.condition found element e there holds in
       All-contains (λ t. is_there (in_order (labels v limit state (bound_to d t) d.indices)) ≡ true → SidesCompare v limit state point d (bound_to d t)) found element (keeps found e) (Contains-has found element among) (labels-there short element there)

@@ -24,13 +24,13 @@ use Rattle.lp_core.specs.declared.program.Lp.{Lp}
 use Rattle.lp_core.specs.Feasible.{Feasible}
 use Rattle.lp_core.specs.Numbers.{column_numbers, lp_numbers, end_numbers}
 use Rattle.lp_core.specs.Proofs.{ProvesOptimal, ProvesUnbounded, further}
-use Rattle.lp_core.specs.Sums.{number_of}
+use Rattle.lp_core.specs.Sums.{value_of_column}
 use Rattle.lp_core.proofs.Rays.{passes_above, passes_below, none_between}
 use Rattle.lp_form.specs.declared.key.Key.{Key}
-use Rattle.gms_rows.specs.ElementRows.{sets_of}
+use Rattle.gms_rows.specs.ElementRows.{sets_of_definition}
 use Rattle.gms_rows.specs.ModelPoints.{IsLinearDefinition, KeepsDefinition, column_elements, definitions_of_model}
-use Rattle.gms_rows.specs.ProgramLp.{program_lp, program_of, sized}
-use Rattle.gms_rows.specs.Rows.{Definition, FormRow, rows_of, rows_of_model}
+use Rattle.gms_rows.specs.ProgramLp.{program_lp, program_of, sized_program}
+use Rattle.gms_rows.specs.Rows.{Definition, FormRow, rows_of_definition, rows_of_model}
 use Rattle.gms_rows.proofs.Domains.{given}
 use Rattle.gms_rows.proofs.RowKeys.{sourced}
 use Rattle.gms_rows.proofs.RowsAtPoints.{lp-feasible}
@@ -42,14 +42,14 @@ use Rattle.gms_plans.proofs.Instances.{IsShort, satisfied-keeps, keeps-satisfied
 use Rattle.gms_plans.proofs.Programs.{IsProgram, column-values, program-known, plan_at, plan-levels}
 
 -- each definition of a program that was made has a domain
-domains : {F : Type 0} (v : F → Number) (limit : ℕ) (state : State) (ds : List (Definition F)) (those : List (List FormRow)) → in_order (map (rows_of v limit state) ds) ≡ Ok those →
-    All (λ (d : Definition F). (found : List (List ℕ)) × (domain v limit state [] d.at (control_over (sets_of d) d.condition) ≡ Ok found)) ds
-domains {F} v limit state [] those e = All-nil (λ (d : Definition F). (found : List (List ℕ)) × (domain v limit state [] d.at (control_over (sets_of d) d.condition) ≡ Ok found))
+domains : {F : Type 0} (v : F → Number) (limit : ℕ) (state : State) (ds : List (Definition F)) (those : List (List FormRow)) → in_order (map (rows_of_definition v limit state) ds) ≡ Ok those →
+    All (λ (d : Definition F). (found : List (List ℕ)) × (domain v limit state [] d.at (control_over (sets_of_definition d) d.condition) ≡ Ok found)) ds
+domains {F} v limit state [] those e = All-nil (λ (d : Definition F). (found : List (List ℕ)) × (domain v limit state [] d.at (control_over (sets_of_definition d) d.condition) ≡ Ok found))
 domains {F} v limit state (d ∷ ds) those e =
-    let one = given (rows_of v limit state d) (λ z. in_order (map (rows_of v limit state) ds) and_then λ zs. Ok (z ∷ zs)) those e in
-    let two = given (in_order (map (rows_of v limit state) ds)) (λ zs. Ok (one.value ∷ zs)) those one.next_is in
+    let one = given (rows_of_definition v limit state d) (λ z. in_order (map (rows_of_definition v limit state) ds) and_then λ zs. Ok (z ∷ zs)) those e in
+    let two = given (in_order (map (rows_of_definition v limit state) ds)) (λ zs. Ok (one.value ∷ zs)) those one.next_is in
     let source = sourced v limit state d one.value one.is in
-    All-cons (λ (d : Definition F). (found : List (List ℕ)) × (domain v limit state [] d.at (control_over (sets_of d) d.condition) ≡ Ok found)) d ds (source.elements, source.domain) (domains v limit state ds two.value two.is)
+    All-cons (λ (d : Definition F). (found : List (List ℕ)) × (domain v limit state [] d.at (control_over (sets_of_definition d) d.condition) ≡ Ok found)) d ds (source.elements, source.domain) (domains v limit state ds two.value two.is)
 
 -- a number above another
 one-above : (x : Number) → x <ℚ x +ℚ whole (pos 1)
@@ -86,8 +86,8 @@ module _ {F : Type 0} (v : F → Number) (limit : ℕ) (statements : List (Stmt 
   feasible-plan plan feasible =
       let ds = definitions_of_model statements model in
       let keeps = (lp-feasible v limit state statements model objective maximize at lp plan linear is).1 (subst (Feasible itself lp) (sym (column-values plan lp.columns)) feasible) in
-      let one = given (rows_of_model v limit state statements model) (λ rows. sized at (program_of state rows goal maximize)) lp is in
-      let two = given (in_order (map (rows_of v limit state) ds)) (λ rows. Ok (flat_map (λ some. some) rows)) one.value one.is in
+      let one = given (rows_of_model v limit state statements model) (λ rows. sized_program at (program_of state rows goal maximize)) lp is in
+      let two = given (in_order (map (rows_of_definition v limit state) ds)) (λ rows. Ok (flat_map (λ some. some) rows)) one.value one.is in
       let all = domains v limit state ds two.value two.is in
       record {
         equations = λ k d below. keeps-satisfied v limit state plan (get_or ds k d) (short k d below) (all k d below).0 (all k d below).1 (keeps.0 k d below);
@@ -110,11 +110,11 @@ module _ {F : Type 0} (v : F → Number) (limit : ℕ) (statements : List (Stmt 
     direction = ap (λ (p : Lp Number). p.maximize) shows ∙ known.direction
 
     -- the outcome of a plan is the value of the objective's column
-    level : (plan : Plan) → number_of (map plan listed) own.objective ≡ plan goal
-    level plan = ap (λ (p : Lp Number). number_of (map plan listed) p.objective) shows ∙ known.level plan
+    level : (plan : Plan) → value_of_column (map plan listed) own.objective ≡ plan goal
+    level plan = ap (λ (p : Lp Number). value_of_column (map plan listed) p.objective) shows ∙ known.level plan
 
-    level-of : (plan : Plan) (levels : List Number) → map plan listed ≡ levels → number_of levels own.objective ≡ plan goal
-    level-of plan levels has = ap (λ (x : List Number). number_of x own.objective) (sym has) ∙ level plan
+    level-of : (plan : Plan) (levels : List Number) → map plan listed ≡ levels → value_of_column levels own.objective ≡ plan goal
+    level-of plan levels has = ap (λ (x : List Number). value_of_column x own.objective) (sym has) ∙ level plan
 
     -- as many levels as listed elements
     same-long : length listed ≡ length own.columns
@@ -136,11 +136,11 @@ module _ {F : Type 0} (v : F → Number) (limit : ℕ) (statements : List (Stmt 
     module _ (levels row_levels duals reduced : List Number) (proves : ProvesOptimal v own levels row_levels duals reduced) where
       none-better : (plan : Plan) → map plan listed ≡ levels → (other : Plan) → IsFeasible v limit question other → (b : Bool) → maximize ≡ b → IsBetter b (other goal) (plan goal) → ⊥
       none-better plan has other feasible true to better =
-          let most = bound_above v own placed duals (map other listed) (number_of levels own.objective) (there other feasible) (direction ∙ to) proves.bound in
-          Order.<ℚ_irrefl (plan goal) (Order.<ℚ-≤ℚ_trans (plan goal) (other goal) (plan goal) better (subst (λ (x : Number). other goal ≤ℚ x) (level-of plan levels has) (subst (λ (x : Number). x ≤ℚ number_of levels own.objective) (level other) most)))
+          let most = bound_above v own placed duals (map other listed) (value_of_column levels own.objective) (there other feasible) (direction ∙ to) proves.bound in
+          Order.<ℚ_irrefl (plan goal) (Order.<ℚ-≤ℚ_trans (plan goal) (other goal) (plan goal) better (subst (λ (x : Number). other goal ≤ℚ x) (level-of plan levels has) (subst (λ (x : Number). x ≤ℚ value_of_column levels own.objective) (level other) most)))
       none-better plan has other feasible false to better =
-          let least = bound_below v own placed duals (map other listed) (number_of levels own.objective) (there other feasible) (direction ∙ to) proves.bound in
-          Order.<ℚ_irrefl (other goal) (Order.<ℚ-≤ℚ_trans (other goal) (plan goal) (other goal) better (subst (λ (x : Number). x ≤ℚ other goal) (level-of plan levels has) (subst (λ (x : Number). number_of levels own.objective ≤ℚ x) (level other) least)))
+          let least = bound_below v own placed duals (map other listed) (value_of_column levels own.objective) (there other feasible) (direction ∙ to) proves.bound in
+          Order.<ℚ_irrefl (other goal) (Order.<ℚ-≤ℚ_trans (other goal) (plan goal) (other goal) better (subst (λ (x : Number). x ≤ℚ other goal) (level-of plan levels has) (subst (λ (x : Number). value_of_column levels own.objective ≤ℚ x) (level other) least)))
 
       optimal-levels : AreLevels v limit question (IsOptimal v limit question) levels
       optimal-levels = record {

@@ -10,15 +10,15 @@ use Rattle.gms_event.specs.Events.{Event, Solved, displays, solves, aborts, stop
 use Rattle.gms_rows.specs.ProgramLp.{program_lp}
 use Rattle.gms_exec.specs.Answering.{IsSolved, IsAnswered, AreAnswered}
 use Rattle.gms_exec.specs.Run.{Course, World, one_after_another, of_statement, run_from}
-use Rattle.gms_joint.proofs.Lasting.{IsLasting, start-lasts}
-use Rattle.gms_joint.proofs.LinearDefinitions.{model-linear}
-use Rattle.gms_joint.proofs.Reaching.{last-reaches}
+use Rattle.gms_run_laws.proofs.Lasting.{IsLasting, start-lasts}
+use Rattle.gms_run_laws.proofs.LinearDefinitions.{model-linear}
+use Rattle.gms_run_laws.proofs.Reaching.{last-reaches}
 use Rattle.lp_core.specs.Numbers.{answer_numbers}
 use Rattle.lp_core.specs.declared.answer.Answer.{Answer}
 use Rattle.lp_core.specs.declared.answer.Rule.TheVariants.{Legal}
 use Rattle.lp_slot.specs.declared.solver.SolverRule.{SolverRule}
 use Rattle.lp_slot.proofs.Under.{legal_under}
-use Rattle.gms_plans.specs.Moments.{IsSolve, IsAnsweredRightly, AnswerIsSo, AnswersAreSo, run_before, whole_run}
+use Rattle.gms_plans.specs.Moments.{IsSolve, IsAnsweredRightly, AnswerIsSo, AnswersAreSo, run_before, run_with_answers}
 use Rattle.gms_plans.proofs.Answered.{answer-proves}
 use Rattle.gms_plans.proofs.Definitions.{model-short}
 use Rattle.gms_plans.proofs.Meanings.{end-is-so}
@@ -99,7 +99,7 @@ module _ {F : Type 0} (v : F → Number) (limit : ℕ) (world : World F) (accept
       All-cons IsSoAt event events (event-is-so event waits.0 (All-head (IsAnswered v limit rules answers) event events answered)) (events-are-so events waits.1 (All-tail (IsAnswered v limit rules answers) event events answered))
 
   -- What each answer of the run says is true.
-  pub answers-are-so : AreAnswered v limit rules answers (whole_run v limit world first statements answers).events → AnswersAreSo v limit world first statements answers
+  pub answers-are-so : AreAnswered v limit rules answers (run_with_answers v limit world first statements answers).events → AnswersAreSo v limit world first statements answers
   answers-are-so answered =
       let done : Does v limit world does start = last-do v limit world before statements parts [] start in
       subst (All IsSoAt) (sym done.events) (events-are-so done.shown done.asked (subst (AreAnswered v limit rules answers) done.events answered))

@@ -33,8 +33,8 @@ use Rattle.gms_exec.specs.Assignment.{target_of, after_assignment}
 use Rattle.gms_exec.specs.Options.{after_options}
 use Rattle.gms_exec.specs.Showing.{all_shown}
 use Rattle.gms_exec.specs.Solved.{after_end}
-use Rattle.gms_exec.specs.Run.{Course, Halt, waiting, World, OfAct, OfStatement, in_state, with_event, stopped_by, while_it_runs, with_value, one_after_another, for_each, display, abort, abort_where, over_elements, answered, solve, act_step, statement_step, of_statement, labels_in}
-use Rattle.gms_joint.specs.Reached.{IsStatementOf}
+use Rattle.gms_exec.specs.Run.{Course, Halt, waiting, World, OfAct, OfStatement, in_state, with_event, stopped_by, while_it_runs, with_evaluated, one_after_another, for_each, display, abort, abort_where, over_elements, answered, solve, act_step, statement_step, of_statement, labels_in}
+use Rattle.gms_run_laws.specs.Reached.{IsStatementOf}
 use Rattle.lp_core.specs.declared.answer.Answer.{Answer}
 use Rattle.lp_core.specs.declared.program.Lp.{Lp}
 
@@ -304,12 +304,12 @@ module _ {F : Type 0} (v : F → Number) (limit : ℕ) (world : World F) where
   -- ---- acts
 
   -- a step with a value of the state, or a stop by a fault
-  value-does : {A : Type 0} (r : State → Evaluated A) (next : A → Course → Course) (c : Course) → ((x : A) → Does (next x) c) → Does (λ (d : Course). with_value (r d.state) (λ x. next x d) d) c
+  value-does : {A : Type 0} (r : State → Evaluated A) (next : A → Course → Course) (c : Course) → ((x : A) → Does (next x) c) → Does (λ (d : Course). with_evaluated (r d.state) (λ x. next x d) d) c
   value-does {A} r next c each = by (r c.state) refl
     where
-      by : (a : Evaluated A) → r c.state ≡ a → Does (λ (d : Course). with_value (r d.state) (λ x. next x d) d) c
-      by (Ok x) e = does-as (next x) _ c (λ l. ap (λ (a : Evaluated A). with_value a (λ x. next x (with_left c l)) (with_left c l)) e) (each x)
-      by (Err fault) e = does-as (λ (d : Course). stopped_by d fault) _ c (λ l. ap (λ (a : Evaluated A). with_value a (λ x. next x (with_left c l)) (with_left c l)) e) (does-stop fault c)
+      by : (a : Evaluated A) → r c.state ≡ a → Does (λ (d : Course). with_evaluated (r d.state) (λ x. next x d) d) c
+      by (Ok x) e = does-as (next x) _ c (λ l. ap (λ (a : Evaluated A). with_evaluated a (λ x. next x (with_left c l)) (with_left c l)) e) (each x)
+      by (Err fault) e = does-as (λ (d : Course). stopped_by d fault) _ c (λ l. ap (λ (a : Evaluated A). with_evaluated a (λ x. next x (with_left c l)) (with_left c l)) e) (does-stop fault c)
 
   does-display : (labels : ℕ) (items : List Show) (at : Place) (binding : Pairs) (c : Course) → Does (display v limit labels items at binding) c
   does-display labels items at binding c =
@@ -383,9 +383,9 @@ module _ {F : Type 0} (v : F → Number) (limit : ℕ) (world : World F) where
       next : Lp Number → Course → Course
       next lp d = answered v limit (solver ∷ solvers) model.name (equations_of world.program.statements.items model.name) objective.name s.at d lp
 
-      by : (a : Evaluated (Lp Number)) → r c.state ≡ a → Does (λ (d : Course). with_value (r d.state) (λ lp. next lp d) d) c
+      by : (a : Evaluated (Lp Number)) → r c.state ≡ a → Does (λ (d : Course). with_evaluated (r d.state) (λ lp. next lp d) d) c
       by (Ok lp) e =
-          does-as (next lp) _ c (λ l. ap (λ (a : Evaluated (Lp Number)). with_value a (λ lp. next lp (with_left c l)) (with_left c l)) e)
+          does-as (next lp) _ c (λ l. ap (λ (a : Evaluated (Lp Number)). with_evaluated a (λ lp. next lp (with_left c l)) (with_left c l)) e)
           (does-answered (solver ∷ solvers) model.name (equations_of world.program.statements.items model.name) objective.name s.at c lp
           (λ answer solver level. record {
             statement = s;
@@ -399,7 +399,7 @@ module _ {F : Type 0} (v : F → Number) (limit : ℕ) (world : World F) where
             of_model = refl;
             program = e;
           }))
-      by (Err fault) e = does-as (λ (d : Course). stopped_by d fault) _ c (λ l. ap (λ (a : Evaluated (Lp Number)). with_value a (λ lp. next lp (with_left c l)) (with_left c l)) e) (does-stop fault c)
+      by (Err fault) e = does-as (λ (d : Course). stopped_by d fault) _ c (λ l. ap (λ (a : Evaluated (Lp Number)). with_evaluated a (λ lp. next lp (with_left c l)) (with_left c l)) e) (does-stop fault c)
 
   -- ---- statements of the program
 
@@ -422,7 +422,7 @@ module _ {F : Type 0} (v : F → Number) (limit : ℕ) (world : World F) where
   does-is : (x : Act-F F (Act F) (Stmt F)) → of_act (roll-Act F x) ≡ act_step v limit world (map-Act F (Act F) (Stmt F) OfAct OfStatement of_act (of_statement v limit world) x)
   does-is x = fold-roll-Act F OfAct OfStatement (act_step v limit world) (statement_step v limit) x
 
-  does-assign : (target : Target F) (condition : Option (Expr F)) (right_at : Place) (right : Expr F) (at : Place) (binding : Pairs) (c : Course) → Does (λ (d : Course). with_value (after_assignment v limit d.state at binding (target_of target) (option_map tree_of condition) right_at (tree_of right)) (in_state d) d) c
+  does-assign : (target : Target F) (condition : Option (Expr F)) (right_at : Place) (right : Expr F) (at : Place) (binding : Pairs) (c : Course) → Does (λ (d : Course). with_evaluated (after_assignment v limit d.state at binding (target_of target) (option_map tree_of condition) right_at (tree_of right)) (in_state d) d) c
   does-assign target condition right_at right at binding c =
       value-does (λ (state : State). after_assignment v limit state at binding (target_of target) (option_map tree_of condition) right_at (tree_of right)) (λ state d. in_state d state) c
       (λ state. takes-none (λ (d : Course). in_state d state) c [] tt (sym (append-nil c.events)) refl refl (λ l. refl))

@@ -15,14 +15,14 @@ use Rattle.gms_eval.specs.declared.stop.StopKind.TheVariants.{TooManyRows, TooMa
 use Rattle.lp_core.specs.declared.program.Column.{Column}
 use Rattle.lp_core.specs.declared.program.Row.{Row}
 use Rattle.lp_core.specs.declared.program.Lp.{Lp}
-use Rattle.lp_core.specs.Sums.{number_of}
+use Rattle.lp_core.specs.Sums.{value_of_column}
 use Rattle.lp_core.specs.WellFormed.{standard_rows, standard_columns}
 use Rattle.lp_form.specs.declared.key.Key.{Key}
 use Rattle.lp_form.specs.Keys.{key_cmp, same_key, AreOrdered}
 use Rattle.lp_form.proofs.KeyOrder.{first-before, rest-ordered, same_key-Less, same_key_refl}
 use Rattle.gms_rows.specs.InnerWalks.{is_among}
 use Rattle.gms_rows.specs.ModelPoints.{column_elements}
-use Rattle.gms_rows.specs.ProgramLp.{column_keys, column_of, place_of, placed, program_of, program_lp, sized, too_many}
+use Rattle.gms_rows.specs.ProgramLp.{column_keys, column_of, place_of_key, placed, program_of, program_lp, sized_program, too_many}
 use Rattle.gms_rows.specs.Rows.{FormRow, rows_of_model}
 use Rattle.gms_rows.proofs.ColumnKeys.{among-ordered}
 use Rattle.gms_rows.proofs.Domains.{given, only_value}
@@ -36,7 +36,7 @@ pub record IsProgram (objective : Key) (maximize : Bool) (lp : Lp Number) : Type
   pub ordered : AreOrdered (column_elements lp)
   pub placed : IsPlaced lp
   -- the value of the objective's column is that of the objective
-  pub level : (plan : Key → Number) → number_of (map plan (column_elements lp)) lp.objective ≡ plan objective
+  pub level : (plan : Key → Number) → value_of_column (map plan (column_elements lp)) lp.objective ≡ plan objective
   pub direction : lp.maximize ≡ maximize
 
 -- the columns' values in a plan are those of their elements
@@ -86,8 +86,8 @@ module _ (state : State) (rows : List FormRow) (objective : Key) (maximize : Boo
   row-placed : (row : FormRow) → HasKeys row → EntriesThere (length all_columns) (placed all_columns row)
   row-placed row there =
       let es = finite.entries row.form.numbers in
-      All-map (λ (e : ℕ × Number). e.0 < length all_columns) (λ (entry : Key × Number). (place_of all_columns entry.0, entry.1)) es
-      (All-weaker (λ (entry : Key × Number). is_among all_columns entry.0 ≡ true) (λ (entry : Key × Number). place_of all_columns entry.0 < length all_columns) (λ entry is. place-within all_columns up entry.0 is) es (all-of_map (λ (entry : Key × Number). entry.0) (λ key. is_among all_columns key ≡ true) es there))
+      All-map (λ (e : ℕ × Number). e.0 < length all_columns) (λ (entry : Key × Number). (place_of_key all_columns entry.0, entry.1)) es
+      (All-weaker (λ (entry : Key × Number). is_among all_columns entry.0 ≡ true) (λ (entry : Key × Number). place_of_key all_columns entry.0 < length all_columns) (λ entry is. place-within all_columns up entry.0 is) es (all-of_map (λ (entry : Key × Number). entry.0) (λ key. is_among all_columns key ≡ true) es there))
 
   is-placed : IsPlaced the_program
   is-placed = record {
@@ -95,20 +95,20 @@ module _ (state : State) (rows : List FormRow) (objective : Key) (maximize : Boo
     entries = subst (λ (n : ℕ). All (EntriesThere n) the_program.rows) (sym long) (All-map (EntriesThere (length all_columns)) (placed all_columns) rows (All-weaker HasKeys (λ (row : FormRow). EntriesThere (length all_columns) (placed all_columns row)) row-placed rows rows-there));
   }
 
-  objective-level : (plan : Key → Number) → number_of (map plan all_columns) (place_of all_columns objective) ≡ plan objective
+  objective-level : (plan : Key → Number) → value_of_column (map plan all_columns) (place_of_key all_columns objective) ≡ plan objective
   objective-level plan =
       let at = stands-in_place all_columns up objective objective-there in
-      get_or-map plan all_columns (place_of all_columns objective) objective (whole (pos 0)) at.0 ∙ ap plan (at.1 objective)
+      get_or-map plan all_columns (place_of_key all_columns objective) objective (whole (pos 0)) at.0 ∙ ap plan (at.1 objective)
 
   made-known : IsProgram objective maximize the_program
   made-known = record {
     ordered = subst AreOrdered (sym columns-are) up;
     placed = is-placed;
-    level = λ plan. ap (λ (ks : List Key). number_of (map plan ks) (place_of all_columns objective)) columns-are ∙ objective-level plan;
+    level = λ plan. ap (λ (ks : List Key). value_of_column (map plan ks) (place_of_key all_columns objective)) columns-are ∙ objective-level plan;
     direction = refl;
   }
 
-sized-same : (at : Place) (made lp : Lp Number) → sized at made ≡ Ok lp → made ≡ lp
+sized-same : (at : Place) (made lp : Lp Number) → sized_program at made ≡ Ok lp → made ≡ lp
 sized-same at made lp e = by (nat_lt 1500 (standard_rows made)) (nat_lt 3000 (standard_columns made)) e
   where
     by : (b c : Bool) → (if b then Err (too_many TooManyRows at (standard_rows made)) else if c then Err (too_many TooManyColumns at (standard_columns made)) else Ok made) ≡ Ok lp → made ≡ lp
@@ -120,7 +120,7 @@ sized-same at made lp e = by (nat_lt 1500 (standard_rows made)) (nat_lt 3000 (st
 pub program-known : {F : Type 0} (v : F → Number) (limit : ℕ) (state : State) (statements : List (Stmt F)) (model objective : ℕ) (maximize : Bool) (at : Place) (lp : Lp Number) → program_lp v limit state statements model objective maximize at ≡ Ok lp → IsProgram (record { symbol = objective; tuple = [] }) maximize lp
 program-known v limit state statements model objective maximize at lp e =
     let key : Key = record { symbol = objective; tuple = [] } in
-    let one = given (rows_of_model v limit state statements model) (λ rows. sized at (program_of state rows key maximize)) lp e in
+    let one = given (rows_of_model v limit state statements model) (λ rows. sized_program at (program_of state rows key maximize)) lp e in
     subst (IsProgram key maximize) (sized-same at (program_of state one.value key maximize) lp one.next_is) (made-known state one.value key maximize)
 
 -- ---- plans with given levels

@@ -11,15 +11,15 @@ use Rattle.gms_event.specs.Events.{Event, Solved, solves}
 use Rattle.gms_rows.specs.ModelPoints.{column_elements}
 use Rattle.gms_rows.specs.ProgramLp.{program_lp}
 use Rattle.gms_exec.specs.Run.{Course, World, waiting, run_from}
-use Rattle.gms_joint.specs.Reached.{IsStatementOf}
+use Rattle.gms_run_laws.specs.Reached.{IsStatementOf}
 use Rattle.lp_core.specs.Numbers.{answer_numbers, end_numbers}
 use Rattle.lp_core.specs.declared.answer.Answer.{Answer}
 use Rattle.gms_plans.specs.Plans.{Question, IsSo}
 
 module _ {F : Type 0} (number_of : F → Number) (limit : ℕ) (world : World F) (first : State) (statements : List (Stmt F)) (answers : List (Answer F)) where
   -- the run of the statements, with all answers
-  abbrev pub whole_run : Course
-  whole_run = run_from number_of limit world first (map (answer_numbers number_of) answers) statements
+  abbrev pub run_with_answers : Course
+  run_with_answers = run_from number_of limit world first (map (answer_numbers number_of) answers) statements
 
   -- the run with only the answers before a place: it waits for the answer at that place
   abbrev pub run_before : ℕ → Course
@@ -67,4 +67,4 @@ module _ {F : Type 0} (number_of : F → Number) (limit : ℕ) (world : World F)
 
   -- what each answer of the run says is true
   abbrev pub AnswersAreSo : Type 0
-  AnswersAreSo = All AnswerIsSo whole_run.events
+  AnswersAreSo = All AnswerIsSo run_with_answers.events

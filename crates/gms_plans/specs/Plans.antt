@@ -9,7 +9,7 @@ use Rattle.gms_ast.specs.declared.program.Stmt.{Stmt}
 use Rattle.gms_store.specs.State.{State}
 use Rattle.gms_tuple.specs.TupleSet.{has}
 use Rattle.gms_eval.specs.Domain.{elements}
-use Rattle.gms_rows.specs.ElementRows.{sets_of, bound_to, holds_for}
+use Rattle.gms_rows.specs.ElementRows.{sets_of_definition, bound_to, holds_for}
 use Rattle.gms_rows.specs.ModelPoints.{SidesCompare, KeepsBoundsOf, definitions_of_model}
 use Rattle.gms_rows.specs.Rows.{Definition}
 use Rattle.lp_core.specs.declared.answer.End.{End}
@@ -51,7 +51,7 @@ module _ {F : Type 0} (number_of : F → Number) (limit : ℕ) (question : Quest
   -- holds, the left side compares with the right one as `=e=`, `=l=` or `=g=` says, with the
   -- variables read in the plan.
   abbrev pub Satisfies : Plan → Definition F → Type 0
-  Satisfies plan equation = (element : List ℕ) → has (elements question.state (sets_of equation)) element ≡ true →
+  Satisfies plan equation = (element : List ℕ) → has (elements question.state (sets_of_definition equation)) element ≡ true →
       holds_for number_of limit question.state (bound_to equation element) equation.condition ≡ Ok true → SidesCompare number_of limit question.state plan equation (bound_to equation element)
 
   -- A plan is feasible: it satisfies each equation of the model, and each listed element is within
@@ -61,13 +61,13 @@ module _ {F : Type 0} (number_of : F → Number) (limit : ℕ) (question : Quest
     pub bounds : KeepsBoundsOf question.state plan question.listed
 
   -- the outcome of a plan: its number for the objective
-  abbrev pub outcome : Plan → Number
-  outcome plan = plan (record { symbol = question.objective; tuple = [] })
+  abbrev pub plan_outcome : Plan → Number
+  plan_outcome plan = plan (record { symbol = question.objective; tuple = [] })
 
   -- A plan is optimal: it is feasible, and no feasible plan has a better outcome.
   pub record IsOptimal (plan : Plan) : Type 0 where
     pub feasible : IsFeasible plan
-    pub best : (other : Plan) → IsFeasible other → IsBetter question.maximize (outcome other) (outcome plan) → ⊥
+    pub best : (other : Plan) → IsFeasible other → IsBetter question.maximize (plan_outcome other) (plan_outcome plan) → ⊥
 
   -- ---- what an answer says
 
@@ -85,6 +85,6 @@ module _ {F : Type 0} (number_of : F → Number) (limit : ℕ) (question : Quest
   IsSo (Optimal levels row_levels duals reduced) = AreLevels IsOptimal levels
   IsSo (Infeasible duals crossed) = (plan : Plan) → IsFeasible plan → ⊥
   IsSo (Unbounded levels row_levels ray) =
-      AreLevels IsFeasible levels × ((goal : Number) → (plan : Plan) × IsFeasible plan × IsBetter question.maximize (outcome plan) goal)
+      AreLevels IsFeasible levels × ((goal : Number) → (plan : Plan) × IsFeasible plan × IsBetter question.maximize (plan_outcome plan) goal)
   IsSo (Interrupted phase levels row_levels) = phase ≡ 2 → AreLevels IsFeasible levels
   IsSo (Refused step) = Unit {0}

@@ -9,11 +9,11 @@ ghost use Rattle.gms_store.specs.State.{State};
 ghost use Rattle.gms_check.specs.Loaded.{IsAccepted, loaded};
 ghost use Rattle.gms_exec.specs.Answering.{AreAnswered};
 ghost use Rattle.gms_exec.specs.Run.{World};
-ghost use Rattle.gms_joint.specs.LastStates.{MayBegin};
-ghost use Rattle.gms_plans.specs.Moments.{AnswersAreSo, whole_run};
+ghost use Rattle.gms_run_laws.specs.LastStates.{MayBegin};
+ghost use Rattle.gms_plans.specs.Moments.{AnswersAreSo, run_with_answers};
 ghost use Rattle.gms_save.specs.JointErrors.{joint_errors, resumed, saved_statements};
-ghost use Rattle.gms_save.specs.Saves.{IsSavedBy, number_limit};
-ghost use Rattle.gms_seam.specs.Fronts.{first_line, joint_source};
+ghost use Rattle.gms_save.specs.Saves.{IsSavedBy, greatest_part};
+ghost use Rattle.gms_joint_source.specs.Fronts.{first_line, joint_source};
 ghost use Rattle.lp_core.specs.declared.answer.Answer.{Answer};
 ghost use Rattle.lp_slot.specs.declared.solver.SolverRule.{SolverRule};
 
@@ -39,17 +39,17 @@ use gq_field::ExactField;
 /// "Linear Programming", chapters 1, 5 and 9.
 pub fn plan_laws<F: ExactField>()
     ensures start { (world : World F) (rules : List SolverRule) (answers : List (Answer F)) → IsAccepted F.value world.program →
-        AreAnswered F.value F.limit rules answers (whole_run F.value F.limit world (loaded F.value world.program) world.program.statements.items answers).events →
+        AreAnswered F.value F.limit rules answers (run_with_answers F.value F.limit world (loaded F.value world.program) world.program.statements.items answers).events →
         AnswersAreSo F.value F.limit world (loaded F.value world.program) world.program.statements.items answers }
     ensures restarted { (limit : ℕ) (source file : List ℕ) (saved : Program Frac) (world : World Frac) (state : State) (solver : List ℕ) (rules : List SolverRule) (answers : List (Answer Frac)) →
-        IsProgram number_limit source frac_value saved → IsProgram number_limit (joint_source source file) frac_value world.program →
+        IsProgram greatest_part source frac_value saved → IsProgram greatest_part (joint_source source file) frac_value world.program →
         joint_errors frac_value world.program (first_line source) world.solvers ≡ [] → IsSavedBy saved state solver →
-        AreAnswered frac_value limit rules answers (whole_run frac_value limit world (resumed frac_value state world.program)
+        AreAnswered frac_value limit rules answers (run_with_answers frac_value limit world (resumed frac_value state world.program)
         (drop (length (saved_statements (first_line source) world.program)) world.program.statements.items) answers).events →
         AnswersAreSo frac_value limit world (resumed frac_value state world.program)
         (drop (length (saved_statements (first_line source) world.program)) world.program.statements.items) answers }
     ensures begun { (world : World F) (first : State) (before statements : List (Stmt F)) (rules : List SolverRule) (answers : List (Answer F)) →
         IsAccepted F.value world.program → MayBegin F.value world.program first → world.program.statements.items ≡ before ++ statements →
-        AreAnswered F.value F.limit rules answers (whole_run F.value F.limit world first statements answers).events →
+        AreAnswered F.value F.limit rules answers (run_with_answers F.value F.limit world first statements answers).events →
         AnswersAreSo F.value F.limit world first statements answers }
 {}

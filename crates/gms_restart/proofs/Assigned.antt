@@ -20,13 +20,13 @@ use Rattle.gms_ast.specs.Trees as tree
 use Rattle.gms_ast.specs.TreeView.{tree_of}
 use Rattle.gms_store.specs.State.{State, symbol_at, symbol_of, base_of}
 use Rattle.gms_store.specs.Declarations.{is_undeclared, blank_state}
-use Rattle.gms_known.specs.Names.{is_unknown, positions}
+use Rattle.gms_scope.specs.Names.{has_no_declaration, positions}
 use Rattle.gms_check.specs.Checked.{StandsAfter}
 use Rattle.gms_check.specs.CompileErrors.{known_after}
 use Rattle.gms_check.specs.Domains as checking
 use Rattle.gms_check.specs.Loaded.{IsAccepted, loaded, sound}
 use Rattle.gms_check.specs.Past.{Known, after_statement, state_after}
-use Rattle.gms_check.specs.Statements.{act_uses}
+use Rattle.gms_check.specs.InnerStatements.{act_uses}
 use Rattle.gms_check.specs.StatementUses.{index_list}
 use Rattle.gms_check.specs.Uses.{assigning}
 use Rattle.gms_check.proofs.ActUses.{uses-act, uses-Assign}
@@ -37,21 +37,21 @@ use Rattle.gms_check.proofs.NoErrors.{AreClean}
 use Rattle.gms_check.proofs.Soundness.{sound-use}
 use Rattle.gms_eval.specs.Bindings.{Pairs, controlled}
 use Rattle.gms_eval.specs.Faults.{Answer, ◌and_then◌}
-use Rattle.gms_eval.specs.Leaders.{index_count}
+use Rattle.gms_eval.specs.Leaders.{number_of_indices}
 use Rattle.gms_eval.specs.Nodes.{in_order}
 use Rattle.gms_eval.specs.References.{all_there, tuple_of}
 use Rattle.gms_eval.specs.Value.{labels, domain, control_over}
 use Rattle.gms_rows.proofs.Domains.{given, only_value}
-use Rattle.gms_exec.specs.Assignment.{newly_controlled, target_of, given_under, element_under, those_there, given_by}
+use Rattle.gms_exec.specs.Assignment.{newly_controlled, target_of, given_under, element_under, given_elements, given_by}
 use Rattle.gms_exec.specs.Given.{Given, AllGiven}
 use Rattle.gms_exec.proofs.Staying.{Stays, follows-of}
-use Rattle.gms_joint.specs.Reached.{IsStatementOf}
+use Rattle.gms_run_laws.specs.Reached.{IsStatementOf}
 use Rattle.gms_restart.proofs.Growth.{closed-after}
 
 -- ---- the tuple of an element
 
 -- both counts of indices are one
-pub same-count : {F : Type 0} (indices : tree.Indices F) → index_count indices ≡ checking.index_count indices
+pub same-count : {F : Type 0} (indices : tree.Indices F) → number_of_indices indices ≡ checking.index_count indices
 same-count tree.no_index = refl
 same-count (tree.label label rest) = let e = same-count rest in omega (arith, e)
 same-count (tree.set set rest) = let e = same-count rest in omega (arith, e)
@@ -87,7 +87,7 @@ tuple-long those t e = by (nat_le (length those) 10) e
 
 module _ {F : Type 0} (v : F → Number) (limit : ℕ) (state : State) where
   -- one label an index
-  labels-long : (binding : Pairs) (indices : tree.Indices F) → length (labels v limit state binding indices) ≡ index_count indices
+  labels-long : (binding : Pairs) (indices : tree.Indices F) → length (labels v limit state binding indices) ≡ number_of_indices indices
   labels-long binding tree.no_index = refl
   labels-long binding (tree.label label rest) = let e = labels-long binding rest in omega (arith, e)
   labels-long binding (tree.set set rest) = let e = labels-long binding rest in omega (arith, e)
@@ -96,7 +96,7 @@ module _ {F : Type 0} (v : F → Number) (limit : ℕ) (state : State) where
   module _ (target : Target F) (right_at : Place) (right : tree.Tree F) where
     -- an element has as many labels as the left side has indices
     abbrev IsLong : List ℕ × Given → Type 0
-    IsLong given = length given.0 ≡ index_count target.indices
+    IsLong given = length given.0 ≡ number_of_indices target.indices
 
     abbrev MayBeLong : Option (List ℕ × Given) → Type 0
     MayBeLong None = Unit {0}
@@ -113,28 +113,28 @@ module _ {F : Type 0} (v : F → Number) (limit : ℕ) (state : State) where
             let two = given (given_under v limit state target right_at right binding) (λ x. Ok (Some (t, x))) made e in
             let first = tuple-long those t is in
             let count = labels-long binding target.indices in
-            let all : length t ≡ index_count target.indices = omega (arith, first, long, count) in
+            let all : length t ≡ number_of_indices target.indices = omega (arith, first, long, count) in
             subst MayBeLong (only_value (Some (t, two.value)) made two.next_is) all
 
-    there-all : (first : Option (List ℕ × Given)) (later : List (Option (List ℕ × Given))) → MayBeLong first → All IsLong (those_there v limit state later) → All IsLong (those_there v limit state (first ∷ later))
+    there-all : (first : Option (List ℕ × Given)) (later : List (Option (List ℕ × Given))) → MayBeLong first → All IsLong (given_elements v limit state later) → All IsLong (given_elements v limit state (first ∷ later))
     there-all None later one rest = rest
-    there-all (Some given) later one rest = All-cons IsLong given (those_there v limit state later) one rest
+    there-all (Some given) later one rest = All-cons IsLong given (given_elements v limit state later) one rest
 
-    elements-long : (bindings : List Pairs) (made : List (Option (List ℕ × Given))) → in_order (map (element_under v limit state target right_at right) bindings) ≡ Ok made → All IsLong (those_there v limit state made)
-    elements-long [] made e = subst (λ ms. All IsLong (those_there v limit state ms)) (only_value [] made e) (All-nil IsLong)
+    elements-long : (bindings : List Pairs) (made : List (Option (List ℕ × Given))) → in_order (map (element_under v limit state target right_at right) bindings) ≡ Ok made → All IsLong (given_elements v limit state made)
+    elements-long [] made e = subst (λ ms. All IsLong (given_elements v limit state ms)) (only_value [] made e) (All-nil IsLong)
     elements-long (binding ∷ bindings) made e =
         let one = given (element_under v limit state target right_at right binding) (λ x. in_order (map (element_under v limit state target right_at right) bindings) and_then λ xs. Ok (x ∷ xs)) made e in
         let two = given (in_order (map (element_under v limit state target right_at right) bindings)) (λ xs. Ok (one.value ∷ xs)) made one.next_is in
-        subst (λ ms. All IsLong (those_there v limit state ms)) (only_value (one.value ∷ two.value) made two.next_is) (there-all one.value two.value (element-long binding one.value one.is) (elements-long bindings two.value two.is))
+        subst (λ ms. All IsLong (given_elements v limit state ms)) (only_value (one.value ∷ two.value) made two.next_is) (there-all one.value two.value (element-long binding one.value one.is) (elements-long bindings two.value two.is))
 
     -- what an assignment gives has as many labels as its left side has indices
     pub given-long : (at : Place) (binding : Pairs) (condition : Option (tree.Tree F)) (all : AllGiven) → given_by v limit state at binding target condition right_at right ≡ Ok all → All IsLong all
     given-long at binding condition all e =
         let sets = newly_controlled binding target.indices in
-        let one = given (domain v limit state binding at (control_over sets condition)) (λ elements. in_order (map (λ element. element_under v limit state target right_at right (controlled binding sets element)) elements) and_then λ given. Ok (those_there v limit state given)) all e in
-        let two = given (in_order (map (λ element. element_under v limit state target right_at right (controlled binding sets element)) one.value)) (λ given. Ok (those_there v limit state given)) all one.next_is in
+        let one = given (domain v limit state binding at (control_over sets condition)) (λ elements. in_order (map (λ element. element_under v limit state target right_at right (controlled binding sets element)) elements) and_then λ given. Ok (given_elements v limit state given)) all e in
+        let two = given (in_order (map (λ element. element_under v limit state target right_at right (controlled binding sets element)) one.value)) (λ given. Ok (given_elements v limit state given)) all one.next_is in
         let bindings = map (controlled binding sets) one.value in
-        subst (All IsLong) (only_value (those_there v limit state two.value) all two.next_is) (elements-long bindings two.value (ap in_order (map-map (controlled binding sets) (element_under v limit state target right_at right) one.value) ∙ two.is))
+        subst (All IsLong) (only_value (given_elements v limit state two.value) all two.next_is) (elements-long bindings two.value (ap in_order (map-map (controlled binding sets) (element_under v limit state target right_at right) one.value) ∙ two.is))
       where
         map-map : {A B C : Type 0} (f : A → B) (g : B → C) (xs : List A) → map g (map f xs) ≡ map (λ x. g (f x)) xs
         map-map f g [] = refl
@@ -167,7 +167,7 @@ module _ {F : Type 0} (v : F → Number) (program : Program F) (before : List (S
   not-undeclared false e = refl
 
   -- a declared name has the same positions when the program begins
-  same-domain : (name : ℕ) → is_unknown then_state name ≡ false → (symbol_of (loaded v program) name).domain ≡ positions then_state name
+  same-domain : (name : ℕ) → has_no_declaration then_state name ≡ false → (symbol_of (loaded v program) name).domain ≡ positions then_state name
   same-domain name declared =
       let base = base_of then_state name in
       let here = not-undeclared (is_undeclared (symbol_at then_state base).content) (closed-after v (length program.names) before name (ap not declared)) in
@@ -187,5 +187,5 @@ module _ {F : Type 0} (v : F → Number) (limit : ℕ) (program : Program F) (ac
       let count = used.2.count in
       let same = same-count (index_list target.indices) in
       let domain_is = ap length ((follows-of (loaded v program) state stays target.name).domain ∙ same-domain v program before of_program.outer of_program.stands target.name used.0) in
-      let long : index_count (index_list target.indices) ≡ length (symbol_of state target.name).domain = omega (arith, count, same, domain_is) in
+      let long : number_of_indices (index_list target.indices) ≡ length (symbol_of state target.name).domain = omega (arith, count, same, domain_is) in
       subst (λ (n : ℕ). All (λ (given : List ℕ × Given). length given.0 ≡ n) all) long (given-long v limit state (target_of target) right_at (tree_of right) statement.at binding (option_map tree_of condition) all e)

@@ -35,7 +35,7 @@ use Rattle.gms_store.specs.State.{State}
 use Rattle.gms_store.specs.Declarations.{declare_model, names_of, positions_of}
 use Rattle.gms_set.specs.declared.fault.SetError.TheVariants.{BadRange, Outside}
 use Rattle.gms_set.specs.declared.fault.SetFault.{SetFault}
-use Rattle.gms_set.specs.Expansion.{Given}
+use Rattle.gms_set.specs.Expansion.{ExpandedData}
 use Rattle.gms_check.specs.declared.error.CompileError.{CompileError}
 use Rattle.gms_check.specs.declared.error.ErrorKind.{ErrorKind}
 use Rattle.gms_check.specs.declared.error.ErrorKind.TheVariants as wrong
@@ -44,7 +44,7 @@ use Rattle.gms_check.specs.CompileErrors.{act_errors, checked_kinds, compile_err
 use Rattle.gms_check.specs.Controls.{controlled_twice, not_ordered, uncontrolled}
 use Rattle.gms_check.specs.DeclarationUses.{are_usable, data_uses, domain_use, expansion_uses, failure, item_uses, kind_uses, model_uses}
 use Rattle.gms_check.specs.Domains.{domain_of_label, domain_of_set, dynamic_domain, wrong_arity}
-use Rattle.gms_check.specs.Errors.{first_of}
+use Rattle.gms_check.specs.Errors.{first_error}
 use Rattle.gms_check.specs.Kinds.{discrete, is_left_amount, wrong_function, wrong_kind}
 use Rattle.gms_check.specs.Linearity.{endogenous, has_variable, have_variable, is_sum, is_variable_by, nonlinear}
 use Rattle.gms_check.specs.Names.{redeclared, unknown_name}
@@ -52,9 +52,9 @@ use Rattle.gms_check.specs.OptionWords.{is_one_of}
 use Rattle.gms_check.specs.Past.{Known, Past, with_item, with_name}
 use Rattle.gms_check.specs.Solves.{data_fault, defined_twice, model_type, not_defined, objective, option_range, unknown_solver}
 use Rattle.gms_check.specs.Standing.{as_condition, as_denied, as_guarded, as_inner, as_number, as_part, as_side}
-use Rattle.gms_check.specs.Statements.{act_uses}
-use Rattle.gms_check.specs.StatementUses.{OfAct, OfStatement, act_step, index_list, left_uses, option_uses, right_standing, show_uses, statement_step, statement_uses, with_left}
-use Rattle.gms_check.specs.Uses.{Use, Uses, multiplies, divides, raises, literal, reading, calling, folding, stepping, shifting, placing, failing, listing, showing, option_value, amount_uses, condition_uses, control_uses, later_steps, part_uses, place_of, sets_of, shift_uses, steps, uses}
+use Rattle.gms_check.specs.InnerStatements.{act_uses}
+use Rattle.gms_check.specs.StatementUses.{UsesOfAct, UsesOfStatement, act_uses_step, index_list, left_uses, option_uses, right_standing, show_uses, statement_uses_step, statement_uses, with_left}
+use Rattle.gms_check.specs.Uses.{Use, Uses, multiplies, divides, raises, literal, reading, calling, folding, stepping, shifting, placing, failing, listing, showing, option_value, amount_uses, condition_uses, control_uses, later_steps, part_uses, place_by_mark, sets_of_control, shift_uses, steps, uses}
 use Rattle.gms_check.proofs.ActUses.{uses-act}
 use Rattle.gms_check.proofs.NoErrors.{AreClean, IsClean, are-clean, nil-left, nil-right, none-first}
 use Rattle.gms_check.proofs.Soundness.{no-option}
@@ -124,7 +124,7 @@ module _ (selected : List (List ℕ)) where
     tree-fits standing around controlled (size_of_set at name) = (tt, tt)
     tree-fits standing around controlled (call at function args) = (tt, parts-fit (as_inner standing) at controlled args)
     tree-fits standing around controlled (fold_over at op control body) =
-        (tt, fit-both (control_uses at controlled control) (uses (as_inner standing) at (controlled ++ sets_of control) body) (control-fits at controlled control) (tree-fits (as_inner standing) at (controlled ++ sets_of control) body))
+        (tt, fit-both (control_uses at controlled control) (uses (as_inner standing) at (controlled ++ sets_of_control control) body) (control-fits at controlled control) (tree-fits (as_inner standing) at (controlled ++ sets_of_control control) body))
     tree-fits standing around controlled (negated operand) = tree-fits (as_part standing) around controlled operand
     tree-fits standing around controlled (sum parts) = parts-fit (as_part standing) around controlled parts
     tree-fits standing around controlled (product parts) =
@@ -141,7 +141,7 @@ module _ (selected : List (List ℕ)) where
     parts-fit : (standing : Standing) (around : Place) (controlled : List ℕ) (parts : Parts Frac) → AllFit (part_uses standing around controlled parts)
     parts-fit standing around controlled no_part = tt
     parts-fit standing around controlled (part mark e rest) =
-        fit-both (uses standing (place_of mark around) controlled e) (part_uses standing around controlled rest) (tree-fits standing (place_of mark around) controlled e) (parts-fit standing around controlled rest)
+        fit-both (uses standing (place_by_mark mark around) controlled e) (part_uses standing around controlled rest) (tree-fits standing (place_by_mark mark around) controlled e) (parts-fit standing around controlled rest)
 
     amounts-fit : (controlled : List ℕ) (indices : Indices Frac) → AllFit (amount_uses controlled indices)
     amounts-fit controlled no_index = tt
@@ -211,15 +211,15 @@ module _ (selected : List (List ℕ)) where
   abbrev ActFits : Act Frac → Type 0
   ActFits act = AreAmong selected (chosen_by act) → (state : State) (at : Place) (controlled : List ℕ) → AllFit (act_uses act state at controlled)
 
-  body-fits : (body : List (Stmt Frac)) → AllSuch ActFits body → AreAmong selected (flat_map (λ names. names) (map solvers_in body)) → (state : State) (sets : List ℕ) → AllFit (flat_map (λ (f : OfStatement Frac). f state sets) (map statement_uses body))
+  body-fits : (body : List (Stmt Frac)) → AllSuch ActFits body → AreAmong selected (flat_map (λ names. names) (map solvers_in body)) → (state : State) (sets : List ℕ) → AllFit (flat_map (λ (f : UsesOfStatement Frac). f state sets) (map statement_uses body))
   body-fits [] all among state sets = tt
   body-fits (s ∷ body) all among state sets =
       let own : AreAmong selected (chosen_by s.act) = subst (AreAmong selected) (chosen-in s) (among-left selected (solvers_in s) (flat_map (λ names. names) (map solvers_in body)) among) in
-      fit-both (statement_uses s state sets) (flat_map (λ (f : OfStatement Frac). f state sets) (map statement_uses body)) (subst AllFit (sym (uses-act s state sets)) (all.0 own state s.at sets))
+      fit-both (statement_uses s state sets) (flat_map (λ (f : UsesOfStatement Frac). f state sets) (map statement_uses body)) (subst AllFit (sym (uses-act s state sets)) (all.0 own state s.at sets))
       (body-fits body all.1 (among-right selected (solvers_in s) (flat_map (λ names. names) (map solvers_in body)) among) state sets)
 
-  abbrev used_layer : Layer → OfAct Frac
-  used_layer x = act_step (map-Act Frac (Act Frac) (Stmt Frac) (OfAct Frac) (OfStatement Frac) act_uses statement_uses x)
+  abbrev used_layer : Layer → UsesOfAct Frac
+  used_layer x = act_uses_step (map-Act Frac (Act Frac) (Stmt Frac) (UsesOfAct Frac) (UsesOfStatement Frac) act_uses statement_uses x)
 
   abbrev chosen_layer : Layer → Names
   chosen_layer x = solvers_step (map-Act Frac (Act Frac) (Stmt Frac) Names Names chosen_by solvers_in x)
@@ -236,15 +236,15 @@ module _ (selected : List (List ℕ)) where
   layer-fits (Act-F.Solve model word objective maximize) all among state at controlled = (tt, (tt, (tt, tt)))
   layer-fits (Act-F.Display items) all among state at controlled = shows-fit items
   layer-fits (Act-F.Loop control body) all among state at controlled =
-      let sets = controlled ++ sets_of (control_tree control) in
-      fit-both (control_uses at controlled (control_tree control)) (flat_map (λ (f : OfStatement Frac). f state sets) (map statement_uses body.items)) (control-fits at controlled (control_tree control)) (body-fits body.items all among state sets)
+      let sets = controlled ++ sets_of_control (control_tree control) in
+      fit-both (control_uses at controlled (control_tree control)) (flat_map (λ (f : UsesOfStatement Frac). f state sets) (map statement_uses body.items)) (control-fits at controlled (control_tree control)) (body-fits body.items all among state sets)
   layer-fits (Act-F.Options options) all among state at controlled = options-fit options among
   layer-fits (Act-F.Abort condition items) all among state at controlled =
       fit-both (condition_uses at controlled (option_map tree_of condition)) (flat_map show_uses items) (condition-fits at controlled (option_map tree_of condition)) (shows-fit items)
 
   layers : (x : Layer) → LayerSuch ActFits x → ActFits (roll-Act Frac x)
   layers x all among state at controlled =
-      subst AllFit (sym (ap (λ (f : OfAct Frac). f state at controlled) (fold-roll-Act Frac (OfAct Frac) (OfStatement Frac) act_step statement_step x)))
+      subst AllFit (sym (ap (λ (f : UsesOfAct Frac). f state at controlled) (fold-roll-Act Frac (UsesOfAct Frac) (UsesOfStatement Frac) act_uses_step statement_uses_step x)))
       (layer-fits x all (subst (AreAmong selected) (fold-roll-Act Frac Names Names solvers_step of_act x) among) state at controlled)
 
   -- a statement that chooses among these names uses what fits
@@ -259,7 +259,7 @@ module _ (selected : List (List ℕ)) where
   domain-fits (None ∷ domain) = domain-fits domain
   domain-fits (Some named ∷ domain) = (tt, domain-fits domain)
 
-  expansion-fits : (b : Bool) (given : Result (Given Frac) SetFault) → AllFit (if b then failure given else [])
+  expansion-fits : (b : Bool) (given : Result (ExpandedData Frac) SetFault) → AllFit (if b then failure given else [])
   expansion-fits true (Ok given) = tt
   expansion-fits true (Err fault) = (tt, tt)
   expansion-fits false given = tt
@@ -501,13 +501,13 @@ module _ (selected : List (List ℕ)) where
   statement-again : (known : Known Frac) (s : Stmt Frac) → AreAmong selected (solvers_in s) → statement_error known s ≡ None → statement_error (with_selected known) s ≡ None
   statement-again known s among = by s.act
     where
-      by : (act : Act Frac) → first_of (act_errors known s act) ≡ None → first_of (act_errors (with_selected known) s act) ≡ None
+      by : (act : Act Frac) → first_error (act_errors known s act) ≡ None → first_error (act_errors (with_selected known) s act) ≡ None
       by (Declare kind items) none =
           let all = none-first (errors_of known (kind_uses s.at kind) ++ declaration_errors known kind items) none in
-          ap first_of (ap₂ (λ (a b : List CompileError). a ++ b) (none-again known (kind_uses s.at kind) (kind-fits s.at kind) (nil-left (errors_of known (kind_uses s.at kind)) (declaration_errors known kind items) all)) (declaration-again known kind items (nil-right (errors_of known (kind_uses s.at kind)) (declaration_errors known kind items) all)))
-      by (Model models) none = ap first_of (models-again known models (none-first (model_errors known models) none))
+          ap first_error (ap₂ (λ (a b : List CompileError). a ++ b) (none-again known (kind_uses s.at kind) (kind-fits s.at kind) (nil-left (errors_of known (kind_uses s.at kind)) (declaration_errors known kind items) all)) (declaration-again known kind items (nil-right (errors_of known (kind_uses s.at kind)) (declaration_errors known kind items) all)))
+      by (Model models) none = ap first_error (models-again known models (none-first (model_errors known models) none))
       by act none =
-          ap first_of (none-again known (statement_uses s known.state []) (statement-fits s among known.state []) (none-first (errors_of known (statement_uses s known.state [])) none))
+          ap first_error (none-again known (statement_uses s known.state []) (statement-fits s among known.state []) (none-first (errors_of known (statement_uses s known.state [])) none))
 
   -- ---- programs
 

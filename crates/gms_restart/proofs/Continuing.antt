@@ -21,21 +21,21 @@ use Rattle.gms_grammar.specs.LookAhead.{may_be_empty}
 use Rattle.gms_grammar.proofs.Decided.{gams_decided}
 use Rattle.gms_grammar.proofs.Starts.{Starts, starts}
 use Rattle.gms_expressions.specs.ExpressionTrees.{first_place, place_in}
-use Rattle.gms_expressions.specs.Outcomes.{seen}
+use Rattle.gms_expressions.specs.Outcomes.{kinded_tokens}
 use Rattle.gms_expressions.specs.Words.{terminal_of}
 use Rattle.gms_parse.specs.Outcomes.{HasProgram, IsProgram, ProgramView, program_view}
 use Rattle.gms_parse.specs.Programs.{keyword_statements, named_first, segment, segments, statements_of}
-use Rattle.gms_parse.specs.Readings.{Derivation, GamsPart}
-use Rattle.gms_parse.specs.Walks.{Seen}
+use Rattle.gms_parse.specs.InnerReadings.{Derivation, GamsPart}
+use Rattle.gms_parse.specs.Walks.{KindedToken}
 use Rattle.gms_check.specs.Loaded.{IsAccepted}
 use Rattle.gms_exec.specs.Run.{World}
-use Rattle.gms_frames.proofs.FormKeys.{EachHas}
-use Rattle.gms_front.proofs.FrontPrograms.{attached, kin, names_go_on}
-use Rattle.gms_front.proofs.KinPrograms.{statements_same}
-use Rattle.gms_going_on.proofs.Padding.{test-of}
+use Rattle.gms_run_laws.proofs.FormKeys.{EachHas}
+use Rattle.gms_joint_source.proofs.FrontPrograms.{attached, kin, names_go_on}
+use Rattle.gms_joint_source.proofs.KinPrograms.{statements_same}
+use Rattle.gms_run_laws.proofs.Padding.{test-of}
 use Rattle.gms_save.specs.JointErrors.{joint_errors}
-use Rattle.gms_seam.specs.Fronts.{BeginsWith, Derives, HaveFront, attach, first_line, joint_source}
-use Rattle.gms_seam.proofs.SeamSeen.{begins_with, have_front, no_ends, own_seen, seen_own}
+use Rattle.gms_joint_source.specs.Fronts.{BeginsWith, DerivesSource, HaveFront, attach, first_line, joint_source}
+use Rattle.gms_joint_source.proofs.SeamSeen.{begins_with, have_front, no_ends, own_seen, seen_own}
 use Rattle.gms_restart.specs.Restarts.{SaysTheSame, base_run, whole_run}
 use Rattle.gms_restart.specs.StatementLines.{SeenNew, SeenSaved}
 use Rattle.gms_restart.proofs.Restarted.{restarted}
@@ -57,7 +57,7 @@ attached-tree _ tree is all = absurd is
 attached-yield : (others tree : Derivation) → IsTree productions Segments others → yield (attach others tree) ≡ yield others ++ yield tree
 attached-yield none tree is = refl
 attached-yield (more one others) tree is =
-    ap (λ (ts : List Seen). yield one ++ ts) (attached-yield others tree is.1) ∙ sym (append_assoc (yield one) (yield others) (yield tree))
+    ap (λ (ts : List KindedToken). yield one ++ ts) (attached-yield others tree is.1) ∙ sym (append_assoc (yield one) (yield others) (yield tree))
 attached-yield _ tree is = absurd is
 
 followed-all : (a b c : Statements Number) → followed_by (followed_by a b) c ≡ followed_by a (followed_by b c)
@@ -67,10 +67,10 @@ followed-all (statement at act a) b c = ap (λ (s : Statements Number). statemen
 -- ---- statements above a line
 
 module _ (source : List ℕ) (names labels : List (List ℕ)) (from : ℕ) (some_line : 0 < from) where
-  abbrev Early : Seen → Type 0
+  abbrev Early : KindedToken → Type 0
   Early = IsEarly from
 
-  first-early : (tokens : List Seen) → EachHas Early tokens → nat_lt (first_place tokens).line from ≡ true
+  first-early : (tokens : List KindedToken) → EachHas Early tokens → nat_lt (first_place tokens).line from ≡ true
   first-early [] all = test-of 0 from some_line
   first-early (t ∷ tokens) all = all.0
 
@@ -105,7 +105,7 @@ module _ (source : List ℕ) (names labels : List (List ℕ)) (from : ℕ) (some
 -- ---- statements at a line or below it
 
 module _ (source : List ℕ) (names labels : List (List ℕ)) (from : ℕ) where
-  abbrev Late : Seen → Type 0
+  abbrev Late : KindedToken → Type 0
   Late = IsLate from
 
   not-before : (line : ℕ) → from ≤ line → nat_lt line from ≡ false
@@ -114,7 +114,7 @@ module _ (source : List ℕ) (names labels : List (List ℕ)) (from : ℕ) where
   first-late : (part : GamsPart) (tree : Derivation) → may_be_empty look_ahead part ≡ false → IsTree productions part tree → EachHas Late (yield tree) → nat_lt (place_in tree).line from ≡ false
   first-late part tree something is all = by (yield tree) (starts productions look_ahead gams_decided part tree is) all
     where
-      by : (tokens : List Seen) → Starts {D = Token} productions look_ahead gams_decided part tokens → EachHas Late tokens → nat_lt (first_place tokens).line from ≡ false
+      by : (tokens : List KindedToken) → Starts {D = Token} productions look_ahead gams_decided part tokens → EachHas Late tokens → nat_lt (first_place tokens).line from ≡ false
       by [] empty all = absurd (both_ways (may_be_empty look_ahead part) something empty)
       by (t ∷ tokens) begins all = not-before t.1.at.line all.0
 
@@ -143,7 +143,7 @@ module _ (source : List ℕ) (names labels : List (List ℕ)) (from : ℕ) where
 
 -- ---- programs
 
-cancelled : (u v w : List Seen) → u ++ v ≡ u ++ w → v ≡ w
+cancelled : (u v w : List KindedToken) → u ++ v ≡ u ++ w → v ≡ w
 cancelled [] v w e = e
 cancelled (x ∷ u) v w e = let h : u ++ v ≡ u ++ w = cc in cancelled u v w h
 
@@ -154,10 +154,10 @@ module _ (limit : ℕ) (saved file : List ℕ) (first whole : ProgramView) (p : 
   abbrev from : ℕ
   from = first_line saved
 
-  abbrev see : Token → Seen
+  abbrev see : Token → KindedToken
   see t = (terminal_of t.kind (token_text joint_text t), t)
 
-  own-derives : Derives saved p.tokens p.is.tree
+  own-derives : DerivesSource saved p.tokens p.is.tree
   own-derives = record { end = p.is.end; is_tree = p.is.is_tree; yields = p.is.tokens_are }
 
   begins : BeginsWith q.is.tree p.is.tree
@@ -181,7 +181,7 @@ module _ (limit : ℕ) (saved file : List ℕ) (first whole : ProgramView) (p : 
   behind-yield : yield q.is.tree ≡ yield p.is.tree ++ (begins.semicolon ∷ (yield begins.next ++ yield begins.last))
   behind-yield =
       ap (λ (t : Derivation). yield t) begins.whole_is
-      ∙ ap (λ (ts : List Seen). yield begins.segment ++ ts) (attached-yield begins.others behind_tree own-tree.1)
+      ∙ ap (λ (ts : List KindedToken). yield begins.segment ++ ts) (attached-yield begins.others behind_tree own-tree.1)
       ∙ sym (append_assoc (yield begins.segment) (yield begins.others) (begins.semicolon ∷ (yield begins.next ++ yield begins.last)))
       ∙ ap (λ (t : Derivation). yield t ++ (begins.semicolon ∷ (yield begins.next ++ yield begins.last))) (sym begins.first_is)
 
@@ -199,16 +199,16 @@ module _ (limit : ℕ) (saved file : List ℕ) (first whole : ProgramView) (p : 
 
   behind-late : EachHas (IsLate from) (yield begins.next ++ yield begins.last)
   behind-late =
-      let last : List Seen = (terminal.End, q.is.end) ∷ [] in
-      let those : List Seen = yield begins.next ++ yield begins.last in
-      let others : List Seen = seen joint_text saved_front.others in
+      let last : List KindedToken = (terminal.End, q.is.end) ∷ [] in
+      let those : List KindedToken = yield begins.next ++ yield begins.last in
+      let others : List KindedToken = kinded_tokens joint_text saved_front.others in
       let placed : All (IsPlaced saved) (saved_front.own ++ end_token saved ∷ []) = subst (All (IsPlaced saved)) saved_front.tokens_are (tokens_placed saved p.tokens p.are_tokens) in
-      let own : seen joint_text saved_front.own ≡ yield p.is.tree = own_seen saved (10 ∷ 59 ∷ 10 ∷ file) saved_front.own (end_token saved ∷ []) placed ∙ seen_own saved p.tokens saved_front.own p.is.tree saved_front.tokens_are own-derives in
-      let parts : seen joint_text q.tokens ≡ yield p.is.tree ++ (see saved_front.semicolon ∷ others) =
-      ap (seen joint_text) tokens-are ∙ map-append see saved_front.own those_behind ∙ ap (λ (ts : List Seen). ts ++ (see saved_front.semicolon ∷ others)) own in
+      let own : kinded_tokens joint_text saved_front.own ≡ yield p.is.tree = own_seen saved (10 ∷ 59 ∷ 10 ∷ file) saved_front.own (end_token saved ∷ []) placed ∙ seen_own saved p.tokens saved_front.own p.is.tree saved_front.tokens_are own-derives in
+      let parts : kinded_tokens joint_text q.tokens ≡ yield p.is.tree ++ (see saved_front.semicolon ∷ others) =
+      ap (kinded_tokens joint_text) tokens-are ∙ map-append see saved_front.own those_behind ∙ ap (λ (ts : List KindedToken). ts ++ (see saved_front.semicolon ∷ others)) own in
       let agree : see saved_front.semicolon ∷ others ≡ begins.semicolon ∷ (those ++ last) =
       cancelled (yield p.is.tree) (see saved_front.semicolon ∷ others) (begins.semicolon ∷ (those ++ last))
-      (sym parts ∙ q.is.tokens_are ∙ ap (λ (ts : List Seen). ts ++ last) behind-yield ∙ append_assoc (yield p.is.tree) (begins.semicolon ∷ those) last) in
+      (sym parts ∙ q.is.tokens_are ∙ ap (λ (ts : List KindedToken). ts ++ last) behind-yield ∙ append_assoc (yield p.is.tree) (begins.semicolon ∷ those) last) in
       let rest : others ≡ those ++ last = cc in
       let is_placed : All (IsPlaced joint_text) (saved_front.own ++ those_behind) = subst (All (IsPlaced joint_text)) tokens-are (tokens_placed joint_text q.tokens q.are_tokens) in
       let others_placed : All (IsPlaced joint_text) saved_front.others = All-tail (IsPlaced joint_text) saved_front.semicolon saved_front.others (all-behind (IsPlaced joint_text) saved_front.own those_behind is_placed) in

@@ -13,14 +13,14 @@ use Rattle.gms_ast.specs.StatementView.{declared_in, statements_view}
 use Rattle.gms_parse.specs.Outcomes.{IsProgram, program_view}
 use Rattle.gms_parse.proofs.Looped.{view-Stmt}
 use Rattle.gms_check.specs.Past.{names_declared}
-use Rattle.gms_frames.specs.Names.{Each}
-use Rattle.gms_frames.proofs.Eaches.{each-both}
+use Rattle.gms_run_laws.specs.Names.{Each}
+use Rattle.gms_run_laws.proofs.Eaches.{each-both}
 use Rattle.gms_save.proofs.FromNumbers.{value_of}
 use Rattle.gms_save.proofs.SeenActs.{Told, same-told, shown, told_by}
 use Rattle.gms_restart.proofs.Padding.{HoldsOf, HoldsOfAct, HoldsOfAll, IsBelow, item_names, model_names}
 use Rattle.gms_restart.proofs.ProgramNames.{program-own}
-use Rattle.gms_going_on.specs.GoingOn.{DeclaresItsOwn}
-use Rattle.gms_going_on.proofs.Padding.{test-of}
+use Rattle.gms_run_laws.specs.GoingOn.{DeclaresItsOwn}
+use Rattle.gms_run_laws.proofs.Padding.{test-of}
 
 module _ (count : ℕ) where
   abbrev is_own : ℕ → Bool

@@ -12,11 +12,11 @@ use Rattle.gms_ast.specs.declared.expression.LagOp.{LagOp}
 use Rattle.gms_ast.specs.declared.expression.LagOp.TheVariants.{Lead, Lag, CircularLead, CircularLag}
 use Rattle.gms_ast.specs.Trees as tree
 use Rattle.gms_tuple.specs.TupleOrder.{same_tuple}
-use Rattle.gms_tuple.specs.TupleSet.{has, place_of}
+use Rattle.gms_tuple.specs.TupleSet.{has, place_of_tuple}
 use Rattle.gms_tuple.proofs.Ordered.{same_tuple_refl}
 use Rattle.gms_store.specs.State.{State, symbol_at, base_of, given_in, members_in, members_of}
-use Rattle.gms_known.specs.Below.{fits, holds}
-use Rattle.gms_known.specs.Names.{is_index_set, is_unknown}
+use Rattle.gms_scope.specs.Below.{set_fits_position, label_fits_position}
+use Rattle.gms_scope.specs.Names.{is_index_set, has_no_declaration}
 use Rattle.gms_check.specs.Above.{directly_above}
 use Rattle.gms_check.specs.Domains.{index_count}
 use Rattle.gms_check.specs.IndexList.{have_unfit_set, have_unfit_label}
@@ -25,25 +25,25 @@ use Rattle.gms_check.proofs.Growing.{IsAfter}
 use Rattle.gms_eval.specs.Bindings.{Pairs, label_of, paired, controlled}
 use Rattle.gms_eval.specs.Domain.{elements, most_elements, too_large, sized, those_where, IsSimple}
 use Rattle.gms_eval.specs.Faults.{Answer, nothing, faulted, ◌and_then◌}
-use Rattle.gms_eval.specs.Lag.{around, label_in, label_at, moved, lagged_label, whole_number}
+use Rattle.gms_eval.specs.Lag.{around, label_of_element, label_at, moved, lagged_label, whole_number}
 use Rattle.gms_eval.specs.Nodes.{in_order}
-use Rattle.gms_eval.specs.References.{reached, all_there, tuple_of}
+use Rattle.gms_eval.specs.References.{reached_label, all_there, tuple_of}
 use Rattle.gms_eval.specs.Value.{value, labels, domain, sets_of, when_so}
 use Rattle.gms_eval.specs.declared.stop.StopKind.TheVariants.{LagNotWhole}
 use Rattle.gms_exec.proofs.Staying.{Stays}
-use Rattle.gms_frames.proofs.Eaches.{each-right}
-use Rattle.gms_frames.proofs.FormKeys.{OkHas, EachHas, then-has, after-has, either-has}
-use Rattle.gms_joint.specs.Labels.{AreMembers}
-use Rattle.gms_joint.specs.LastStates.{AreFixed}
+use Rattle.gms_run_laws.proofs.Eaches.{each-right}
+use Rattle.gms_run_laws.proofs.FormKeys.{OkHas, EachHas, then-has, after-has, either-has}
+use Rattle.gms_run_laws.specs.Labels.{AreMembers}
+use Rattle.gms_run_laws.specs.LastStates.{AreFixed}
 use Rattle.gms_rows.proofs.Domains.{given, only_value}
-use Rattle.gms_saved.specs.Validity.{stands_at, stands_in}
-use Rattle.gms_frames.specs.Names.{Each}
+use Rattle.gms_save_text.specs.Validity.{stands_at, stands_in}
+use Rattle.gms_run_laws.specs.Names.{Each}
 use Rattle.gms_restart.specs.Labels.{tree_labels, index_labels}
 use Rattle.gms_restart.proofs.Homes.{both-tests, and-made, stands_few, or-second, members-given, index-known, DataStand, IsFixedAt, MayStand, is-label, set-stands, label-stands}
 
 -- ---- lags
 
-only-label : (t : List ℕ) → length t ≡ 1 → label_in t ∷ [] ≡ t
+only-label : (t : List ℕ) → length t ≡ 1 → label_of_element t ∷ [] ≡ t
 only-label [] e = absurd (omega arith)
 only-label (l ∷ []) e = refl
 only-label (l ∷ m ∷ t) e = absurd (omega arith)
@@ -59,11 +59,11 @@ module _ (members : List (List ℕ)) (single : (t : List ℕ) → has members t 
   place-there (negsuc n) label e = absurd (cc)
   place-there (pos k) label e = by (slice_get members k) refl e
     where
-      by : (o : Option (List ℕ)) → slice_get members k ≡ o → option_map label_in o ≡ Some label → has members (label ∷ []) ≡ true
+      by : (o : Option (List ℕ)) → slice_get members k ≡ o → option_map label_of_element o ≡ Some label → has members (label ∷ []) ≡ true
       by None is e = absurd (cc)
       by (Some t) is e =
           let there = read-there members k t is in
-          let same : label_in t ≡ label = cc in
+          let same : label_of_element t ≡ label = cc in
           subst (λ u. has members u ≡ true) (sym (only-label t (single t there)) ∙ ap (λ (l : ℕ). l ∷ []) same) there
 
   moved-there : (op : LagOp) (amount place : ℤ) (label : ℕ) → moved members op amount place ≡ Some label → has members (label ∷ []) ≡ true
@@ -74,7 +74,7 @@ module _ (members : List (List ℕ)) (single : (t : List ℕ) → has members t 
 
   -- the label that a lag reaches is a member
   lagged-there : (op : LagOp) (amount : ℤ) (from label : ℕ) → lagged_label members op amount from ≡ Some label → has members (label ∷ []) ≡ true
-  lagged-there op amount from label e = by (place_of members (from ∷ [])) e
+  lagged-there op amount from label e = by (place_of_tuple members (from ∷ [])) e
     where
       by : (o : Option ℕ) → option_and_then (λ place. moved members op amount (pos place)) o ≡ Some label → has members (label ∷ []) ≡ true
       by None e = absurd (cc)
@@ -118,9 +118,9 @@ either-label (p ∷ binding) more set label e = by (p.0 == set) (λ e. either-la
 pub record Ground (count : ℕ) (first : State) (assigned : ℕ → Bool) (s : State) : Type 0 where
   pub starts : DataStand count first
   pub fixed : (n : ℕ) → AreFixed assigned first (symbol_at first n).domain
-  pub later : (n : ℕ) → is_unknown s n ≡ false → IsAfter (symbol_at s n) (symbol_at first n)
-  pub based : (n : ℕ) → is_unknown s n ≡ false → is_unknown s (base_of s n) ≡ false
-  pub more : (d : ℕ) (t : List ℕ) → is_unknown s d ≡ false → has (members_of s d) t ≡ true → has (members_of first d) t ≡ true
+  pub later : (n : ℕ) → has_no_declaration s n ≡ false → IsAfter (symbol_at s n) (symbol_at first n)
+  pub based : (n : ℕ) → has_no_declaration s n ≡ false → has_no_declaration s (base_of s n) ≡ false
+  pub more : (d : ℕ) (t : List ℕ) → has_no_declaration s d ≡ false → has (members_of s d) t ≡ true → has (members_of first d) t ≡ true
   pub simple : (state : State) → Stays first state → (set : ℕ) → is_index_set s set ≡ true → IsSimple state set
 
 -- A state of the run: names stand for what they stood for at first, their data are in their
@@ -223,7 +223,7 @@ module _ (count : ℕ) (first : State) (assigned : ℕ → Bool) where
 
   module _ (s : State) (ground : Ground count first assigned s) (declared : List ℕ) {F : Type 0} (v : F → Number) (limit : ℕ) (state : State) (standing : Standing count first assigned state) (binding : Pairs) (fits_all : Fits binding) where
     -- the label that a lag reaches may stand for its set
-    reached-may : (set : ℕ) (op : LagOp) (at : Place) (x : Extended) (l : ℕ) → is_index_set s set ≡ true → reached state binding set op at x ≡ Ok (Some l) → May set l
+    reached-may : (set : ℕ) (op : LagOp) (at : Place) (x : Extended) (l : ℕ) → is_index_set s set ≡ true → reached_label state binding set op at x ≡ Ok (Some l) → May set l
     reached-may set op at x l index e = by (whole_number x) (label_of binding set) e
       where
         by : (w : Option ℤ) (o : Option ℕ) → (ok_or w (faulted LagNotWhole at binding x nothing) and_then λ places. Ok (option_and_then (λ label. lagged_label (members_of state set) op places label) o)) ≡ Ok (Some l) → May set l
@@ -233,7 +233,7 @@ module _ (count : ℕ) (first : State) (assigned : ℕ → Bool) where
             member-may state standing set l (lagged-there (members_of state set) (ground.simple state standing.stays set index).1 op places from l (only_value (lagged_label (members_of state set) op places from) (Some l) e))
 
     -- a set's label fits a position that the set fits
-    set-at : (name : ℕ) (position : Option ℕ) (set l : ℕ) → IsFixedAt count first assigned position → is_index_set s set ≡ true → fits s declared (directly_above s declared) name position set ≡ true → May set l → (nat_lt l count ≡ true) × (stands_at first position l ≡ true)
+    set-at : (name : ℕ) (position : Option ℕ) (set l : ℕ) → IsFixedAt count first assigned position → is_index_set s set ≡ true → set_fits_position s declared (directly_above s declared) name position set ≡ true → May set l → (nat_lt l count ≡ true) × (stands_at first position l ≡ true)
     set-at name position set l fixed index fit may =
         (is-label count first assigned (base_of first set) l may, set-stands count first assigned ground.starts s declared ground.later name position set l fixed (index-known s set index) fit may)
 
@@ -251,23 +251,23 @@ module _ (count : ℕ) (first : State) (assigned : ℕ → Bool) where
     labels-stand name (position ∷ domain) (tree.label n rest) those t fixed long sets below named own e is =
         let one = given (in_order (labels v limit state binding rest)) (λ xs. Ok (Some n ∷ xs)) those e in
         let fixes = fixed-head position domain fixed in
-        let fit = not-not (holds s declared name position n) (have_unfit_label s declared name domain rest) named in
+        let fit = not-not (label_fits_position s declared name position n) (have_unfit_label s declared name domain rest) named in
         one-more position domain (Some n) one.value t (λ l same. let at : n ≡ l = cc in subst (λ m. (nat_lt m count ≡ true) × (stands_at first position m ≡ true)) at (own.0, label-stands count first assigned ground.starts s declared ground.later ground.more name position n fit.0))
         (λ u there. labels-stand name domain rest one.value u fixes.1 (omega (arith, long)) sets below fit.1 own.1 one.is there)
         (ap all_there (only_value (Some n ∷ one.value) those one.next_is) ∙ is)
     labels-stand name (position ∷ domain) (tree.set set rest) those t fixed long sets below named own e is =
         let one = given (in_order (labels v limit state binding rest)) (λ xs. Ok (label_of binding set ∷ xs)) those e in
         let fixes = fixed-head position domain fixed in
-        let fit = not-not (fits s declared (directly_above s declared) name position set) (have_unfit_set s declared (directly_above s declared) name domain rest) below in
+        let fit = not-not (set_fits_position s declared (directly_above s declared) name position set) (have_unfit_set s declared (directly_above s declared) name domain rest) below in
         one-more position domain (label_of binding set) one.value t (λ l there. set-at name position set l fixes.0 (All-head (λ index. is_index_set s index ≡ true) set (index_sets rest) sets) fit.0 (fits_all set l there))
         (λ u there. labels-stand name domain rest one.value u fixes.1 (omega (arith, long)) (All-tail (λ index. is_index_set s index ≡ true) set (index_sets rest) sets) fit.1 named own one.is there)
         (ap all_there (only_value (label_of binding set ∷ one.value) those one.next_is) ∙ is)
     labels-stand name (position ∷ domain) (tree.lagged set op at amount rest) those t fixed long sets below named own e is =
-        let first_one = given (value v limit state binding amount and_then reached state binding set op at) (λ o. in_order (labels v limit state binding rest) and_then λ xs. Ok (o ∷ xs)) those e in
-        let amounts = given (value v limit state binding amount) (reached state binding set op at) first_one.value first_one.is in
+        let first_one = given (value v limit state binding amount and_then reached_label state binding set op at) (λ o. in_order (labels v limit state binding rest) and_then λ xs. Ok (o ∷ xs)) those e in
+        let amounts = given (value v limit state binding amount) (reached_label state binding set op at) first_one.value first_one.is in
         let one = given (in_order (labels v limit state binding rest)) (λ xs. Ok (first_one.value ∷ xs)) those first_one.next_is in
         let fixes = fixed-head position domain fixed in
-        let fit = not-not (fits s declared (directly_above s declared) name position set) (have_unfit_set s declared (directly_above s declared) name domain rest) below in
+        let fit = not-not (set_fits_position s declared (directly_above s declared) name position set) (have_unfit_set s declared (directly_above s declared) name domain rest) below in
         let index = All-head (λ index. is_index_set s index ≡ true) set (index_sets rest) sets in
         one-more position domain first_one.value one.value t (λ l there. set-at name position set l fixes.0 index fit.0 (reached-may set op at amounts.value l index (amounts.next_is ∙ ap {B = Answer (Option ℕ)} Ok there)))
         (λ u there. labels-stand name domain rest one.value u fixes.1 (omega (arith, long)) (All-tail (λ index. is_index_set s index ≡ true) set (index_sets rest) sets) fit.1 named (each-right (λ l. nat_lt l count) (tree_labels amount) (index_labels rest) own) one.is there)

@@ -16,9 +16,9 @@ use Rattle.gms_tuple.specs.TupleSet.{has}
 use Rattle.gms_tuple.proofs.Members.{Contains-has}
 use Rattle.gms_tuple.proofs.Ordered.{same_tuple-Decides}
 use Rattle.gms_store.specs.Declarations.{blank_state, declared_state, is_undeclared}
-use Rattle.gms_store.specs.State.{State, Symbol, symbol_at, symbol_of, behind, base_of, given_in, members_of, with_content}
-use Rattle.gms_known.specs.DynamicSets.{assigned as assigned_by, dynamic_sets}
-use Rattle.gms_known.specs.Names.{is_index_set, is_unknown}
+use Rattle.gms_store.specs.State.{State, Symbol, symbol_at, symbol_of, alias_target, base_of, given_in, members_of, with_content}
+use Rattle.gms_scope.specs.DynamicSets.{assigned_names as assigned_by, dynamic_sets}
+use Rattle.gms_scope.specs.Names.{is_index_set, has_no_declaration}
 use Rattle.gms_check.specs.Checked.{StandsAfter}
 use Rattle.gms_check.specs.CompileErrors.{of_program}
 use Rattle.gms_check.specs.Loaded.{IsAccepted, loaded, sound}
@@ -27,18 +27,18 @@ use Rattle.gms_check.proofs.Growing.{IsAfter, Grows, grows-past}
 use Rattle.gms_check.proofs.IndexSetsStay.{blank-fits, index-set-loaded}
 use Rattle.gms_eval.specs.Domain.{IsSimple}
 use Rattle.gms_exec.proofs.Staying.{Stays, follows-of}
-use Rattle.gms_frames.specs.Names.{Each}
-use Rattle.gms_frames.proofs.Changing.{within}
-use Rattle.gms_going_on.proofs.Padding.{test-of}
-use Rattle.gms_joint.specs.LastStates.{AreFixed, IsFixedSet, StandAt, names_assigned}
-use Rattle.gms_joint.specs.Reached.{at_first}
-use Rattle.gms_joint.proofs.FewPositions.{few-given}
-use Rattle.gms_joint.proofs.StandingLoaded.{loaded-stands}
-use Rattle.gms_joint.proofs.StaticDomains.{loaded-fixed}
-use Rattle.gms_joint.proofs.TidyLoaded.{loaded-well}
-use Rattle.gms_joint.proofs.Tidying.{has-long}
+use Rattle.gms_run_laws.specs.Names.{Each}
+use Rattle.gms_run_laws.proofs.Changing.{within}
+use Rattle.gms_run_laws.proofs.Padding.{test-of}
+use Rattle.gms_run_laws.specs.LastStates.{AreFixed, IsFixedSet, StandAt, names_assigned}
+use Rattle.gms_run_laws.specs.Reached.{at_first}
+use Rattle.gms_run_laws.proofs.FewPositions.{few-given}
+use Rattle.gms_run_laws.proofs.StandingLoaded.{loaded-stands}
+use Rattle.gms_run_laws.proofs.StaticDomains.{loaded-fixed}
+use Rattle.gms_run_laws.proofs.TidyLoaded.{loaded-well}
+use Rattle.gms_run_laws.proofs.Tidying.{has-long}
 use Rattle.gms_save.proofs.LoadedNames.{loaded-declares, declared-count, keeps-behind, same-read}
-use Rattle.gms_saved.specs.Validity.{emptied, stands_at, stands_in}
+use Rattle.gms_save_text.specs.Validity.{emptied, stands_at, stands_in}
 use Rattle.gms_restart.specs.Labels.{HasItsLabels}
 use Rattle.gms_restart.proofs.Fitting.{Ground}
 use Rattle.gms_restart.proofs.Growth.{Member, member-sound, closed-after}
@@ -88,13 +88,13 @@ module _ {F : Type 0} (v : F → Number) (program : Program F) (accepted : IsAcc
   same-bases : (ns : List ℕ) → map (base_of first) ns ≡ map (base_of (declared_state program)) ns
   same-bases [] = refl
   same-bases (n ∷ ns) =
-      ap₂ (λ (m : ℕ) (ms : List ℕ). m ∷ ms) (same-read (behind n) (keeps-behind n) first (declared_state program) n (loaded-declares v program)) (same-bases ns)
+      ap₂ (λ (m : ℕ) (ms : List ℕ). m ∷ ms) (same-read (alias_target n) (keeps-behind n) first (declared_state program) n (loaded-declares v program)) (same-bases ns)
 
   pub same-names : names_assigned first program ≡ dynamic_sets program
   same-names = same-bases (flat_map assigned_by program.statements.items)
 
   -- a declared name is one of the table
-  in-table : (n : ℕ) → is_unknown first n ≡ false → nat_lt n count ≡ true
+  in-table : (n : ℕ) → has_no_declaration first n ≡ false → nat_lt n count ≡ true
   in-table n known =
       let size = sym (length-map first.symbols (λ (symbol : Symbol). with_content symbol (emptied symbol.content))) ∙ ap (λ (symbols : List Symbol). length symbols) (loaded-declares v program) ∙ declared-count program in
       test-of n count (subst (λ m. n < m) size (within first n (ap not known)))
@@ -140,16 +140,16 @@ module _ {F : Type 0} (v : F → Number) (program : Program F) (accepted : IsAcc
         ∙ ap (fold (after_statement v) (blank_state count)) (map-append {B = Stmt F × Bool} (λ (s : Stmt F). (s, true)) before rest)
         ∙ fold-append (after_statement v) (blank_state count) (sound before) (sound rest)
 
-    later-then : (n : ℕ) → is_unknown now n ≡ false → IsAfter (symbol_at now n) (symbol_at first n)
+    later-then : (n : ℕ) → has_no_declaration now n ≡ false → IsAfter (symbol_at now n) (symbol_at first n)
     later-then n known =
         let fits = (grows-past v (sound before) (blank_state count) n (blank-fits count n)).0 in
         let grows : Grows now first = subst (Grows now) (sym goes-on) (grows-past v (sound rest) now) in
         elim (grows n fits).1 [
-          | inl none ↦ absurd (both_ways (is_unknown now n) known none)
+          | inl none ↦ absurd (both_ways (has_no_declaration now n) known none)
           | inr after ↦ after
         ]
 
-    members-then : (d : ℕ) (t : List ℕ) → is_unknown now d ≡ false → has (members_of now d) t ≡ true → has (members_of first d) t ≡ true
+    members-then : (d : ℕ) (t : List ℕ) → has_no_declaration now d ≡ false → has (members_of now d) t ≡ true → has (members_of first d) t ≡ true
     members-then d t known there =
         subst (λ n. Member n t first) (sym ((later-then d known).alike d)) (subst (Member (base_of now d) t) (sym goes-on) (member-sound (base_of now d) t v rest now there))
 

@@ -14,20 +14,20 @@ use Rattle.gms_ast.specs.declared.program.Act.TheOpen.{Act-F}
 use Rattle.gms_ast.specs.declared.program.Act.TheVariants.{rolls-Declare, rolls-Alias, rolls-Assign, rolls-Define, rolls-Model, rolls-Solve, rolls-Display, rolls-Loop, rolls-Options, rolls-Abort}
 use Rattle.gms_ast.specs.declared.program.Stmt.{Stmt}
 use Rattle.gms_set.specs.declared.fault.SetFault.{SetFault}
-use Rattle.gms_set.specs.Expansion.{Given, expanded}
+use Rattle.gms_set.specs.Expansion.{ExpandedData, expanded}
 use Rattle.gms_tuple.specs.TupleOrder.{same_tuple}
 use Rattle.gms_tuple.specs.TupleSet.{has}
 use Rattle.gms_tuple.proofs.Members.{has-inserted}
 use Rattle.gms_store.specs.declared.kind.VariableType.TheVariants as type
 use Rattle.gms_store.specs.Declarations.{names_of, positions_of, content_of, symbol_of_kind, retyped, is_set, is_undeclared, put_at, declare, alias_symbol, can_join, join_name, declare_alias, model_symbol, declare_model, blank_state}
 use Rattle.gms_store.specs.State.{State, Content, undeclared, alias_of, set_of, parameter_of, variable_of, equation_of, model_with, Symbol, symbol_at, symbol_of, base_of, members_in, with_content, if_fits, with_membership, with_value}
-use Rattle.gms_known.specs.Data.{with_datum}
-use Rattle.gms_known.specs.Names.{is_unknown}
+use Rattle.gms_scope.specs.Data.{with_datum}
+use Rattle.gms_scope.specs.Names.{has_no_declaration}
 use Rattle.gms_check.specs.Loaded.{sound}
 use Rattle.gms_check.specs.Past.{with_data, with_item, with_name, after_act, after_statement, state_after}
 use Rattle.gms_check.proofs.Growing.{put-at, by_parts}
-use Rattle.gms_frames.specs.Agreeing.{IsClosed}
-use Rattle.gms_going_on.proofs.Closing.{closed-item, closed-alias, closed-model, blank-closed}
+use Rattle.gms_run_laws.specs.Agreeing.{IsClosed}
+use Rattle.gms_run_laws.proofs.Closing.{closed-item, closed-alias, closed-model, blank-closed}
 use Rattle.gms_restart.proofs.Homes.{or-second}
 
 last-holds : (a b : Bool) → (a && b) ≡ true → b ≡ true
@@ -105,7 +105,7 @@ module _ (b : ℕ) (t : List ℕ) where
     | inr changed ↦ subst (λ (x : Symbol). Has x.content) (sym changed.1) (own (subst (λ n. Has (symbol_at s n).content) changed.0 there))
   ]
 
-  member-fresh : (s : State) (i : ℕ) (new : Symbol) → is_unknown s i ≡ true → Member s → Member (put_at s i new)
+  member-fresh : (s : State) (i : ℕ) (new : Symbol) → has_no_declaration s i ≡ true → Member s → Member (put_at s i new)
   member-fresh s i new unknown there =
       member-put s i new (λ there. absurd (none-there (symbol_at s i).content unknown there)) there
 
@@ -168,7 +168,7 @@ module _ (b : ℕ) (t : List ℕ) where
   with-number (model_with model solver) u x there = there
 
   module _ {F : Type 0} (v : F → Number) where
-    member-data : (ds : Given F) (s : State) (name : ℕ) → Member s → Member (fold (with_datum v name) s ds)
+    member-data : (ds : ExpandedData F) (s : State) (name : ℕ) → Member s → Member (fold (with_datum v name) s ds)
     member-data [] s name there = there
     member-data ((u, None) ∷ ds) s name there =
         let x = symbol_of s name in
@@ -177,7 +177,7 @@ module _ (b : ℕ) (t : List ℕ) where
         let x = symbol_of s name in
         member-data ds (put_at s (base_of s name) (if_fits x u (with_value x.content u (value_shown v value)))) name (member-put s (base_of s name) (if_fits x u (with_value x.content u (value_shown v value))) (λ there. fitted-has x u (with_value x.content u (value_shown v value)) (with-number x.content u (value_shown v value)) there) there)
 
-    member-given : (s : State) (name : ℕ) (given : Result (Given F) SetFault) → Member s → Member (with_data v s name given)
+    member-given : (s : State) (name : ℕ) (given : Result (ExpandedData F) SetFault) → Member s → Member (with_data v s name given)
     member-given s name (Ok given) there = member-data given s name there
     member-given s name (Err fault) there = there
 

@@ -5,12 +5,12 @@ use Rattle.std.proofs.lemmas.Bool.{eqb-true}
 use Rattle.gms_tuple.specs.TupleSet.{has}
 use Rattle.gms_store.specs.Declarations.{is_set, is_undeclared}
 use Rattle.gms_store.specs.State.{State, Content, undeclared, alias_of, set_of, parameter_of, variable_of, equation_of, model_with, symbol_at, symbol_of, base_of, given_in, members_in, members_of}
-use Rattle.gms_known.specs.Below.{is_met_before, bounds, superset_in, superset, is_some_with, is_below_within, is_below, fits, holds}
-use Rattle.gms_known.specs.Names.{has_one_position, is_index_set, is_set_name, is_unknown, positions}
+use Rattle.gms_scope.specs.Below.{is_met_before, bounds, superset_in, superset, is_some_with, is_below_within, is_below, set_fits_position, label_fits_position}
+use Rattle.gms_scope.specs.Names.{has_one_position, is_index_set, is_set_name, has_no_declaration, positions}
 use Rattle.gms_check.specs.Above.{directly_above}
 use Rattle.gms_check.proofs.Growing.{IsAfter}
-use Rattle.gms_saved.specs.Validity.{stands_at, stands_in}
-use Rattle.gms_joint.specs.LastStates.{IsFixedSet}
+use Rattle.gms_save_text.specs.Validity.{stands_at, stands_in}
+use Rattle.gms_run_laws.specs.LastStates.{IsFixedSet}
 
 -- two tests that both hold
 pub both-tests : (a b : Bool) → (a && b) ≡ true → (a ≡ true) × (b ≡ true)
@@ -48,7 +48,7 @@ set-known (equation_of entries) e = absurd (cc)
 set-known (model_with model solver) e = absurd (cc)
 
 -- an index set is declared
-pub index-known : (s : State) (set : ℕ) → is_index_set s set ≡ true → is_unknown s set ≡ false
+pub index-known : (s : State) (set : ℕ) → is_index_set s set ≡ true → has_no_declaration s set ≡ false
 index-known s set is = set-known (symbol_at s set).content (both-tests (is_set_name s set) (has_one_position s set) is).0
 
 -- a tuple is in a domain, and has no more labels than a tuple may have
@@ -94,8 +94,8 @@ module _ (count : ℕ) (first : State) (assigned : ℕ → Bool) where
         there : has (members_of first d) (label ∷ []) ≡ true
         there = (both-tests (has (members_of first d) (label ∷ [])) true (both-tests (nat_lt label count) (has (members_of first d) (label ∷ []) && true) own).1).0
 
-    module _ (s : State) (declared : List ℕ) (later : (n : ℕ) → is_unknown s n ≡ false → IsAfter (symbol_at s n) (symbol_at first n)) where
-      base-same : (n : ℕ) → is_unknown s n ≡ false → base_of first n ≡ base_of s n
+    module _ (s : State) (declared : List ℕ) (later : (n : ℕ) → has_no_declaration s n ≡ false → IsAfter (symbol_at s n) (symbol_at first n)) where
+      base-same : (n : ℕ) → has_no_declaration s n ≡ false → base_of first n ≡ base_of s n
       base-same n known = (later n known).alike n
 
       -- the set that a set is directly below
@@ -141,7 +141,7 @@ module _ (count : ℕ) (first : State) (assigned : ℕ → Bool) where
       -- ---- positions
 
       -- a label of an index set that fits a position fits it too
-      pub set-stands : (name : ℕ) (position : Option ℕ) (index label : ℕ) → IsFixedAt position → is_unknown s index ≡ false → fits s declared (directly_above s declared) name position index ≡ true → MayStand (base_of first index) label → stands_at first position label ≡ true
+      pub set-stands : (name : ℕ) (position : Option ℕ) (index label : ℕ) → IsFixedAt position → has_no_declaration s index ≡ false → set_fits_position s declared (directly_above s declared) name position index ≡ true → MayStand (base_of first index) label → stands_at first position label ≡ true
       set-stands name None index label fixed known e may = refl
       set-stands name (Some d) index label fixed known e may =
           let parts = both-tests (bounds s declared name d) (is_below s declared (directly_above s declared) index d) e in
@@ -149,9 +149,9 @@ module _ (count : ℕ) (first : State) (assigned : ℕ → Bool) where
           let there = below-up (length declared) (base_of s index) (base_of s d) label parts.1 (subst (λ n. MayStand n label) (base-same index known) may) in
           (subst (λ n. MayStand n label) (sym (base-same d (index-known s d index_set))) there).member fixed.static
 
-      module _ (more : (d : ℕ) (t : List ℕ) → is_unknown s d ≡ false → has (members_of s d) t ≡ true → has (members_of first d) t ≡ true) where
+      module _ (more : (d : ℕ) (t : List ℕ) → has_no_declaration s d ≡ false → has (members_of s d) t ≡ true → has (members_of first d) t ≡ true) where
         -- a label that fits one does
-        pub label-stands : (name : ℕ) (position : Option ℕ) (label : ℕ) → holds s declared name position label ≡ true → stands_at first position label ≡ true
+        pub label-stands : (name : ℕ) (position : Option ℕ) (label : ℕ) → label_fits_position s declared name position label ≡ true → stands_at first position label ≡ true
         label-stands name None label e = refl
         label-stands name (Some d) label e =
             let parts = both-tests (bounds s declared name d) (has (members_of s d) (label ∷ [])) e in

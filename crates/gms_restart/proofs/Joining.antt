@@ -10,15 +10,15 @@ use Rattle.gms_check.specs.Past.{state_after}
 use Rattle.gms_rows.specs.ModelPoints.{definitions_of_model}
 use Rattle.gms_exec.specs.Run.{Course, World, run_from}
 use Rattle.lp_core.specs.declared.answer.Answer.{Answer}
-use Rattle.gms_frames.specs.Agreeing.{EndsAlike}
-use Rattle.gms_frames.proofs.Running.{ends-alike}
-use Rattle.gms_joint.proofs.Later.{joined}
-use Rattle.gms_joint.specs.JointRun.{behind_run}
-use Rattle.gms_going_on.specs.GoingOn.{DeclaresItsOwn, TypesNone}
-use Rattle.gms_going_on.proofs.Begins.{begins-with}
-use Rattle.gms_going_on.proofs.Closing.{loaded-closed}
-use Rattle.gms_going_on.proofs.ProgramNames.{program-named}
-use Rattle.gms_going_on.proofs.SolvesAlike.{defined_in, solves-alike}
+use Rattle.gms_run_laws.specs.Agreeing.{EndsAlike}
+use Rattle.gms_run_laws.proofs.Running.{ends-alike}
+use Rattle.gms_run_laws.proofs.Later.{joined}
+use Rattle.gms_run_laws.specs.JointRun.{behind_run}
+use Rattle.gms_run_laws.specs.GoingOn.{DeclaresItsOwn, TypesNone}
+use Rattle.gms_run_laws.proofs.Begins.{begins-with}
+use Rattle.gms_run_laws.proofs.Closing.{loaded-closed}
+use Rattle.gms_run_laws.proofs.ProgramNames.{program-named}
+use Rattle.gms_run_laws.proofs.SolvesAlike.{defined_in, solves-alike}
 
 -- where no answer remains all were taken
 all-taken : (left : List (Answer Number)) (taken count : ℕ) → left ≡ [] → taken + length left ≡ count → taken ≡ count

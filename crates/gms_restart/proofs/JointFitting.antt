@@ -13,13 +13,13 @@ use Rattle.gms_ast.specs.StatementTrees.{Statements, no_statement, statement, fo
 use Rattle.gms_ast.specs.StatementView.{statements_view}
 use Rattle.gms_store.specs.Declarations.{is_undeclared, blank_state, declared_by, declared_by_all, declared_state}
 use Rattle.gms_store.specs.Overlays.{chosen, overlaid_symbols}
-use Rattle.gms_store.specs.State.{State, Symbol, no_symbol, symbol_at, behind, base_of}
-use Rattle.gms_table.specs.WordLabels.{GoesOn}
+use Rattle.gms_store.specs.State.{State, Symbol, no_symbol, symbol_at, alias_target, base_of}
+use Rattle.gms_table.specs.WordLabels.{IsPrefix}
 use Rattle.gms_check.specs.Loaded.{loaded}
 use Rattle.gms_check.specs.Past.{after_statement}
 use Rattle.gms_check.proofs.Growing.{IsLater, Grows, grows-past}
 use Rattle.gms_check.proofs.IndexSetsStay.{blank-fits}
-use Rattle.gms_saved.specs.Validity.{declared_in}
+use Rattle.gms_save_text.specs.Validity.{declared_symbols}
 use Rattle.gms_save.specs.JointErrors.{resumed}
 use Rattle.gms_save.proofs.LoadedNames.{declared-count, keeps-behind, keeps-undeclared, loaded-declares, same-at, same-read}
 use Rattle.gms_save.proofs.SeenActs.{told_by}
@@ -90,25 +90,25 @@ at-overlaid (x ∷ xs) (y ∷ ys) (suc n) many = at-overlaid xs ys n (omega arit
 -- Two symbols are of the same form: over the same domain, and as aliases of the same set.
 record AreAlike (a b : Symbol) : Type 0 where
   domain : a.domain ≡ b.domain
-  stands : (n : ℕ) → behind n a.content ≡ behind n b.content
+  stands : (n : ℕ) → alias_target n a.content ≡ alias_target n b.content
 
 -- states that declare the same have such symbols
-same-form : (a b : State) (n : ℕ) → declared_in a ≡ declared_in b → AreAlike (symbol_at a n) (symbol_at b n)
+same-form : (a b : State) (n : ℕ) → declared_symbols a ≡ declared_symbols b → AreAlike (symbol_at a n) (symbol_at b n)
 same-form a b n e = record {
   domain = ap (λ (s : Symbol). s.domain) (same-at a b n e);
-  stands = λ m. same-read (behind m) (keeps-behind m) a b n e;
+  stands = λ m. same-read (alias_target m) (keeps-behind m) a b n e;
 }
 
 form-both : (a b c : Symbol) → AreAlike a b → AreAlike b c → AreAlike a c
 form-both a b c one two = record { domain = one.domain ∙ two.domain; stands = λ m. one.stands m ∙ two.stands m }
 
 -- a state has as many symbols as its declarations
-form-count : (a b : State) → declared_in a ≡ declared_in b → length a.symbols ≡ length (declared_in b)
+form-count : (a b : State) → declared_symbols a ≡ declared_symbols b → length a.symbols ≡ length (declared_symbols b)
 form-count a b e = sym (length-map a.symbols _) ∙ ap (λ (xs : List Symbol). length xs) e
 
 -- ---- a saved state, and a joint program
 
-module _ (first whole : Program Frac) (saved : State) (declares : declared_in saved ≡ declared_in (declared_state first)) (names : GoesOn first.names whole.names) (others : Statements Number) (statements : statements_view frac_value whole.statements.items ≡ followed_by (statements_view frac_value first.statements.items) others) (own : HoldsOfAll (IsBelow (length first.names)) (statements_view frac_value first.statements.items)) where
+module _ (first whole : Program Frac) (saved : State) (declares : declared_symbols saved ≡ declared_symbols (declared_state first)) (names : IsPrefix first.names whole.names) (others : Statements Number) (statements : statements_view frac_value whole.statements.items ≡ followed_by (statements_view frac_value first.statements.items) others) (own : HoldsOfAll (IsBelow (length first.names)) (statements_view frac_value first.statements.items)) where
   abbrev vs : List Seen
   vs = map seen first.statements.items
 

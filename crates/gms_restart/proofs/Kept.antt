@@ -6,7 +6,7 @@ use Rattle.gms_ast.specs.declared.expression.Suffix.{Suffix}
 use Rattle.gms_ast.specs.declared.program.Setting.{Setting}
 use Rattle.gms_ast.specs.declared.word.Word.{Word}
 use Rattle.gms_tuple.specs.TupleSet.{has}
-use Rattle.gms_store.specs.State.{State, Content, undeclared, alias_of, set_of, parameter_of, variable_of, equation_of, model_with, Symbol, symbol_at, symbol_of, behind, base_of, given_in, with_symbol, with_content, if_fits, with_attributes, with_statuses, with_settings, attributes_of, with_level, with_marginal}
+use Rattle.gms_store.specs.State.{State, Content, undeclared, alias_of, set_of, parameter_of, variable_of, equation_of, model_with, Symbol, symbol_at, symbol_of, alias_target, base_of, given_in, with_symbol, with_content, if_fits, with_attributes, with_statuses, with_settings, attributes_of, with_level, with_marginal}
 use Rattle.lp_core.specs.declared.answer.End.{End}
 use Rattle.lp_core.specs.declared.program.Lp.{Lp}
 use Rattle.gms_exec.specs.Given.{AllGiven, with_given, fitting, after_given}
@@ -14,15 +14,15 @@ use Rattle.gms_exec.specs.Options.{after_options}
 use Rattle.gms_exec.specs.Solved.{Point, with_point, statuses_of, points_of, after_end}
 use Rattle.gms_exec.proofs.Levels.{behind-fitted, fits-either}
 use Rattle.gms_exec.proofs.Symbols.{at-after, base-after}
-use Rattle.gms_frames.proofs.Points.{ArePut, end-put}
-use Rattle.gms_frames.proofs.RowElements.{IsOver}
-use Rattle.gms_joint.proofs.LastStates.{Lasts, MayBe, lasts-given, lasts-end, lasts-options}
+use Rattle.gms_run_laws.proofs.Points.{ArePut, end-put}
+use Rattle.gms_run_laws.proofs.RowElements.{IsOver}
+use Rattle.gms_run_laws.proofs.LastStates.{Lasts, MayBe, lasts-given, lasts-end, lasts-options}
 use Rattle.gms_restart.proofs.Fitting.{Standing}
 use Rattle.gms_restart.proofs.Homes.{stands_few}
 use Rattle.gms_restart.proofs.Passing.{stands_key}
 use Rattle.gms_restart.proofs.Writing.{AreGiven, given-has, put-has, statuses-has}
 
-behind-statuses : (content : Content) (model solver n : ℕ) → behind n (with_statuses content model solver) ≡ behind n content
+behind-statuses : (content : Content) (model solver n : ℕ) → alias_target n (with_statuses content model solver) ≡ alias_target n content
 behind-statuses undeclared model solver n = refl
 behind-statuses (alias_of base) model solver n = refl
 behind-statuses (set_of members) model solver n = refl

@@ -14,19 +14,19 @@ use Rattle.gms_store.specs.Declarations.{blank_state, content_of, declared_by_al
 use Rattle.gms_store.specs.State.{State, Content, undeclared, alias_of, set_of, parameter_of, variable_of, equation_of, model_with, Symbol, symbol_at}
 use Rattle.gms_check.specs.declared.error.CompileError.{CompileError}
 use Rattle.gms_check.specs.CompileErrors.{each_error, known_after, statement_error}
-use Rattle.gms_check.specs.Errors.{first_of, sooner}
+use Rattle.gms_check.specs.Errors.{first_error, sooner}
 use Rattle.gms_check.specs.Loaded.{loaded}
 use Rattle.gms_check.specs.Names.{is_variable}
 use Rattle.gms_check.specs.Past.{Past}
 use Rattle.gms_check.proofs.Growing.{by_parts}
 use Rattle.gms_check.proofs.NoErrors.{nil-left, none-first}
-use Rattle.gms_frames.specs.Names.{Each}
-use Rattle.gms_frames.proofs.Eaches.{each-both}
-use Rattle.gms_going_on.specs.GoingOn.{DeclaresItsOwn, TypesNone, typed_by}
-use Rattle.gms_going_on.proofs.Padding.{padded-after}
-use Rattle.gms_save.specs.JointErrors.{each_sooner, is_saved, is_saved_variable, joint_errors, names_at, restart_at, restart_error, restart_errors, restarts_at, saved_names, targets, typed_names, is_fixed}
+use Rattle.gms_run_laws.specs.Names.{Each}
+use Rattle.gms_run_laws.proofs.Eaches.{each-both}
+use Rattle.gms_run_laws.specs.GoingOn.{DeclaresItsOwn, TypesNone, typed_by}
+use Rattle.gms_run_laws.proofs.Padding.{padded-after}
+use Rattle.gms_save.specs.JointErrors.{each_sooner, is_saved, is_saved_variable, joint_errors, names_at, restart_at, restart_error, restart_errors, restarts_at, saved_names, targets, typed_names, names_fixed_set}
 use Rattle.gms_save.proofs.LoadedNames.{loaded-declares, same-read}
-use Rattle.gms_saved.specs.Validity.{emptied}
+use Rattle.gms_save_text.specs.Validity.{emptied}
 use Rattle.gms_restart.specs.StatementLines.{AreSaved, AreNew}
 
 -- ---- no error at all
@@ -135,8 +135,8 @@ module _ {F : Type 0} (from : ℕ) where
     none-typed : (xs : List (Stmt F)) → AreNew from xs → EachNone (restart_error from joint) xs → TypesNone (loaded v base) xs
     none-typed [] new none = tt
     none-typed (s ∷ xs) new none =
-        let clean = ap (λ (b : Bool). if b then None else first_of (restart_errors from joint s)) (sym new.0) ∙ none.0 in
-        let empty = nil-left (restarts_at (is_saved_variable from joint) (typed_names s.act)) (restarts_at (is_fixed from joint) (targets s)) (none-first (restart_errors from joint s) clean) in
+        let clean = ap (λ (b : Bool). if b then None else first_error (restart_errors from joint s)) (sym new.0) ∙ none.0 in
+        let empty = nil-left (restarts_at (is_saved_variable from joint) (typed_names s.act)) (restarts_at (names_fixed_set from joint) (targets s)) (none-first (restart_errors from joint s) clean) in
         let here = subst (Each (λ n. not (is_saved_variable from joint n))) (typed-same s.act) (none-at (is_saved_variable from joint) (typed_names s.act) empty) in
         each-both (λ n. not (is_variable (symbol_at (loaded v base) n).content)) (typed_by s.act) (flat_map (λ (s : Stmt F). typed_by s.act) xs)
         (each-same (λ n. not (is_saved_variable from joint n)) (λ n. not (is_variable (symbol_at (loaded v base) n).content)) (λ n. ap not (variable-same n)) (typed_by s.act) here) (none-typed xs new.1 none.1)

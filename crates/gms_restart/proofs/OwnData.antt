@@ -9,17 +9,17 @@ use Rattle.gms_lex.specs.TokenTexts.{token_text, unquoted}
 use Rattle.gms_grammar.specs.declared.terminal.Terminal.{Terminal}
 use Rattle.gms_grammar.specs.Grammar.{pair, left, right, some, more, node}
 use Rattle.gms_set.specs.Ranges.{is_range, members}
-use Rattle.gms_table.specs.TableEntries.{Part, name, cell, met}
-use Rattle.gms_table.specs.WordLabels.{names_of}
+use Rattle.gms_table.specs.TableEntries.{TablePart, name, cell, met}
+use Rattle.gms_table.specs.WordLabels.{labels_of_word}
 use Rattle.gms_table.specs.Words.{Word}
 use Rattle.gms_expressions.specs.ExpressionTrees.{first_in, inside, second_in, token_of}
-use Rattle.gms_parse.specs.DataLists.{between, each_in, elements_in, entries_in, entry_of, item_of, joined, label_text, labels_in_part, labels_in_range, listed_in, number_of_label, optional_in, range_labels, ranges_in_part, scalar_in}
+use Rattle.gms_parse.specs.DataLists.{between, each_in, elements_in, parameter_items, parameter_item, item_of, concatenated, label_text, labels_in_part, labels_in_range, listed_in, number_of_label, optional_in, range_labels, ranges_in_part, scalar_in}
 use Rattle.gms_parse.specs.Declarations.{further_items, items_in, parameter_in, plain_in, scalar_item_in, set_in}
-use Rattle.gms_parse.specs.Tables.{entry_at, entry_under, item_of_entry, items_given, numbers_of, parts_of_tokens, positions_of}
+use Rattle.gms_parse.specs.Tables.{table_entry, entry_under, item_of_entry, items_given, numbers_of_labels, parts_of_tokens, labelled_positions}
 use Rattle.gms_parse.specs.Tables as tables
-use Rattle.gms_frames.specs.Names.{Each}
-use Rattle.gms_frames.proofs.Eaches.{each-both}
-use Rattle.gms_frames.proofs.FormKeys.{EachHas}
+use Rattle.gms_run_laws.specs.Names.{Each}
+use Rattle.gms_run_laws.proofs.Eaches.{each-both}
+use Rattle.gms_run_laws.proofs.FormKeys.{EachHas}
 use Rattle.gms_restart.proofs.OwnLabels.{Derivation, HasOwn}
 use Rattle.gms_restart.proofs.Texts.{IsPart, IsWritten, PartIs, WordIs, label-written, met-are, names-are, range-written, table-parts}
 
@@ -78,10 +78,10 @@ module _ (source : List ℕ) (names labels : List (List ℕ)) (own : ℕ → Boo
       let first = label_text source labels (first_in (inside tree)) in
       optional-has (Each own) (number_of_label source labels first ∷ []) (λ last. range_labels source labels first (label_text source labels (second_in last))) (has first (label-written source (token_of (first_in (inside tree)))), tt) (λ last. range-own (token_of (first_in (inside tree))) (token_of (second_in last))) (second_in (inside tree))
 
-  joined-own : (ranges : List Derivation) → Each own (joined (map (labels_in_range source labels) ranges))
+  joined-own : (ranges : List Derivation) → Each own (concatenated (map (labels_in_range source labels) ranges))
   joined-own [] = tt
   joined-own (range ∷ ranges) =
-      each-both own (labels_in_range source labels range) (joined (map (labels_in_range source labels) ranges)) (in_range-own range) (joined-own ranges)
+      each-both own (labels_in_range source labels range) (concatenated (map (labels_in_range source labels) ranges)) (in_range-own range) (joined-own ranges)
 
   -- those at the positions of an element
   parts-own : (element : Derivation) → EachHas (Each own) (listed_in (labels_in_part source labels) (inside element))
@@ -91,31 +91,31 @@ module _ (source : List ℕ) (names labels : List (List ℕ)) (own : ℕ → Boo
   elements-own : (list : Derivation) → EachHas (ItemHas own) (elements_in source labels list)
   elements-own list = listed-has (ItemHas own) (λ element. item_of source labels element None) (λ element. parts-own element) (inside list)
 
-  entries-own : (list : Derivation) → EachHas (ItemHas own) (entries_in source labels list)
-  entries-own list = listed-has (ItemHas own) (entry_of source labels) (λ tree. parts-own (first_in (inside tree))) (inside list)
+  entries-own : (list : Derivation) → EachHas (ItemHas own) (parameter_items source labels list)
+  entries-own list = listed-has (ItemHas own) (parameter_item source labels) (λ tree. parts-own (first_in (inside tree))) (inside list)
 
   scalar-own : (tree : Derivation) → EachHas (ItemHas own) (scalar_in source labels tree)
   scalar-own tree = (tt, tt)
 
   -- ---- tables
 
-  words-own : (texts : List (List ℕ)) → EachHas (IsPart source) texts → Each own (numbers_of labels texts)
+  words-own : (texts : List (List ℕ)) → EachHas (IsPart source) texts → Each own (numbers_of_labels labels texts)
   words-own [] all = tt
   words-own (text ∷ texts) all = (has text (inl all.0), words-own texts all.1)
 
-  positions-own : (those : List ℕ) → Each own those → EachHas (Each own) (positions_of those)
+  positions-own : (those : List ℕ) → Each own those → EachHas (Each own) (labelled_positions those)
   positions-own [] all = tt
   positions-own (label ∷ those) all = ((all.0, tt), positions-own those all.1)
 
-  entry-own : (row word heading : Word) → WordIs source row → WordIs source heading → ItemHas own (item_of_entry (entry_at labels row word heading))
+  entry-own : (row word heading : Word) → WordIs source row → WordIs source heading → ItemHas own (item_of_entry (table_entry labels row word heading))
   entry-own row word heading one other =
-      positions-own (numbers_of labels (names_of row) ++ numbers_of labels (names_of heading)) (each-both own (numbers_of labels (names_of row)) (numbers_of labels (names_of heading)) (words-own (names_of row) (names-are source row one)) (words-own (names_of heading) (names-are source heading other)))
+      positions-own (numbers_of_labels labels (labels_of_word row) ++ numbers_of_labels labels (labels_of_word heading)) (each-both own (numbers_of_labels labels (labels_of_word row)) (numbers_of_labels labels (labels_of_word heading)) (words-own (labels_of_word row) (names-are source row one)) (words-own (labels_of_word heading) (names-are source heading other)))
 
   under-own : (row word : Word) (headings : List Word) → WordIs source row → EachHas (WordIs source) headings → ItemHas own (item_of_entry (entry_under labels row word headings))
   under-own row word [] one all = entry-own row word row one one
   under-own row word (heading ∷ others) one all = entry-own row word heading one all.0
 
-  cells-own : (parts : List Part) → EachHas (PartIs source) parts → EachHas (ItemHas own) (map item_of_entry (tables.entries_in labels parts))
+  cells-own : (parts : List TablePart) → EachHas (PartIs source) parts → EachHas (ItemHas own) (map item_of_entry (tables.entries_in labels parts))
   cells-own [] all = tt
   cells-own (name word ∷ parts) all = cells-own parts all.1
   cells-own (cell row headings word ∷ parts) all =
@@ -132,7 +132,7 @@ module _ (source : List ℕ) (names labels : List (List ℕ)) (own : ℕ → Boo
 
   pub parameters-own : (tree : Derivation) → DataOwn (items_in (parameter_in source names labels) (second_in (inside tree)))
   parameters-own tree =
-      items-has (DeclHas own) (parameter_in source names labels) (λ item. optional-has (EachHas (ItemHas own)) [] (λ list. entries_in source labels (between list)) tt (λ list. entries-own (between list)) (second_in (second_in (inside item)))) (second_in (inside tree))
+      items-has (DeclHas own) (parameter_in source names labels) (λ item. optional-has (EachHas (ItemHas own)) [] (λ list. parameter_items source labels (between list)) tt (λ list. entries-own (between list)) (second_in (second_in (inside item)))) (second_in (inside tree))
 
   pub scalars-own : (tree : Derivation) → DataOwn (items_in (scalar_item_in source names labels) (second_in (inside tree)))
   scalars-own tree =

@@ -9,16 +9,16 @@ use Rattle.gms_lex.specs.declared.token.Token.{Token}
 use Rattle.gms_lex.specs.TokenTexts.{token_text, unquoted}
 use Rattle.gms_grammar.specs.declared.terminal.Terminal.{Terminal}
 use Rattle.gms_grammar.specs.declared.terminal.Terminal.TheVariants as terminal
-use Rattle.gms_grammar.specs.Grammar.{Tree, pair, left, right, none, some, more, node}
-use Rattle.gms_expressions.specs.Valuations.{number_in as number_meant}
-use Rattle.gms_expressions.specs.ExpressionTrees.{arguments, bracketed_arguments, bracketed_expression, call_of, choices, comparison, condition, conjunction, conjuncts, constant_of, control, exponents, expression, factors, fold_of, function_call, guarded_of, guards, index, indices, is_minus, is_word, label_in, lag, lag_amount, more_arguments, more_indices, negated_by, name_in, negated_primary, negation, optional_indices, or_0, or_alone, place_in, power_of, primary, product_of, relations, set_call, signed_guarded, signed_power, sum_of, target, terminal_in, terms, text_in, token_of, with_sign}
-use Rattle.gms_frames.specs.Names.{Each}
-use Rattle.gms_frames.proofs.Eaches.{each-both}
+use Rattle.gms_grammar.specs.Grammar.{DerivationTree, pair, left, right, none, some, more, node}
+use Rattle.gms_expressions.specs.Valuations.{number_meant}
+use Rattle.gms_expressions.specs.ExpressionTrees.{arguments, bracketed_arguments, bracketed_expression, call_of, choices, comparison_tree, condition, conjunction, conjuncts, constant_of, control, exponents, expression, factors, fold_of, function_call, guarded_of, guards, index, indices, is_minus, is_word, label_in, lag, lag_amount, more_arguments, more_indices, negated_by, name_in, negated_primary, negation, optional_indices, or_0, or_alone, place_in, power_of, primary, product_tree, relations, set_call, signed_guarded, signed_power, sum_tree, target, terminal_in, terms, text_in, token_of, with_sign}
+use Rattle.gms_run_laws.specs.Names.{Each}
+use Rattle.gms_run_laws.proofs.Eaches.{each-both}
 use Rattle.gms_restart.specs.Labels.{tree_labels, part_labels, index_labels, control_labels}
 use Rattle.gms_restart.proofs.Texts.{IsWritten, label-written}
 
 abbrev pub Derivation : Type 0
-Derivation = Tree (Terminal × Token)
+Derivation = DerivationTree (Terminal × Token)
 
 -- the numbers in a table of all texts that a source can write as labels pass a test
 abbrev pub HasOwn : List ℕ → List (List ℕ) → (ℕ → Bool) → Type 0
@@ -100,32 +100,32 @@ module _ (source : List ℕ) (names labels : List (List ℕ)) (is_own : ℕ → 
     conjuncts-own tree = tt
 
     negation-own : (tree : Derivation) → Own (negation source names labels tree)
-    negation-own (node (pair word tree)) = not-own word (comparison source names labels tree) (comparison-own tree)
+    negation-own (node (pair word tree)) = not-own word (comparison_tree source names labels tree) (comparison-own tree)
     negation-own tree = tt
 
-    comparison-own : (tree : Derivation) → Own (comparison source names labels tree)
+    comparison-own : (tree : Derivation) → Own (comparison_tree source names labels tree)
     comparison-own (node (pair first others)) =
-        alone-own (sum_of source names labels first) (λ rest. trees.relation (trees.part (trees.related rel_op.Eq) (sum_of source names labels first) rest)) (relations source names labels others) (sum-own first) (λ all. part-own (sum_of source names labels first) (relations source names labels others) (sum-own first) all) (relations-own others)
+        alone-own (sum_tree source names labels first) (λ rest. trees.relation (trees.part (trees.related rel_op.Eq) (sum_tree source names labels first) rest)) (relations source names labels others) (sum-own first) (λ all. part-own (sum_tree source names labels first) (relations source names labels others) (sum-own first) all) (relations-own others)
     comparison-own tree = tt
 
     relations-own : (tree : Derivation) → OwnParts (relations source names labels tree)
     relations-own (more (pair word tree) others) =
-        part-own (sum_of source names labels tree) (relations source names labels others) (sum-own tree) (relations-own others)
+        part-own (sum_tree source names labels tree) (relations source names labels others) (sum-own tree) (relations-own others)
     relations-own tree = tt
 
-    sum-own : (tree : Derivation) → Own (sum_of source names labels tree)
+    sum-own : (tree : Derivation) → Own (sum_tree source names labels tree)
     sum-own (node (pair sign (pair first others))) =
-        let one = with_sign sign (product_of source names labels first) in
-        let own = sign-own sign (product_of source names labels first) (product-own first) in
+        let one = with_sign sign (product_tree source names labels first) in
+        let own = sign-own sign (product_tree source names labels first) (product-own first) in
         alone-own one (λ rest. trees.sum (trees.part (trees.signed (place_in (pair sign first)) false) one rest)) (terms source names labels others) own (λ all. part-own one (terms source names labels others) own all) (terms-own others)
     sum-own tree = tt
 
     terms-own : (tree : Derivation) → OwnParts (terms source names labels tree)
     terms-own (more (pair sign tree) others) =
-        part-own (product_of source names labels tree) (terms source names labels others) (product-own tree) (terms-own others)
+        part-own (product_tree source names labels tree) (terms source names labels others) (product-own tree) (terms-own others)
     terms-own tree = tt
 
-    product-own : (tree : Derivation) → Own (product_of source names labels tree)
+    product-own : (tree : Derivation) → Own (product_tree source names labels tree)
     product-own (node (pair first others)) =
         alone-own (power_of source names labels first) (λ rest. trees.product (trees.part (trees.signed (place_in first) false) (power_of source names labels first) rest)) (factors source names labels others) (power-own first) (λ all. part-own (power_of source names labels first) (factors source names labels others) (power-own first) all) (factors-own others)
     product-own tree = tt

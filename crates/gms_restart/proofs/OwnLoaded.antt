@@ -24,9 +24,9 @@ use Rattle.gms_ast.specs.declared.program.Stmt.{Stmt}
 use Rattle.gms_parse.specs.Outcomes.{IsProgram}
 use Rattle.gms_set.specs.declared.fault.SetError.{SetError}
 use Rattle.gms_set.specs.declared.fault.SetFault.{SetFault}
-use Rattle.gms_set.specs.Expansion.{Given, error_of, expanded, tuples_of, unless, with_items}
+use Rattle.gms_set.specs.Expansion.{ExpandedData, error_of, expanded, tuples_of, unless, with_items}
 use Rattle.gms_set.specs.Expansion as expansion
-use Rattle.gms_tuple.specs.Products.{product}
+use Rattle.gms_tuple.specs.Products.{tuple_product}
 use Rattle.gms_tuple.specs.TupleOrder.{same_tuple, tuple_cmp}
 use Rattle.gms_tuple.specs.TupleSet.{has}
 use Rattle.gms_tuple.proofs.Members.{has-inserted}
@@ -35,14 +35,14 @@ use Rattle.gms_store.specs.declared.kind.VariableType.{VariableType}
 use Rattle.gms_store.specs.declared.kind.VariableType.TheVariants as type
 use Rattle.gms_store.specs.Declarations.{names_of, positions_of, content_of, symbol_of_kind, retyped, is_undeclared, put_at, declare, alias_symbol, can_join, join_name, declare_alias, model_symbol, declare_model, blank_state}
 use Rattle.gms_store.specs.State.{State, Attributes, Entries, Content, undeclared, alias_of, set_of, parameter_of, variable_of, equation_of, model_with, Symbol, symbol_at, symbol_of, base_of, given_in, is_given, with_content, if_fits, with_membership, with_value}
-use Rattle.gms_known.specs.Data.{with_datum}
+use Rattle.gms_scope.specs.Data.{with_datum}
 use Rattle.gms_check.specs.Loaded.{loaded, sound}
 use Rattle.gms_check.specs.Past.{with_data, with_item, with_name, after_act, after_statement}
 use Rattle.gms_check.proofs.Growing.{put-at, by_parts}
 use Rattle.gms_check.proofs.IndexSetsStay.{none-declared}
 use Rattle.gms_exec.proofs.Overlays.{has-keys}
-use Rattle.gms_frames.specs.Names.{Each}
-use Rattle.gms_frames.proofs.FormKeys.{EachHas}
+use Rattle.gms_run_laws.specs.Names.{Each}
+use Rattle.gms_run_laws.proofs.FormKeys.{EachHas}
 use Rattle.gms_restart.specs.Labels.{HasItsLabels}
 use Rattle.gms_restart.proofs.OwnData.{DeclHas, ItemHas}
 use Rattle.gms_restart.proofs.OwnProgram.{statements-own}
@@ -204,40 +204,40 @@ module _ (test : ℕ → Bool) where
   pieces ts all (label ∷ labels) own =
       joined (map (λ tuple. label ∷ tuple) ts) (flat_map (λ label. map (λ tuple. label ∷ tuple) ts) labels) (with-label label own.0 ts all) (pieces ts all labels own.1)
 
-  products : (parts : List (List ℕ)) → EachHas (Each test) parts → Tuples (product parts)
+  products : (parts : List (List ℕ)) → EachHas (Each test) parts → Tuples (tuple_product parts)
   products [] own = (tt, tt)
-  products (labels ∷ rest) own = pieces (product rest) (products rest own.1) labels own.0
+  products (labels ∷ rest) own = pieces (tuple_product rest) (products rest own.1) labels own.0
 
   module _ {F : Type 0} where
     -- each tuple of data passes
-    abbrev Data : Given F → Type 0
+    abbrev Data : ExpandedData F → Type 0
     Data [] = Unit {0}
     Data (d ∷ ds) = Each test d.0 × Data ds
 
     -- what items give passes, where they have no fault
-    abbrev OkData : Result (Given F) SetFault → Type 0
+    abbrev OkData : Result (ExpandedData F) SetFault → Type 0
     OkData (Ok given) = Data given
     OkData (Err fault) = Unit {0}
 
-    with-all : (ds : Given F) (x : Option (Ext F)) (ts : List (List ℕ)) → Data ds → Tuples ts → Data (ds ++ expansion.with_value x ts)
+    with-all : (ds : ExpandedData F) (x : Option (Ext F)) (ts : List (List ℕ)) → Data ds → Tuples ts → Data (ds ++ expansion.tuples_with_value x ts)
     with-all [] x [] one other = tt
     with-all [] x (t ∷ ts) one other = (other.0, with-all [] x ts tt other.1)
     with-all (d ∷ ds) x ts one other = (one.0, with-all ds x ts one.1 other)
 
-    unless-data : (o : Option SetError) (at : Place) (rest : Result (Given F) SetFault) → OkData rest → OkData (unless o at rest)
+    unless-data : (o : Option SetError) (at : Place) (rest : Result (ExpandedData F) SetFault) → OkData rest → OkData (unless o at rest)
     unless-data None at rest all = all
     unless-data (Some error) at rest all = tt
 
-    items-give : (state : State) (domain : List (Option ℕ)) (items : List (Item F)) (ds : Given F) → Data ds → EachHas (ItemHas test) items → OkData (with_items state domain ds items)
+    items-give : (state : State) (domain : List (Option ℕ)) (items : List (Item F)) (ds : ExpandedData F) → Data ds → EachHas (ItemHas test) items → OkData (with_items state domain ds items)
     items-give state domain [] ds all own = all
     items-give state domain (item ∷ items) ds all own =
-        let more = ds ++ expansion.with_value item.value (product item.parts) in
-        unless-data (error_of state domain (tuples_of ds) item) item.at (with_items state domain more items) (items-give state domain items more (with-all ds item.value (product item.parts) all (products item.parts own.0)) own.1)
+        let more = ds ++ expansion.tuples_with_value item.value (tuple_product item.parts) in
+        unless-data (error_of state domain (tuples_of ds) item) item.at (with_items state domain more items) (items-give state domain items more (with-all ds item.value (tuple_product item.parts) all (products item.parts own.0)) own.1)
 
   -- ---- states
 
   module _ {F : Type 0} (v : F → Number) where
-    pass-data : (ds : Given F) (s : State) (name : ℕ) → Data ds → AllPass s → AllPass (fold (with_datum v name) s ds)
+    pass-data : (ds : ExpandedData F) (s : State) (name : ℕ) → Data ds → AllPass s → AllPass (fold (with_datum v name) s ds)
     pass-data [] s name own all = all
     pass-data ((u, None) ∷ ds) s name own all =
         let x = symbol_of s name in
@@ -248,7 +248,7 @@ module _ (test : ℕ → Bool) where
         let new = with_value x.content u (value_shown v value) in
         pass-data ds (put_at s (base_of s name) (if_fits x u new)) name own.1 (pass-put s (base_of s name) (if_fits x u new) (pass-fitted x u new (pass-number x.content u (value_shown v value) own.0 (all (base_of s name))) (all (base_of s name))) all)
 
-    pass-given : (s : State) (name : ℕ) (given : Result (Given F) SetFault) → OkData given → AllPass s → AllPass (with_data v s name given)
+    pass-given : (s : State) (name : ℕ) (given : Result (ExpandedData F) SetFault) → OkData given → AllPass s → AllPass (with_data v s name given)
     pass-given s name (Ok given) own all = pass-data given s name own all
     pass-given s name (Err fault) own all = all
 

@@ -11,15 +11,15 @@ use Rattle.gms_ast.specs.declared.word.Word.{Word}
 use Rattle.gms_ast.specs.StatementTrees.{Act, displays, sets_options, solves, aborts, Target, Statements, no_statement, statement, followed_by}
 use Rattle.gms_ast.specs.Trees as trees
 use Rattle.gms_grammar.specs.declared.terminal.Terminal.{Terminal}
-use Rattle.gms_grammar.specs.Grammar.{Tree, pair, left, right, none, some, more, node}
+use Rattle.gms_grammar.specs.Grammar.{DerivationTree, pair, left, right, none, some, more, node}
 use Rattle.gms_expressions.specs.ExpressionTrees.{first_in, second_in, inside, name_in}
 use Rattle.gms_parse.specs.Declarations.{items_in, further_items, plain_in, model_in, variable_act, equation_act, model_act, set_in, parameter_in, scalar_item_in, set_act, parameter_act, scalar_act, table_act}
 use Rattle.gms_parse.specs.Statements.{after_target, after_head, act_of_head, named_act, alias_act, display_act, option_act, solve_act, abort_act}
-use Rattle.gms_parse.specs.Programs.{loop_act, controlled, display_or_other, keyword_act, keyword_statements, named_first, segment, segments, statements_of}
+use Rattle.gms_parse.specs.Programs.{loop_act, controlled_act, display_or_other, keyword_act, keyword_statements, named_first, segment, segments, statements_of}
 use Rattle.gms_restart.proofs.Padding.{HoldsOf, HoldsOfAct, HoldsOfAll, item_names}
 
 abbrev Derivation : Type 0
-Derivation = Tree (Terminal × Token)
+Derivation = DerivationTree (Terminal × Token)
 
 followed-hold : (P : ℕ → Type 0) (a b : Statements Number) → HoldsOfAll P a → HoldsOfAll P b → HoldsOfAll P (followed_by a b)
 followed-hold P no_statement b one other = other
@@ -129,7 +129,7 @@ module _ (source : List ℕ) (names labels : List (List ℕ)) (P : ℕ → Type 
   quiet : QuietHave Own
   quiet = record { shown = λ list. tt; chosen = λ settings. tt; solved = λ model method objective most. tt; stopped = λ condition list. tt }
 
-  controlled-own : (tree : Derivation) → Own (controlled source names labels tree)
+  controlled-own : (tree : Derivation) → Own (controlled_act source names labels tree)
   controlled-own (pair sets (pair comma body)) = tt
   controlled-own _ = tt
 

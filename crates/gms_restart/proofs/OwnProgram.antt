@@ -16,12 +16,12 @@ use Rattle.gms_grammar.specs.Grammar.{yield}
 use Rattle.gms_expressions.specs.ExpressionTrees.{or_0}
 use Rattle.gms_parse.specs.Outcomes.{IsProgram}
 use Rattle.gms_parse.specs.Programs.{statements_of}
-use Rattle.gms_front.proofs.Kinships.{program_kin}
-use Rattle.gms_front.proofs.KinPrograms.{statements_same}
+use Rattle.gms_joint_source.proofs.Kinships.{program_kin}
+use Rattle.gms_joint_source.proofs.KinPrograms.{statements_same}
 use Rattle.gms_restart.proofs.ProgramNames.{alike-itself, behind_longer, placed-behind}
-use Rattle.gms_frames.specs.Names.{Each}
-use Rattle.gms_frames.proofs.FormKeys.{EachHas}
-use Rattle.gms_going_on.proofs.Padding.{test-of}
+use Rattle.gms_run_laws.specs.Names.{Each}
+use Rattle.gms_run_laws.proofs.FormKeys.{EachHas}
+use Rattle.gms_run_laws.proofs.Padding.{test-of}
 use Rattle.gms_restart.proofs.OwnData.{DeclHas, ItemHas}
 use Rattle.gms_restart.proofs.OwnLabels.{Derivation, HasOwn}
 use Rattle.gms_restart.proofs.OwnWritten.{AllPass, StatementsPass, act_data, act_labels, items-pass, statements-pass}

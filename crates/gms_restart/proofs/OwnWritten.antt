@@ -17,19 +17,19 @@ use Rattle.gms_ast.specs.declared.program.Right.TheVariants.{Value}
 use Rattle.gms_ast.specs.declared.program.Stmt.{Stmt}
 use Rattle.gms_ast.specs.Numbers.{in_numbers, parts_in_numbers, indices_in_numbers, control_in_numbers}
 use Rattle.gms_ast.specs.StatementTrees.{Act, declares, assigns, defines, loops, Statements, no_statement, statement, followed_by, Target}
-use Rattle.gms_ast.specs.StatementView.{declared_in, in_order, item_in, shown_tree, statement_view, statements_view}
+use Rattle.gms_ast.specs.StatementView.{declared_in, statements_in_order, item_in, shown_tree, statement_view, statements_view}
 use Rattle.gms_ast.specs.TreeView.{control_tree, index_tree, indices_of, tree_of}
 use Rattle.gms_ast.specs.Trees as trees
 use Rattle.gms_grammar.specs.Grammar.{yield, pair, left, right, some, more, node}
 use Rattle.gms_expressions.specs.ExpressionTrees.{control, expression, first_in, inside, more_indices, name_in, optional_indices, second_in, suffix_in}
 use Rattle.gms_parse.specs.Declarations.{equation_act, model_act, parameter_act, scalar_act, set_act, table_act, variable_act}
-use Rattle.gms_parse.specs.Programs.{behind_semicolon, controlled, display_or_other, inner_act, keyword_act, keyword_statements, loop_act, loop_body, named_first, segment, segments, statements_of}
+use Rattle.gms_parse.specs.Programs.{behind_semicolon, controlled_act, display_or_other, inner_act, keyword_act, keyword_statements, loop_act, loop_body, named_first, segment, segments, statements_of}
 use Rattle.gms_parse.specs.Statements.{act_of_head, after_head, after_target, alias_act, assigned, assignment_act, condition_in, head_indices, named_act, sides_in, target_at, target_in}
 use Rattle.gms_parse.proofs.Looped.{view-Stmt}
 use Rattle.gms_restart.proofs.OwnNames.{QuietHave, abort-has, display-has, option-has, solve-has}
-use Rattle.gms_frames.specs.Names.{Each}
-use Rattle.gms_frames.proofs.Eaches.{each-both}
-use Rattle.gms_frames.proofs.FormKeys.{EachHas}
+use Rattle.gms_run_laws.specs.Names.{Each}
+use Rattle.gms_run_laws.proofs.Eaches.{each-both}
+use Rattle.gms_run_laws.proofs.FormKeys.{EachHas}
 use Rattle.gms_save.proofs.SeenActs.{AllSuch, Layer, LayerSuch, each-act, shown, shown_layer, shows}
 use Rattle.gms_restart.specs.Labels.{condition_labels, control_labels, index_labels, labels_step, part_labels, statement_labels, tree_labels}
 use Rattle.gms_restart.proofs.OwnLabels.{Derivation, OwnIndices, condition-own, control-own, expression-own, HasOwn, label-own, lag-own, more_indices-own, optional-own}
@@ -146,7 +146,7 @@ module _ (source : List ℕ) (names labels : List (List ℕ)) (own : ℕ → Boo
     loop-own (node (pair word (pair mark (pair tree close_mark)))) = controlled-own tree
     loop-own tree = tt
 
-    controlled-own : (tree : Derivation) → Written (controlled source names labels tree)
+    controlled-own : (tree : Derivation) → Written (controlled_act source names labels tree)
     controlled-own (pair sets (pair comma body)) =
         each-both own (control_labels (control source names labels sets)) (all_labels (loop_body source names labels body)) (control-own source names labels own has sets) (body-own body)
     controlled-own tree = tt
@@ -338,10 +338,10 @@ SameLabels act = act_labels (shown act) ≡ labels_of act
 abbrev labels_layer : Layer → List ℕ
 labels_layer x = labels_of (roll-Act Frac x)
 
-body-same : (ss : List (Stmt Frac)) → AllSuch SameLabels ss → all_labels (in_order frac_value (map {B = Statements Number → Statements Number} (statement_view frac_value) ss)) ≡ flat_map (λ (labels : List ℕ). labels) (map statement_labels ss)
+body-same : (ss : List (Stmt Frac)) → AllSuch SameLabels ss → all_labels (statements_in_order frac_value (map {B = Statements Number → Statements Number} (statement_view frac_value) ss)) ≡ flat_map (λ (labels : List ℕ). labels) (map statement_labels ss)
 body-same [] all = refl
 body-same (s ∷ ss) all =
-    ap all_labels (view-Stmt frac_value s (in_order frac_value (map {B = Statements Number → Statements Number} (statement_view frac_value) ss)))
+    ap all_labels (view-Stmt frac_value s (statements_in_order frac_value (map {B = Statements Number → Statements Number} (statement_view frac_value) ss)))
     ∙ ap₂ (λ (a b : List ℕ). a ++ b) (all.0 ∙ sym (written-act s)) (body-same ss all.1)
 
 layer-same : (x : Layer) → LayerSuch SameLabels x → act_labels (shown_layer x) ≡ labels_layer x

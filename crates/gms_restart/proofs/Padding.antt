@@ -13,7 +13,7 @@ use Rattle.gms_ast.specs.declared.declaration.ModelDecl.{ModelDecl}
 use Rattle.gms_ast.specs.StatementTrees.{Act, declares, aliases, assigns, defines, declares_models, solves, displays, loops, sets_options, aborts, Statements, no_statement, statement}
 use Rattle.gms_ast.specs.StatementView.{declared_in}
 use Rattle.gms_store.specs.Declarations.{names_of, is_set, is_undeclared, declared_again, put_at, declare, alias_symbol, can_join, join_name, declare_alias, model_symbol, declare_model}
-use Rattle.gms_store.specs.State.{State, Symbol, no_symbol, symbol_at, behind, base_of}
+use Rattle.gms_store.specs.State.{State, Symbol, no_symbol, symbol_at, alias_target, base_of}
 use Rattle.gms_check.proofs.IndexSetsStay.{none-declared}
 use Rattle.gms_save.proofs.FromNumbers.{value_of}
 use Rattle.gms_save.proofs.SeenActs.{told_by}
@@ -109,7 +109,7 @@ module _ (more : ℕ) where
 
     join-same : (s : State) (old new : ℕ) → new < count → length s.symbols ≡ count → IsSame count (λ t. join_name t old new) s
     join-same s old new within size = record {
-      same = ap (λ (x : Symbol). put_at (padded s) new (alias_symbol (behind old x.content))) (at-padded s old) ∙ put-padded s new (alias_symbol (base_of s old)) (subst (λ n. new < n) (sym size) within);
+      same = ap (λ (x : Symbol). put_at (padded s) new (alias_symbol (alias_target old x.content))) (at-padded s old) ∙ put-padded s new (alias_symbol (base_of s old)) (subst (λ n. new < n) (sym size) within);
       size = put-count count s new (alias_symbol (base_of s old)) size;
     }
 

@@ -9,14 +9,14 @@ use Rattle.gms_ast.specs.StatementTrees.{Target}
 use Rattle.gms_ast.specs.Trees as tree
 use Rattle.gms_tuple.specs.TupleSet.{has}
 use Rattle.gms_store.specs.State.{State, symbol_at, symbol_of, base_of}
-use Rattle.gms_known.specs.Names.{is_index_set, is_unknown, positions}
+use Rattle.gms_scope.specs.Names.{is_index_set, has_no_declaration, positions}
 use Rattle.gms_check.specs.declared.standing.Standing.{Standing as Standings}
 use Rattle.gms_check.specs.Above.{directly_above}
 use Rattle.gms_check.specs.Checked.{AreIndices}
 use Rattle.gms_check.specs.IndexList.{have_unfit_set}
 use Rattle.gms_check.specs.Past.{Known}
 use Rattle.gms_check.specs.Standing.{as_condition, as_part, as_inner, as_guarded}
-use Rattle.gms_check.specs.Uses.{reading, controlling, place_of, index_sets, uses, part_uses, control_uses, steps}
+use Rattle.gms_check.specs.Uses.{reading, controlling, place_by_mark, index_sets, uses, part_uses, control_uses, steps}
 use Rattle.gms_check.specs.Uses as checking
 use Rattle.gms_check.proofs.NoErrors.{AreClean, clean-left, clean-right}
 use Rattle.gms_check.proofs.Soundness.{sound-use}
@@ -32,13 +32,13 @@ use Rattle.gms_rows.specs.Rows as rows
 use Rattle.gms_rows.proofs.Domains.{All-each_once}
 use Rattle.gms_exec.specs.Assignment as assigning
 use Rattle.gms_exec.specs.Given.{Given}
-use Rattle.gms_frames.specs.Names.{Each}
-use Rattle.gms_frames.proofs.Eaches.{each-left, each-right}
-use Rattle.gms_frames.proofs.FormKeys.{OkHas, EachHas, then-has, after-has, in_order-has, IsElement, Passes, EachPasses}
-use Rattle.gms_frames.proofs.ModelRows.{RowPasses, DefinitionPasses}
-use Rattle.gms_joint.proofs.ElementLabels.{element-members}
-use Rattle.gms_joint.specs.LastStates.{AreFixed}
-use Rattle.gms_saved.specs.Validity.{stands_in}
+use Rattle.gms_run_laws.specs.Names.{Each}
+use Rattle.gms_run_laws.proofs.Eaches.{each-left, each-right}
+use Rattle.gms_run_laws.proofs.FormKeys.{OkHas, EachHas, then-has, after-has, in_order-has, IsElement, Passes, EachPasses}
+use Rattle.gms_run_laws.proofs.ModelRows.{RowPasses, DefinitionPasses}
+use Rattle.gms_run_laws.proofs.ElementLabels.{element-members}
+use Rattle.gms_run_laws.specs.LastStates.{AreFixed}
+use Rattle.gms_save_text.specs.Validity.{stands_in}
 use Rattle.gms_restart.specs.Labels.{tree_labels, part_labels, index_labels, control_labels}
 use Rattle.gms_restart.proofs.Fitting.{Ground, Standing, Fits, controlled-fits, domain-has, tuple-few, tuple-stands}
 use Rattle.gms_restart.proofs.Homes.{and-made, stands_few}
@@ -63,14 +63,14 @@ module _ (count : ℕ) (first : State) (assigned : ℕ → Bool) {F : Type 0} (k
   abbrev pub Below : List ℕ → Type 0
   Below = Each (λ l. nat_lt l count)
 
-  pub positions-same : (name : ℕ) → is_unknown known.state name ≡ false → positions known.state name ≡ (symbol_of first name).domain
+  pub positions-same : (name : ℕ) → has_no_declaration known.state name ≡ false → positions known.state name ≡ (symbol_of first name).domain
   positions-same name there =
       sym (ap (λ n. (symbol_at first n).domain) ((ground.later name there).alike name) ∙ (ground.later (base_of known.state name) (ground.based name there)).domain)
 
   module _ (v : F → Number) (limit : ℕ) (state : State) (standing : Standing count first assigned state) where
     -- ---- references
 
-    pub indices-pass : (name : ℕ) (indices : tree.Indices F) (binding : Pairs) → Fits count first assigned binding → is_unknown known.state name ≡ false → AreIndices known name indices → Below (index_labels indices) → OkHas (λ those. IsElement ok name (tuple_of those)) (in_order (labels v limit state binding indices))
+    pub indices-pass : (name : ℕ) (indices : tree.Indices F) (binding : Pairs) → Fits count first assigned binding → has_no_declaration known.state name ≡ false → AreIndices known name indices → Below (index_labels indices) → OkHas (λ those. IsElement ok name (tuple_of those)) (in_order (labels v limit state binding indices))
     indices-pass name indices binding fits there are own = by (in_order (labels v limit state binding indices)) refl
       where
         same : positions known.state name ≡ (symbol_of first name).domain
@@ -121,8 +121,8 @@ module _ (count : ℕ) (first : State) (assigned : ℕ → Bool) {F : Type 0} (k
           let read = sound-use known (reading standings around name suffix indices) clean.0 in indices-pass name indices binding fits read.declared read.fitting own
       tree-passes (tree.fold_over place op control body) standings at around binding clean own fits =
           over-domain (λ element. Passes ok v limit state (controlled binding (sets_of control) element) body) binding place control (λ element there.
-          tree-passes body (as_inner standings) place (around ++ checking.sets_of control) (controlled binding (sets_of control) element) (clean-right known (control_uses place around control) (uses (as_inner standings) place (around ++ checking.sets_of control) body) clean.1) (each-right (λ l. nat_lt l count) (control_labels control) (tree_labels body) own)
-          (element-fits binding (sets_of control) element fits (control-simple control place around (clean-left known (control_uses place around control) (uses (as_inner standings) place (around ++ checking.sets_of control) body) clean.1)) there))
+          tree-passes body (as_inner standings) place (around ++ checking.sets_of_control control) (controlled binding (sets_of control) element) (clean-right known (control_uses place around control) (uses (as_inner standings) place (around ++ checking.sets_of_control control) body) clean.1) (each-right (λ l. nat_lt l count) (control_labels control) (tree_labels body) own)
+          (element-fits binding (sets_of control) element fits (control-simple control place around (clean-left known (control_uses place around control) (uses (as_inner standings) place (around ++ checking.sets_of_control control) body) clean.1)) there))
       tree-passes (tree.negated operand) standings at around binding clean own fits = tree-passes operand (as_part standings) at around binding clean own fits
       tree-passes (tree.sum parts) standings at around binding clean own fits = parts-pass parts (as_part standings) at around binding clean own fits
       tree-passes (tree.product parts) standings at around binding clean own fits =
@@ -146,8 +146,8 @@ module _ (count : ℕ) (first : State) (assigned : ℕ → Bool) {F : Type 0} (k
       parts-pass : (parts : tree.Parts F) (standings : Standings) (at : Place) (around : List ℕ) (binding : Pairs) → AreClean known (part_uses standings at around parts) → Below (part_labels parts) → Fits count first assigned binding → EachPasses ok v limit state binding parts
       parts-pass tree.no_part standings at around binding clean own fits = tt
       parts-pass (tree.part mark part rest) standings at around binding clean own fits = (
-        tree-passes part standings (place_of mark at) around binding (clean-left known (uses standings (place_of mark at) around part) (part_uses standings at around rest) clean) (each-left (λ l. nat_lt l count) (tree_labels part) (part_labels rest) own) fits,
-        parts-pass rest standings at around binding (clean-right known (uses standings (place_of mark at) around part) (part_uses standings at around rest) clean) (each-right (λ l. nat_lt l count) (tree_labels part) (part_labels rest) own) fits,
+        tree-passes part standings (place_by_mark mark at) around binding (clean-left known (uses standings (place_by_mark mark at) around part) (part_uses standings at around rest) clean) (each-left (λ l. nat_lt l count) (tree_labels part) (part_labels rest) own) fits,
+        parts-pass rest standings at around binding (clean-right known (uses standings (place_by_mark mark at) around part) (part_uses standings at around rest) clean) (each-right (λ l. nat_lt l count) (tree_labels part) (part_labels rest) own) fits,
       )
 
     -- ---- definitions
@@ -163,7 +163,7 @@ module _ (count : ℕ) (first : State) (assigned : ℕ → Bool) {F : Type 0} (k
     nothing-fits set label e = absurd (cc)
 
     -- a definition without an error
-    pub definition-passes : (d : Definition F) → is_unknown known.state d.equation ≡ false → AreIndices known d.equation d.indices → Below (index_labels d.indices) →
+    pub definition-passes : (d : Definition F) → has_no_declaration known.state d.equation ≡ false → AreIndices known d.equation d.indices → Below (index_labels d.indices) →
         ((binding : Pairs) → Fits count first assigned binding → Passes ok v limit state binding d.left) → ((binding : Pairs) → Fits count first assigned binding → Passes ok v limit state binding d.right) → DefinitionPasses ok v limit state d
     definition-passes d there are own left right =
         let sets = rows.each_once (rows.sets_among d.indices) in
@@ -181,7 +181,7 @@ module _ (count : ℕ) (first : State) (assigned : ℕ → Bool) {F : Type 0} (k
     MayStandGiven name None = Unit {0}
     MayStandGiven name (Some given) = GivenStands name given
 
-    there-stand : (name : ℕ) (given : List (Option (List ℕ × Given))) → EachHas (MayStandGiven name) given → EachHas (GivenStands name) (assigning.those_there v limit state given)
+    there-stand : (name : ℕ) (given : List (Option (List ℕ × Given))) → EachHas (MayStandGiven name) given → EachHas (GivenStands name) (assigning.given_elements v limit state given)
     there-stand name [] all = tt
     there-stand name (None ∷ given) all = there-stand name given all.1
     there-stand name (Some one ∷ given) all = (all.0, there-stand name given all.1)
@@ -200,11 +200,11 @@ module _ (count : ℕ) (first : State) (assigned : ℕ → Bool) {F : Type 0} (k
     each-element target right_at right sets binding (element ∷ those) all =
         (element-stands target right_at right (controlled binding sets element) all.0, each-element target right_at right sets binding those all.1)
 
-    pub given-stand : (target : Target F) (at : Place) (binding : Pairs) (condition : Option (tree.Tree F)) (right_at : Place) (right : tree.Tree F) → Fits count first assigned binding → is_unknown known.state target.name ≡ false → AreIndices known target.name target.indices → Below (index_labels target.indices) → OkHas (EachHas (GivenStands target.name)) (assigning.given_by v limit state at binding target condition right_at right)
+    pub given-stand : (target : Target F) (at : Place) (binding : Pairs) (condition : Option (tree.Tree F)) (right_at : Place) (right : tree.Tree F) → Fits count first assigned binding → has_no_declaration known.state target.name ≡ false → AreIndices known target.name target.indices → Below (index_labels target.indices) → OkHas (EachHas (GivenStands target.name)) (assigning.given_by v limit state at binding target condition right_at right)
     given-stand target at binding condition right_at right fits there are own =
         let sets = assigning.newly_controlled binding target.indices in
         let element : List ℕ → Answer (Option (List ℕ × Given)) = λ element. assigning.element_under v limit state target right_at right (controlled binding sets element) in
         let index_sets_are = All-filter (λ set. is_none (label_of binding set)) (λ name. is_index_set known.state name ≡ true) (rows.each_once (rows.sets_among target.indices)) (All-each_once (λ name. is_index_set known.state name ≡ true) (rows.sets_among target.indices) (row-sets (λ name. is_index_set known.state name ≡ true) target.indices are.sets)) in
-        then-has (EachHas (λ element. OkHas (λ those. IsElement ok target.name (tuple_of those)) (in_order (labels v limit state (controlled binding sets element) target.indices)))) (EachHas (GivenStands target.name)) (domain v limit state binding at (control_over sets condition)) (λ those. in_order (map element those) and_then λ given. Ok (assigning.those_there v limit state given))
+        then-has (EachHas (λ element. OkHas (λ those. IsElement ok target.name (tuple_of those)) (in_order (labels v limit state (controlled binding sets element) target.indices)))) (EachHas (GivenStands target.name)) (domain v limit state binding at (control_over sets condition)) (λ those. in_order (map element those) and_then λ given. Ok (assigning.given_elements v limit state given))
         (over-sets (λ element. OkHas (λ those. IsElement ok target.name (tuple_of those)) (in_order (labels v limit state (controlled binding sets element) target.indices))) binding at sets condition (λ element among. indices-pass target.name target.indices (controlled binding sets element) (element-fits binding sets element fits (simple-all sets index_sets_are) among) there are own))
-        (λ those all. then-has (EachHas (MayStandGiven target.name)) (EachHas (GivenStands target.name)) (in_order (map element those)) (λ given. Ok (assigning.those_there v limit state given)) (in_order-has (MayStandGiven target.name) (map element those) (each-element target right_at right sets binding those all)) (λ given all. there-stand target.name given all))
+        (λ those all. then-has (EachHas (MayStandGiven target.name)) (EachHas (GivenStands target.name)) (in_order (map element those)) (λ given. Ok (assigning.given_elements v limit state given)) (in_order-has (MayStandGiven target.name) (map element those) (each-element target right_at right sets binding those all)) (λ given all. there-stand target.name given all))

@@ -18,19 +18,19 @@ use Rattle.gms_ast.specs.declared.program.Stmt.{Stmt}
 use Rattle.gms_ast.specs.declared.word.Word.{Word}
 use Rattle.gms_store.specs.declared.settings.Settings.{Settings}
 use Rattle.gms_store.specs.State.{State}
-use Rattle.gms_known.specs.DynamicSets.{assigned}
+use Rattle.gms_scope.specs.DynamicSets.{assigned_names}
 use Rattle.gms_check.specs.Loaded.{loaded}
 use Rattle.lp_core.specs.declared.answer.Answer.{Answer}
 use Rattle.lp_core.specs.declared.answer.End.{End}
 use Rattle.lp_core.specs.declared.program.Lp.{Lp}
 use Rattle.lp_slot.specs.SolverNames.{IsSolverName}
 use Rattle.gms_exec.specs.Given.{AllGiven, after_given}
-use Rattle.gms_exec.specs.Options.{is_word, solver_set, after_option, after_options}
+use Rattle.gms_exec.specs.Options.{is_same_word, solver_set, after_option, after_options}
 use Rattle.gms_exec.specs.Run.{World, of_statement, run_from}
 use Rattle.gms_exec.specs.Solved.{Point, after_end, points_of, statuses_of, with_point}
 use Rattle.gms_store.specs.State.{after_statuses, with_settings}
-use Rattle.gms_joint.proofs.Persisting.{AreAllowed, EachKeeps, all-keep, keeps-statement}
-use Rattle.gms_joint.proofs.TidyLoaded.{loaded-well}
+use Rattle.gms_run_laws.proofs.Persisting.{AreAllowed, EachKeeps, all-keep, keeps-statement}
+use Rattle.gms_run_laws.proofs.TidyLoaded.{loaded-well}
 use Rattle.gms_save.specs.Saves.{place_of_solver}
 
 -- ---- names
@@ -99,21 +99,21 @@ module _ {F : Type 0} (v : F → Number) (names : List (List ℕ)) (all : All Is
 
   set-first : (old : ℕ) (set : Setting F) → IsFirst names old → IsFirst names (solver_set names old set)
   set-first old (setting.Number at x) first = first
-  set-first old (setting.Name word) first = by (position (is_word word.text) names) refl
+  set-first old (setting.Name word) first = by (position (is_same_word word.text) names) refl
     where
-      by : (found : Option ℕ) → position (is_word word.text) names ≡ found → IsFirst names (unwrap_or found old)
+      by : (found : Option ℕ) → position (is_same_word word.text) names ≡ found → IsFirst names (unwrap_or found old)
       by None e = first
       by (Some place) e = first-found names all word.text place e
 
   option-first : (s : Settings) (word : Word) (set : Setting F) → Chooses s → Chooses (after_option v names s (word, set))
   option-first s word set first =
       let same = first.chosen in
-      either-way Chooses (is_word (codes "limrow") word.text) _ _ (record { chosen = same })
-      (either-way Chooses (is_word (codes "limcol") word.text) _ _ (record { chosen = same })
-      (either-way Chooses (is_word (codes "iterlim") word.text) _ _ (record { chosen = same })
-      (either-way Chooses (is_word (codes "decimals") word.text) _ _ (record { chosen = same })
-      (either-way Chooses (is_word (codes "solprint") word.text) _ _ (record { chosen = same })
-      (either-way Chooses (is_word (codes "lp") word.text) _ _ (record { chosen = set-first s.solver set same }) first)))))
+      either-way Chooses (is_same_word (codes "limrow") word.text) _ _ (record { chosen = same })
+      (either-way Chooses (is_same_word (codes "limcol") word.text) _ _ (record { chosen = same })
+      (either-way Chooses (is_same_word (codes "iterlim") word.text) _ _ (record { chosen = same })
+      (either-way Chooses (is_same_word (codes "decimals") word.text) _ _ (record { chosen = same })
+      (either-way Chooses (is_same_word (codes "solprint") word.text) _ _ (record { chosen = same })
+      (either-way Chooses (is_same_word (codes "lp") word.text) _ _ (record { chosen = set-first s.solver set same }) first)))))
 
   options-first : (options : List (Word × Setting F)) (s : Settings) → Chooses s → Chooses (after_options v names s options)
   options-first [] s first = first
@@ -151,7 +151,7 @@ module _ {F : Type 0} (v : F → Number) (limit : ℕ) (world : World F) (all : 
   each-chosen : (statements : List (Stmt F)) → EachKeeps Chosen (map (of_statement v limit world) statements)
   each-chosen [] = tt
   each-chosen (s ∷ statements) =
-      (keeps-statement v limit world Chosen Any givens ends sets s (any-allowed (assigned s)), each-chosen statements)
+      (keeps-statement v limit world Chosen Any givens ends sets s (any-allowed (assigned_names s)), each-chosen statements)
 
   -- the last state of a run chooses the first solver of a name, where its first does
   pub run-chooses : (state : State) (answers : List (Answer Number)) (statements : List (Stmt F)) → IsFirst world.solvers state.settings.solver → IsFirst world.solvers (run_from v limit world state answers statements).state.settings.solver

@@ -7,7 +7,7 @@ use Rattle.std.specs.Prelude.{flat_map}
 use Rattle.std.proofs.lemmas.List.{length-map}
 use Rattle.std.proofs.lemmas.Slice.Eq.{bytes_eq-Decides}
 use Rattle.gq_number.specs.Number.{Number}
-use Rattle.gms_labels.specs.Labels.{folded, is_same, place_of}
+use Rattle.gms_labels.specs.Labels.{lower_case, is_same, place_of}
 use Rattle.gms_labels.proofs.Places.{is_same_refl, place_of-reads, position_misses}
 use Rattle.gms_lex.specs.TokenTexts.{token_text}
 use Rattle.gms_ast.specs.StatementTrees.{Act, declares, aliases, declares_models, Statements, no_statement, statement}
@@ -15,11 +15,11 @@ use Rattle.gms_grammar.specs.Grammar.{yield}
 use Rattle.gms_expressions.specs.ExpressionTrees.{name_in, or_0, token_of}
 use Rattle.gms_parse.specs.Outcomes.{ProgramView, HasProgram}
 use Rattle.gms_parse.specs.Programs.{statements_of}
-use Rattle.gms_parse.specs.Readings.{Derivation}
-use Rattle.gms_parse.specs.Walks.{Seen}
-use Rattle.gms_front.proofs.FrontWalks.{AreAlike}
-use Rattle.gms_front.proofs.Kinships.{program_kin}
-use Rattle.gms_front.proofs.KinPrograms.{statements_same}
+use Rattle.gms_parse.specs.InnerReadings.{Derivation}
+use Rattle.gms_parse.specs.Walks.{KindedToken}
+use Rattle.gms_joint_source.proofs.FrontWalks.{AreAlike}
+use Rattle.gms_joint_source.proofs.Kinships.{program_kin}
+use Rattle.gms_joint_source.proofs.KinPrograms.{statements_same}
 use Rattle.gms_restart.proofs.OwnNames.{statements-own}
 use Rattle.gms_restart.proofs.Padding.{HoldsOf, HoldsOfAct, HoldsOfAll, IsBelow}
 
@@ -79,7 +79,7 @@ has-at (first ∷ texts) text (inr h) = let at = has-at texts text h in (suc at.
 -- texts of one label are equally long
 same-long : (a b : List ℕ) → is_same a b ≡ true → length a ≡ length b
 same-long a b e =
-    let long : length (folded a) ≡ length (folded b) = ap (λ (t : List ℕ). length t) ((bytes_eq-Decides (folded a) (folded b)).0 e) in
+    let long : length (lower_case a) ≡ length (lower_case b) = ap (λ (t : List ℕ). length t) ((bytes_eq-Decides (lower_case a) (lower_case b)).0 e) in
     sym (length-map a _) ∙ long ∙ length-map b _
 
 -- the texts after one that is longer than each
@@ -139,7 +139,7 @@ all-both : (P Q R : ℕ → Type 0) → ((n : ℕ) → P n → Q n → R n) → 
 all-both P Q R f no_statement one other = tt
 all-both P Q R f (statement at act rest) one other = (act-both P Q R f act one.0 other.0, all-both P Q R f rest one.1 other.1)
 
-pub alike-itself : (source : List ℕ) (tokens : List Seen) → AreAlike source source tokens
+pub alike-itself : (source : List ℕ) (tokens : List KindedToken) → AreAlike source source tokens
 alike-itself source [] = tt
 alike-itself source (token ∷ tokens) = (refl, alike-itself source tokens)
 

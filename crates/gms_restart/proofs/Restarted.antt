@@ -13,11 +13,11 @@ use Rattle.gms_parse.proofs.Looped.{view-Stmt}
 use Rattle.gms_check.specs.Loaded.{IsAccepted, loaded}
 use Rattle.lp_core.specs.declared.answer.Answer.{Answer}
 use Rattle.gms_exec.specs.Run.{Course, World, run_from}
-use Rattle.gms_going_on.specs.GoingOn.{DeclaresItsOwn}
+use Rattle.gms_run_laws.specs.GoingOn.{DeclaresItsOwn}
 use Rattle.gms_save.specs.JointErrors.{is_saved, joint_errors, resumed, saved_statements}
 use Rattle.gms_save.proofs.Joints.{accepted}
 use Rattle.gms_save.proofs.SeenActs.{shown}
-use Rattle.gms_joint.specs.JointRun.{behind_run}
+use Rattle.gms_run_laws.specs.JointRun.{behind_run}
 use Rattle.gms_restart.specs.Restarts.{SaysTheSame, base_run, whole_run}
 use Rattle.gms_restart.specs.StatementLines.{AreSaved, AreNew, SeenSaved, SeenNew}
 use Rattle.gms_restart.proofs.Joining.{Joins}

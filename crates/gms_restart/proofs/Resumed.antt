@@ -14,18 +14,18 @@ use Rattle.gms_tuple.specs.TupleSet.{has}
 use Rattle.gms_tuple.proofs.Ordered.{ordered-nil}
 use Rattle.gms_store.specs.Declarations.{declared_state, is_undeclared}
 use Rattle.gms_store.specs.Overlays.{chosen, overlaid, overlaid_symbols}
-use Rattle.gms_store.specs.State.{State, Content, undeclared, alias_of, set_of, parameter_of, variable_of, equation_of, model_with, Symbol, symbol_at, behind, base_of, given_in, members_in, members_of}
-use Rattle.gms_known.specs.DynamicSets.{assigned as assigned_by, dynamic_sets}
+use Rattle.gms_store.specs.State.{State, Content, undeclared, alias_of, set_of, parameter_of, variable_of, equation_of, model_with, Symbol, symbol_at, alias_target, base_of, given_in, members_in, members_of}
+use Rattle.gms_scope.specs.DynamicSets.{assigned_names as assigned_by, dynamic_sets}
 use Rattle.gms_check.specs.Loaded.{IsAccepted, loaded}
 use Rattle.gms_check.specs.Past.{is_among}
 use Rattle.gms_exec.proofs.Staying.{Follows, Stays, stays-itself}
-use Rattle.gms_frames.specs.Agreeing.{declares}
-use Rattle.gms_frames.proofs.Changing.{read, over-at, not-undeclared, is-undeclared, chosen-declared, chosen-undeclared}
-use Rattle.gms_going_on.proofs.Padding.{below-of, test-of}
-use Rattle.gms_joint.specs.LastStates.{AreFixed, IsTidy}
-use Rattle.gms_joint.proofs.TidyLoaded.{loaded-well}
+use Rattle.gms_run_laws.specs.Agreeing.{declares}
+use Rattle.gms_run_laws.proofs.Changing.{read, over-at, not-undeclared, is-undeclared, chosen-declared, chosen-undeclared}
+use Rattle.gms_run_laws.proofs.Padding.{below-of, test-of}
+use Rattle.gms_run_laws.specs.LastStates.{AreFixed, IsTidy}
+use Rattle.gms_run_laws.proofs.TidyLoaded.{loaded-well}
 use Rattle.gms_save.proofs.LoadedNames.{blanked, keeps-behind, keeps-undeclared, loaded-declares, same-at, same-read}
-use Rattle.gms_saved.specs.Validity.{IsSavedOf, declared_in, stands_at, stands_in}
+use Rattle.gms_save_text.specs.Validity.{IsSavedOf, declared_symbols, stands_at, stands_in}
 use Rattle.gms_restart.specs.Labels.{WritesItsLabels}
 use Rattle.gms_restart.specs.LastStates.{GoesOnBehind}
 use Rattle.gms_restart.proofs.Grounds.{among, at-most-ten, data-stand, fixed-positions, has-all, same-names}
@@ -53,7 +53,7 @@ members-ordered (variable_of type entries) all = ordered-nil
 members-ordered (equation_of entries) all = ordered-nil
 members-ordered (model_with model solver) all = ordered-nil
 
-behind-nothing : (n : ℕ) (c : Content) → is_undeclared c ≡ true → behind n c ≡ n
+behind-nothing : (n : ℕ) (c : Content) → is_undeclared c ≡ true → alias_target n c ≡ n
 behind-nothing n undeclared none = refl
 behind-nothing n (alias_of base) none = absurd (cc)
 behind-nothing n (set_of members) none = absurd (cc)
@@ -110,7 +110,7 @@ module _ {F : Type 0} (v : F → Number) (whole saved : Program F) (firsts other
 
   -- ---- the symbols of both programs
 
-  same-declared : declared_in state ≡ declared_in one
+  same-declared : declared_symbols state ≡ declared_symbols one
   same-declared = is.declares ∙ sym (loaded-declares v saved)
 
   many : length state.symbols ≤ length first.symbols
@@ -141,8 +141,8 @@ module _ {F : Type 0} (v : F → Number) (whole saved : Program F) (firsts other
   domain-same : (n : ℕ) → (symbol_at state n).domain ≡ (symbol_at one n).domain
   domain-same n = ap (λ (s : Symbol). s.domain) (same-at state one n same-declared)
 
-  behind-same : (m n : ℕ) → behind m (symbol_at state n).content ≡ behind m (symbol_at one n).content
-  behind-same m n = same-read (behind m) (keeps-behind m) state one n same-declared
+  behind-same : (m n : ℕ) → alias_target m (symbol_at state n).content ≡ alias_target m (symbol_at one n).content
+  behind-same m n = same-read (alias_target m) (keeps-behind m) state one n same-declared
 
   -- ---- what it keeps
 
@@ -174,7 +174,7 @@ module _ {F : Type 0} (v : F → Number) (whole saved : Program F) (firsts other
           subst IsTidy (sym (later-there n there)) (record { ordered = (is.given n).ordered; long = all-long n; differs = (is.given n).differs; statuses = (is.given n).statuses })
       by false none = subst IsTidy (sym (later-elsewhere n none)) ((loaded-well v whole).tidy n)
 
-  declares-same : declared_in later ≡ declared_in first
+  declares-same : declared_symbols later ≡ declared_symbols first
   declares-same =
       overlay-declares first.symbols state.symbols (λ n there. same-at state one n same-declared ∙ ap blanked (sym (known-there n (ap not (sym (undeclared-same n) ∙ there)))))
 
@@ -186,11 +186,11 @@ module _ {F : Type 0} (v : F → Number) (whole saved : Program F) (firsts other
       swapped front (front-none (base_of first) front (flat_map assigned_by others) name (sym (ap (λ (ns : List ℕ). is_among (map (base_of first) ns) name) parts) ∙ none))
     where
       base-there : (n : ℕ) → base_of (declared_state saved) n ≡ base_of one n
-      base-there n = sym (same-read (behind n) (keeps-behind n) one (declared_state saved) n (loaded-declares v saved))
+      base-there n = sym (same-read (alias_target n) (keeps-behind n) one (declared_state saved) n (loaded-declares v saved))
 
       other : (n : ℕ) (b : Bool) → declares one n ≡ b → (base_of first n == name) ≡ false → (base_of (declared_state saved) n == name) ≡ false
       other n true known e =
-          ap (λ (m : ℕ). m == name) (base-there n ∙ sym (ap (λ (s : Symbol). behind n s.content) (known-there n known))) ∙ e
+          ap (λ (m : ℕ). m == name) (base-there n ∙ sym (ap (λ (s : Symbol). alias_target n s.content) (known-there n known))) ∙ e
       other n false unknown e = ap (λ (m : ℕ). m == name) (base-there n ∙ behind-nothing n (symbol_at one n).content (is-undeclared (is_undeclared (symbol_at one n).content) unknown)) ∙ apart (n == name) refl
         where
           apart : (b : Bool) → (n == name) ≡ b → (n == name) ≡ false
@@ -221,7 +221,7 @@ module _ {F : Type 0} (v : F → Number) (whole saved : Program F) (firsts other
       ap (λ (n : ℕ). members_in (symbol_at state n).content) (behind-same set set)
       ∙ is.static base (ap (λ (ns : List ℕ). is_among ns base) (sym (same-names v saved accepts)) ∙ none)
       ∙ sym (ap (λ (s : Symbol). members_in s.content) (known-there base (closed-after v (length saved.names) saved.statements.items set declared)))
-      ∙ sym (ap (λ (n : ℕ). members_in (symbol_at first n).content) (ap (λ (s : Symbol). behind set s.content) (known-there set declared)))
+      ∙ sym (ap (λ (n : ℕ). members_in (symbol_at first n).content) (ap (λ (s : Symbol). alias_target set s.content) (known-there set declared)))
 
   further : (l : ℕ) → nat_lt l (length saved.labels) ≡ true → nat_lt l labels ≡ true
   further l e =

@@ -22,7 +22,7 @@ use Rattle.gms_tuple.specs.TupleOrder.{same_tuple}
 use Rattle.gms_tuple.specs.TupleSet.{has}
 use Rattle.gms_tuple.proofs.Ordered.{same_tuple_refl}
 use Rattle.gms_store.specs.State.{State, symbol_at, base_of, given_in, members_in, members_of}
-use Rattle.gms_known.specs.DynamicSets.{assigned as assigned_by}
+use Rattle.gms_scope.specs.DynamicSets.{assigned_names as assigned_by}
 use Rattle.gms_check.specs.Checked.{StandsAfter}
 use Rattle.gms_check.specs.CompileErrors.{errors_after, known_after}
 use Rattle.gms_check.specs.Loaded.{IsAccepted, loaded, sound}
@@ -38,14 +38,14 @@ use Rattle.lp_core.specs.declared.answer.Answer.{Answer}
 use Rattle.gms_rows.specs.ModelPoints.{definitions_of_model}
 use Rattle.gms_rows.specs.Rows.{Definition, defined_at, definitions, definition_of, equations_of, has_lag}
 use Rattle.gms_exec.specs.Run.{World, of_statement, run_from}
-use Rattle.gms_frames.specs.Names.{Each}
-use Rattle.gms_frames.proofs.Eaches.{each-left, each-right}
-use Rattle.gms_frames.proofs.FormKeys.{EachHas}
-use Rattle.gms_frames.proofs.ModelRows.{DefinitionPasses}
-use Rattle.gms_joint.specs.LastStates.{AreFixed}
-use Rattle.gms_joint.proofs.LastStates.{lasts-first}
-use Rattle.gms_joint.proofs.TidyLoaded.{loaded-well}
-use Rattle.gms_saved.specs.Validity.{are_in_range, stands_at, stands_in}
+use Rattle.gms_run_laws.specs.Names.{Each}
+use Rattle.gms_run_laws.proofs.Eaches.{each-left, each-right}
+use Rattle.gms_run_laws.proofs.FormKeys.{EachHas}
+use Rattle.gms_run_laws.proofs.ModelRows.{DefinitionPasses}
+use Rattle.gms_run_laws.specs.LastStates.{AreFixed}
+use Rattle.gms_run_laws.proofs.LastStates.{lasts-first}
+use Rattle.gms_run_laws.proofs.TidyLoaded.{loaded-well}
+use Rattle.gms_save_text.specs.Validity.{are_in_range, stands_at, stands_in}
 use Rattle.gms_restart.specs.Labels.{HasItsLabels, index_labels, tree_labels, condition_labels, labels_step, statement_labels}
 use Rattle.gms_restart.proofs.Fitting.{Standing}
 use Rattle.gms_restart.proofs.Grounds.{among, fixed-positions, data-stand, ground-then}

@@ -4,13 +4,13 @@ use Rattle.gq_number.specs.Number.{Number}
 use Rattle.gms_ast.specs.declared.program.Program.{Program}
 use Rattle.gms_store.specs.Declarations.{declared_state}
 use Rattle.gms_store.specs.State.{State, symbol_at, fits_at}
-use Rattle.gms_known.specs.DynamicSets.{dynamic_sets}
+use Rattle.gms_scope.specs.DynamicSets.{dynamic_sets}
 use Rattle.gms_check.specs.Loaded.{IsAccepted, loaded}
 use Rattle.gms_check.specs.Past.{is_among}
 use Rattle.lp_core.specs.declared.answer.Answer.{Answer}
 use Rattle.gms_exec.specs.Run.{World}
 use Rattle.gms_save.proofs.LoadedNames.{loaded-declares}
-use Rattle.gms_saved.specs.Validity.{IsSavedOf, is_solver_name}
+use Rattle.gms_save_text.specs.Validity.{IsSavedOf, is_solver_name}
 use Rattle.gms_restart.specs.Labels.{WritesItsLabels}
 use Rattle.gms_restart.specs.LastStates.{last_state}
 use Rattle.gms_restart.proofs.Grounds.{among, same-names}

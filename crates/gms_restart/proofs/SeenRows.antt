@@ -19,7 +19,7 @@ use Rattle.gms_ast.specs.TreeView.{tree_of}
 use Rattle.gms_ast.specs.Trees.{Tree, Indices}
 use Rattle.gms_check.specs.StatementUses.{index_list}
 use Rattle.gms_rows.specs.ModelPoints.{definitions_of_model}
-use Rattle.gms_rows.specs.Rows.{Definition, declared_by, defined_at, definitions, definition_of, each_once, equations_from, equations_of, found, has_lag, models_of}
+use Rattle.gms_rows.specs.Rows.{Definition, equations_declared_by, defined_at, definitions, definition_of, each_once, equations_from, equations_of, found, has_lag, models_of}
 use Rattle.gms_save.proofs.FromNumbers.{condition_back, declarations_back, indices_back, tree_back, value_of}
 use Rattle.gms_save.proofs.SeenActs.{Layer, declaration, shown, shown_layer, shows}
 use Rattle.gms_save.proofs.SeenPrograms.{Seen, seen}
@@ -69,7 +69,7 @@ abbrev pub Listed : Type 0
 Listed = List ModelDecl × List ℕ
 
 abbrev listing : ActNode Frac → Listed
-listing act = (models_of act, declared_by act)
+listing act = (models_of act, equations_declared_by act)
 
 layer-listing : (x : Layer) → listing (declaration (shown_layer x)) ≡ listing (roll-Act Frac x)
 layer-listing (Act-F.Declare kind items) =

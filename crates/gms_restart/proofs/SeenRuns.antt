@@ -16,7 +16,7 @@ use Rattle.gms_ast.specs.declared.program.Stmt.{Stmt}
 use Rattle.gms_ast.specs.declared.word.Word.{Word}
 use Rattle.gms_ast.specs.Numbers.{in_numbers, indices_in_numbers, control_in_numbers}
 use Rattle.gms_ast.specs.StatementTrees.{Act, declares, aliases, assigns, defines, declares_models, solves, displays, loops, sets_options, aborts, Statements, no_statement, statement}
-use Rattle.gms_ast.specs.StatementView.{in_order, shown_tree, statement_view}
+use Rattle.gms_ast.specs.StatementView.{statements_in_order, shown_tree, statement_view}
 use Rattle.gms_ast.specs.TreeView.{control_tree, tree_of}
 use Rattle.gms_ast.specs.Trees.{Tree, Indices, Control}
 use Rattle.gms_parse.proofs.Looped.{view-Stmt}
@@ -29,11 +29,11 @@ use Rattle.lp_core.specs.declared.answer.Answer.{Answer}
 use Rattle.lp_core.specs.declared.program.Lp.{Lp}
 use Rattle.lp_form.specs.declared.key.Key.{Key}
 use Rattle.gms_rows.specs.ModelPoints.{definitions_of_model}
-use Rattle.gms_rows.specs.ProgramLp.{program_of, sized}
-use Rattle.gms_rows.specs.Rows.{Definition, FormRow, equations_of, rows_of}
+use Rattle.gms_rows.specs.ProgramLp.{program_of, sized_program}
+use Rattle.gms_rows.specs.Rows.{Definition, FormRow, equations_of, rows_of_definition}
 use Rattle.gms_exec.specs.Assignment.{after_assignment}
 use Rattle.gms_exec.specs.Options.{after_options}
-use Rattle.gms_exec.specs.Run.{Course, World, OfAct, OfStatement, answered, in_state, with_value, one_after_another, display, abort_where, over_elements, solve, act_step, statement_step, of_statement, run_from, labels_in}
+use Rattle.gms_exec.specs.Run.{Course, World, OfAct, OfStatement, answered, in_state, with_evaluated, one_after_another, display, abort_where, over_elements, solve, act_step, statement_step, of_statement, run_from, labels_in}
 use Rattle.gms_save.proofs.FromNumbers.{condition_back, control_back, indices_back, option_in, options_back, tree_back, value_of}
 use Rattle.gms_save.proofs.SeenActs.{AllSuch, Layer, LayerSuch, each-act, shown, shown_layer, shows}
 use Rattle.gms_save.proofs.SeenPrograms.{Seen, seen}
@@ -43,7 +43,7 @@ module _ (limit labels : ℕ) (solvers : List (List ℕ)) (statements : List (St
   -- an assignment, by its parts
   abbrev assigning : Place → ℕ → Suffix → Place → Indices Frac → Option (Tree Frac) → Tree Frac → OfAct
   assigning target_at name suffix right_at indices condition right at binding course =
-      with_value (after_assignment frac_value limit course.state at binding (record { at = target_at; name = name; suffix = suffix; indices = indices }) condition right_at right) (in_state course) course
+      with_evaluated (after_assignment frac_value limit course.state at binding (record { at = target_at; name = name; suffix = suffix; indices = indices }) condition right_at right) (in_state course) course
 
   -- options, by what they are set to
   abbrev setting : List (Word × Setting Frac) → OfAct
@@ -80,9 +80,9 @@ module _ (limit labels : ℕ) (solvers : List (List ℕ)) (xs ys : List (Stmt Fr
   solve-alike [] model objective maximize at binding course = refl
   solve-alike (solver ∷ those) model objective maximize at binding course =
       let key : Key = record { symbol = objective; tuple = [] } in
-      let rows : List (Definition Frac) → Evaluated (Lp Number) = λ ds. (in_order_answers (map (rows_of frac_value limit course.state) ds) and_then λ rows. Ok (flat_map (λ (some : List FormRow). some) rows)) and_then λ rows. sized at (program_of course.state rows key maximize) in
-      ap (λ (ds : List (Definition Frac)). with_value (rows ds) (answered frac_value limit (solver ∷ those) model (equations_of xs model) objective at course) course) (same-definitions xs ys alike model)
-      ∙ ap (λ (es : List ℕ). with_value (rows (definitions_of_model ys model)) (answered frac_value limit (solver ∷ those) model es objective at course) course) (same-equations xs ys alike model)
+      let rows : List (Definition Frac) → Evaluated (Lp Number) = λ ds. (in_order_answers (map (rows_of_definition frac_value limit course.state) ds) and_then λ rows. Ok (flat_map (λ (some : List FormRow). some) rows)) and_then λ rows. sized_program at (program_of course.state rows key maximize) in
+      ap (λ (ds : List (Definition Frac)). with_evaluated (rows ds) (answered frac_value limit (solver ∷ those) model (equations_of xs model) objective at course) course) (same-definitions xs ys alike model)
+      ∙ ap (λ (es : List ℕ). with_evaluated (rows (definitions_of_model ys model)) (answered frac_value limit (solver ∷ those) model es objective at course) course) (same-equations xs ys alike model)
 
   mutual
     act-alike : (v : Act Number) (at : Place) (binding : Pairs) (course : Course) → runs_of limit labels solvers xs v at binding course ≡ runs_of limit labels solvers ys v at binding course
@@ -130,10 +130,10 @@ module _ (limit : ℕ) (world : World Frac) where
   statement-does s binding course =
       ap (λ (f : OfStatement). f binding course) (sym (fold_out-Stmt Frac OfAct OfStatement (act_step frac_value limit world) (statement_step frac_value limit) s))
 
-  body-runs : (ss : List (Stmt Frac)) → AllSuch SameRuns ss → all_runs limit (labels_in world) world.solvers world.program.statements.items (in_order frac_value (map {B = Statements Number → Statements Number} (statement_view frac_value) ss)) ≡ map (of_statement frac_value limit world) ss
+  body-runs : (ss : List (Stmt Frac)) → AllSuch SameRuns ss → all_runs limit (labels_in world) world.solvers world.program.statements.items (statements_in_order frac_value (map {B = Statements Number → Statements Number} (statement_view frac_value) ss)) ≡ map (of_statement frac_value limit world) ss
   body-runs [] all = refl
   body-runs (s ∷ ss) all =
-      ap (all_runs limit (labels_in world) world.solvers world.program.statements.items) (view-Stmt frac_value s (in_order frac_value (map {B = Statements Number → Statements Number} (statement_view frac_value) ss)))
+      ap (all_runs limit (labels_in world) world.solvers world.program.statements.items) (view-Stmt frac_value s (statements_in_order frac_value (map {B = Statements Number → Statements Number} (statement_view frac_value) ss)))
       ∙ ap₂ (λ (f : OfStatement) (fs : List OfStatement). f ∷ fs) (fun_ext (λ binding. fun_ext (λ course. all.0 s.at binding course ∙ statement-does s binding course))) (body-runs ss all.1)
 
   layer-runs : (x : Layer) → LayerSuch SameRuns x → (at : Place) (binding : Pairs) (course : Course) → runs (shown_layer x) at binding course ≡ run_layer x at binding course

@@ -16,14 +16,14 @@ use Rattle.gms_ast.specs.Trees as tree
 use Rattle.gms_ast.specs.TreeView.{tree_of, control_tree}
 use Rattle.gms_store.specs.Declarations.{is_free}
 use Rattle.gms_store.specs.State.{State, symbol_at, base_of}
-use Rattle.gms_known.specs.DynamicSets.{assigned as assigned_by, assigned_step}
-use Rattle.gms_known.specs.Names.{is_unknown, positions}
+use Rattle.gms_scope.specs.DynamicSets.{assigned_names as assigned_by, assigned_step}
+use Rattle.gms_scope.specs.Names.{has_no_declaration, positions}
 use Rattle.gms_check.specs.declared.error.ErrorKind.TheVariants.{UnknownName, Objective}
 use Rattle.gms_check.specs.Above.{directly_above}
 use Rattle.gms_check.specs.Checked.{AreIndices}
 use Rattle.gms_check.specs.Past.{Known}
 use Rattle.gms_check.specs.Kinds.{is_without_positions}
-use Rattle.gms_check.specs.StatementUses.{OfAct as UsesOfAct, OfStatement as UsesOfStatement, act_step as uses_step, statement_step as uses_statement, statement_uses, index_list}
+use Rattle.gms_check.specs.StatementUses.{UsesOfAct, UsesOfStatement, act_uses_step as uses_step, statement_uses_step as uses_statement, statement_uses, index_list}
 use Rattle.gms_check.specs.Uses.{assigning, control_uses}
 use Rattle.gms_check.specs.Uses as checking
 use Rattle.gms_check.proofs.NoErrors.{AreClean, clean-left, clean-right}
@@ -39,13 +39,13 @@ use Rattle.gms_rows.specs.ProgramLp.{program_lp}
 use Rattle.gms_rows.specs.Rows.{equations_of}
 use Rattle.gms_exec.specs.Assignment.{given_by, target_of}
 use Rattle.gms_exec.specs.Given.{AllGiven, after_given}
-use Rattle.gms_exec.specs.Run.{Course, Halt, World, OfAct, OfStatement, in_state, while_it_runs, with_value, one_after_another, for_each, display, abort, abort_where, over_elements, answered, solve, act_step, statement_step, of_statement, labels_in}
+use Rattle.gms_exec.specs.Run.{Course, Halt, World, OfAct, OfStatement, in_state, while_it_runs, with_evaluated, one_after_another, for_each, display, abort, abort_where, over_elements, answered, solve, act_step, statement_step, of_statement, labels_in}
 use Rattle.gms_exec.specs.Showing.{all_shown}
-use Rattle.gms_frames.specs.Names.{Each}
-use Rattle.gms_frames.proofs.Eaches.{each-left, each-right}
-use Rattle.gms_frames.proofs.FormKeys.{OkHas, EachHas}
-use Rattle.gms_frames.proofs.ModelRows.{DefinitionPasses, program-keyed}
-use Rattle.gms_frames.proofs.RowElements.{IsOver}
+use Rattle.gms_run_laws.specs.Names.{Each}
+use Rattle.gms_run_laws.proofs.Eaches.{each-left, each-right}
+use Rattle.gms_run_laws.proofs.FormKeys.{OkHas, EachHas}
+use Rattle.gms_run_laws.proofs.ModelRows.{DefinitionPasses, program-keyed}
+use Rattle.gms_run_laws.proofs.RowElements.{IsOver}
 use Rattle.gms_restart.specs.Labels.{index_labels, tree_labels, condition_labels, control_labels, labels_step, statement_labels}
 use Rattle.gms_restart.proofs.Fitting.{Ground, Standing, Fits}
 use Rattle.gms_restart.proofs.Homes.{both-tests, stands_few}
@@ -89,11 +89,11 @@ module _ (count : ℕ) (first : State) (assigned : ℕ → Bool) where
   each-keeps sets body binding (element ∷ those) fits each c p =
       each-keeps sets body binding those fits.1 each (one_after_another body (controlled binding sets element) c) (all-keep body each (controlled binding sets element) c fits.0 p)
 
-  value-keeps : {A : Type 0} (r : Evaluated A) (next : A → Course) (c : Course) → ((x : A) → P (next x)) → P c → P (with_value r next c)
+  value-keeps : {A : Type 0} (r : Evaluated A) (next : A → Course) (c : Course) → ((x : A) → P (next x)) → P c → P (with_evaluated r next c)
   value-keeps (Ok x) next c each p = each x
   value-keeps (Err fault) next c each p = p
 
-  has-keeps : {A : Type 0} (Q : A → Type 0) (r : Evaluated A) (next : A → Course) (c : Course) → OkHas Q r → ((x : A) → Q x → P (next x)) → P c → P (with_value r next c)
+  has-keeps : {A : Type 0} (Q : A → Type 0) (r : Evaluated A) (next : A → Course) (c : Course) → OkHas Q r → ((x : A) → Q x → P (next x)) → P c → P (with_evaluated r next c)
   has-keeps Q (Ok x) next c has each p = each x has
   has-keeps Q (Err fault) next c has each p = p
 
@@ -119,19 +119,19 @@ module _ (count : ℕ) (first : State) (assigned : ℕ → Bool) where
 
     -- ---- an assignment
 
-    keeps-assign : (target : Target F) (condition : Option (Expr F)) (right_at : Place) (right : Expr F) → is_unknown known.state target.name ≡ false → AreIndices known target.name (index_list target.indices) → Each (λ l. nat_lt l count) (index_labels (index_list target.indices)) → may_be target.name ≡ true → (at : Place) (binding : Pairs) (c : Course) → Fits count first assigned binding → P c →
-        P (with_value (given_by v limit c.state at binding (target_of target) (option_map tree_of condition) right_at (tree_of right) and_then λ given. Ok (after_given target.suffix target.name given c.state)) (in_state c) c)
+    keeps-assign : (target : Target F) (condition : Option (Expr F)) (right_at : Place) (right : Expr F) → has_no_declaration known.state target.name ≡ false → AreIndices known target.name (index_list target.indices) → Each (λ l. nat_lt l count) (index_labels (index_list target.indices)) → may_be target.name ≡ true → (at : Place) (binding : Pairs) (c : Course) → Fits count first assigned binding → P c →
+        P (with_evaluated (given_by v limit c.state at binding (target_of target) (option_map tree_of condition) right_at (tree_of right) and_then λ given. Ok (after_given target.suffix target.name given c.state)) (in_state c) c)
     keeps-assign target condition right_at right there are own may at binding c fits p =
         by (given_by v limit c.state at binding (target_of target) (option_map tree_of condition) right_at (tree_of right))
         (given-stand count first assigned known above_is ground v limit c.state (standing-of count first assigned c.state p) (target_of target) at binding (option_map tree_of condition) right_at (tree_of right) fits there are own)
       where
-        by : (r : Evaluated AllGiven) → OkHas (EachHas (GivenStands count first assigned known above_is ground v limit c.state (standing-of count first assigned c.state p) target.name)) r → P (with_value (r and_then λ given. Ok (after_given target.suffix target.name given c.state)) (in_state c) c)
+        by : (r : Evaluated AllGiven) → OkHas (EachHas (GivenStands count first assigned known above_is ground v limit c.state (standing-of count first assigned c.state p) target.name)) r → P (with_evaluated (r and_then λ given. Ok (after_given target.suffix target.name given c.state)) (in_state c) c)
         by (Ok given) are = kept-given count first assigned c.state target.suffix target.name given may are p
         by (Err fault) are = p
 
     -- ---- a solve
 
-    objective-stands : (name : ℕ) → is_unknown known.state name ≡ false → not (is_free (symbol_at known.state name).content && is_without_positions (positions known.state name)) ≡ false → stands_key count first (record { symbol = name; tuple = [] }) ≡ true
+    objective-stands : (name : ℕ) → has_no_declaration known.state name ≡ false → not (is_free (symbol_at known.state name).content && is_without_positions (positions known.state name)) ≡ false → stands_key count first (record { symbol = name; tuple = [] }) ≡ true
     objective-stands name there clean =
         let free = not-false (is_free (symbol_at known.state name).content && is_without_positions (positions known.state name)) clean in
         let none = no-positions (positions known.state name) (both-tests (is_free (symbol_at known.state name).content) (is_without_positions (positions known.state name)) free).1 in
@@ -237,8 +237,8 @@ module _ (count : ℕ) (first : State) (assigned : ℕ → Bool) where
         rolled x _ _ _ _ (does-is x) (uses-is x) (labels-is x) (names-is x) (λ place around clean own may.
         keeps-solve world.solvers model.name objective.name maximize (objective-stands objective.name (known-name objective.name (clean.1.1.0 UnknownName)) (clean.1.1.0 Objective)))
       where
-        known-name : (name : ℕ) → (is_unknown known.state name || false) ≡ false → is_unknown known.state name ≡ false
-        known-name name e = by (is_unknown known.state name) e
+        known-name : (name : ℕ) → (has_no_declaration known.state name || false) ≡ false → has_no_declaration known.state name ≡ false
+        known-name name e = by (has_no_declaration known.state name) e
           where
             by : (b : Bool) → (b || false) ≡ false → b ≡ false
             by true e = absurd (cc)
@@ -247,9 +247,9 @@ module _ (count : ℕ) (first : State) (assigned : ℕ → Bool) where
         let x = map-Act F ((a : Act F) × QAct a) ((s : Stmt F) × Q s) (Act F) (Stmt F) (λ e. e.0) (λ e. e.0) (Act-F.Loop control body) in
         let c = control_tree control in
         rolled x _ _ _ _ (does-is x) (uses-is x) (labels-is x) (names-is x) (λ place around clean own may.
-        let inner = flat_map (λ (statement : UsesOfStatement F). statement known.state (around ++ checking.sets_of c)) (map statement_uses (map (λ e. e.0) body.items)) in
+        let inner = flat_map (λ (statement : UsesOfStatement F). statement known.state (around ++ checking.sets_of_control c)) (map statement_uses (map (λ e. e.0) body.items)) in
         keeps-loop c (map (of_statement v limit world) (map (λ e. e.0) body.items)) place around (clean-left known (control_uses place around c) inner clean)
-        (body-keeps (around ++ checking.sets_of c) body.items (clean-right known (control_uses place around c) inner clean) (each-right (λ l. nat_lt l count) (control_labels c) (flat_map (λ (labels : List ℕ). labels) (map statement_labels (map (λ e. e.0) body.items))) own) may))
+        (body-keeps (around ++ checking.sets_of_control c) body.items (clean-right known (control_uses place around c) inner clean) (each-right (λ l. nat_lt l count) (control_labels c) (flat_map (λ (labels : List ℕ). labels) (map statement_labels (map (λ e. e.0) body.items))) own) may))
 
     by_statement : (y : Stmt-F F ((a : Act F) × QAct a) ((s : Stmt F) × Q s)) → Q (roll-Stmt F (map-Stmt F ((a : Act F) × QAct a) ((s : Stmt F) × Q s) (Act F) (Stmt F) (λ e. e.0) (λ e. e.0) y))
     by_statement y around clean own may =

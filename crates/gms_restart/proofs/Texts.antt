@@ -6,18 +6,18 @@ use Rattle.std.proofs.lemmas.List.{append-nil, take-append-drop}
 use Rattle.std.proofs.Math.Seq.{drop-append_seam, take-append_seam}
 use Rattle.gms_labels.specs.declared.place.Place.{Place}
 use Rattle.gms_lines.specs.Lines.{is_blank}
-use Rattle.gms_lexemes.specs.Bytes.{is_quote}
+use Rattle.gms_lines.specs.Bytes.{is_quote}
 use Rattle.gms_lex.specs.declared.token.Token.{Token}
 use Rattle.gms_lex.specs.TokenTexts.{token_text, unquoted}
 use Rattle.gms_grammar.specs.declared.terminal.Terminal.{Terminal}
 use Rattle.gms_set.specs.Ranges.{members}
-use Rattle.gms_table.specs.TableEntries.{Part, name, cell, is_plus, under, table_of, met, meet}
-use Rattle.gms_lexemes.specs.Stretches.{is_dot, stretch_bytes}
-use Rattle.gms_table.specs.WordLabels.{label_of, labels_among, labels_of, names_of, quoted_label, plain_label, with_label}
-use Rattle.gms_table.specs.Words.{Word, column_of, first_stretches, others_by, parted, word_of, words_among}
+use Rattle.gms_table.specs.TableEntries.{TablePart, name, cell, is_plus, under, table_of, met, meet}
+use Rattle.gms_lines.specs.Stretches.{is_dot, stretch_bytes}
+use Rattle.gms_table.specs.WordLabels.{label_of_text, labels_among, labels_of_text, labels_of_word, quoted_label, plain_label, with_label}
+use Rattle.gms_table.specs.Words.{Word, column_of_byte, first_stretches, others_by, parted, word_of, words_among}
 use Rattle.gms_parse.specs.Tables.{parts_of_tokens}
 use Rattle.gms_restart.proofs.ProgramNames.{Has, has-left, has-right, parts, parts-have}
-use Rattle.gms_frames.proofs.FormKeys.{EachHas}
+use Rattle.gms_run_laws.proofs.FormKeys.{EachHas}
 
 -- ---- parts of a text
 
@@ -123,8 +123,8 @@ module _ (source : List ℕ) where
   words-are : (number : ℕ) (line : List ℕ) (start : ℕ) (texts : List (List ℕ)) → Parts texts → EachHas WordIs (words_among number line start texts)
   words-are number line start [] all = tt
   words-are number line start (text ∷ others) all =
-      let at : Place = record { line = number; column = column_of line start } in
-      let end = column_of line (start + length text) in
+      let at : Place = record { line = number; column = column_of_byte line start } in
+      let end = column_of_byte line (start + length text) in
       both-have WordIs (word_of at end text) (words_among number line (start + length text + 1) others) (word-is at end text all.0) (words-are number line (start + length text + 1) others all.1)
 
   -- labels
@@ -136,7 +136,7 @@ module _ (source : List ℕ) where
   MayBeParts None = Unit {0}
   MayBeParts (Some texts) = Parts texts
 
-  label-is : (text : List ℕ) → IsPart source text → MayBePart (label_of text)
+  label-is : (text : List ℕ) → IsPart source text → MayBePart (label_of_text text)
   label-is [] part = tt
   label-is (b ∷ rest) part = by (is_quote b)
     where
@@ -155,18 +155,18 @@ module _ (source : List ℕ) where
 
   among-are : (texts : List (List ℕ)) → Parts texts → MayBeParts (labels_among texts)
   among-are [] all = tt
-  among-are (text ∷ others) all = with-is (label_of text) (labels_among others) (label-is text all.0) (among-are others all.1)
+  among-are (text ∷ others) all = with-is (label_of_text text) (labels_among others) (label-is text all.0) (among-are others all.1)
 
   -- the labels of a word are parts
-  pub names-are : (word : Word) → WordIs word → Parts (names_of word)
-  names-are word part = by (labels_of word.text) (among-are (parted is_dot word.text) (stretches-are is_dot (suc (length word.text)) word.text part))
+  pub names-are : (word : Word) → WordIs word → Parts (labels_of_word word)
+  names-are word part = by (labels_of_text word.text) (among-are (parted is_dot word.text) (stretches-are is_dot (suc (length word.text)) word.text part))
     where
       by : (o : Option (List (List ℕ))) → MayBeParts o → Parts (unwrap_or o [])
       by None all = tt
       by (Some texts) all = all
 
   -- the row label and the headings of a number have parts for texts
-  abbrev pub PartIs : Part → Type 0
+  abbrev pub PartIs : TablePart → Type 0
   PartIs (name word) = Unit {0}
   PartIs (cell row headings word) = WordIs row × EachHas WordIs headings
 

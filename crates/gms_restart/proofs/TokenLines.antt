@@ -6,16 +6,16 @@ use Rattle.std.proofs.lemmas.List.Elements.{All-head, All-tail, filter-append}
 use Rattle.std.proofs.Math.Seq.{take-append-add, take-length}
 use Rattle.gms_labels.specs.declared.place.Place.{Place}
 use Rattle.gms_lines.proofs.LineLemmas.{below_or}
-use Rattle.gms_lexemes.specs.Columns.{column_after}
+use Rattle.gms_lines.specs.Columns.{column_after}
 use Rattle.gms_lex.specs.declared.token.Token.{Token}
-use Rattle.gms_lex.specs.Places.{IsEarlier, place_behind, place_of, source_start}
+use Rattle.gms_lex.specs.Places.{IsEarlier, place_behind, place_of_byte, source_start}
 use Rattle.gms_lex.specs.TokenTexts.{IsPlaced}
 use Rattle.gms_lex.proofs.PlaceLemmas.{places_in_order}
-use Rattle.gms_expressions.specs.Outcomes.{seen}
-use Rattle.gms_parse.specs.Walks.{Seen}
-use Rattle.gms_frames.proofs.FormKeys.{EachHas}
-use Rattle.gms_going_on.proofs.Padding.{test-of}
-use Rattle.gms_seam.specs.Fronts.{first_line, joint_source}
+use Rattle.gms_expressions.specs.Outcomes.{kinded_tokens}
+use Rattle.gms_parse.specs.Walks.{KindedToken}
+use Rattle.gms_run_laws.proofs.FormKeys.{EachHas}
+use Rattle.gms_run_laws.proofs.Padding.{test-of}
+use Rattle.gms_joint_source.specs.Fronts.{first_line, joint_source}
 
 -- ---- the lines of places
 
@@ -37,22 +37,22 @@ line-behind (b ∷ bytes) at = by (is_feed b) (line-behind bytes)
     by false rest = rest (record { line = at.line; column = column_after at.column b })
 
 -- a later byte is on no earlier line
-not-above : (source : List ℕ) (m n : ℕ) → m ≤ n → n ≤ length source → (place_of source m).line ≤ (place_of source n).line
+not-above : (source : List ℕ) (m n : ℕ) → m ≤ n → n ≤ length source → (place_of_byte source m).line ≤ (place_of_byte source n).line
 not-above source m n le within = elim (below_or m n) [
   | inl before ↦ by (places_in_order source m n before within)
-  | inr behind ↦ let same : m ≡ n = omega (arith, le, behind) in subst (λ k. (place_of source m).line ≤ (place_of source k).line) same (omega arith)
+  | inr behind ↦ let same : m ≡ n = omega (arith, le, behind) in subst (λ k. (place_of_byte source m).line ≤ (place_of_byte source k).line) same (omega arith)
 ]
   where
-    by : IsEarlier (place_of source m) (place_of source n) → (place_of source m).line ≤ (place_of source n).line
+    by : IsEarlier (place_of_byte source m) (place_of_byte source n) → (place_of_byte source m).line ≤ (place_of_byte source n).line
     by (inl less) = omega (arith, less)
     by (inr same) = omega (arith, same.0)
 
 -- the line of the end of a source
-end-line : (source : List ℕ) → (place_of source (length source)).line ≡ 1 + feeds source
+end-line : (source : List ℕ) → (place_of_byte source (length source)).line ≡ 1 + feeds source
 end-line source = ap (λ bytes. (place_behind source_start bytes).line) (take-length source) ∙ line-behind source source_start
 
 -- the line of the first byte of a file
-file-line : (saved file : List ℕ) → (place_of (joint_source saved file) (length saved + 3)).line ≡ first_line saved
+file-line : (saved file : List ℕ) → (place_of_byte (joint_source saved file) (length saved + 3)).line ≡ first_line saved
 file-line saved file =
     let seam : List ℕ = 10 ∷ 59 ∷ 10 ∷ [] in
     let front : take (length saved + 3) (joint_source saved file) ≡ saved ++ seam = take-append-add saved (10 ∷ 59 ∷ 10 ∷ file) 3 in
@@ -67,33 +67,33 @@ file-line saved file =
 -- ---- the saved source
 
 -- a token that begins above a line
-abbrev pub IsEarly : ℕ → Seen → Type 0
+abbrev pub IsEarly : ℕ → KindedToken → Type 0
 IsEarly line t = nat_lt t.1.at.line line ≡ true
 
-pub seen-early : (saved : List ℕ) (tokens : List Token) → All (IsPlaced saved) tokens → EachHas (IsEarly (first_line saved)) (seen saved tokens)
+pub seen-early : (saved : List ℕ) (tokens : List Token) → All (IsPlaced saved) tokens → EachHas (IsEarly (first_line saved)) (kinded_tokens saved tokens)
 seen-early saved [] all = tt
 seen-early saved (token ∷ tokens) all =
     let placed : IsPlaced saved token = All-head (IsPlaced saved) token tokens all in
     let within : token.start ≤ length saved = omega (arith, placed.starts, placed.ends) in
-    let line : token.at.line ≡ (place_of saved token.start).line = ap (λ (at : Place). at.line) placed.at in
-    let most : (place_of saved token.start).line ≤ (place_of saved (length saved)).line = not-above saved token.start (length saved) within (omega arith) in
+    let line : token.at.line ≡ (place_of_byte saved token.start).line = ap (λ (at : Place). at.line) placed.at in
+    let most : (place_of_byte saved token.start).line ≤ (place_of_byte saved (length saved)).line = not-above saved token.start (length saved) within (omega arith) in
     let first : first_line saved ≡ feeds saved + 3 = refl in
     (test-of token.at.line (first_line saved) (omega (arith, line, most, end-line saved, first)), seen-early saved tokens (All-tail (IsPlaced saved) token tokens all))
 
 -- ---- the file
 
 -- a token that does not begin above a line
-abbrev pub IsLate : ℕ → Seen → Type 0
+abbrev pub IsLate : ℕ → KindedToken → Type 0
 IsLate line t = line ≤ t.1.at.line
 
-pub seen-late : (saved file : List ℕ) (tokens : List Token) → All (IsPlaced (joint_source saved file)) tokens → All (λ (token : Token). length saved + 3 ≤ token.start) tokens → EachHas (IsLate (first_line saved)) (seen (joint_source saved file) tokens)
+pub seen-late : (saved file : List ℕ) (tokens : List Token) → All (IsPlaced (joint_source saved file)) tokens → All (λ (token : Token). length saved + 3 ≤ token.start) tokens → EachHas (IsLate (first_line saved)) (kinded_tokens (joint_source saved file) tokens)
 seen-late saved file [] all below = tt
 seen-late saved file (token ∷ tokens) all below =
     let joint : List ℕ = joint_source saved file in
     let placed : IsPlaced joint token = All-head (IsPlaced joint) token tokens all in
     let within : token.start ≤ length joint = omega (arith, placed.starts, placed.ends) in
-    let line : token.at.line ≡ (place_of joint token.start).line = ap (λ (at : Place). at.line) placed.at in
-    let least : (place_of joint (length saved + 3)).line ≤ (place_of joint token.start).line = not-above joint (length saved + 3) token.start (All-head (λ (token : Token). length saved + 3 ≤ token.start) token tokens below) within in
+    let line : token.at.line ≡ (place_of_byte joint token.start).line = ap (λ (at : Place). at.line) placed.at in
+    let least : (place_of_byte joint (length saved + 3)).line ≤ (place_of_byte joint token.start).line = not-above joint (length saved + 3) token.start (All-head (λ (token : Token). length saved + 3 ≤ token.start) token tokens below) within in
     (omega (arith, line, least, file-line saved file), seen-late saved file tokens (All-tail (IsPlaced joint) token tokens all) (All-tail (λ (token : Token). length saved + 3 ≤ token.start) token tokens below))
 
 -- ---- parts of lists

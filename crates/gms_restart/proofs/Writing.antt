@@ -14,17 +14,17 @@ use Rattle.gms_tuple.specs.TupleOrder.{tuple_cmp, same_tuple}
 use Rattle.gms_tuple.specs.TupleSet.{has}
 use Rattle.gms_tuple.specs.OrderLaws.{tuple_cmp-total}
 use Rattle.gms_tuple.proofs.Ordered.{same_tuple-Decides}
-use Rattle.gms_store.specs.State.{Entries, Attributes, Content, undeclared, alias_of, set_of, parameter_of, variable_of, equation_of, model_with, given_in, attributes_in, is_given, same_attributes, absent_variable, unbounded, with_attributes, with_statuses, after_write}
+use Rattle.gms_store.specs.State.{Entries, Attributes, Content, undeclared, alias_of, set_of, parameter_of, variable_of, equation_of, model_with, given_in, attributes_in, is_given, same_attributes, absent_variable, unbounded, with_attributes, with_statuses, entries_after_write}
 use Rattle.gms_store.proofs.Maps.{same-tie, tie-sym}
-use Rattle.gms_exec.specs.Given.{Given, member, value_is, AllGiven, members_given, is_among, values_given, plain_values, with_attribute, attributes_given, overlaid, with_given}
+use Rattle.gms_exec.specs.Given.{Given, member, value_is, AllGiven, members_given, is_given_among, values_given, plain_values, with_attribute, attributes_given, overlaid_entries, with_given}
 use Rattle.gms_exec.specs.Reads.{last_at}
 use Rattle.gms_exec.proofs.Newest.{has-with_members, last-there}
 use Rattle.gms_exec.proofs.Overlays.{tied, first_of, has-keys, kept, get-overlaid}
 use Rattle.gms_exec.proofs.Overlays as overlays
-use Rattle.gms_frames.proofs.FormKeys.{EachHas}
+use Rattle.gms_run_laws.proofs.FormKeys.{EachHas}
 
 -- a write leaves the entries at other tuples
-written-other : {X : Type 0} (b : Bool) (m : Entries X) (t : List ℕ) (x : X) (u : List ℕ) → same_tuple t u ≡ false → finite.get (after_write b m t x) u ≡ finite.get m u
+written-other : {X : Type 0} (b : Bool) (m : Entries X) (t : List ℕ) (x : X) (u : List ℕ) → same_tuple t u ≡ false → finite.get (entries_after_write b m t x) u ≡ finite.get m u
 written-other true m t x u apart =
     finite.get-insert tuple_cmp-total m t x u ∙ ap (λ b. cond b (Some x) (finite.get m u)) (tie-sym u t ∙ sym (same-tie t u) ∙ apart)
 written-other false m t x u apart =
@@ -51,22 +51,22 @@ module _ (P : List ℕ → Type 0) where
   kept-there differs (Some x) e = refl
 
   -- a map with new entries
-  overlaid-has : {X : Type 0} (differs : X → Bool) (new : List (List ℕ × X)) (entries : Entries X) → All P (map (λ (e : List ℕ × X). e.0) new) → ((t : List ℕ) → has (finite.keys entries) t ≡ true → P t) → (t : List ℕ) → has (finite.keys (overlaid differs new entries)) t ≡ true → P t
+  overlaid-has : {X : Type 0} (differs : X → Bool) (new : List (List ℕ × X)) (entries : Entries X) → All P (map (λ (e : List ℕ × X). e.0) new) → ((t : List ℕ) → has (finite.keys entries) t ≡ true → P t) → (t : List ℕ) → has (finite.keys (overlaid_entries differs new entries)) t ≡ true → P t
   overlaid-has {X} differs new entries all old t there =
-      by (overlays.last_at new t) refl (kept-there differs (first_of (overlays.last_at new t) (finite.get entries t)) (sym (ap is_some (get-overlaid differs new entries t)) ∙ sym (has-keys (overlaid differs new entries) t) ∙ there))
+      by (overlays.last_at new t) refl (kept-there differs (first_of (overlays.last_at new t) (finite.get entries t)) (sym (ap is_some (get-overlaid differs new entries t)) ∙ sym (has-keys (overlaid_entries differs new entries) t) ∙ there))
     where
       by : (o : Option X) → overlays.last_at new t ≡ o → is_some (first_of o (finite.get entries t)) ≡ true → P t
       by None is there = old t (has-keys entries t ∙ there)
       by (Some x) is there = newest-has new t all (ap is_some is)
 
   -- a map after a write
-  pub written-has : {X : Type 0} (b : Bool) (m : Entries X) (t : List ℕ) (x : X) → P t → ((u : List ℕ) → has (finite.keys m) u ≡ true → P u) → (u : List ℕ) → has (finite.keys (after_write b m t x)) u ≡ true → P u
+  pub written-has : {X : Type 0} (b : Bool) (m : Entries X) (t : List ℕ) (x : X) → P t → ((u : List ℕ) → has (finite.keys m) u ≡ true → P u) → (u : List ℕ) → has (finite.keys (entries_after_write b m t x)) u ≡ true → P u
   written-has b m t x own old u there = by (same_tuple t u) refl
     where
       by : (c : Bool) → same_tuple t u ≡ c → P u
       by true same = subst P ((same_tuple-Decides t u).0 same) own
       by false apart =
-          old u (has-keys m u ∙ sym (ap is_some (written-other b m t x u apart)) ∙ sym (has-keys (after_write b m t x) u) ∙ there)
+          old u (has-keys m u ∙ sym (ap is_some (written-other b m t x u apart)) ∙ sym (has-keys (entries_after_write b m t x) u) ∙ there)
 
   -- ---- elements that are given something
 
@@ -99,11 +99,11 @@ module _ (P : List ℕ → Type 0) where
   members-are ((t, member on) ∷ all) are = (are.0, members-are all are.1)
   members-are ((t, value_is x) ∷ all) are = members-are all are.1
 
-  among-are : (pairs : List (List ℕ × Bool)) (t : List ℕ) → AreMembers pairs → is_among pairs t ≡ true → P t
+  among-are : (pairs : List (List ℕ × Bool)) (t : List ℕ) → AreMembers pairs → is_given_among pairs t ≡ true → P t
   among-are [] t are there = absurd (cc)
   among-are (p ∷ pairs) t are there = by (among-are pairs t are.1) (same_tuple p.0 t) refl there
     where
-      by : (is_among pairs t ≡ true → P t) → (b : Bool) → same_tuple p.0 t ≡ b → (b || is_among pairs t) ≡ true → P t
+      by : (is_given_among pairs t ≡ true → P t) → (b : Bool) → same_tuple p.0 t ≡ b → (b || is_given_among pairs t) ≡ true → P t
       by rest true same there = subst P ((same_tuple-Decides p.0 t).0 same) are.0
       by rest false other there = rest there
 
@@ -114,7 +114,7 @@ module _ (P : List ℕ → Type 0) where
   given-has kind all (set_of members) are old t there =
       let pairs = members_given all in by (last_at pairs t) (last-there pairs t) (sym (has-with_members pairs members t) ∙ there)
     where
-      by : (o : Option Bool) → is_among (members_given all) t ≡ is_some o → unwrap_or o (has members t) ≡ true → P t
+      by : (o : Option Bool) → is_given_among (members_given all) t ≡ is_some o → unwrap_or o (has members t) ≡ true → P t
       by None among there = old t there
       by (Some on) among there = among-are (members_given all) t (members-are all are) among
   given-has kind all (parameter_of entries) are old t there = overlaid-has is_given (plain_values kind all) entries (plain-are kind all are) old t there

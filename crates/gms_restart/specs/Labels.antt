@@ -13,7 +13,7 @@ use Rattle.gms_tuple.specs.TupleSet.{has}
 use Rattle.gms_store.specs.State.{State, given_in, symbol_at}
 use Rattle.gms_check.specs.Loaded.{loaded}
 use Rattle.gms_exec.specs.Assignment.{target_of}
-use Rattle.gms_frames.specs.Names.{Each}
+use Rattle.gms_run_laws.specs.Names.{Each}
 
 abbrev mutual
   -- the labels among the indices of an expression

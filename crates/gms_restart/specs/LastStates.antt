@@ -5,10 +5,10 @@ use Rattle.gq_number.specs.Number.{Number}
 use Rattle.gms_ast.specs.declared.program.Program.{Program}
 use Rattle.gms_ast.specs.declared.program.Stmt.{Stmt}
 use Rattle.gms_store.specs.State.{State, fits_at, symbol_at}
-use Rattle.gms_known.specs.DynamicSets.{assigned}
+use Rattle.gms_scope.specs.DynamicSets.{assigned_names}
 use Rattle.gms_check.specs.Loaded.{loaded}
 use Rattle.gms_exec.specs.Run.{World}
-use Rattle.gms_frames.specs.Agreeing.{HasAll}
+use Rattle.gms_run_laws.specs.Agreeing.{HasAll}
 use Rattle.gms_restart.specs.Restarts.{restarted_run, whole_run}
 use Rattle.lp_core.specs.declared.answer.Answer.{Answer}
 
@@ -30,6 +30,6 @@ NumbersFit most state = (name : ℕ) (t : List ℕ) → fits_at most (symbol_at 
 -- with.
 pub record GoesOnBehind {F : Type 0} (value : F → Number) (saved whole : Program F) (firsts others : List (Stmt F)) : Type 0 where
   pub statements : whole.statements.items ≡ firsts ++ others
-  pub assigns : flat_map assigned firsts ≡ flat_map assigned saved.statements.items
+  pub assigns : flat_map assigned_names firsts ≡ flat_map assigned_names saved.statements.items
   pub labels : length saved.labels ≤ length whole.labels
   pub has_all : HasAll (loaded value whole) (loaded value saved)

@@ -5,7 +5,7 @@ use Rattle.gq_number.specs.Number.{Number}
 use Rattle.gms_store.specs.State.{State}
 use Rattle.gms_check.specs.Loaded.{loaded}
 use Rattle.gms_exec.specs.Run.{Course, World, run_from}
-use Rattle.gms_joint.specs.JointRun.{behind_run}
+use Rattle.gms_run_laws.specs.JointRun.{behind_run}
 use Rattle.gms_save.specs.JointErrors.{resumed, saved_statements}
 use Rattle.lp_core.specs.declared.answer.Answer.{Answer}
 

@@ -23,7 +23,7 @@ use Rattle.lp_form.specs.Affine.{Affine, IsForm}
 use Rattle.lp_form.proofs.KeyOrder.{key_cmp-total, key_cmp-Equal, key_cmp-flip, same_key_refl, same_key-is, first-before, rest-ordered, before-all}
 use Rattle.gms_rows.specs.declared.form_row.FormRow.{FormRow as OwnRow}
 use Rattle.gms_rows.specs.Forms.{keyed, form_in}
-use Rattle.gms_rows.specs.ProgramLp.{ordered}
+use Rattle.gms_rows.specs.ProgramLp.{ordered_keys}
 use Rattle.gms_rows.specs.InnerWalks.{is_among, OrdersOnce, form_row_in}
 use Rattle.gms_rows.proofs.KeyLists.{among-before, keys-ordered}
 
@@ -83,8 +83,8 @@ same_keys (k ∷ ks) (l ∷ ls) up over same =
     by (key_cmp k l) refl (λ rest. same_keys ks ls (rest-ordered k ks up) (rest-ordered l ls over) rest)
   where
     apart : (a b : Key) (xs bs : List Key) → AreOrdered (b ∷ bs) → key_cmp a b ≡ Less → is_among (a ∷ xs) a ≡ is_among (b ∷ bs) a → ⊥
-    apart a b xs bs ordered less e =
-        both_ways (is_among (b ∷ bs) a) (among-before a (b ∷ bs) (before-all a b bs less ordered)) (sym e ∙ among-first a xs)
+    apart a b xs bs ordered_keys less e =
+        both_ways (is_among (b ∷ bs) a) (among-before a (b ∷ bs) (before-all a b bs less ordered_keys)) (sym e ∙ among-first a xs)
 
     behind : k ≡ l → (q : Key) (b : Bool) → same_key q k ≡ b → is_among ks q ≡ is_among ls q
     behind e q true is =
@@ -109,7 +109,7 @@ keys_of-paired : (xs : List Key) → keys_of (map (λ key. (key, true)) xs) ≡ 
 keys_of-paired [] = refl
 keys_of-paired (x ∷ xs) = ap (λ keys. x ∷ keys) (keys_of-paired xs)
 
-pub among-ordered : (xs : List Key) (q : Key) → is_among (ordered xs) q ≡ is_among xs q
+pub among-ordered : (xs : List Key) (q : Key) → is_among (ordered_keys xs) q ≡ is_among xs q
 among-ordered xs q =
     let es = map (λ key. (key, true)) xs in
     sym (finite.contains_key-keys (finite.from_entries {R = key_cmp} es) q)
@@ -118,9 +118,9 @@ among-ordered xs q =
     ∙ ap (λ keys. is_among keys q) (keys_of-paired xs)
 
 -- a strictly ascending list with the members of another is the ordered form of that list
-pub ordered-is : (xs ks : List Key) → AreOrdered ks → ((q : Key) → is_among ks q ≡ is_among xs q) → ks ≡ ordered xs
+pub ordered-is : (xs ks : List Key) → AreOrdered ks → ((q : Key) → is_among ks q ≡ is_among xs q) → ks ≡ ordered_keys xs
 ordered-is xs ks up same =
-    same_keys ks (ordered xs) up (keys-ordered (finite.from_entries {R = key_cmp} (map (λ key. (key, true)) xs))) (λ q. same q ∙ sym (among-ordered xs q))
+    same_keys ks (ordered_keys xs) up (keys-ordered (finite.from_entries {R = key_cmp} (map (λ key. (key, true)) xs))) (λ q. same q ∙ sym (among-ordered xs q))
 
 -- ---- sorted and without repetitions
 

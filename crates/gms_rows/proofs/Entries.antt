@@ -16,7 +16,7 @@ use Rattle.lp_form.specs.declared.fault.FormFault.{FormFault}
 use Rattle.lp_form.specs.declared.fault.FormFault.TheVariants as fault
 use Rattle.lp_form.specs.Keys.{key_cmp, same_key, AreOrdered}
 use Rattle.lp_form.specs.Affine.{Affine, IsForm}
-use Rattle.lp_form.specs.Forms.{Step, Entrywise, number_at, coefficient, Gives}
+use Rattle.lp_form.specs.Forms.{Step, Entrywise, number_at, coefficient, IsEntrywiseAnswer}
 use Rattle.lp_form.proofs.KeyOrder.{key_cmp-total, key_cmp-Equal, same_key-is}
 use Rattle.gms_rows.specs.Forms.{Form, keyed, form_in, number_of_key, is_not_zero, numbers_at, entrywise}
 use Rattle.gms_rows.specs.InnerWalks.{Told, is_among}
@@ -125,7 +125,7 @@ module _ {F : Type 0} (v : F → Number) where
 
   -- the answer of a call on forms is what its steps give, where outside these keys each step is
   -- that of 0
-  pub told : (steps : Entrywise) (keys : List Key) (r : Result (Affine F) FormFault) → AreOrdered keys → ((key : Key) → is_among keys key ≡ false → ((steps.at key).number ≡ whole (pos 0)) × ((steps.at key).fits ≡ true)) → Gives v steps r → Told v r (entrywise steps.constant steps.at keys)
+  pub told : (steps : Entrywise) (keys : List Key) (r : Result (Affine F) FormFault) → AreOrdered keys → ((key : Key) → is_among keys key ≡ false → ((steps.at key).number ≡ whole (pos 0)) × ((steps.at key).fits ≡ true)) → IsEntrywiseAnswer v steps r → Told v r (entrywise steps.constant steps.at keys)
   told steps keys (Ok form) ordered outside g =
       entrywise-fits steps.constant steps.at keys g.2 g.3
       ∙ ap Ok (made-form form steps.constant.number (λ key. (steps.at key).number) keys g.4 g.0 g.1 (λ key out. (outside key out).0))

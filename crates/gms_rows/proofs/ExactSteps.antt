@@ -9,7 +9,7 @@ use Rattle.gq_field.specs.Fits.{fits, sum_fits}
 use Rattle.gq_extended.specs.Extended.{Extended, number, plus_infinity, minus_infinity, na, Outcome, number_if, is_zero, negated, sum, difference, product, quotient}
 use Rattle.gq_extended.specs.declared.fault.ExtendedFault.TheVariants.{Divide}
 use Rattle.gms_ast.specs.Trees.{Mark, signed}
-use Rattle.gms_eval.specs.Nodes.{Marked, Step, chain, sum_step, product_step}
+use Rattle.gms_eval.specs.Nodes.{Marked, ValueStep, chain, sum_step, product_step}
 use Rattle.gms_eval.specs.Nodes as nodes
 use Rattle.gms_eval.specs.Bindings.{Pairs}
 use Rattle.gms_eval.specs.Faults.{Answer, nothing, taken, ◌and_then◌}
@@ -143,7 +143,7 @@ module _ (limit : ℕ) (b : Pairs) where
 
 -- ---- chains
 
-module _ (limited exact : Step) (is : (mark : Mark) (x : Extended) (a : Answer Extended) (z : Extended) → limited mark x a ≡ Ok z → exact mark x a ≡ Ok z) where
+module _ (limited exact : ValueStep) (is : (mark : Mark) (x : Extended) (a : Answer Extended) (z : Extended) → limited mark x a ≡ Ok z → exact mark x a ≡ Ok z) where
   -- parts that make a value under a limit, and then others
   pub front-behind : (empty : Answer Extended) (xs ys : Marked) (x z : Extended) → nodes.joined limited empty (Some x) xs ≡ Ok z → nodes.joined exact empty (Some x) (xs ++ ys) ≡ nodes.joined exact empty (Some z) ys
   front-behind empty [] ys x z e = ap (λ w. nodes.joined exact empty (Some w) ys) (only_value x z e)

@@ -5,15 +5,15 @@ use Rattle.gq_number.specs.Number.{Number}
 use Rattle.gms_ast.specs.Trees.{Mark}
 use Rattle.gms_eval.specs.declared.stop.ExecStopOrMemory.{ExecStopOrMemory}
 use Rattle.gms_eval.specs.Faults.{Answer, ◌and_then◌}
-use Rattle.gms_eval.specs.Gives.{Stops}
+use Rattle.gms_eval.specs.Gives.{ShowsStop}
 use Rattle.gms_eval.proofs.Answering.{stops-same, stops-then}
-use Rattle.gms_rows.specs.Affine.{Join, with_next, joined}
+use Rattle.gms_rows.specs.Affine.{Join, with_next, joined_forms}
 use Rattle.gms_rows.specs.Forms.{Form, zero_form}
 
 module _ {X : Type 0} (join : Join) (mark : X → Mark) (answer : X → Answer Form) where
   -- the forms of these parts, joined to the form so far
   abbrev pub from_here : Option Form → List X → Answer Form
-  from_here so_far xs = joined join so_far (map (λ x. (mark x, answer x)) xs)
+  from_here so_far xs = joined_forms join so_far (map (λ x. (mark x, answer x)) xs)
 
   -- what the forms of the next part and of those after it add to the form so far
   abbrev pub after_next : Option Form → X → List X → Form → Answer Form
@@ -36,11 +36,11 @@ module _ {X : Type 0} (join : Join) (mark : X → Mark) (answer : X → Answer F
 
   module _ {F : Type 0} (v : F → Number) (stop : ExecStopOrMemory F) (whole : Answer Form) (so_far : Option Form) (xs : List X) (i : ℕ) (x : X) (is : whole ≡ from_here so_far (drop i xs)) (l : i < length xs) (at : x ≡ get_or xs i x) where
     -- the form of the next stops
-    pub part-stops : Stops v stop (answer x) → Stops v stop whole
+    pub part-stops : ShowsStop v stop (answer x) → ShowsStop v stop whole
     part-stops s =
         stops-same v stop whole _ (is ∙ here so_far xs i x l at) (stops-then v stop (answer x) (after_next so_far x (drop (i + 1) xs)) s)
 
     -- the step to it stops
-    pub join-stops : (form : Form) → answer x ≡ Ok form → Stops v stop (with_next join (mark x) so_far form) → Stops v stop whole
+    pub join-stops : (form : Form) → answer x ≡ Ok form → ShowsStop v stop (with_next join (mark x) so_far form) → ShowsStop v stop whole
     join-stops form e s =
         stops-same v stop whole _ (is ∙ here so_far xs i x l at ∙ ap (λ a. a and_then after_next so_far x (drop (i + 1) xs)) e) (stops-then v stop (with_next join (mark x) so_far form) (λ next. from_here (Some next) (drop (i + 1) xs)) s)

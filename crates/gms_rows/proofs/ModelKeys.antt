@@ -10,7 +10,7 @@ use Rattle.gms_ast.specs.declared.program.Stmt.{Stmt}
 use Rattle.gms_store.specs.State.{State}
 use Rattle.gms_eval.specs.Nodes.{in_order}
 use Rattle.gms_rows.specs.Plain.{ArePlain, HasPlainDefinitions}
-use Rattle.gms_rows.specs.Rows.{Definition, FormRow, each_once, sets_among, definitions, definition_of, listed, found, declared_by, models_of, equations_from, equations_of, rows_of, rows_of_model}
+use Rattle.gms_rows.specs.Rows.{Definition, FormRow, each_once, sets_among, definitions, definition_of, listed_equations, found, equations_declared_by, models_of, equations_from, equations_of, rows_of_definition, rows_of_model}
 use Rattle.gms_rows.specs.InnerWalks.{HaveOrder}
 use Rattle.gms_rows.specs.ElementRows.{AreInOrder}
 use Rattle.gms_rows.proofs.Domains.{given, only_value}
@@ -19,7 +19,7 @@ use Rattle.gms_rows.proofs.RowWalk.{joined_rows}
 
 -- ---- equations
 
-listed-apart : (declared : List ℕ) (model : ModelDecl) → AreApart declared → AreApart (listed declared model)
+listed-apart : (declared : List ℕ) (model : ModelDecl) → AreApart declared → AreApart (listed_equations declared model)
 listed-apart declared model apart = by model.all
   where
     by : (b : Bool) → AreApart (if b then declared else each_once (map (λ equation. equation.name) model.equations))
@@ -31,17 +31,17 @@ found-apart declared name [] equations apart e = absurd (cc)
 found-apart declared name (model ∷ models) equations apart e =
     by (model.named.name == name) e (found-apart declared name models equations apart)
   where
-    by : (b : Bool) → (if b then Some (listed declared model) else found declared name models) ≡ Some equations → (found declared name models ≡ Some equations → AreApart equations) → AreApart equations
-    by true e rest = let is : listed declared model ≡ equations = cc in subst AreApart is (listed-apart declared model apart)
+    by : (b : Bool) → (if b then Some (listed_equations declared model) else found declared name models) ≡ Some equations → (found declared name models ≡ Some equations → AreApart equations) → AreApart equations
+    by true e rest = let is : listed_equations declared model ≡ equations = cc in subst AreApart is (listed-apart declared model apart)
     by false e rest = rest e
 
 module _ {F : Type 0} where
   from-apart : (declared : List ℕ) (name : ℕ) (statements : List (Stmt F)) → AreApart (equations_from declared name statements)
   from-apart declared name [] = tt
   from-apart declared name (s ∷ statements) =
-      by (found (each_once declared) name (models_of s.act)) refl (from-apart (declared ++ declared_by s.act) name statements)
+      by (found (each_once declared) name (models_of s.act)) refl (from-apart (declared ++ equations_declared_by s.act) name statements)
     where
-      by : (o : Option (List ℕ)) → found (each_once declared) name (models_of s.act) ≡ o → AreApart (equations_from (declared ++ declared_by s.act) name statements) → AreApart (elim o [ Some equations ↦ equations | None ↦ equations_from (declared ++ declared_by s.act) name statements ])
+      by : (o : Option (List ℕ)) → found (each_once declared) name (models_of s.act) ≡ o → AreApart (equations_from (declared ++ equations_declared_by s.act) name statements) → AreApart (elim o [ Some equations ↦ equations | None ↦ equations_from (declared ++ equations_declared_by s.act) name statements ])
       by (Some equations) e rest = found-apart (each_once declared) name (models_of s.act) equations (each_once-apart declared) e
       by None e rest = rest
 
@@ -97,6 +97,6 @@ module _ {F : Type 0} where
     model-apart statements model rows plain kept e =
         let ds = definitions statements in
         let names = equations_of statements model in
-        let those = given (in_order (map (rows_of v limit state) (flat_map (definition_of ds) names))) (λ rows. Ok (joined_rows rows)) rows e in
+        let those = given (in_order (map (rows_of_definition v limit state) (flat_map (definition_of ds) names))) (λ rows. Ok (joined_rows rows)) rows e in
         subst (AllPairs (λ (a b : FormRow). a.key ≢ b.key)) (only_value _ _ those.next_is)
         (definitions-apart v limit state (flat_map (definition_of ds) names) those.value (each-apart ds names (equations-apart statements model)) (each-All (λ (d : Definition F). ArePlain state d.indices) ds names (λ k d below. found-All (λ (d : Definition F). ArePlain state d.indices) ds _ plain)) (each-All (λ (d : Definition F). AreInOrder state (each_once (sets_among d.indices))) ds names kept) those.is)

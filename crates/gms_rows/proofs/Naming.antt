@@ -7,7 +7,7 @@ use Rattle.std.proofs.lemmas.List.{at_drop_more, at_drop_all, take_more}
 use Rattle.std.proofs.lemmas.List.Concat.{flat_map-append}
 use Rattle.gms_ast.specs.declared.declaration.ModelDecl.{ModelDecl}
 use Rattle.gms_ast.specs.declared.program.Stmt.{Stmt}
-use Rattle.gms_rows.specs.Rows.{each_once, Definition, definitions, defined_at, definition_of, listed, found, declared_by, models_of, equations_from}
+use Rattle.gms_rows.specs.Rows.{each_once, Definition, definitions, defined_at, definition_of, listed_equations, found, equations_declared_by, models_of, equations_from}
 use Rattle.gms_rows.specs.InnerWalks.{with_once, is_in}
 
 -- ---- without repetition
@@ -107,19 +107,19 @@ module _ {F : Type 0} (name : ℕ) where
 
   -- the equations that these statements declare
   abbrev pub declared_in : List (Stmt F) → List ℕ
-  declared_in statements = flat_map (λ (s : Stmt F). declared_by s.act) statements
+  declared_in statements = flat_map (λ (s : Stmt F). equations_declared_by s.act) statements
 
   module _ (declared : List ℕ) (statements : List (Stmt F)) (i : ℕ) (s : Stmt F) (here : i < length statements) (is : s ≡ get_or statements i s) where
-    step : (o : Option (List ℕ)) → found (each_once declared) name (models_of s.act) ≡ o → equations_from declared name (drop i statements) ≡ (elim o [ Some equations ↦ equations | None ↦ equations_from (declared ++ declared_by s.act) name (drop (i + 1) statements) ])
+    step : (o : Option (List ℕ)) → found (each_once declared) name (models_of s.act) ≡ o → equations_from declared name (drop i statements) ≡ (elim o [ Some equations ↦ equations | None ↦ equations_from (declared ++ equations_declared_by s.act) name (drop (i + 1) statements) ])
     step o e =
         at_drop_more (equations_from declared name) statements i s here
         ∙ ap (λ (z : Stmt F). equations_from declared name (z ∷ drop (i + 1) statements)) (sym is)
-        ∙ ap (λ (x : Option (List ℕ)). elim x [ Some equations ↦ equations | None ↦ equations_from (declared ++ declared_by s.act) name (drop (i + 1) statements) ]) e
+        ∙ ap (λ (x : Option (List ℕ)). elim x [ Some equations ↦ equations | None ↦ equations_from (declared ++ equations_declared_by s.act) name (drop (i + 1) statements) ]) e
 
     pub equations-here : (equations : List ℕ) → found (each_once declared) name (models_of s.act) ≡ Some equations → equations_from declared name (drop i statements) ≡ equations
     equations-here equations e = step (Some equations) e
 
-    pub equations-later : found (each_once declared) name (models_of s.act) ≡ None → equations_from declared name (drop i statements) ≡ equations_from (declared ++ declared_by s.act) name (drop (i + 1) statements)
+    pub equations-later : found (each_once declared) name (models_of s.act) ≡ None → equations_from declared name (drop i statements) ≡ equations_from (declared ++ equations_declared_by s.act) name (drop (i + 1) statements)
     equations-later e = step None e
 
   pub equations-nowhere : (declared : List ℕ) (statements : List (Stmt F)) (i : ℕ) → length statements ≤ i → equations_from declared name (drop i statements) ≡ []
@@ -133,18 +133,18 @@ module _ (declared : List ℕ) (name : ℕ) (models : List ModelDecl) (i : ℕ) 
 
   pub found-next : (m.named.name ≡ name → ⊥) → found declared name (drop i models) ≡ found declared name (drop (i + 1) models)
   found-next other =
-      next_model ∙ ap (λ b. if b then Some (listed declared m) else found declared name (drop (i + 1) models)) (ne_eqb m.named.name name other)
+      next_model ∙ ap (λ b. if b then Some (listed_equations declared m) else found declared name (drop (i + 1) models)) (ne_eqb m.named.name name other)
 
-  pub found-here : m.named.name ≡ name → found declared name (drop i models) ≡ Some (listed declared m)
+  pub found-here : m.named.name ≡ name → found declared name (drop i models) ≡ Some (listed_equations declared m)
   found-here same =
-      next_model ∙ ap (λ b. if b then Some (listed declared m) else found declared name (drop (i + 1) models)) (eq-eqb m.named.name name same)
+      next_model ∙ ap (λ b. if b then Some (listed_equations declared m) else found declared name (drop (i + 1) models)) (eq-eqb m.named.name name same)
 
 pub found-nowhere : (declared : List ℕ) (name : ℕ) (models : List ModelDecl) (i : ℕ) → length models ≤ i → found declared name (drop i models) ≡ None
 found-nowhere declared name models i all = at_drop_all (found declared name) models i all
 
 -- the equations that one more statement declares
-pub declared-more : {F : Type 0} (name : ℕ) (statements : List (Stmt F)) (i : ℕ) (s : Stmt F) → i < length statements → s ≡ get_or statements i s → declared_in name (take (i + 1) statements) ≡ declared_in name (take i statements) ++ declared_by s.act
+pub declared-more : {F : Type 0} (name : ℕ) (statements : List (Stmt F)) (i : ℕ) (s : Stmt F) → i < length statements → s ≡ get_or statements i s → declared_in name (take (i + 1) statements) ≡ declared_in name (take i statements) ++ equations_declared_by s.act
 declared-more {F} name statements i s here is =
     ap (declared_in name) (take_more statements i s here ∙ ap (λ z. take i statements ++ z ∷ []) (sym is))
-    ∙ flat_map-append (λ (s : Stmt F). declared_by s.act) (take i statements) (s ∷ [])
-    ∙ ap (λ names. declared_in name (take i statements) ++ names) (append-nil (declared_by s.act))
+    ∙ flat_map-append (λ (s : Stmt F). equations_declared_by s.act) (take i statements) (s ∷ [])
+    ∙ ap (λ names. declared_in name (take i statements) ++ names) (append-nil (equations_declared_by s.act))

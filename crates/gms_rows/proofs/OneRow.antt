@@ -8,14 +8,14 @@ use Rattle.gms_eval.specs.declared.stop.ExecStopOrMemory.{ExecStopOrMemory}
 use Rattle.gms_eval.specs.Nodes.{in_order}
 use Rattle.gms_eval.specs.Bindings.{Pairs}
 use Rattle.gms_eval.specs.Faults.{Answer, ◌and_then◌}
-use Rattle.gms_eval.specs.Gives.{Stops}
+use Rattle.gms_eval.specs.Gives.{ShowsStop}
 use Rattle.gms_eval.specs.References.{tuple_of}
 use Rattle.gms_eval.specs.Value.{labels, label_answer}
 use Rattle.gms_eval.proofs.Answering.{and_then_assoc, stops-then, stops-same}
 use Rattle.gms_eval.proofs.TreeValues.{labels-indices_of}
 use Rattle.lp_core.specs.declared.program.Sense.{Sense}
 use Rattle.gms_rows.specs.Affine.{affine}
-use Rattle.gms_rows.specs.Forms.{Form, sum_of}
+use Rattle.gms_rows.specs.Forms.{Form, sum_of_forms}
 use Rattle.gms_rows.specs.Rows.{Definition, FormRow, sense_of, row_form, row_under}
 use Rattle.gms_rows.proofs.Parts.{tuple_answer}
 
@@ -44,17 +44,17 @@ module _ {F : Type 0} (v : F → Number) (limit : ℕ) (state : State) (d : Defi
 
   module _ (indices : List (Index F)) (is : d.indices ≡ indices_of (map index_tree indices)) (t : List ℕ) (given : tuple_answer v limit state b d.equation indices ≡ Ok (Some t)) where
     abbrev last : Form → Form → Answer (Option FormRow)
-    last l r = sum_of limit d.right_at b true l r and_then λ form. Ok (Some (row_with t (sense_of d.side) form))
+    last l r = sum_of_forms limit d.right_at b true l r and_then λ form. Ok (Some (row_with t (sense_of d.side) form))
 
     row-some : row_under v limit state d b ≡ (affine v limit state d.left_at b d.left and_then λ l. affine v limit state d.right_at b d.right and_then λ r. last l r)
     row-some =
         row-is indices is
         ∙ ap (λ a. a and_then row_at) given
-        ∙ and_then_assoc (affine v limit state d.left_at b d.left) (λ l. affine v limit state d.right_at b d.right and_then λ r. sum_of limit d.right_at b true l r) (λ form. Ok (Some (row_with t (sense_of d.side) form)))
-        ∙ goes_on (affine v limit state d.left_at b d.left) (λ l. (affine v limit state d.right_at b d.right and_then λ r. sum_of limit d.right_at b true l r) and_then λ form. Ok (Some (row_with t (sense_of d.side) form))) (λ l. affine v limit state d.right_at b d.right and_then λ r. last l r) (λ l. and_then_assoc (affine v limit state d.right_at b d.right) (λ r. sum_of limit d.right_at b true l r) (λ form. Ok (Some (row_with t (sense_of d.side) form))))
+        ∙ and_then_assoc (affine v limit state d.left_at b d.left) (λ l. affine v limit state d.right_at b d.right and_then λ r. sum_of_forms limit d.right_at b true l r) (λ form. Ok (Some (row_with t (sense_of d.side) form)))
+        ∙ goes_on (affine v limit state d.left_at b d.left) (λ l. (affine v limit state d.right_at b d.right and_then λ r. sum_of_forms limit d.right_at b true l r) and_then λ form. Ok (Some (row_with t (sense_of d.side) form))) (λ l. affine v limit state d.right_at b d.right and_then λ r. last l r) (λ l. and_then_assoc (affine v limit state d.right_at b d.right) (λ r. sum_of_forms limit d.right_at b true l r) (λ form. Ok (Some (row_with t (sense_of d.side) form))))
 
     -- a side or the step that stops
-    pub row-left_stops : (stop : ExecStopOrMemory F) → Stops v stop (affine v limit state d.left_at b d.left) → Stops v stop (row_under v limit state d b)
+    pub row-left_stops : (stop : ExecStopOrMemory F) → ShowsStop v stop (affine v limit state d.left_at b d.left) → ShowsStop v stop (row_under v limit state d b)
     row-left_stops stop s =
         stops-same v stop (row_under v limit state d b) _ row-some (stops-then v stop (affine v limit state d.left_at b d.left) (λ l. affine v limit state d.right_at b d.right and_then λ r. last l r) s)
 
@@ -62,7 +62,7 @@ module _ {F : Type 0} (v : F → Number) (limit : ℕ) (state : State) (d : Defi
       after-left : row_under v limit state d b ≡ (affine v limit state d.right_at b d.right and_then λ r. last l r)
       after-left = row-some ∙ ap (λ a. a and_then λ l. affine v limit state d.right_at b d.right and_then λ r. last l r) left-is
 
-      pub row-right_stops : (stop : ExecStopOrMemory F) → Stops v stop (affine v limit state d.right_at b d.right) → Stops v stop (row_under v limit state d b)
+      pub row-right_stops : (stop : ExecStopOrMemory F) → ShowsStop v stop (affine v limit state d.right_at b d.right) → ShowsStop v stop (row_under v limit state d b)
       row-right_stops stop s =
           stops-same v stop (row_under v limit state d b) _ after-left (stops-then v stop (affine v limit state d.right_at b d.right) (λ r. last l r) s)
 
@@ -70,11 +70,11 @@ module _ {F : Type 0} (v : F → Number) (limit : ℕ) (state : State) (d : Defi
         after-right : row_under v limit state d b ≡ last l r
         after-right = after-left ∙ ap (λ a. a and_then λ r. last l r) right-is
 
-        pub row-step_stops : (stop : ExecStopOrMemory F) → Stops v stop (sum_of limit d.right_at b true l r) → Stops v stop (row_under v limit state d b)
+        pub row-step_stops : (stop : ExecStopOrMemory F) → ShowsStop v stop (sum_of_forms limit d.right_at b true l r) → ShowsStop v stop (row_under v limit state d b)
         row-step_stops stop s =
-            stops-same v stop (row_under v limit state d b) _ after-right (stops-then v stop (sum_of limit d.right_at b true l r) (λ form. Ok (Some (row_with t (sense_of d.side) form))) s)
+            stops-same v stop (row_under v limit state d b) _ after-right (stops-then v stop (sum_of_forms limit d.right_at b true l r) (λ form. Ok (Some (row_with t (sense_of d.side) form))) s)
 
         -- the row
-        pub row-made : (form : Form) (sense : Sense) → sum_of limit d.right_at b true l r ≡ Ok form → sense ≡ sense_of d.side → row_under v limit state d b ≡ Ok (Some (row_with t sense form))
+        pub row-made : (form : Form) (sense : Sense) → sum_of_forms limit d.right_at b true l r ≡ Ok form → sense ≡ sense_of d.side → row_under v limit state d b ≡ Ok (Some (row_with t sense form))
         row-made form sense made same =
             after-right ∙ ap (λ a. a and_then λ form. Ok (Some (row_with t (sense_of d.side) form))) made ∙ ap (λ s. Ok (Some (row_with t s form))) (sym same)

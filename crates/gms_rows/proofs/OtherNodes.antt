@@ -15,20 +15,20 @@ use Rattle.gms_ast.specs.Trees as tree
 use Rattle.gms_ast.specs.TreeView.{tree_step, index_step, control_step, tree_of}
 use Rattle.gms_store.specs.State.{State}
 use Rattle.gms_eval.specs.Bindings.{Pairs}
-use Rattle.gms_rows.specs.Affine.{constant_at, affine}
+use Rattle.gms_rows.specs.Affine.{form_of_constant, affine}
 
 module _ {F : Type 0} (v : F → Number) (limit : ℕ) (state : State) (at : Place) (b : Pairs) where
   -- such a node has the form of its value
-  pub form-other : (e : Expr F) → ((place : Place) (name : ℕ) (suffix : Suffix) (indices : Vec (Index F) Global) → e ≡ Ref place name suffix indices → ⊥) → ((place : Place) (op : FoldOp) (control : ControlNode F) (body : Box (Expr F) Global) → e ≡ Fold place op control body → ⊥) → ((x : Box (Expr F) Global) → e ≡ Neg x → ⊥) → ((x : Vec (Place × Bool × Expr F) Global) → e ≡ Plus x → ⊥) → ((x : Vec (Place × Bool × Expr F) Global) → e ≡ Times x → ⊥) → ((x : Box (Expr F) Global) (y : Vec (Expr F) Global) → e ≡ Guard x y → ⊥) → affine v limit state at b (tree_of e) ≡ constant_at v limit state at b (tree_of e)
+  pub form-other : (e : Expr F) → ((place : Place) (name : ℕ) (suffix : Suffix) (indices : Vec (Index F) Global) → e ≡ Ref place name suffix indices → ⊥) → ((place : Place) (op : FoldOp) (control : ControlNode F) (body : Box (Expr F) Global) → e ≡ Fold place op control body → ⊥) → ((x : Box (Expr F) Global) → e ≡ Neg x → ⊥) → ((x : Vec (Place × Bool × Expr F) Global) → e ≡ Plus x → ⊥) → ((x : Vec (Place × Bool × Expr F) Global) → e ≡ Times x → ⊥) → ((x : Box (Expr F) Global) (y : Vec (Expr F) Global) → e ≡ Guard x y → ⊥) → affine v limit state at b (tree_of e) ≡ form_of_constant v limit state at b (tree_of e)
   form-other e no_ref no_fold no_neg no_plus no_times no_guard = by (out-Expr F e) (roll-out-Expr F e)
     where
-      same : (t : tree.Tree F) → tree_of e ≡ t → affine v limit state at b t ≡ constant_at v limit state at b t → affine v limit state at b (tree_of e) ≡ constant_at v limit state at b (tree_of e)
-      same t q p = ap (affine v limit state at b) q ∙ p ∙ sym (ap (constant_at v limit state at b) q)
+      same : (t : tree.Tree F) → tree_of e ≡ t → affine v limit state at b t ≡ form_of_constant v limit state at b t → affine v limit state at b (tree_of e) ≡ form_of_constant v limit state at b (tree_of e)
+      same t q p = ap (affine v limit state at b) q ∙ p ∙ sym (ap (form_of_constant v limit state at b) q)
 
       seen : (x : Expr-F F (Expr F) (Index F) (ControlNode F)) → roll-Expr F x ≡ e → tree_of e ≡ tree_of (roll-Expr F x)
       seen x is = ap tree_of (sym is)
 
-      by : (x : Expr-F F (Expr F) (Index F) (ControlNode F)) → roll-Expr F x ≡ e → affine v limit state at b (tree_of e) ≡ constant_at v limit state at b (tree_of e)
+      by : (x : Expr-F F (Expr F) (Index F) (ControlNode F)) → roll-Expr F x ≡ e → affine v limit state at b (tree_of e) ≡ form_of_constant v limit state at b (tree_of e)
       by (Expr-F.Ref place name suffix indices) is = absurd (no_ref place name suffix indices (sym is ∙ rolls-Ref place name suffix indices))
       by (Expr-F.Fold place op control body) is = absurd (no_fold place op control body (sym is ∙ rolls-Fold place op control body))
       by (Expr-F.Neg x) is = absurd (no_neg x (sym is ∙ rolls-Neg x))

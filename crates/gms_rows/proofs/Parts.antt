@@ -28,8 +28,8 @@ use Rattle.gms_eval.proofs.TreeValues.{values-parts_of, unmarked-parts_of, label
 use Rattle.lp_form.specs.declared.key.Key.{Key}
 use Rattle.lp_form.specs.Keys.{key_cmp}
 use Rattle.lp_form.specs.Affine.{Affine as OwnForm}
-use Rattle.gms_rows.specs.Affine.{has_variables, in_front, form_of, front, plus, with_next, joined, chained, element_form, constant_at, linear, forms, affine}
-use Rattle.gms_rows.specs.Forms.{Form, form_in, keyed, constant_form, zero_form, column_form, scaled, sum_of, product_of, quotient_of}
+use Rattle.gms_rows.specs.Affine.{has_variables, in_front, form_of, front, plus, with_next, joined_forms, chained, element_form, form_of_constant, linear, forms, affine}
+use Rattle.gms_rows.specs.Forms.{Form, form_in, keyed, constant_form, zero_form, column_form, scaled_form, sum_of_forms, product_of_forms, quotient_of}
 use Rattle.gms_rows.specs.InnerWalks.{parts_in, signed_join, chain_form, total_form}
 use Rattle.gms_rows.proofs.Joins.{from_here}
 
@@ -38,10 +38,10 @@ use Rattle.gms_rows.proofs.Joins.{from_here}
 module _ {F : Type 0} (v : F → Number) (limit : ℕ) (state : State) where
   -- the form of an expression with variables, and of one without
   pub affine-has : (at : Place) (b : Pairs) (e : tree.Tree F) → has_variables state e ≡ true → affine v limit state at b e ≡ linear v limit state at b e
-  affine-has at b e has = ap (λ h. if h then linear v limit state at b e else constant_at v limit state at b e) has
+  affine-has at b e has = ap (λ h. if h then linear v limit state at b e else form_of_constant v limit state at b e) has
 
-  pub affine-none : (at : Place) (b : Pairs) (e : tree.Tree F) → has_variables state e ≡ false → affine v limit state at b e ≡ constant_at v limit state at b e
-  affine-none at b e has = ap (λ h. if h then linear v limit state at b e else constant_at v limit state at b e) has
+  pub affine-none : (at : Place) (b : Pairs) (e : tree.Tree F) → has_variables state e ≡ false → affine v limit state at b e ≡ form_of_constant v limit state at b e
+  affine-none at b e has = ap (λ h. if h then linear v limit state at b e else form_of_constant v limit state at b e) has
 
   -- the form of an element of a variable
   abbrev pub variable_answer : Pairs → ℕ → tree.Indices F → Answer Form
@@ -61,14 +61,14 @@ module _ {F : Type 0} (v : F → Number) (limit : ℕ) (state : State) where
         let tree-is = ap tree_of is ∙ tree_of-Fold place op control body in
         let body-has : has_variables state (tree_of body.value) ≡ true = sym (ap (has_variables state) tree-is) ∙ has in
         meaning (tree.fold_over place op (control_tree control) (tree_of body.value)) tree-is
-        ∙ ap (λ (answer : List ℕ → Answer Form). domain v limit state b place (control_tree control) and_then λ elements. joined (plus limit b) (Some zero_form) (map (λ element. (tree.signed place false, answer element)) elements)) (λ i element. sym (affine-has place (controlled b (sets_of (control_tree control)) element) (tree_of body.value) body-has) i)
+        ∙ ap (λ (answer : List ℕ → Answer Form). domain v limit state b place (control_tree control) and_then λ elements. joined_forms (plus limit b) (Some zero_form) (map (λ element. (tree.signed place false, answer element)) elements)) (λ i element. sym (affine-has place (controlled b (sets_of (control_tree control)) element) (tree_of body.value) body-has) i)
 
-    pub form-Neg : (inner : Box (Expr F) Global) → e ≡ Neg inner → affine v limit state at b (tree_of e) ≡ (affine v limit state at b (tree_of inner.value) and_then λ form. scaled limit at b false form (neg_ℚ (whole (pos 1))))
+    pub form-Neg : (inner : Box (Expr F) Global) → e ≡ Neg inner → affine v limit state at b (tree_of e) ≡ (affine v limit state at b (tree_of inner.value) and_then λ form. scaled_form limit at b false form (neg_ℚ (whole (pos 1))))
     form-Neg inner is =
         let tree-is = ap tree_of is ∙ tree_of-Neg inner in
         let inner-has : has_variables state (tree_of inner.value) ≡ true = sym (ap (has_variables state) tree-is) ∙ has in
         meaning (tree.negated (tree_of inner.value)) tree-is
-        ∙ ap (λ a. a and_then λ form. scaled limit at b false form (neg_ℚ (whole (pos 1)))) (sym (affine-has at b (tree_of inner.value) inner-has))
+        ∙ ap (λ a. a and_then λ form. scaled_form limit at b false form (neg_ℚ (whole (pos 1)))) (sym (affine-has at b (tree_of inner.value) inner-has))
 
     pub form-Plus : (parts : Vec (Place × Bool × Expr F) Global) → e ≡ Plus parts → affine v limit state at b (tree_of e) ≡ chain_form v limit state b signs.Sum (parts_in parts.items)
     form-Plus parts is = meaning (tree.sum (parts_in parts.items)) (ap tree_of is ∙ tree_of-Plus parts)
@@ -115,8 +115,8 @@ module _ {F : Type 0} (v : F → Number) (limit : ℕ) (state : State) (b : Pair
       ap (λ k. chained b (signed_step limit b kind) (signed_join limit b kind) k (values v limit state b (parts_in parts)) (forms v limit state b (parts_in parts))) (sym count)
       ∙ ap (λ vs. chained b (signed_step limit b kind) (signed_join limit b kind) n vs (forms v limit state b (parts_in parts))) (values-parts_of v limit state b (λ (p : Place × Bool × Expr F). tree.signed p.0 p.1) (λ p. tree_of p.2) parts)
       ∙ ap (λ fs. chained b (signed_step limit b kind) (signed_join limit b kind) n (map (λ p. (part_mark p, part_value p)) parts) fs) (forms-parts parts)
-      ∙ ap (λ vs. front b (signed_step limit b kind) vs and_then λ so_far. joined (signed_join limit b kind) so_far (drop n (map (λ p. (part_mark p, part_form p)) parts))) (take-map (λ p. (part_mark p, part_value p)) n parts)
-      ∙ ap (λ fs. front_form kind (take n parts) and_then λ so_far. joined (signed_join limit b kind) so_far fs) (drop-map (λ p. (part_mark p, part_form p)) n parts)
+      ∙ ap (λ vs. front b (signed_step limit b kind) vs and_then λ so_far. joined_forms (signed_join limit b kind) so_far (drop n (map (λ p. (part_mark p, part_form p)) parts))) (take-map (λ p. (part_mark p, part_value p)) n parts)
+      ∙ ap (λ fs. front_form kind (take n parts) and_then λ so_far. joined_forms (signed_join limit b kind) so_far fs) (drop-map (λ p. (part_mark p, part_form p)) n parts)
       ∙ ap (λ ps. front_form kind ps and_then behind kind (drop n parts)) (sym before-is)
       ∙ ap (λ ps. front_form kind before and_then behind kind ps) (sym rest-is)
 
@@ -142,20 +142,20 @@ module _ {F : Type 0} (v : F → Number) (limit : ℕ) (b : Pairs) (kind : Signe
   joins : next_answer ≡ signed_join limit b kind (tree.signed at inverse) (form_in v left) form
   joins = ap (λ o. with_next (signed_join limit b kind) (tree.signed at inverse) (option_map (form_in v) o) form) some
 
-  pub next-sum : kind ≡ signs.Sum → next_answer ≡ sum_of limit at b inverse (form_in v left) form
+  pub next-sum : kind ≡ signs.Sum → next_answer ≡ sum_of_forms limit at b inverse (form_in v left) form
   next-sum is = joins ∙ ap (λ k. signed_join limit b k (tree.signed at inverse) (form_in v left) form) is
 
   pub next-over : kind ≡ signs.Product → inverse ≡ true → next_answer ≡ quotient_of limit at b (form_in v left) form.constant
   next-over is over =
       joins
       ∙ ap (λ k. signed_join limit b k (tree.signed at inverse) (form_in v left) form) is
-      ∙ ap (λ d. if d then quotient_of limit at b (form_in v left) form.constant else product_of limit at b (form_in v left) form) over
+      ∙ ap (λ d. if d then quotient_of limit at b (form_in v left) form.constant else product_of_forms limit at b (form_in v left) form) over
 
-  pub next-times : kind ≡ signs.Product → inverse ≡ false → next_answer ≡ product_of limit at b (form_in v left) form
+  pub next-times : kind ≡ signs.Product → inverse ≡ false → next_answer ≡ product_of_forms limit at b (form_in v left) form
   next-times is over =
       joins
       ∙ ap (λ k. signed_join limit b k (tree.signed at inverse) (form_in v left) form) is
-      ∙ ap (λ d. if d then quotient_of limit at b (form_in v left) form.constant else product_of limit at b (form_in v left) form) over
+      ∙ ap (λ d. if d then quotient_of limit at b (form_in v left) form.constant else product_of_forms limit at b (form_in v left) form) over
 
 -- ---- elements of variables
 

@@ -18,9 +18,9 @@ use Rattle.gms_eval.specs.Faults.{Answer, faulted}
 use Rattle.gms_eval.specs.declared.stop.StopKind.TheVariants.{Divide}
 use Rattle.lp_form.specs.declared.key.Key.{Key}
 use Rattle.lp_form.specs.Keys.{key_cmp, same_key, AreOrdered}
-use Rattle.lp_form.specs.Forms.{Step, sum_step, difference_step, product_step, quotient_step}
+use Rattle.lp_form.specs.Forms.{Step, sum_form_step, difference_step, product_form_step, quotient_step}
 use Rattle.lp_form.proofs.KeyOrder.{same_key-is}
-use Rattle.gms_rows.specs.Forms.{Form, number_of_key, is_number, is_not_zero, numbers_at, keys_of_two, entrywise, entries_of_two, entries_by, where_fits, sum_of, scaled, multiple, product_of, quotient_of}
+use Rattle.gms_rows.specs.Forms.{Form, number_of_key, is_number, is_not_zero, numbers_at, keys_of_two, entrywise, entries_of_two, entries_by, where_fits, sum_of_forms, scaled_form, multiple, product_of_forms, quotient_of}
 use Rattle.gms_rows.specs.InnerWalks.{is_among}
 use Rattle.gms_rows.specs.Points.{form_at}
 use Rattle.gms_rows.proofs.ColumnKeys.{same_keys}
@@ -132,9 +132,9 @@ module _ (point : Key → Number) where
     zero_difference : whole (pos 0) -ℚ whole (pos 0) ≡ whole (pos 0)
     zero_difference = simp ring_ℚ
 
-    pub sum-at : (limit : ℕ) (f : Form) → entries_of_two (sum_step limit) a c ≡ Ok f → form_at point f ≡ form_at point a +ℚ form_at point c
+    pub sum-at : (limit : ℕ) (f : Form) → entries_of_two (sum_form_step limit) a c ≡ Ok f → form_at point f ≡ form_at point a +ℚ form_at point c
     sum-at limit f e =
-        stepped (sum_step limit a.constant c.constant) (λ key. sum_step limit (number_of_key a key) (number_of_key c key)) (keys_of_two a c) f (keys-ordered _)
+        stepped (sum_form_step limit a.constant c.constant) (λ key. sum_form_step limit (number_of_key a key) (number_of_key c key)) (keys_of_two a c) f (keys-ordered _)
         (λ q none. ap (λ x. x +ℚ number_of_key c q) (outside-two a c q none).0 ∙ ap (λ y. whole (pos 0) +ℚ y) (outside-two a c q none).1 ∙ zero_sum) e
         ∙ (λ i. a.constant +ℚ c.constant +ℚ sum_by_ℚ (λ key. sum_term (number_of_key a key) (number_of_key c key) (point key) i) (keys_of_two a c))
         ∙ ap (λ s. a.constant +ℚ c.constant +ℚ s) (sum_by_ℚ-+ℚ (term a) (term c) (keys_of_two a c))
@@ -152,7 +152,7 @@ module _ (point : Key → Number) where
         ∙ ap (λ x. x -ℚ (c.constant +ℚ sum_by_ℚ (term c) (keys_of_two a c))) (sym left-at)
         ∙ ap (λ y. form_at point a -ℚ y) (sym right-at)
 
-    pub sum_of-at : (limit : ℕ) (at : Place) (b : Pairs) (subtracts : Bool) (f : Form) → sum_of limit at b subtracts a c ≡ Ok f → form_at point f ≡ (if subtracts then form_at point a -ℚ form_at point c else form_at point a +ℚ form_at point c)
+    pub sum_of-at : (limit : ℕ) (at : Place) (b : Pairs) (subtracts : Bool) (f : Form) → sum_of_forms limit at b subtracts a c ≡ Ok f → form_at point f ≡ (if subtracts then form_at point a -ℚ form_at point c else form_at point a +ℚ form_at point c)
     sum_of-at limit at b false f e = sum-at limit f (fitted at b _ _ _ f e)
     sum_of-at limit at b true f e = difference-at limit f (fitted at b _ _ _ f e)
 
@@ -164,9 +164,9 @@ module _ (point : Key → Number) where
   spread : (x y s : Number) → x *ℚ y +ℚ s *ℚ y ≡ (x +ℚ s) *ℚ y
   spread x y s = simp ring_ℚ
 
-  pub product-at : (limit : ℕ) (a f : Form) (x : Number) → entries_by (product_step limit) a x ≡ Ok f → form_at point f ≡ form_at point a *ℚ x
+  pub product-at : (limit : ℕ) (a f : Form) (x : Number) → entries_by (product_form_step limit) a x ≡ Ok f → form_at point f ≡ form_at point a *ℚ x
   product-at limit a f x e =
-      stepped (product_step limit a.constant x) (λ key. product_step limit (number_of_key a key) x) (finite.keys a.numbers) f (keys-ordered a.numbers)
+      stepped (product_form_step limit a.constant x) (λ key. product_form_step limit (number_of_key a key) x) (finite.keys a.numbers) f (keys-ordered a.numbers)
       (λ q none. ap (λ y. y *ℚ x) (outside-one a q none) ∙ zero-*ℚ x) e
       ∙ (λ i. a.constant *ℚ x +ℚ sum_by_ℚ (λ key. turned (number_of_key a key) x (point key) i) (finite.keys a.numbers))
       ∙ ap (λ s. a.constant *ℚ x +ℚ s) (sum_by_ℚ-*ℚ_right x (term a) (finite.keys a.numbers))
@@ -193,13 +193,13 @@ module _ (point : Key → Number) where
       by [] e = ap (λ s. form.constant +ℚ s) (sum_by_ℚ-nil (term form)) ∙ +ℚ-zero form.constant
       by (k ∷ keys) e = absurd (let none = eqb-true (length (k ∷ keys)) 0 e in omega arith)
 
-  pub scaled-at : (limit : ℕ) (at : Place) (b : Pairs) (a f : Form) (x : Number) → scaled limit at b false a x ≡ Ok f → form_at point f ≡ form_at point a *ℚ x
+  pub scaled-at : (limit : ℕ) (at : Place) (b : Pairs) (a f : Form) (x : Number) → scaled_form limit at b false a x ≡ Ok f → form_at point f ≡ form_at point a *ℚ x
   scaled-at limit at b a f x e = product-at limit a f x (fitted at b _ _ _ f e)
 
-  pub product_of-at : (limit : ℕ) (at : Place) (b : Pairs) (a c f : Form) → (is_number a || is_number c) ≡ true → product_of limit at b a c ≡ Ok f → form_at point f ≡ form_at point a *ℚ form_at point c
+  pub product_of-at : (limit : ℕ) (at : Place) (b : Pairs) (a c f : Form) → (is_number a || is_number c) ≡ true → product_of_forms limit at b a c ≡ Ok f → form_at point f ≡ form_at point a *ℚ form_at point c
   product_of-at limit at b a c f one e = by (is_number c) refl e
     where
-      by : (so : Bool) → is_number c ≡ so → (if so then scaled limit at b false a c.constant else multiple limit at b a.constant c) ≡ Ok f → form_at point f ≡ form_at point a *ℚ form_at point c
+      by : (so : Bool) → is_number c ≡ so → (if so then scaled_form limit at b false a c.constant else multiple limit at b a.constant c) ≡ Ok f → form_at point f ≡ form_at point a *ℚ form_at point c
       by true so e = product-at limit a f c.constant (fitted at b _ _ _ f e) ∙ ap (λ y. form_at point a *ℚ y) (sym (number-at c so))
       by false so e =
           let left : is_number a ≡ true = other (is_number a) (is_number c) so one in
@@ -212,6 +212,6 @@ module _ (point : Key → Number) where
   pub quotient_of-at : (limit : ℕ) (at : Place) (b : Pairs) (a f : Form) (x : Number) → quotient_of limit at b a x ≡ Ok f → form_at point f ≡ form_at point a /ℚ x
   quotient_of-at limit at b a f x e = by (is_not_zero x) e
     where
-      by : (so : Bool) → (if so then scaled limit at b true a x else Err (faulted Divide at b (extended.number a.constant) (extended.number x))) ≡ Ok f → form_at point f ≡ form_at point a /ℚ x
+      by : (so : Bool) → (if so then scaled_form limit at b true a x else Err (faulted Divide at b (extended.number a.constant) (extended.number x))) ≡ Ok f → form_at point f ≡ form_at point a /ℚ x
       by true e = quotient-at limit a f x (fitted at b _ _ _ f e)
       by false e = absurd (cc)

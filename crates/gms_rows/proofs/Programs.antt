@@ -17,14 +17,14 @@ use Rattle.lp_form.specs.Keys.{key_cmp, same_key, AreOrdered}
 use Rattle.lp_form.specs.Affine.{IsForm}
 use Rattle.lp_form.proofs.KeyOrder.{key_cmp-total, same_key_refl}
 use Rattle.lp_core.specs.Numbers.{column_numbers, row_numbers, lp_numbers}
-use Rattle.lp_core.specs.WellFormed.{IsWellFormed, AreEntries, rows_of_sense, rows_of_bounds, variables_of_bounds, standard_rows, standard_columns}
+use Rattle.lp_core.specs.WellFormed.{IsWellFormed, AreRowEntries, rows_of_sense, rows_of_bounds, variables_of_bounds, standard_rows, standard_columns}
 use Rattle.lp_core.specs.declared.program.Column.{Column}
 use Rattle.lp_core.specs.declared.program.Row.{Row}
 use Rattle.lp_core.specs.declared.program.Lp.{Lp}
 use Rattle.lp_core.proofs.Points.{AllPairs-first, AllPairs-rest}
 use Rattle.gms_rows.specs.declared.form_row.FormRow.{FormRow as OwnRow}
 use Rattle.gms_rows.specs.Rows.{FormRow}
-use Rattle.gms_rows.specs.ProgramLp.{column_keys, column_of, place_of, placed, program_of}
+use Rattle.gms_rows.specs.ProgramLp.{column_keys, column_of, place_of_key, placed, program_of}
 use Rattle.gms_rows.specs.InnerWalks.{is_among, form_row_in}
 use Rattle.gms_rows.proofs.KeyLists.{keys-ordered}
 use Rattle.gms_rows.proofs.ColumnKeys.{among-ordered, keys-rows}
@@ -145,13 +145,13 @@ module _ {F : Type 0} (v : F → Number) (state : State) (rows : List (OwnRow F)
     pub keys-few : sum_by (λ (column : Column F). variables_of_bounds column.lower column.upper) columns ≤ 3000 → length keys < 4294967296
     keys-few few = omega (arith, few, columns-counted v columns, same_length)
 
-    module _ (lp : Lp F) (its-columns : lp.columns ≡ columns) (its-rows : map (row_numbers v) lp.rows ≡ map (placed keys) (map (form_row_in v) rows)) (its-objective : lp.objective ≡ place_of keys objective) (its-maximize : lp.maximize ≡ maximize) where
+    module _ (lp : Lp F) (its-columns : lp.columns ≡ columns) (its-rows : map (row_numbers v) lp.rows ≡ map (placed keys) (map (form_row_in v) rows)) (its-objective : lp.objective ≡ place_of_key keys objective) (its-maximize : lp.maximize ≡ maximize) where
       -- the view of a program made of these parts
       pub program-shown : the_program ≡ lp_numbers v lp
       program-shown =
           let cs = ap (map (column_numbers v)) its-columns ∙ shown ∙ ap (map (column_of state)) is in
           let rs = its-rows ∙ ap (λ ks. map (placed ks) (map (form_row_in v) rows)) is in
-          let o = its-objective ∙ ap (λ ks. place_of ks objective) is in
+          let o = its-objective ∙ ap (λ ks. place_of_key ks objective) is in
           sym (λ i. record { columns = cs i; rows = rs i; objective = o i; maximize = its-maximize i })
 
       column-keys : map (λ (column : Column F). column.key) lp.columns ≡ keys
@@ -182,13 +182,13 @@ module _ {F : Type 0} (v : F → Number) (state : State) (rows : List (OwnRow F)
       few-as f xs ys n a b limit same e g few = let h = ap (sum_by f) same in omega (arith, e, g, h, few)
 
       -- and it is well formed
-      pub program-formed : AllPairs (λ a b. a.key ≢ b.key) rows → All (λ (row : Row F). AreEntries v (length keys) row.entries) lp.rows → sum_by (λ (row : OwnRow F). rows_of_sense row.sense) rows + sum_by (λ (column : Column F). rows_of_bounds column.lower column.upper) columns ≤ 1500 → sum_by (λ (column : Column F). variables_of_bounds column.lower column.upper) columns ≤ 3000 → IsWellFormed v lp
+      pub program-formed : AllPairs (λ a b. a.key ≢ b.key) rows → All (λ (row : Row F). AreRowEntries v (length keys) row.entries) lp.rows → sum_by (λ (row : OwnRow F). rows_of_sense row.sense) rows + sum_by (λ (column : Column F). rows_of_bounds column.lower column.upper) columns ≤ 1500 → sum_by (λ (column : Column F). variables_of_bounds column.lower column.upper) columns ≤ 3000 → IsWellFormed v lp
       program-formed differ entries few_rows few_columns =
           record {
             objective = omega (arith, its-objective, place-within keys keys-up objective objective-there, long);
             columns_differ = pairs-of_map (λ (column : Column F). column.key) (λ a b. a ≢ b) lp.columns (subst (AllPairs (λ a b. a ≢ b)) (sym column-keys) (keys-differ keys keys-up));
             rows_differ = pairs-of_map (λ (row : Row F). row.key) (λ a b. a ≢ b) lp.rows (subst (AllPairs (λ a b. a ≢ b)) (sym row-names) (pairs-map (λ (row : OwnRow F). row.key) (λ a b. a ≢ b) rows differ));
-            entries = subst (λ n. All (λ (row : Row F). AreEntries v n row.entries) lp.rows) (sym long) entries;
+            entries = subst (λ n. All (λ (row : Row F). AreRowEntries v n row.entries) lp.rows) (sym long) entries;
             rows_few = few-as (λ (column : Column F). rows_of_bounds column.lower column.upper) lp.columns columns _ _ _ 1500 its-columns senses refl few_rows;
             columns_few = subst (λ those. sum_by (λ (column : Column F). variables_of_bounds column.lower column.upper) those ≤ 3000) (sym its-columns) few_columns;
           }

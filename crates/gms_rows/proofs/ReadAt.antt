@@ -18,7 +18,7 @@ use Rattle.gms_ast.specs.declared.expression.FoldOp.TheVariants.{Sum}
 use Rattle.gms_ast.specs.Trees.{Mark, signed, plain}
 use Rattle.gms_ast.specs.Trees as tree
 use Rattle.gms_store.specs.State.{State}
-use Rattle.gms_eval.specs.Nodes.{Marked, Step, unmarked, chain, sum_step, product_step, in_order, each_holds}
+use Rattle.gms_eval.specs.Nodes.{Marked, ValueStep, unmarked, chain, sum_step, product_step, in_order, each_holds}
 use Rattle.gms_eval.specs.Nodes as nodes
 use Rattle.gms_eval.specs.Bindings.{Pairs, controlled}
 use Rattle.gms_eval.specs.Faults.{Answer, nothing, faulted, taken, ◌and_then◌}
@@ -28,10 +28,10 @@ use Rattle.gms_eval.specs.declared.stop.StopKind.TheVariants.{Divide, EmptyExtre
 use Rattle.lp_form.specs.declared.key.Key.{Key}
 use Rattle.lp_form.specs.Keys.{key_cmp}
 use Rattle.lp_form.proofs.KeyOrder.{key_cmp-total, same_key_refl}
-use Rattle.gms_rows.specs.Affine.{has_variables, some_has_variables, in_front, form_of, place_of, is_inverse, Join, joined, front, chained, plus, times, element_form, constant_at, linear, forms, affine}
-use Rattle.gms_rows.specs.Forms.{Form, constant_form, zero_form, column_form, number_of_key, is_number, is_not_zero, sum_of, scaled, product_of, quotient_of}
+use Rattle.gms_rows.specs.Affine.{has_variables, some_has_variables, in_front, form_of, part_place, is_inverse, Join, joined_forms, front, chained, plus, times, element_form, form_of_constant, linear, forms, affine}
+use Rattle.gms_rows.specs.Forms.{Form, constant_form, zero_form, column_form, number_of_key, is_number, is_not_zero, sum_of_forms, scaled_form, product_of_forms, quotient_of}
 use Rattle.gms_rows.specs.Points.{form_at}
-use Rattle.gms_rows.specs.PointValues.{exact_sum_step, exact_product_step, exact_fold_step, exact_quotient, element_at, read_at, values_at, value_at, is_signed, is_sum, are_later_factors, are_factors, is_linear, are_linear}
+use Rattle.gms_rows.specs.PointValues.{exact_sum_step, exact_product_step, exact_fold_step, exact_quotient, element_at, read_at, values_at, value_at, is_signed, is_sum_fold, are_later_factors, are_factors, is_linear, are_linear}
 use Rattle.gms_rows.proofs.ColumnKeys.{no_entries}
 use Rattle.gms_rows.proofs.Domains.{given, only_value}
 use Rattle.gms_rows.proofs.Entries.{not_zero-zero}
@@ -79,7 +79,7 @@ module _ (point : Key → Number) where
   -- ---- steps
 
   module _ (limit : ℕ) (b : Pairs) where
-    sum-shown : (at : Place) (subtracts : Bool) (left right next : Form) → sum_of limit at b subtracts left right ≡ Ok next → exact_sum_step b (signed at subtracts) (shown left) (Ok (shown right)) ≡ Ok (shown next)
+    sum-shown : (at : Place) (subtracts : Bool) (left right next : Form) → sum_of_forms limit at b subtracts left right ≡ Ok next → exact_sum_step b (signed at subtracts) (shown left) (Ok (shown right)) ≡ Ok (shown next)
     sum-shown at true left right next e =
         ap {B = Answer Extended} (λ x. Ok (number x)) (sym (sum_of-at point left right limit at b true next e))
     sum-shown at false left right next e =
@@ -89,7 +89,7 @@ module _ (point : Key → Number) where
     over-some : (at : Place) (left next : Form) (x : Number) → quotient_of limit at b left x ≡ Ok next → is_zero x ≡ false
     over-some at left next x e = by (is_not_zero x) refl (is_zero x) refl e
       where
-        by : (so : Bool) → is_not_zero x ≡ so → (none : Bool) → is_zero x ≡ none → (if so then scaled limit at b true left x else Err (faulted Divide at b (number left.constant) (number x))) ≡ Ok next → none ≡ false
+        by : (so : Bool) → is_not_zero x ≡ so → (none : Bool) → is_zero x ≡ none → (if so then scaled_form limit at b true left x else Err (faulted Divide at b (number left.constant) (number x))) ≡ Ok next → none ≡ false
         by so some false none e = refl
         by true some true none e =
             absurd (both_ways (is_not_zero x) (ap is_not_zero (zero_tested x none) ∙ not_zero-zero) some)
@@ -102,7 +102,7 @@ module _ (point : Key → Number) where
         ∙ ap (λ (none : Bool). taken at b (shown left) (number right.constant) (if none then Err step.Divide else Ok (number (form_at point left /ℚ right.constant)))) (over-some at left next right.constant e)
         ∙ ap {B = Answer Extended} (λ x. Ok (number x)) (sym (quotient_of-at point limit at b left next right.constant e))
 
-    product-shown : (at : Place) (left right next : Form) → (is_number left || is_number right) ≡ true → product_of limit at b left right ≡ Ok next → exact_product_step b (signed at false) (shown left) (Ok (shown right)) ≡ Ok (shown next)
+    product-shown : (at : Place) (left right next : Form) → (is_number left || is_number right) ≡ true → product_of_forms limit at b left right ≡ Ok next → exact_product_step b (signed at false) (shown left) (Ok (shown right)) ≡ Ok (shown next)
     product-shown at left right next one e =
         ap {B = Answer Extended} (λ x. Ok (number x)) (sym (product_of-at point limit at b left right next one e))
 
@@ -193,7 +193,7 @@ module _ {F : Type 0} (v : F → Number) (limit : ℕ) (state : State) (point : 
   number-known at b x f e = absurd (cc)
 
   -- what has no variables
-  constant-known : (at : Place) (b : Pairs) (e : tree.Tree F) (f : Form) → constant_at v limit state at b e ≡ Ok f → (value v limit state b e ≡ Ok (shown point f)) × (is_number f ≡ true)
+  constant-known : (at : Place) (b : Pairs) (e : tree.Tree F) (f : Form) → form_of_constant v limit state at b e ≡ Ok f → (value v limit state b e ≡ Ok (shown point f)) × (is_number f ≡ true)
   constant-known at b e f is =
       let g = given (value v limit state b e) (form_of at b) f is in
       let k = number-known at b g.value f g.next_is in (
@@ -203,12 +203,12 @@ module _ {F : Type 0} (v : F → Number) (limit : ℕ) (state : State) (point : 
 
   -- the form of an expression, and its value
   abbrev form_answer : Place → Pairs → tree.Tree F → Answer Form
-  form_answer at b e = if has_variables state e then linear v limit state at b e else constant_at v limit state at b e
+  form_answer at b e = if has_variables state e then linear v limit state at b e else form_of_constant v limit state at b e
 
   known : (at : Place) (b : Pairs) (e : tree.Tree F) (f : Form) → (has_variables state e ≡ true → Holds b e) → form_answer at b e ≡ Ok f → (value_at v limit state point b e ≡ Ok (shown point f)) × (has_variables state e ≡ false → is_number f ≡ true)
   known at b e f holds is = by (has_variables state e) refl is
     where
-      by : (h : Bool) → has_variables state e ≡ h → (if h then linear v limit state at b e else constant_at v limit state at b e) ≡ Ok f → ((if h then read_at v limit state point b e else value v limit state b e) ≡ Ok (shown point f)) × (h ≡ false → is_number f ≡ true)
+      by : (h : Bool) → has_variables state e ≡ h → (if h then linear v limit state at b e else form_of_constant v limit state at b e) ≡ Ok f → ((if h then read_at v limit state point b e else value v limit state b e) ≡ Ok (shown point f)) × (h ≡ false → is_number f ≡ true)
       by true has is = (holds has at f is, λ none. absurd (cc))
       by false has is = let c = constant-known at b e f is in (c.0, λ none. c.1)
 
@@ -232,31 +232,31 @@ module _ {F : Type 0} (v : F → Number) (limit : ℕ) (state : State) (point : 
       by : (h : Bool) → has_variables state e ≡ h → drop (in_front state rest) (forms v limit state b rest) ≡ forms v limit state b (behind state rest) → drop (if h then 0 else in_front state rest + 1) (forms v limit state b (tree.part mark e rest)) ≡ forms v limit state b (if h then tree.part mark e rest else behind state rest)
       by true is next = refl
       by false is next =
-          drop-first (in_front state rest) (mark, form_answer (place_of mark) b e) (forms v limit state b rest) ∙ next
+          drop-first (in_front state rest) (mark, form_answer (part_place mark) b e) (forms v limit state b rest) ∙ next
 
   -- a sum or a product, where the parts from the first with variables on are right
-  module _ (b : Pairs) (limited exact : Step) (join : Join) (is : (mark : Mark) (x : Extended) (a : Answer Extended) (z : Extended) → limited mark x a ≡ Ok z → exact mark x a ≡ Ok z) where
+  module _ (b : Pairs) (limited exact : ValueStep) (join : Join) (is : (mark : Mark) (x : Extended) (a : Answer Extended) (z : Extended) → limited mark x a ≡ Ok z → exact mark x a ≡ Ok z) where
     -- what is to be shown of these parts after a number, or after none
     abbrev Starts : Option Number → tree.Parts F → Form → Type 0
     Starts x parts f =
-        joined join (option_map constant_form x) (forms v limit state b parts) ≡ Ok f → nodes.joined exact (Ok nothing) (option_map number x) (values_at v limit state point b parts) ≡ Ok (shown point f)
+        joined_forms join (option_map constant_form x) (forms v limit state b parts) ≡ Ok f → nodes.joined exact (Ok nothing) (option_map number x) (values_at v limit state point b parts) ≡ Ok (shown point f)
 
-    from_front : (parts : tree.Parts F) (f : Form) → ((x : Option Number) → Starts x parts f) → (xs : Marked) → (front b limited xs and_then λ so_far. joined join so_far (forms v limit state b parts)) ≡ Ok f → chain exact (xs ++ values_at v limit state point b parts) ≡ Ok (shown point f)
+    from_front : (parts : tree.Parts F) (f : Form) → ((x : Option Number) → Starts x parts f) → (xs : Marked) → (front b limited xs and_then λ so_far. joined_forms join so_far (forms v limit state b parts)) ≡ Ok f → chain exact (xs ++ values_at v limit state point b parts) ≡ Ok (shown point f)
     from_front parts f starts [] e = starts None e
     from_front parts f starts (p ∷ xs) e =
-        let one = given (front b limited (p ∷ xs)) (λ so_far. joined join so_far (forms v limit state b parts)) f e in
-        let two = given (chain limited (p ∷ xs)) (λ x. form_of (place_of p.0) b x and_then λ form. Ok (Some form)) one.value one.is in
-        let three = given (form_of (place_of p.0) b two.value) (λ form. Ok (Some form)) one.value two.next_is in
-        let k = number-known (place_of p.0) b two.value three.value three.is in
+        let one = given (front b limited (p ∷ xs)) (λ so_far. joined_forms join so_far (forms v limit state b parts)) f e in
+        let two = given (chain limited (p ∷ xs)) (λ x. form_of (part_place p.0) b x and_then λ form. Ok (Some form)) one.value one.is in
+        let three = given (form_of (part_place p.0) b two.value) (λ form. Ok (Some form)) one.value two.next_is in
+        let k = number-known (part_place p.0) b two.value three.value three.is in
         let so_far : one.value ≡ Some (constant_form k.0) = sym (only_value (Some three.value) one.value three.next_is) ∙ ap Some k.2 in
         chain-behind limited exact is p xs (values_at v limit state point b parts) two.value two.is
         ∙ ap (λ x. nodes.joined exact (Ok nothing) (Some x) (values_at v limit state point b parts)) k.1
-        ∙ starts (Some k.0) (ap (λ o. joined join o (forms v limit state b parts)) (sym so_far) ∙ one.next_is)
+        ∙ starts (Some k.0) (ap (λ o. joined_forms join o (forms v limit state b parts)) (sym so_far) ∙ one.next_is)
 
     -- first the parts before the first with variables, and then the others
-    split-forms : (parts : tree.Parts F) (f : Form) → chained b limited join (in_front state parts) (values v limit state b parts) (forms v limit state b parts) ≡ Ok f → (front b limited (take (in_front state parts) (values v limit state b parts)) and_then λ so_far. joined join so_far (forms v limit state b (behind state parts))) ≡ Ok f
+    split-forms : (parts : tree.Parts F) (f : Form) → chained b limited join (in_front state parts) (values v limit state b parts) (forms v limit state b parts) ≡ Ok f → (front b limited (take (in_front state parts) (values v limit state b parts)) and_then λ so_far. joined_forms join so_far (forms v limit state b (behind state parts))) ≡ Ok f
     split-forms parts f e =
-        ap (λ those. front b limited (take (in_front state parts) (values v limit state b parts)) and_then λ so_far. joined join so_far those) (sym (forms-split b parts)) ∙ e
+        ap (λ those. front b limited (take (in_front state parts) (values v limit state b parts)) and_then λ so_far. joined_forms join so_far those) (sym (forms-split b parts)) ∙ e
 
     chained-at : (parts : tree.Parts F) (f : Form) → ((x : Option Number) → Starts x (behind state parts) f) → chained b limited join (in_front state parts) (values v limit state b parts) (forms v limit state b parts) ≡ Ok f → chain exact (values_at v limit state point b parts) ≡ Ok (shown point f)
     chained-at parts f starts e =
@@ -267,7 +267,7 @@ module _ {F : Type 0} (v : F → Number) (limit : ℕ) (state : State) (point : 
     chained-none : (parts : tree.Parts F) (f : Form) → in_front state parts ≡ 0 → Starts None (behind state parts) f → chained b limited join (in_front state parts) (values v limit state b parts) (forms v limit state b parts) ≡ Ok f → chain exact (values_at v limit state point b parts) ≡ Ok (shown point f)
     chained-none parts f none start e =
         ap (chain exact) (values-split b parts ∙ ap (λ n. take n (values v limit state b parts) ++ values_at v limit state point b (behind state parts)) none)
-        ∙ start (sym (ap (λ n. front b limited (take n (values v limit state b parts)) and_then λ so_far. joined join so_far (forms v limit state b (behind state parts))) none) ∙ split-forms parts f e)
+        ∙ start (sym (ap (λ n. front b limited (take n (values v limit state b parts)) and_then λ so_far. joined_forms join so_far (forms v limit state b (behind state parts))) none) ∙ split-forms parts f e)
 
   -- ---- sums
 
@@ -275,11 +275,11 @@ module _ {F : Type 0} (v : F → Number) (limit : ℕ) (state : State) (point : 
     abbrev summed : Option Extended → Marked → Answer Extended
     summed o parts = nodes.joined (exact_sum_step b) (Ok nothing) o parts
 
-    sum-behind : (parts : tree.Parts F) (left f : Form) → Hold b parts → are_linear state parts ≡ true → joined (plus limit b) (Some left) (forms v limit state b parts) ≡ Ok f → summed (Some (shown point left)) (values_at v limit state point b parts) ≡ Ok (shown point f)
+    sum-behind : (parts : tree.Parts F) (left f : Form) → Hold b parts → are_linear state parts ≡ true → joined_forms (plus limit b) (Some left) (forms v limit state b parts) ≡ Ok f → summed (Some (shown point left)) (values_at v limit state point b parts) ≡ Ok (shown point f)
     sum-behind tree.no_part left f hold so e = ap {B = Answer Extended} (λ g. Ok (shown point g)) (only_value left f e)
     sum-behind (tree.part (signed at inverse) t rest) left f hold so e =
-        let one = given (form_answer at b t) (λ form. plus limit b (signed at inverse) left form and_then λ next. joined (plus limit b) (Some next) (forms v limit state b rest)) f e in
-        let two = given (plus limit b (signed at inverse) left one.value) (λ next. joined (plus limit b) (Some next) (forms v limit state b rest)) f one.next_is in
+        let one = given (form_answer at b t) (λ form. plus limit b (signed at inverse) left form and_then λ next. joined_forms (plus limit b) (Some next) (forms v limit state b rest)) f e in
+        let two = given (plus limit b (signed at inverse) left one.value) (λ next. joined_forms (plus limit b) (Some next) (forms v limit state b rest)) f one.next_is in
         let k = known at b t one.value hold.0 one.is in
         ap (λ a. exact_sum_step b (signed at inverse) (shown point left) a and_then λ y. summed (Some y) (values_at v limit state point b rest)) k.0
         ∙ ap (λ a. a and_then λ y. summed (Some y) (values_at v limit state point b rest)) (sum-shown point limit b at inverse left one.value two.value two.is)
@@ -292,8 +292,8 @@ module _ {F : Type 0} (v : F → Number) (limit : ℕ) (state : State) (point : 
     sum-starts tree.no_part f hold so None e =
         ap {B = Answer Extended} Ok (ap number (sym (constant-at point (whole (pos 0)))) ∙ ap (shown point) (only_value zero_form f e))
     sum-starts (tree.part mark t rest) f hold so None e =
-        let one = given (form_answer (place_of mark) b t) (λ form. joined (plus limit b) (Some form) (forms v limit state b rest)) f e in
-        let k = known (place_of mark) b t one.value hold.0 one.is in
+        let one = given (form_answer (part_place mark) b t) (λ form. joined_forms (plus limit b) (Some form) (forms v limit state b rest)) f e in
+        let k = known (part_place mark) b t one.value hold.0 one.is in
         let later = both_hold (is_linear state t) (are_linear state rest) (both_hold (is_signed mark) (is_linear state t && are_linear state rest) so).1 in
         ap (λ a. a and_then λ y. summed (Some y) (values_at v limit state point b rest)) k.0
         ∙ sum-behind rest one.value f hold.1 later.1 one.next_is
@@ -308,12 +308,12 @@ module _ {F : Type 0} (v : F → Number) (limit : ℕ) (state : State) (point : 
     or_neither false c e = (refl, e)
 
     -- factors without variables
-    product-behind : (parts : tree.Parts F) (left f : Form) → some_has_variables state parts ≡ false → are_linear state parts ≡ true → joined (times limit b) (Some left) (forms v limit state b parts) ≡ Ok f → multiplied (Some (shown point left)) (values_at v limit state point b parts) ≡ Ok (shown point f)
+    product-behind : (parts : tree.Parts F) (left f : Form) → some_has_variables state parts ≡ false → are_linear state parts ≡ true → joined_forms (times limit b) (Some left) (forms v limit state b parts) ≡ Ok f → multiplied (Some (shown point left)) (values_at v limit state point b parts) ≡ Ok (shown point f)
     product-behind tree.no_part left f none so e = ap {B = Answer Extended} (λ g. Ok (shown point g)) (only_value left f e)
     product-behind (tree.part (signed at inverse) t rest) left f none so e =
         let neither = or_neither (has_variables state t) (some_has_variables state rest) none in
-        let one = given (form_answer at b t) (λ form. times limit b (signed at inverse) left form and_then λ next. joined (times limit b) (Some next) (forms v limit state b rest)) f e in
-        let two = given (times limit b (signed at inverse) left one.value) (λ next. joined (times limit b) (Some next) (forms v limit state b rest)) f one.next_is in
+        let one = given (form_answer at b t) (λ form. times limit b (signed at inverse) left form and_then λ next. joined_forms (times limit b) (Some next) (forms v limit state b rest)) f e in
+        let two = given (times limit b (signed at inverse) left one.value) (λ next. joined_forms (times limit b) (Some next) (forms v limit state b rest)) f one.next_is in
         let k = known at b t one.value (λ has. absurd (both_ways (has_variables state t) neither.0 has)) one.is in
         ap (λ a. exact_product_step b (signed at inverse) (shown point left) a and_then λ y. multiplied (Some y) (values_at v limit state point b rest)) k.0
         ∙ ap (λ a. a and_then λ y. multiplied (Some y) (values_at v limit state point b rest)) (factor-shown point limit b at inverse left one.value two.value (k.1 neither.0) two.is)
@@ -334,8 +334,8 @@ module _ {F : Type 0} (v : F → Number) (limit : ℕ) (state : State) (point : 
     product-first tree.no_part f hold so single e =
         ap {B = Answer Extended} Ok (ap number (sym (constant-at point (whole (pos 0)))) ∙ ap (shown point) (only_value zero_form f e))
     product-first (tree.part mark t rest) f hold so single e =
-        let one = given (form_answer (place_of mark) b t) (λ form. joined (times limit b) (Some form) (forms v limit state b rest)) f e in
-        let k = known (place_of mark) b t one.value hold.0 one.is in
+        let one = given (form_answer (part_place mark) b t) (λ form. joined_forms (times limit b) (Some form) (forms v limit state b rest)) f e in
+        let k = known (part_place mark) b t one.value hold.0 one.is in
         let later = both_hold (is_linear state t) (are_linear state rest) (both_hold (is_signed mark) (is_linear state t && are_linear state rest) so).1 in
         ap (λ a. a and_then λ y. multiplied (Some y) (values_at v limit state point b rest)) k.0
         ∙ product-behind rest one.value f single later.1 one.next_is
@@ -345,8 +345,8 @@ module _ {F : Type 0} (v : F → Number) (limit : ℕ) (state : State) (point : 
     product-after tree.no_part f x hold so single upright e =
         ap {B = Answer Extended} Ok (ap number (sym (constant-at point x)) ∙ ap (shown point) (only_value (constant_form x) f e))
     product-after (tree.part (signed at inverse) t rest) f x hold so single upright e =
-        let one = given (form_answer at b t) (λ form. times limit b (signed at inverse) (constant_form x) form and_then λ next. joined (times limit b) (Some next) (forms v limit state b rest)) f e in
-        let two = given (times limit b (signed at inverse) (constant_form x) one.value) (λ next. joined (times limit b) (Some next) (forms v limit state b rest)) f one.next_is in
+        let one = given (form_answer at b t) (λ form. times limit b (signed at inverse) (constant_form x) form and_then λ next. joined_forms (times limit b) (Some next) (forms v limit state b rest)) f e in
+        let two = given (times limit b (signed at inverse) (constant_form x) one.value) (λ next. joined_forms (times limit b) (Some next) (forms v limit state b rest)) f one.next_is in
         let k = known at b t one.value hold.0 one.is in
         ap (λ y. multiplied (Some (number y)) (values_at v limit state point b (tree.part (signed at inverse) t rest))) (sym (constant-at point x))
         ∙ ap (λ a. exact_product_step b (signed at inverse) (shown point (constant_form x)) a and_then λ y. multiplied (Some y) (values_at v limit state point b rest)) k.0
@@ -383,11 +383,11 @@ module _ {F : Type 0} (v : F → Number) (limit : ℕ) (state : State) (point : 
     abbrev body_forms : List (List ℕ) → List (Mark × Answer Form)
     body_forms elements = map (λ element. (signed at false, linear v limit state at (controlled b sets element) body)) elements
 
-    total-at : (elements : List (List ℕ)) (left f : Form) → joined (plus limit b) (Some left) (body_forms elements) ≡ Ok f → nodes.joined (exact_fold_step b Sum at) empty (Some (shown point left)) (bodies elements) ≡ Ok (shown point f)
+    total-at : (elements : List (List ℕ)) (left f : Form) → joined_forms (plus limit b) (Some left) (body_forms elements) ≡ Ok f → nodes.joined (exact_fold_step b Sum at) empty (Some (shown point left)) (bodies elements) ≡ Ok (shown point f)
     total-at [] left f e = ap {B = Answer Extended} (λ g. Ok (shown point g)) (only_value left f e)
     total-at (element ∷ elements) left f e =
-        let one = given (linear v limit state at (controlled b sets element) body) (λ form. plus limit b (signed at false) left form and_then λ next. joined (plus limit b) (Some next) (body_forms elements)) f e in
-        let two = given (plus limit b (signed at false) left one.value) (λ next. joined (plus limit b) (Some next) (body_forms elements)) f one.next_is in
+        let one = given (linear v limit state at (controlled b sets element) body) (λ form. plus limit b (signed at false) left form and_then λ next. joined_forms (plus limit b) (Some next) (body_forms elements)) f e in
+        let two = given (plus limit b (signed at false) left one.value) (λ next. joined_forms (plus limit b) (Some next) (body_forms elements)) f one.next_is in
         ap (λ a. exact_fold_step b Sum at plain (shown point left) a and_then λ y. nodes.joined (exact_fold_step b Sum at) empty (Some y) (bodies elements)) (holds element at one.value one.is)
         ∙ ap (λ a. a and_then λ y. nodes.joined (exact_fold_step b Sum at) empty (Some y) (bodies elements)) (sum-shown point limit b at false left one.value two.value two.is)
         ∙ total-at elements two.value f two.next_is
@@ -411,9 +411,9 @@ module _ {F : Type 0} (v : F → Number) (limit : ℕ) (state : State) (point : 
       ap (λ a. a and_then λ those. Ok (element_at point name (tuple_of those))) one.is
       ∙ ap {B = Answer Extended} Ok (element-shown point name (tuple_of one.value) ∙ ap (shown point) (only_value (element_form name (tuple_of one.value)) f one.next_is))
 
-  negated-at : (b : Pairs) (at : Place) (operand : tree.Tree F) (f : Form) → Holds b operand → (linear v limit state at b operand and_then λ form. scaled limit at b false form (neg_ℚ (whole (pos 1)))) ≡ Ok f → (read_at v limit state point b operand and_then λ x. Ok (negated x)) ≡ Ok (shown point f)
+  negated-at : (b : Pairs) (at : Place) (operand : tree.Tree F) (f : Form) → Holds b operand → (linear v limit state at b operand and_then λ form. scaled_form limit at b false form (neg_ℚ (whole (pos 1)))) ≡ Ok f → (read_at v limit state point b operand and_then λ x. Ok (negated x)) ≡ Ok (shown point f)
   negated-at b at operand f holds e =
-      let one = given (linear v limit state at b operand) (λ form. scaled limit at b false form (neg_ℚ (whole (pos 1)))) f e in
+      let one = given (linear v limit state at b operand) (λ form. scaled_form limit at b false form (neg_ℚ (whole (pos 1)))) f e in
       ap (λ a. a and_then λ x. Ok (negated x)) (holds at one.value one.is)
       ∙ ap {B = Answer Extended} Ok (negated-number (form_at point one.value) ∙ ap number (sym (scaled-at point limit at b one.value f (neg_ℚ (whole (pos 1))) one.next_is ∙ negative (form_at point one.value))))
 
@@ -427,9 +427,9 @@ module _ {F : Type 0} (v : F → Number) (limit : ℕ) (state : State) (point : 
       by false e =
           ap {B = Answer Extended} Ok (ap number (sym (constant-at point (whole (pos 0)))) ∙ ap (shown point) (only_value zero_form f e))
 
-  folded-at : (b : Pairs) (place : Place) (op : FoldOp) (control : tree.Control F) (body : tree.Tree F) → is_sum op ≡ true → ((element : List ℕ) → Holds (controlled b (sets_of control) element) body) → Holds b (tree.fold_over place op control body)
+  folded-at : (b : Pairs) (place : Place) (op : FoldOp) (control : tree.Control F) (body : tree.Tree F) → is_sum_fold op ≡ true → ((element : List ℕ) → Holds (controlled b (sets_of control) element) body) → Holds b (tree.fold_over place op control body)
   folded-at b place Sum control body so holds at f e =
-      let one = given (domain v limit state b place control) (λ elements. joined (plus limit b) (Some zero_form) (body_forms b place (sets_of control) body (Err (faulted EmptyExtreme place b nothing nothing)) holds elements)) f e in
+      let one = given (domain v limit state b place control) (λ elements. joined_forms (plus limit b) (Some zero_form) (body_forms b place (sets_of control) body (Err (faulted EmptyExtreme place b nothing nothing)) holds elements)) f e in
       ap (λ a. a and_then λ elements. nodes.joined (exact_fold_step b Sum place) (Err (faulted EmptyExtreme place b nothing nothing)) (Some (number (whole (pos 0)))) (bodies b place (sets_of control) body (Err (faulted EmptyExtreme place b nothing nothing)) holds elements)) one.is
       ∙ ap (λ x. nodes.joined (exact_fold_step b Sum place) (Err (faulted EmptyExtreme place b nothing nothing)) (Some (number x)) (bodies b place (sets_of control) body (Err (faulted EmptyExtreme place b nothing nothing)) holds one.value)) (sym (constant-at point (whole (pos 0))))
       ∙ total-at b place (sets_of control) body (Err (faulted EmptyExtreme place b nothing nothing)) holds one.value zero_form f one.next_is
@@ -440,7 +440,7 @@ module _ {F : Type 0} (v : F → Number) (limit : ℕ) (state : State) (point : 
     linear-at : (e : tree.Tree F) (b : Pairs) → has_variables state e ≡ true → is_linear state e ≡ true → Holds b e
     linear-at (tree.reference place name suffix indices) b has so at f e = reference-at b at place name indices f e
     linear-at (tree.fold_over place op control body) b has so at f e =
-        let two = both_hold (is_sum op) (is_linear state body) (if_has (has_variables state body) (is_sum op && is_linear state body) has so) in
+        let two = both_hold (is_sum_fold op) (is_linear state body) (if_has (has_variables state body) (is_sum_fold op && is_linear state body) has so) in
         folded-at b place op control body two.0 (λ element. linear-at body (controlled b (sets_of control) element) has two.1) at f e
     linear-at (tree.negated operand) b has so at f e = negated-at b at operand f (linear-at operand b has so) e
     linear-at (tree.sum parts) b has so at f e =

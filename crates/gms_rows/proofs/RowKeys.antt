@@ -19,9 +19,9 @@ use Rattle.gms_eval.specs.References.{all_there, tuple_of}
 use Rattle.gms_eval.specs.Value.{labels}
 use Rattle.lp_core.proofs.Points.{AllPairs-first, AllPairs-rest}
 use Rattle.lp_form.specs.declared.key.Key.{Key}
-use Rattle.gms_rows.specs.ElementRows.{sets_of, bound_to, tuple_at, AreInOrder}
+use Rattle.gms_rows.specs.ElementRows.{sets_of_definition, bound_to, tuple_at, AreInOrder}
 use Rattle.gms_rows.specs.Plain.{ArePlain}
-use Rattle.gms_rows.specs.Rows.{Definition, FormRow, each_once, sets_among, sense_of, those_there, row_form, rows_of}
+use Rattle.gms_rows.specs.Rows.{Definition, FormRow, each_once, sets_among, sense_of, present_rows, row_form, rows_of_definition}
 use Rattle.gms_rows.specs.InnerWalks.{HaveOrder}
 use Rattle.gms_rows.proofs.Domains.{given, only_value, All-each_once, plain-simple, domain-known}
 use Rattle.gms_rows.proofs.OneRow.{row_at}
@@ -135,9 +135,9 @@ module _ {F : Type 0} (v : F → Number) (limit : ℕ) (state : State) where
         tuple-labels (plain_labels (bound_to d element) d.indices) t (only_value _ _ (sym (ap (λ a. a and_then λ those. Ok (tuple_of those)) (plain-labels (bound_to d element) d.indices plain)) ∙ e))
 
     -- elements whose rows have the same tuple are the same
-    pub tuple-decides : (x y t : List ℕ) → length x ≡ length (sets_of d) → length y ≡ length (sets_of d) → tuple_at v limit state d x ≡ Ok (Some t) → tuple_at v limit state d y ≡ Ok (Some t) → x ≡ y
+    pub tuple-decides : (x y t : List ℕ) → length x ≡ length (sets_of_definition d) → length y ≡ length (sets_of_definition d) → tuple_at v limit state d x ≡ Ok (Some t) → tuple_at v limit state d y ≡ Ok (Some t) → x ≡ y
     tuple-decides x y t l m e f =
-        paired-same (sets_of d) x y (each_once-apart (sets_among d.indices)) l m
+        paired-same (sets_of_definition d) x y (each_once-apart (sets_among d.indices)) l m
         (All-each_once (λ set. label_of (bound_to d x) set ≡ label_of (bound_to d y) set) (sets_among d.indices) (labels-decide state (bound_to d x) (bound_to d y) d.indices plain (labels-at x t e ∙ sym (labels-at y t f))))
 
     -- What is known of the row of an element.
@@ -192,39 +192,39 @@ module _ {F : Type 0} (v : F → Number) (limit : ℕ) (state : State) where
         record { row = one.value; later = two.value; first = one.is; rest = two.is; is = sym (only_value _ _ two.next_is) }
 
     -- each row is that of an element of which something holds
-    pub rows-All : (P : List ℕ → Type 0) (xs : List (List ℕ)) (made : List (Option FormRow)) → All P xs → in_order (map (row_of v limit state d) xs) ≡ Ok made → All (λ row. (element : List ℕ) × P element × IsMade row element) (those_there made)
+    pub rows-All : (P : List ℕ → Type 0) (xs : List (List ℕ)) (made : List (Option FormRow)) → All P xs → in_order (map (row_of v limit state d) xs) ≡ Ok made → All (λ row. (element : List ℕ) × P element × IsMade row element) (present_rows made)
     rows-All P [] made all e =
-        subst (λ those. All (λ row. (element : List ℕ) × P element × IsMade row element) (those_there those)) (only_value _ _ e) (All-nil (λ (row : FormRow). (element : List ℕ) × P element × IsMade row element))
+        subst (λ those. All (λ row. (element : List ℕ) × P element × IsMade row element) (present_rows those)) (only_value _ _ e) (All-nil (λ (row : FormRow). (element : List ℕ) × P element × IsMade row element))
     rows-All P (x ∷ xs) made all e =
         let parts = rows-parts x xs made e in
         let rest = rows-All P xs parts.later (All-tail P x xs all) parts.rest in
-        subst (λ those. All (λ row. (element : List ℕ) × P element × IsMade row element) (those_there those)) (sym parts.is) (by parts.row parts.later parts.first rest)
+        subst (λ those. All (λ row. (element : List ℕ) × P element × IsMade row element) (present_rows those)) (sym parts.is) (by parts.row parts.later parts.first rest)
       where
-        by : (row : Option FormRow) (later : List (Option FormRow)) → row_of v limit state d x ≡ Ok row → All (λ row. (element : List ℕ) × P element × IsMade row element) (those_there later) → All (λ row. (element : List ℕ) × P element × IsMade row element) (those_there (row ∷ later))
+        by : (row : Option FormRow) (later : List (Option FormRow)) → row_of v limit state d x ≡ Ok row → All (λ row. (element : List ℕ) × P element × IsMade row element) (present_rows later) → All (λ row. (element : List ℕ) × P element × IsMade row element) (present_rows (row ∷ later))
         by None later is rest = rest
         by (Some row) later is rest =
-            All-cons (λ (row : FormRow). (element : List ℕ) × P element × IsMade row element) row (those_there later) (x, All-head P x xs all, row-known x row is) rest
+            All-cons (λ (row : FormRow). (element : List ℕ) × P element × IsMade row element) row (present_rows later) (x, All-head P x xs all, row-known x row is) rest
 
     -- the rows of elements in order differ
-    pub rows-apart : (xs : List (List ℕ)) (made : List (Option FormRow)) → IsOrdered xs → All (λ t. length t ≡ length (sets_of d)) xs → in_order (map (row_of v limit state d) xs) ≡ Ok made → AllPairs (λ a b. a.key ≢ b.key) (those_there made)
+    pub rows-apart : (xs : List (List ℕ)) (made : List (Option FormRow)) → IsOrdered xs → All (λ t. length t ≡ length (sets_of_definition d)) xs → in_order (map (row_of v limit state d) xs) ≡ Ok made → AllPairs (λ a b. a.key ≢ b.key) (present_rows made)
     rows-apart [] made ordered long e =
-        subst (λ those. AllPairs (λ (a b : FormRow). a.key ≢ b.key) (those_there those)) (only_value _ _ e) (λ i j d less below. absurd (omega (arith, less, below)))
+        subst (λ those. AllPairs (λ (a b : FormRow). a.key ≢ b.key) (present_rows those)) (only_value _ _ e) (λ i j d less below. absurd (omega (arith, less, below)))
     rows-apart (x ∷ xs) made ordered long e =
         let parts = rows-parts x xs made e in
-        let rest = rows-apart xs parts.later (rest-ordered x xs ordered) (All-tail (λ t. length t ≡ length (sets_of d)) x xs long) parts.rest in
-        let behind = rows-All (λ y. (tuple_cmp x y ≡ Less) × (length y ≡ length (sets_of d))) xs parts.later (λ k z below. (first-before x xs ordered k z below, All-tail (λ t. length t ≡ length (sets_of d)) x xs long k z below)) parts.rest in
-        subst (λ those. AllPairs (λ (a b : FormRow). a.key ≢ b.key) (those_there those)) (sym parts.is) (by parts.row parts.later parts.first rest behind)
+        let rest = rows-apart xs parts.later (rest-ordered x xs ordered) (All-tail (λ t. length t ≡ length (sets_of_definition d)) x xs long) parts.rest in
+        let behind = rows-All (λ y. (tuple_cmp x y ≡ Less) × (length y ≡ length (sets_of_definition d))) xs parts.later (λ k z below. (first-before x xs ordered k z below, All-tail (λ t. length t ≡ length (sets_of_definition d)) x xs long k z below)) parts.rest in
+        subst (λ those. AllPairs (λ (a b : FormRow). a.key ≢ b.key) (present_rows those)) (sym parts.is) (by parts.row parts.later parts.first rest behind)
       where
-        unlike : (row other : FormRow) (y : List ℕ) → IsMade row x → IsMade other y → tuple_cmp x y ≡ Less → length y ≡ length (sets_of d) → row.key ≢ other.key
+        unlike : (row other : FormRow) (y : List ℕ) → IsMade row x → IsMade other y → tuple_cmp x y ≡ Less → length y ≡ length (sets_of_definition d) → row.key ≢ other.key
         unlike row other y here there less m same =
-            let e : x ≡ y = tuple-decides x y other.key.tuple (All-head (λ t. length t ≡ length (sets_of d)) x xs long) m (here.tuple ∙ ap (λ (k : Key). Ok (Some k.tuple)) same) there.tuple in
+            let e : x ≡ y = tuple-decides x y other.key.tuple (All-head (λ t. length t ≡ length (sets_of_definition d)) x xs long) m (here.tuple ∙ ap (λ (k : Key). Ok (Some k.tuple)) same) there.tuple in
             let tied : tuple_cmp x y ≡ Equal = ap (tuple_cmp x) (sym e) ∙ tied_itself tuple_cmp-total x in
             let both : Less ≡ Equal = sym less ∙ tied in cc
 
-        by : (row : Option FormRow) (later : List (Option FormRow)) → row_of v limit state d x ≡ Ok row → AllPairs (λ a b. a.key ≢ b.key) (those_there later) → All (λ row. (y : List ℕ) × ((tuple_cmp x y ≡ Less) × (length y ≡ length (sets_of d))) × IsMade row y) (those_there later) → AllPairs (λ a b. a.key ≢ b.key) (those_there (row ∷ later))
+        by : (row : Option FormRow) (later : List (Option FormRow)) → row_of v limit state d x ≡ Ok row → AllPairs (λ a b. a.key ≢ b.key) (present_rows later) → All (λ row. (y : List ℕ) × ((tuple_cmp x y ≡ Less) × (length y ≡ length (sets_of_definition d))) × IsMade row y) (present_rows later) → AllPairs (λ a b. a.key ≢ b.key) (present_rows (row ∷ later))
         by None later is rest behind = rest
         by (Some row) later is rest behind =
-            AllPairs-cons (λ (a b : FormRow). a.key ≢ b.key) row (those_there later) (λ k d below. let other = behind k d below in unlike row (get_or (those_there later) k d) other.0 (row-known x row is) other.2 other.1.0 other.1.1) rest
+            AllPairs-cons (λ (a b : FormRow). a.key ≢ b.key) row (present_rows later) (λ k d below. let other = behind k d below in unlike row (get_or (present_rows later) k d) other.0 (row-known x row is) other.2 other.1.0 other.1.1) rest
 
   -- ---- the rows of a definition
 
@@ -234,24 +234,24 @@ module _ {F : Type 0} (v : F → Number) (limit : ℕ) (state : State) where
     pub made : List (Option FormRow)
     pub domain : domain_of v limit state d ≡ Ok elements
     pub answered : in_order (map (row_of v limit state d) elements) ≡ Ok made
-    pub is : those_there made ≡ rows
+    pub is : present_rows made ≡ rows
 
-  pub sourced : (d : Definition F) (rows : List FormRow) → rows_of v limit state d ≡ Ok rows → Sourced d rows
+  pub sourced : (d : Definition F) (rows : List FormRow) → rows_of_definition v limit state d ≡ Ok rows → Sourced d rows
   sourced d rows e =
-      let one = given (domain_of v limit state d) (λ elements. in_order (map (row_of v limit state d) elements) and_then λ rows. Ok (those_there rows)) rows e in
-      let two = given (in_order (map (row_of v limit state d) one.value)) (λ made. Ok (those_there made)) rows one.next_is in
+      let one = given (domain_of v limit state d) (λ elements. in_order (map (row_of v limit state d) elements) and_then λ rows. Ok (present_rows rows)) rows e in
+      let two = given (in_order (map (row_of v limit state d) one.value)) (λ made. Ok (present_rows made)) rows one.next_is in
       record { elements = one.value; made = two.value; domain = one.is; answered = two.is; is = only_value _ _ two.next_is }
 
-  pub definition-apart : (d : Definition F) (rows : List FormRow) → ArePlain state d.indices → AreInOrder state (sets_of d) → rows_of v limit state d ≡ Ok rows → AllPairs (λ a b. a.key ≢ b.key) rows
+  pub definition-apart : (d : Definition F) (rows : List FormRow) → ArePlain state d.indices → AreInOrder state (sets_of_definition d) → rows_of_definition v limit state d ≡ Ok rows → AllPairs (λ a b. a.key ≢ b.key) rows
   definition-apart d rows plain kept e =
       let source = sourced d rows e in
-      let known = domain-known v limit state d.at (sets_of d) (plain-simple state d.indices plain kept) d.condition source.elements source.domain in
+      let known = domain-known v limit state d.at (sets_of_definition d) (plain-simple state d.indices plain kept) d.condition source.elements source.domain in
       subst (AllPairs (λ (a b : FormRow). a.key ≢ b.key)) source.is (rows-apart d plain source.elements source.made known.ordered known.long source.answered)
 
   every : {X : Type 0} (xs : List X) → All (λ (x : X). Unit {0}) xs
   every xs k d below = tt
 
-  pub definition-named : (d : Definition F) (rows : List FormRow) → ArePlain state d.indices → rows_of v limit state d ≡ Ok rows → All (λ row. row.key.symbol ≡ d.equation) rows
+  pub definition-named : (d : Definition F) (rows : List FormRow) → ArePlain state d.indices → rows_of_definition v limit state d ≡ Ok rows → All (λ row. row.key.symbol ≡ d.equation) rows
   definition-named d rows plain e =
       let source = sourced d rows e in
       let all = rows-All d plain (λ element. Unit {0}) source.elements source.made (every source.elements) source.answered in
@@ -268,18 +268,18 @@ module _ {F : Type 0} (v : F → Number) (limit : ℕ) (state : State) where
   record Definitions (d : Definition F) (ds : List (Definition F)) (those : List (List FormRow)) : Type 0 where
     rows : List FormRow
     later : List (List FormRow)
-    first : rows_of v limit state d ≡ Ok rows
-    rest : in_order (map (rows_of v limit state) ds) ≡ Ok later
+    first : rows_of_definition v limit state d ≡ Ok rows
+    rest : in_order (map (rows_of_definition v limit state) ds) ≡ Ok later
     is : those ≡ rows ∷ later
 
-  definitions-parts : (d : Definition F) (ds : List (Definition F)) (those : List (List FormRow)) → in_order (map (rows_of v limit state) (d ∷ ds)) ≡ Ok those → Definitions d ds those
+  definitions-parts : (d : Definition F) (ds : List (Definition F)) (those : List (List FormRow)) → in_order (map (rows_of_definition v limit state) (d ∷ ds)) ≡ Ok those → Definitions d ds those
   definitions-parts d ds those e =
-      let one = given (rows_of v limit state d) (λ rows. in_order (map (rows_of v limit state) ds) and_then λ later. Ok (rows ∷ later)) those e in
-      let two = given (in_order (map (rows_of v limit state) ds)) (λ later. Ok (one.value ∷ later)) those one.next_is in
+      let one = given (rows_of_definition v limit state d) (λ rows. in_order (map (rows_of_definition v limit state) ds) and_then λ later. Ok (rows ∷ later)) those e in
+      let two = given (in_order (map (rows_of_definition v limit state) ds)) (λ later. Ok (one.value ∷ later)) those one.next_is in
       record { rows = one.value; later = two.value; first = one.is; rest = two.is; is = sym (only_value _ _ two.next_is) }
 
   -- what holds of the equations of definitions holds of those of their rows
-  all-named : (Q : ℕ → Type 0) (ds : List (Definition F)) (those : List (List FormRow)) → All (λ (d : Definition F). ArePlain state d.indices) ds → All (λ (d : Definition F). Q d.equation) ds → in_order (map (rows_of v limit state) ds) ≡ Ok those → All (λ row. Q row.key.symbol) (joined_rows those)
+  all-named : (Q : ℕ → Type 0) (ds : List (Definition F)) (those : List (List FormRow)) → All (λ (d : Definition F). ArePlain state d.indices) ds → All (λ (d : Definition F). Q d.equation) ds → in_order (map (rows_of_definition v limit state) ds) ≡ Ok those → All (λ row. Q row.key.symbol) (joined_rows those)
   all-named Q [] those plain all e =
       subst (λ those. All (λ (row : FormRow). Q row.key.symbol) (joined_rows those)) (only_value _ _ e) (All-nil (λ (row : FormRow). Q row.key.symbol))
   all-named Q (d ∷ ds) those plain all e =
@@ -290,16 +290,16 @@ module _ {F : Type 0} (v : F → Number) (limit : ℕ) (state : State) where
       (all-named Q ds parts.later (All-tail (λ (d : Definition F). ArePlain state d.indices) d ds plain) (All-tail (λ (d : Definition F). Q d.equation) d ds all) parts.rest))
 
   -- the rows of definitions of different equations differ
-  pub definitions-apart : (ds : List (Definition F)) (those : List (List FormRow)) → HaveApart ds → All (λ (d : Definition F). ArePlain state d.indices) ds → HaveOrder state ds → in_order (map (rows_of v limit state) ds) ≡ Ok those → AllPairs (λ a b. a.key ≢ b.key) (joined_rows those)
+  pub definitions-apart : (ds : List (Definition F)) (those : List (List FormRow)) → HaveApart ds → All (λ (d : Definition F). ArePlain state d.indices) ds → HaveOrder state ds → in_order (map (rows_of_definition v limit state) ds) ≡ Ok those → AllPairs (λ a b. a.key ≢ b.key) (joined_rows those)
   definitions-apart [] those apart plain kept e =
       subst (λ those. AllPairs (λ (a b : FormRow). a.key ≢ b.key) (joined_rows those)) (only_value _ _ e) (λ i j d less below. absurd (omega (arith, less, below)))
   definitions-apart (d ∷ ds) those apart plain kept e =
       let parts = definitions-parts d ds those e in
       let here = All-head (λ (d : Definition F). ArePlain state d.indices) d ds plain in
       let there = All-tail (λ (d : Definition F). ArePlain state d.indices) d ds plain in
-      let own = definition-apart d parts.rows here (All-head (λ (d : Definition F). AreInOrder state (sets_of d)) d ds kept) parts.first in
+      let own = definition-apart d parts.rows here (All-head (λ (d : Definition F). AreInOrder state (sets_of_definition d)) d ds kept) parts.first in
       let named = definition-named d parts.rows here parts.first in
-      let rest = definitions-apart ds parts.later apart.1 there (All-tail (λ (d : Definition F). AreInOrder state (sets_of d)) d ds kept) parts.rest in
+      let rest = definitions-apart ds parts.later apart.1 there (All-tail (λ (d : Definition F). AreInOrder state (sets_of_definition d)) d ds kept) parts.rest in
       let unlike = all-named (λ name. (d.equation == name) ≡ false) ds parts.later there apart.0 parts.rest in
       subst (λ those. AllPairs (λ (a b : FormRow). a.key ≢ b.key) (joined_rows those)) (sym parts.is)
       (AllPairs-append (λ (a b : FormRow). a.key ≢ b.key) parts.rows (joined_rows parts.later) own rest (λ k e below l f under same. differ (get_or parts.rows k e).key (get_or (joined_rows parts.later) l f).key (named k e below) (unlike l f under) same))

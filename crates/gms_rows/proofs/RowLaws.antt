@@ -22,9 +22,9 @@ use Rattle.gms_eval.specs.Faults.{Answer}
 use Rattle.gms_eval.specs.Holds.{holds}
 use Rattle.gms_eval.specs.Value.{domain, control_over}
 use Rattle.gms_eval.proofs.Simple.{elements-ordered, element-length}
-use Rattle.gms_rows.specs.ElementRows.{sets_of, bound_to, holds_for, tuple_at, IsRowOf, HasPlainSets}
+use Rattle.gms_rows.specs.ElementRows.{sets_of_definition, bound_to, holds_for, tuple_at, IsRowOf, HasPlainSets}
 use Rattle.gms_rows.specs.Plain.{ArePlain}
-use Rattle.gms_rows.specs.Rows.{Definition, FormRow, those_there, rows_of}
+use Rattle.gms_rows.specs.Rows.{Definition, FormRow, present_rows, rows_of_definition}
 use Rattle.gms_rows.proofs.Domains.{given, only_value, first_of, those-All, plain-simple, domain-known, sized-is}
 use Rattle.gms_rows.proofs.RowKeys.{IsMade, the_same, row-known, row-absent, rows-parts, rows-All, tuple-decides, sourced, definition-apart}
 use Rattle.gms_rows.proofs.RowWalk.{row_of}
@@ -121,7 +121,7 @@ counted-no p x xs e =
     let at : ◌≡◌ {A = ℕ} (cond (p x) 1 0) 0 = ap (λ b. cond b 1 0) e in omega (arith, first, at)
 
 module _ {F : Type 0} (v : F → Number) (limit : ℕ) (state : State) (d : Definition F) (plain : ArePlain state d.indices) where
-  unlike : (x element t : List ℕ) (row : FormRow) → length element ≡ length (sets_of d) → length x ≡ length (sets_of d) → tuple_at v limit state d element ≡ Ok (Some t) → same_tuple x element ≡ false → row_of v limit state d x ≡ Ok (Some row) → (b : Bool) → same_tuple row.key.tuple t ≡ b → same_tuple row.key.tuple t ≡ false
+  unlike : (x element t : List ℕ) (row : FormRow) → length element ≡ length (sets_of_definition d) → length x ≡ length (sets_of_definition d) → tuple_at v limit state d element ≡ Ok (Some t) → same_tuple x element ≡ false → row_of v limit state d x ≡ Ok (Some row) → (b : Bool) → same_tuple row.key.tuple t ≡ b → same_tuple row.key.tuple t ≡ false
   unlike x element t row l m tuple other made false e = e
   unlike x element t row l m tuple other made true e =
       let known = row-known v limit state d plain x row made in
@@ -129,16 +129,16 @@ module _ {F : Type 0} (v : F → Number) (limit : ℕ) (state : State) (d : Defi
       let at : x ≡ element = tuple-decides v limit state d plain x element t m l (known.tuple ∙ ap (λ y. Ok (Some y)) is) tuple in
       absurd (both_ways (same_tuple x element) other ((same_tuple-Decides x element).1 at))
 
-  rows-count : (xs : List (List ℕ)) (made : List (Option FormRow)) (element t : List ℕ) → IsOrdered xs → All (λ x. length x ≡ length (sets_of d)) xs → length element ≡ length (sets_of d) → tuple_at v limit state d element ≡ Ok (Some t) → in_order (map (row_of v limit state d) xs) ≡ Ok made → count_by (λ (row : FormRow). same_tuple row.key.tuple t) (those_there made) ≡ (if has xs element then 1 else 0)
+  rows-count : (xs : List (List ℕ)) (made : List (Option FormRow)) (element t : List ℕ) → IsOrdered xs → All (λ x. length x ≡ length (sets_of_definition d)) xs → length element ≡ length (sets_of_definition d) → tuple_at v limit state d element ≡ Ok (Some t) → in_order (map (row_of v limit state d) xs) ≡ Ok made → count_by (λ (row : FormRow). same_tuple row.key.tuple t) (present_rows made) ≡ (if has xs element then 1 else 0)
   rows-count [] made element t ordered long l tuple e =
-      ap (λ those. count_by (λ (row : FormRow). same_tuple row.key.tuple t) (those_there those)) (sym (only_value _ _ e))
+      ap (λ those. count_by (λ (row : FormRow). same_tuple row.key.tuple t) (present_rows those)) (sym (only_value _ _ e))
   rows-count (x ∷ xs) made element t ordered long l tuple e =
       let parts = rows-parts v limit state d plain x xs made e in
-      let rest = rows-count xs parts.later element t (rest-ordered x xs ordered) (All-tail (λ x. length x ≡ length (sets_of d)) x xs long) l tuple parts.rest in
-      ap (λ those. count_by (λ (row : FormRow). same_tuple row.key.tuple t) (those_there those)) parts.is
+      let rest = rows-count xs parts.later element t (rest-ordered x xs ordered) (All-tail (λ x. length x ≡ length (sets_of_definition d)) x xs long) l tuple parts.rest in
+      ap (λ those. count_by (λ (row : FormRow). same_tuple row.key.tuple t) (present_rows those)) parts.is
       ∙ by (same_tuple x element) refl parts.row parts.later parts.first rest
     where
-      by : (same : Bool) → same_tuple x element ≡ same → (row : Option FormRow) (later : List (Option FormRow)) → row_of v limit state d x ≡ Ok row → count_by (λ (row : FormRow). same_tuple row.key.tuple t) (those_there later) ≡ (if has xs element then 1 else 0) → count_by (λ (row : FormRow). same_tuple row.key.tuple t) (those_there (row ∷ later)) ≡ (if same || has xs element then 1 else 0)
+      by : (same : Bool) → same_tuple x element ≡ same → (row : Option FormRow) (later : List (Option FormRow)) → row_of v limit state d x ≡ Ok row → count_by (λ (row : FormRow). same_tuple row.key.tuple t) (present_rows later) ≡ (if has xs element then 1 else 0) → count_by (λ (row : FormRow). same_tuple row.key.tuple t) (present_rows (row ∷ later)) ≡ (if same || has xs element then 1 else 0)
       by true same None later made rest =
           let at : x ≡ element = (same_tuple-Decides x element).0 same in
           let none = row-absent v limit state d plain x made in
@@ -149,33 +149,33 @@ module _ {F : Type 0} (v : F → Number) (limit : ℕ) (state : State) (d : Defi
           let known = row-known v limit state d plain x row made in
           let is : row.key.tuple ≡ t = the_same _ _ (only_value _ _ (sym known.tuple ∙ ap (tuple_at v limit state d) at ∙ tuple)) in
           let none = absent x element xs (first-before x xs ordered) at in
-          counted-yes (λ (row : FormRow). same_tuple row.key.tuple t) row (those_there later) (ap (λ y. same_tuple y t) is ∙ same_tuple_refl t) (rest ∙ ap (λ b. if b then 1 else 0) none)
+          counted-yes (λ (row : FormRow). same_tuple row.key.tuple t) row (present_rows later) (ap (λ y. same_tuple y t) is ∙ same_tuple_refl t) (rest ∙ ap (λ b. if b then 1 else 0) none)
       by false other None later made rest = rest
       by false other (Some row) later made rest =
-          counted-no (λ (row : FormRow). same_tuple row.key.tuple t) row (those_there later) (unlike x element t row l (All-head (λ x. length x ≡ length (sets_of d)) x xs long) tuple other made (same_tuple row.key.tuple t) refl) ∙ rest
+          counted-no (λ (row : FormRow). same_tuple row.key.tuple t) row (present_rows later) (unlike x element t row l (All-head (λ x. length x ≡ length (sets_of_definition d)) x xs long) tuple other made (same_tuple row.key.tuple t) refl) ∙ rest
 
 -- ---- the laws
 
-module _ {F : Type 0} (v : F → Number) (limit : ℕ) (state : State) (d : Definition F) (rows : List FormRow) (sets : HasPlainSets state d) (e : rows_of v limit state d ≡ Ok rows) where
+module _ {F : Type 0} (v : F → Number) (limit : ℕ) (state : State) (d : Definition F) (rows : List FormRow) (sets : HasPlainSets state d) (e : rows_of_definition v limit state d ≡ Ok rows) where
   -- each row is that of an element whose condition holds
   pub row-sources : All (λ row. (element : List ℕ) × IsRowOf v limit state d row element) rows
   row-sources =
       let source = sourced v limit state d rows e in
-      let known = domain-All v limit state d.at (sets_of d) d.condition source.elements source.domain in
-      let all = rows-All v limit state d sets.plain (λ t. (has (elements state (sets_of d)) t ≡ true) × (holds_for v limit state (bound_to d t) d.condition ≡ Ok true)) source.elements source.made known source.answered in
+      let known = domain-All v limit state d.at (sets_of_definition d) d.condition source.elements source.domain in
+      let all = rows-All v limit state d sets.plain (λ t. (has (elements state (sets_of_definition d)) t ≡ true) × (holds_for v limit state (bound_to d t) d.condition ≡ Ok true)) source.elements source.made known source.answered in
       subst (All (λ (row : FormRow). (element : List ℕ) × IsRowOf v limit state d row element)) source.is
-      (All-weaker (λ (row : FormRow). (element : List ℕ) × ((has (elements state (sets_of d)) element ≡ true) × (holds_for v limit state (bound_to d element) d.condition ≡ Ok true)) × IsMade v limit state d sets.plain row element) (λ row. (element : List ℕ) × IsRowOf v limit state d row element) (λ row made. (made.0, record { there = made.1.0; holds = made.1.1; equation = made.2.equation; tuple = made.2.tuple; sense = made.2.sense; form = made.2.form })) (those_there source.made) all)
+      (All-weaker (λ (row : FormRow). (element : List ℕ) × ((has (elements state (sets_of_definition d)) element ≡ true) × (holds_for v limit state (bound_to d element) d.condition ≡ Ok true)) × IsMade v limit state d sets.plain row element) (λ row. (element : List ℕ) × IsRowOf v limit state d row element) (λ row made. (made.0, record { there = made.1.0; holds = made.1.1; equation = made.2.equation; tuple = made.2.tuple; sense = made.2.sense; form = made.2.form })) (present_rows source.made) all)
 
   -- at the tuple of an element there is one row where its condition holds, and else none
-  pub row-one : (element t : List ℕ) (b : Bool) → has (elements state (sets_of d)) element ≡ true → holds_for v limit state (bound_to d element) d.condition ≡ Ok b → tuple_at v limit state d element ≡ Ok (Some t) → count_by (λ (row : FormRow). same_tuple row.key.tuple t) rows ≡ (if b then 1 else 0)
+  pub row-one : (element t : List ℕ) (b : Bool) → has (elements state (sets_of_definition d)) element ≡ true → holds_for v limit state (bound_to d element) d.condition ≡ Ok b → tuple_at v limit state d element ≡ Ok (Some t) → count_by (λ (row : FormRow). same_tuple row.key.tuple t) rows ≡ (if b then 1 else 0)
   row-one element t b there holds tuple =
       let source = sourced v limit state d rows e in
       let simple = plain-simple state d.indices sets.plain sets.ordered in
-      let known = domain-known v limit state d.at (sets_of d) simple d.condition source.elements source.domain in
-      let long = element-length state (sets_of d) element there in
+      let known = domain-known v limit state d.at (sets_of_definition d) simple d.condition source.elements source.domain in
+      let long = element-length state (sets_of_definition d) element there in
       ap (count_by (λ (row : FormRow). same_tuple row.key.tuple t)) (sym source.is)
       ∙ rows-count v limit state d sets.plain source.elements source.made element t known.ordered known.long long tuple source.answered
-      ∙ ap (λ b. if b then 1 else 0) (domain-has v limit state d.at (sets_of d) d.condition source.elements element b (elements-ordered state (sets_of d) simple) source.domain there holds)
+      ∙ ap (λ b. if b then 1 else 0) (domain-has v limit state d.at (sets_of_definition d) d.condition source.elements element b (elements-ordered state (sets_of_definition d) simple) source.domain there holds)
 
   -- no two rows have the same key
   pub row-differ : AllPairs (λ a b. a.key ≢ b.key) rows

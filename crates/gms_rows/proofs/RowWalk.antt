@@ -14,32 +14,32 @@ use Rattle.gms_eval.specs.declared.stop.ExecStopOrMemory.{ExecStopOrMemory}
 use Rattle.gms_eval.specs.Nodes.{in_order}
 use Rattle.gms_eval.specs.Bindings.{Pairs, controlled}
 use Rattle.gms_eval.specs.Faults.{Answer, ◌and_then◌}
-use Rattle.gms_eval.specs.Gives.{Stops}
+use Rattle.gms_eval.specs.Gives.{ShowsStop}
 use Rattle.gms_eval.specs.Value.{domain, control_over}
 use Rattle.gms_eval.proofs.Answering.{and_then_assoc, stops-along, stops-then, stops-same}
 use Rattle.gms_rows.specs.InnerWalks.{HaveOrder}
 use Rattle.gms_rows.specs.ElementRows.{AreInOrder}
-use Rattle.gms_rows.specs.Rows.{Definition, FormRow, each_once, sets_among, definition_of, those_there, row_under, rows_of}
+use Rattle.gms_rows.specs.Rows.{Definition, FormRow, each_once, sets_among, definition_of, present_rows, row_under, rows_of_definition}
 
 -- ---- elements
 
-there-first : (row : Option FormRow) (rest : List (Option FormRow)) → those_there (row ∷ rest) ≡ those_there (row ∷ []) ++ those_there rest
+there-first : (row : Option FormRow) (rest : List (Option FormRow)) → present_rows (row ∷ rest) ≡ present_rows (row ∷ []) ++ present_rows rest
 there-first None rest = refl
 there-first (Some row) rest = refl
 
 module _ {X : Type 0} (answer : X → Answer (Option FormRow)) where
   -- the rows that are made, and those of the elements from here on
   abbrev pub rows_from : List FormRow → List X → Answer (List FormRow)
-  rows_from done xs = in_order (map answer xs) and_then λ rest. Ok (done ++ those_there rest)
+  rows_from done xs = in_order (map answer xs) and_then λ rest. Ok (done ++ present_rows rest)
 
-  next_row : (done : List FormRow) (x : X) (xs : List X) (row : Option FormRow) → answer x ≡ Ok row → rows_from done (x ∷ xs) ≡ rows_from (done ++ those_there (row ∷ [])) xs
+  next_row : (done : List FormRow) (x : X) (xs : List X) (row : Option FormRow) → answer x ≡ Ok row → rows_from done (x ∷ xs) ≡ rows_from (done ++ present_rows (row ∷ [])) xs
   next_row done x xs row e =
-      ap (λ a. (a and_then λ z. in_order (map answer xs) and_then λ zs. Ok (z ∷ zs)) and_then λ rest. Ok (done ++ those_there rest)) e
-      ∙ and_then_assoc (in_order (map answer xs)) (λ zs. Ok (row ∷ zs)) (λ rest. Ok (done ++ those_there rest))
+      ap (λ a. (a and_then λ z. in_order (map answer xs) and_then λ zs. Ok (z ∷ zs)) and_then λ rest. Ok (done ++ present_rows rest)) e
+      ∙ and_then_assoc (in_order (map answer xs)) (λ zs. Ok (row ∷ zs)) (λ rest. Ok (done ++ present_rows rest))
       ∙ shifted (in_order (map answer xs))
     where
-      shifted : (a : Answer (List (Option FormRow))) → (a and_then λ zs. Ok (done ++ those_there (row ∷ zs))) ≡ (a and_then λ zs. Ok ((done ++ those_there (row ∷ [])) ++ those_there zs))
-      shifted (Ok zs) = ap Ok (ap (λ more. done ++ more) (there-first row zs) ∙ sym (append_assoc done (those_there (row ∷ [])) (those_there zs)))
+      shifted : (a : Answer (List (Option FormRow))) → (a and_then λ zs. Ok (done ++ present_rows (row ∷ zs))) ≡ (a and_then λ zs. Ok ((done ++ present_rows (row ∷ [])) ++ present_rows zs))
+      shifted (Ok zs) = ap Ok (ap (λ more. done ++ more) (there-first row zs) ∙ sym (append_assoc done (present_rows (row ∷ [])) (present_rows zs)))
       shifted (Err fault) = refl
 
   at_element : (done : List FormRow) (xs : List X) (i : ℕ) (x : X) → i < length xs → x ≡ get_or xs i x → rows_from done (drop i xs) ≡ rows_from done (x ∷ drop (i + 1) xs)
@@ -47,16 +47,16 @@ module _ {X : Type 0} (answer : X → Answer (Option FormRow)) where
       at_drop_more (rows_from done) xs i x here ∙ ap (λ z. rows_from done (z ∷ drop (i + 1) xs)) (sym is)
 
   -- the row of one more element is made
-  pub rows_from-more : (done after : List FormRow) (xs : List X) (i : ℕ) (x : X) (row : Option FormRow) → i < length xs → x ≡ get_or xs i x → answer x ≡ Ok row → after ≡ done ++ those_there (row ∷ []) → rows_from done (drop i xs) ≡ rows_from after (drop (i + 1) xs)
+  pub rows_from-more : (done after : List FormRow) (xs : List X) (i : ℕ) (x : X) (row : Option FormRow) → i < length xs → x ≡ get_or xs i x → answer x ≡ Ok row → after ≡ done ++ present_rows (row ∷ []) → rows_from done (drop i xs) ≡ rows_from after (drop (i + 1) xs)
   rows_from-more done after xs i x row here is e made =
       at_element done xs i x here is
       ∙ next_row done x (drop (i + 1) xs) row e
       ∙ ap (λ those. rows_from those (drop (i + 1) xs)) (sym made)
 
   -- one more element stops
-  pub rows_from-stops : {F : Type 0} (v : F → Number) (stop : ExecStopOrMemory F) (whole : Answer (List FormRow)) (done : List FormRow) (xs : List X) (i : ℕ) (x : X) → whole ≡ rows_from done (drop i xs) → i < length xs → x ≡ get_or xs i x → Stops v stop (answer x) → Stops v stop whole
+  pub rows_from-stops : {F : Type 0} (v : F → Number) (stop : ExecStopOrMemory F) (whole : Answer (List FormRow)) (done : List FormRow) (xs : List X) (i : ℕ) (x : X) → whole ≡ rows_from done (drop i xs) → i < length xs → x ≡ get_or xs i x → ShowsStop v stop (answer x) → ShowsStop v stop whole
   rows_from-stops v stop whole done xs i x is-whole here is stops =
-      stops-along v stop (answer x) whole (λ fault e. is-whole ∙ at_element done xs i x here is ∙ ap (λ a. (a and_then λ z. in_order (map answer (drop (i + 1) xs)) and_then λ zs. Ok (z ∷ zs)) and_then λ rest. Ok (done ++ those_there rest)) e) stops
+      stops-along v stop (answer x) whole (λ fault e. is-whole ∙ at_element done xs i x here is ∙ ap (λ a. (a and_then λ z. in_order (map answer (drop (i + 1) xs)) and_then λ zs. Ok (z ∷ zs)) and_then λ rest. Ok (done ++ present_rows rest)) e) stops
 
   -- no element is left
   pub rows_from-end : (done : List FormRow) (xs : List X) (i : ℕ) → length xs ≤ i → rows_from done (drop i xs) ≡ Ok done
@@ -75,22 +75,22 @@ module _ {F : Type 0} (v : F → Number) (limit : ℕ) (state : State) (d : Defi
   abbrev pub domain_of : Answer (List (List ℕ))
   domain_of = domain v limit state [] d.at (control_over (each_once (sets_among d.indices)) d.condition)
 
-  pub rows_of-start : (done : List FormRow) (elements : List (List ℕ)) → domain_of ≡ Ok elements → (rows_of v limit state d and_then λ those. Ok (done ++ those)) ≡ rows_from row_of done elements
+  pub rows_of-start : (done : List FormRow) (elements : List (List ℕ)) → domain_of ≡ Ok elements → (rows_of_definition v limit state d and_then λ those. Ok (done ++ those)) ≡ rows_from row_of done elements
   rows_of-start done elements e =
-      ap (λ a. (a and_then λ elements. in_order (map row_of elements) and_then λ rows. Ok (those_there rows)) and_then λ those. Ok (done ++ those)) e
-      ∙ and_then_assoc (in_order (map row_of elements)) (λ rows. Ok (those_there rows)) (λ those. Ok (done ++ those))
+      ap (λ a. (a and_then λ elements. in_order (map row_of elements) and_then λ rows. Ok (present_rows rows)) and_then λ those. Ok (done ++ those)) e
+      ∙ and_then_assoc (in_order (map row_of elements)) (λ rows. Ok (present_rows rows)) (λ those. Ok (done ++ those))
 
   -- the domain over sets and a condition that are those of the definition
   module _ (b : Pairs) (sets : List ℕ) (condition : Option (Tree F)) (none : b ≡ []) (same : sets ≡ each_once (sets_among d.indices)) (is : condition ≡ d.condition) where
     pub domain_of-same : domain v limit state b d.at (control_over sets condition) ≡ domain_of
     domain_of-same = λ i. domain v limit state (none i) d.at (control_over (same i) (is i))
 
-    pub rows_of-given : (done : List FormRow) (elements : List (List ℕ)) → domain v limit state b d.at (control_over sets condition) ≡ Ok elements → (rows_of v limit state d and_then λ those. Ok (done ++ those)) ≡ rows_from row_of done elements
+    pub rows_of-given : (done : List FormRow) (elements : List (List ℕ)) → domain v limit state b d.at (control_over sets condition) ≡ Ok elements → (rows_of_definition v limit state d and_then λ those. Ok (done ++ those)) ≡ rows_from row_of done elements
     rows_of-given done elements e = rows_of-start done elements (sym domain_of-same ∙ e)
 
-    pub rows_of-stops : (done : List FormRow) (stop : ExecStopOrMemory F) → Stops v stop (domain v limit state b d.at (control_over sets condition)) → Stops v stop (rows_of v limit state d and_then λ those. Ok (done ++ those))
+    pub rows_of-stops : (done : List FormRow) (stop : ExecStopOrMemory F) → ShowsStop v stop (domain v limit state b d.at (control_over sets condition)) → ShowsStop v stop (rows_of_definition v limit state d and_then λ those. Ok (done ++ those))
     rows_of-stops done stop s =
-        stops-then v stop (rows_of v limit state d) (λ those. Ok (done ++ those)) (stops-then v stop domain_of (λ elements. in_order (map row_of elements) and_then λ rows. Ok (those_there rows)) (stops-same v stop domain_of (domain v limit state b d.at (control_over sets condition)) (sym domain_of-same) s))
+        stops-then v stop (rows_of_definition v limit state d) (λ those. Ok (done ++ those)) (stops-then v stop domain_of (λ elements. in_order (map row_of elements) and_then λ rows. Ok (present_rows rows)) (stops-same v stop domain_of (domain v limit state b d.at (control_over sets condition)) (sym domain_of-same) s))
 
 -- sets in order are those of one definition
 pub order-of_one : {F : Type 0} (state : State) (d : Definition F) → AreInOrder state (each_once (sets_among d.indices)) → HaveOrder state (d ∷ [])
@@ -121,17 +121,17 @@ joined_rows those = flat_map (λ some. some) those
 module _ {F : Type 0} (v : F → Number) (limit : ℕ) (state : State) (ds : List (Definition F)) where
   -- the rows that are made, and those of an equation
   abbrev pub equation_rows : List FormRow → ℕ → Answer (List FormRow)
-  equation_rows done name = in_order (map (rows_of v limit state) (definition_of ds name)) and_then λ those. Ok (done ++ joined_rows those)
+  equation_rows done name = in_order (map (rows_of_definition v limit state) (definition_of ds name)) and_then λ those. Ok (done ++ joined_rows those)
 
   -- the rows that are made, and those of the equations from here on
   abbrev pub model_from : List FormRow → List ℕ → Answer (List FormRow)
-  model_from done names = in_order (map (rows_of v limit state) (flat_map (definition_of ds) names)) and_then λ those. Ok (done ++ joined_rows those)
+  model_from done names = in_order (map (rows_of_definition v limit state) (flat_map (definition_of ds) names)) and_then λ those. Ok (done ++ joined_rows those)
 
   model-next : (done : List FormRow) (name : ℕ) (names : List ℕ) → model_from done (name ∷ names) ≡ (equation_rows done name and_then λ after. model_from after names)
   model-next done name names =
-      ap (λ xs. in_order xs and_then λ those. Ok (done ++ joined_rows those)) (map-append (rows_of v limit state) (definition_of ds name) (flat_map (definition_of ds) names))
-      ∙ ap (λ a. a and_then λ those. Ok (done ++ joined_rows those)) (in_order-append (map (rows_of v limit state) (definition_of ds name)) (map (rows_of v limit state) (flat_map (definition_of ds) names)))
-      ∙ by (in_order (map (rows_of v limit state) (definition_of ds name))) (in_order (map (rows_of v limit state) (flat_map (definition_of ds) names)))
+      ap (λ xs. in_order xs and_then λ those. Ok (done ++ joined_rows those)) (map-append (rows_of_definition v limit state) (definition_of ds name) (flat_map (definition_of ds) names))
+      ∙ ap (λ a. a and_then λ those. Ok (done ++ joined_rows those)) (in_order-append (map (rows_of_definition v limit state) (definition_of ds name)) (map (rows_of_definition v limit state) (flat_map (definition_of ds) names)))
+      ∙ by (in_order (map (rows_of_definition v limit state) (definition_of ds name))) (in_order (map (rows_of_definition v limit state) (flat_map (definition_of ds) names)))
     where
       by : (p q : Answer (List (List FormRow))) → ((p and_then λ a. q and_then λ b. Ok (a ++ b)) and_then λ those. Ok (done ++ joined_rows those)) ≡ ((p and_then λ those. Ok (done ++ joined_rows those)) and_then λ after. q and_then λ those. Ok (after ++ joined_rows those))
       by (Ok a) (Ok b) = ap Ok (ap (λ more. done ++ more) (flat_map-append (λ (some : List FormRow). some) a b) ∙ sym (append_assoc done (joined_rows a) (joined_rows b)))
@@ -148,7 +148,7 @@ module _ {F : Type 0} (v : F → Number) (limit : ℕ) (state : State) (ds : Lis
       at_equation done names i z here ∙ ap (λ a. a and_then λ after. model_from after (drop (i + 1) names)) e
 
   -- one more equation stops
-  pub model-stops : (stop : ExecStopOrMemory F) (whole : Answer (List FormRow)) (done : List FormRow) (names : List ℕ) (i z : ℕ) → whole ≡ model_from done (drop i names) → i < length names → Stops v stop (equation_rows done (get_or names i z)) → Stops v stop whole
+  pub model-stops : (stop : ExecStopOrMemory F) (whole : Answer (List FormRow)) (done : List FormRow) (names : List ℕ) (i z : ℕ) → whole ≡ model_from done (drop i names) → i < length names → ShowsStop v stop (equation_rows done (get_or names i z)) → ShowsStop v stop whole
   model-stops stop whole done names i z is-whole here stops =
       stops-same v stop whole _ (is-whole ∙ at_equation done names i z here) (stops-then v stop (equation_rows done (get_or names i z)) (λ after. model_from after (drop (i + 1) names)) stops)
 
@@ -157,10 +157,10 @@ module _ {F : Type 0} (v : F → Number) (limit : ℕ) (state : State) (ds : Lis
   model-end done names i all = at_drop_all (model_from done) names i all ∙ ap Ok (append-nil done)
 
   -- the rows of the one definition of an equation
-  pub equation-defined : (done : List FormRow) (name : ℕ) (d : Definition F) → definition_of ds name ≡ d ∷ [] → equation_rows done name ≡ (rows_of v limit state d and_then λ those. Ok (done ++ those))
+  pub equation-defined : (done : List FormRow) (name : ℕ) (d : Definition F) → definition_of ds name ≡ d ∷ [] → equation_rows done name ≡ (rows_of_definition v limit state d and_then λ those. Ok (done ++ those))
   equation-defined done name d e =
-      ap (λ those. in_order (map (rows_of v limit state) those) and_then λ those. Ok (done ++ joined_rows those)) e
-      ∙ by (rows_of v limit state d)
+      ap (λ those. in_order (map (rows_of_definition v limit state) those) and_then λ those. Ok (done ++ joined_rows those)) e
+      ∙ by (rows_of_definition v limit state d)
     where
       by : (a : Answer (List FormRow)) → ((a and_then λ z. Ok ([]) and_then λ zs. Ok (z ∷ zs)) and_then λ those. Ok (done ++ joined_rows those)) ≡ (a and_then λ those. Ok (done ++ those))
       by (Ok those) = ap (λ more. Ok (done ++ more)) (append-nil those)
@@ -169,4 +169,4 @@ module _ {F : Type 0} (v : F → Number) (limit : ℕ) (state : State) (ds : Lis
   -- an equation without a definition has none
   pub equation-undefined : (done : List FormRow) (name : ℕ) → definition_of ds name ≡ [] → equation_rows done name ≡ Ok done
   equation-undefined done name e =
-      ap (λ those. in_order (map (rows_of v limit state) those) and_then λ those. Ok (done ++ joined_rows those)) e ∙ ap Ok (append-nil done)
+      ap (λ those. in_order (map (rows_of_definition v limit state) those) and_then λ those. Ok (done ++ joined_rows those)) e ∙ ap Ok (append-nil done)

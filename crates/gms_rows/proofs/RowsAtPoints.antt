@@ -23,7 +23,7 @@ use Rattle.gms_eval.specs.Bindings.{Pairs}
 use Rattle.gms_eval.specs.Faults.{Answer, ◌and_then◌}
 use Rattle.gms_eval.specs.References.{tuple_of}
 use Rattle.gms_eval.specs.Value.{labels, domain}
-use Rattle.lp_core.specs.Sums.{number_of, row_sum}
+use Rattle.lp_core.specs.Sums.{value_of_column, row_sum}
 use Rattle.lp_core.specs.Feasible.{KeepsLower, KeepsUpper, KeepsBounds, KeepsSense, KeepsRow, bound_value, Feasible}
 use Rattle.lp_core.specs.WellFormed.{standard_rows, standard_columns}
 use Rattle.lp_core.specs.declared.program.Sense.{Sense}
@@ -37,13 +37,13 @@ use Rattle.lp_form.proofs.KeyOrder.{same_key_refl, same_key-Less, first-before, 
 use Rattle.gms_eval.specs.declared.stop.StopKind.TheVariants.{TooManyRows, TooManyColumns}
 use Rattle.gms_rows.specs.Affine.{affine}
 use Rattle.gms_rows.specs.ElementRows.{bound_to}
-use Rattle.gms_rows.specs.Forms.{Form, number_of_key, sum_of}
+use Rattle.gms_rows.specs.Forms.{Form, number_of_key, sum_of_forms}
 use Rattle.gms_rows.specs.InnerWalks.{is_among}
 use Rattle.gms_rows.specs.ModelPoints.{definitions_of_model, IsLinearDefinition, Compare, is_there, SidesCompare, KeepsDefinition, KeepsModel, KeepsBoundsOf, column_elements}
 use Rattle.gms_rows.specs.Points.{form_at}
 use Rattle.gms_rows.specs.PointValues.{value_at}
-use Rattle.gms_rows.specs.ProgramLp.{column_keys, place_of, column_of, placed, program_of, too_many, sized, program_lp}
-use Rattle.gms_rows.specs.Rows.{Definition, FormRow, sense_of, those_there, row_form, rows_of, rows_of_model}
+use Rattle.gms_rows.specs.ProgramLp.{column_keys, place_of_key, column_of, placed, program_of, too_many, sized_program, program_lp}
+use Rattle.gms_rows.specs.Rows.{Definition, FormRow, sense_of, present_rows, row_form, rows_of_definition, rows_of_model}
 use Rattle.gms_rows.proofs.ColumnKeys.{among-ordered}
 use Rattle.gms_rows.proofs.Domains.{given, only_value}
 use Rattle.gms_rows.proofs.KeyLists.{tied-turned, keys-ordered}
@@ -95,18 +95,18 @@ form-entries point form =
 
 module _ (point : Key → Number) (keys : List Key) (up : AreOrdered keys) where
   -- the value of a column is that of its element
-  value-there : (key : Key) → is_among keys key ≡ true → number_of (map point keys) (place_of keys key) ≡ point key
+  value-there : (key : Key) → is_among keys key ≡ true → value_of_column (map point keys) (place_of_key keys key) ≡ point key
   value-there key there =
       let at = stands-in_place keys up key there in
-      get_or-map point keys (place_of keys key) key (whole (pos 0)) at.0 ∙ ap point (at.1 key)
+      get_or-map point keys (place_of_key keys key) key (whole (pos 0)) at.0 ∙ ap point (at.1 key)
 
   -- the sum of a placed row is that of its form's entries
-  placed-sum : (form : Form) → All (λ key. is_among keys key ≡ true) (finite.keys form.numbers) → row_sum (λ (x : Number). x) (map {B = ℕ × Number} (λ entry. (place_of keys entry.0, entry.1)) (finite.entries form.numbers)) (map point keys) ≡ sum_by_ℚ (λ key. number_of_key form key *ℚ point key) (finite.keys form.numbers)
+  placed-sum : (form : Form) → All (λ key. is_among keys key ≡ true) (finite.keys form.numbers) → row_sum (λ (x : Number). x) (map {B = ℕ × Number} (λ entry. (place_of_key keys entry.0, entry.1)) (finite.entries form.numbers)) (map point keys) ≡ sum_by_ℚ (λ key. number_of_key form key *ℚ point key) (finite.keys form.numbers)
   placed-sum form there =
       let es = finite.entries form.numbers in
       let all = all-of_map (λ (e : Key × Number). e.0) (λ key. is_among keys key ≡ true) es there in
-      sum_by_ℚ-map (λ (e : ℕ × Number). e.1 *ℚ number_of (map point keys) e.0) (λ (entry : Key × Number). (place_of keys entry.0, entry.1)) es
-      ∙ sum_by_ℚ_same (λ (e : Key × Number). e.1 *ℚ number_of (map point keys) (place_of keys e.0)) (λ (e : Key × Number). e.1 *ℚ point e.0) es (λ k d below. ap (λ y. (get_or es k d).1 *ℚ y) (value-there (get_or es k d).0 (all k d below)))
+      sum_by_ℚ-map (λ (e : ℕ × Number). e.1 *ℚ value_of_column (map point keys) e.0) (λ (entry : Key × Number). (place_of_key keys entry.0, entry.1)) es
+      ∙ sum_by_ℚ_same (λ (e : Key × Number). e.1 *ℚ value_of_column (map point keys) (place_of_key keys e.0)) (λ (e : Key × Number). e.1 *ℚ point e.0) es (λ k d below. ap (λ y. (get_or es k d).1 *ℚ y) (value-there (get_or es k d).0 (all k d below)))
       ∙ sym (form-entries point form)
 
 -- ---- a right side, and the two sides of a definition
@@ -142,13 +142,13 @@ module _ {F : Type 0} (v : F → Number) (limit : ℕ) (state : State) (point : 
   Kept row = KeepsRow (λ (x : Number). x) (placed keys row) (map point keys)
 
   module _ (d : Definition F) (linear : IsLinearDefinition state d) (b : Pairs) where
-    form-kept : (form : Form) → row_form v limit state d b ≡ Ok form → All (λ key. is_among keys key ≡ true) (finite.keys form.numbers) → KeepsSense (sense_of d.side) (row_sum (λ (x : Number). x) (map {B = ℕ × Number} (λ entry. (place_of keys entry.0, entry.1)) (finite.entries form.numbers)) (map point keys)) (neg_ℚ form.constant) ↔ SidesCompare v limit state point d b
+    form-kept : (form : Form) → row_form v limit state d b ≡ Ok form → All (λ key. is_among keys key ≡ true) (finite.keys form.numbers) → KeepsSense (sense_of d.side) (row_sum (λ (x : Number). x) (map {B = ℕ × Number} (λ entry. (place_of_key keys entry.0, entry.1)) (finite.entries form.numbers)) (map point keys)) (neg_ℚ form.constant) ↔ SidesCompare v limit state point d b
     form-kept form e there =
-        let one = given (affine v limit state d.left_at b d.left) (λ left. affine v limit state d.right_at b d.right and_then λ right. sum_of limit d.right_at b true left right) form e in
-        let two = given (affine v limit state d.right_at b d.right) (λ right. sum_of limit d.right_at b true one.value right) form one.next_is in
+        let one = given (affine v limit state d.left_at b d.left) (λ left. affine v limit state d.right_at b d.right and_then λ right. sum_of_forms limit d.right_at b true left right) form e in
+        let two = given (affine v limit state d.right_at b d.right) (λ right. sum_of_forms limit d.right_at b true one.value right) form one.next_is in
         let l = form_at point one.value in
         let r = form_at point two.value in
-        let total = row_sum (λ (x : Number). x) (map {B = ℕ × Number} (λ entry. (place_of keys entry.0, entry.1)) (finite.entries form.numbers)) (map point keys) in
+        let total = row_sum (λ (x : Number). x) (map {B = ℕ × Number} (λ entry. (place_of_key keys entry.0, entry.1)) (finite.entries form.numbers)) (map point keys) in
         let same : l -ℚ r ≡ form.constant +ℚ total = sym (sum_of-at point one.value two.value limit d.right_at b true form two.next_is) ∙ ap (λ s. form.constant +ℚ s) (sym (placed-sum point keys up form there)) in
         let left = affine-at v limit state point d.left_at b d.left one.value linear.0 one.is in
         let right = affine-at v limit state point d.right_at b d.right two.value linear.1 two.is in
@@ -183,45 +183,45 @@ module _ {F : Type 0} (v : F → Number) (limit : ℕ) (state : State) (point : 
     abbrev Asked : List ℕ → Type 0
     Asked element = is_there (in_order (labels v limit state (bound_to d element) d.indices)) ≡ true → SidesCompare v limit state point d (bound_to d element)
 
-    there-first : (first : Option FormRow) (later : List (Option FormRow)) → All (HasKeys keys) (those_there (first ∷ later)) → HasWhere d linear [] first × All (HasKeys keys) (those_there later)
+    there-first : (first : Option FormRow) (later : List (Option FormRow)) → All (HasKeys keys) (present_rows (first ∷ later)) → HasWhere d linear [] first × All (HasKeys keys) (present_rows later)
     there-first None later all = (tt, all)
     there-first (Some row) later all =
-        (All-head (HasKeys keys) row (those_there later) all, All-tail (HasKeys keys) row (those_there later) all)
+        (All-head (HasKeys keys) row (present_rows later) all, All-tail (HasKeys keys) row (present_rows later) all)
 
-    more-kept : (element : List ℕ) (elements : List (List ℕ)) (first : Option FormRow) (later : List (Option FormRow)) → KeptWhere d linear [] first ↔ Asked element → All Kept (those_there later) ↔ All Asked elements → All Kept (those_there (first ∷ later)) ↔ All Asked (element ∷ elements)
+    more-kept : (element : List ℕ) (elements : List (List ℕ)) (first : Option FormRow) (later : List (Option FormRow)) → KeptWhere d linear [] first ↔ Asked element → All Kept (present_rows later) ↔ All Asked elements → All Kept (present_rows (first ∷ later)) ↔ All Asked (element ∷ elements)
     more-kept element elements None later here rest = (
       λ all. All-cons Asked element elements (here.0 tt) (rest.0 all),
       λ all. rest.1 (All-tail Asked element elements all),
     )
     more-kept element elements (Some row) later here rest = (
-      λ all. All-cons Asked element elements (here.0 (All-head Kept row (those_there later) all)) (rest.0 (All-tail Kept row (those_there later) all)),
-      λ all. All-cons Kept row (those_there later) (here.1 (All-head Asked element elements all)) (rest.1 (All-tail Asked element elements all)),
+      λ all. All-cons Asked element elements (here.0 (All-head Kept row (present_rows later) all)) (rest.0 (All-tail Kept row (present_rows later) all)),
+      λ all. All-cons Kept row (present_rows later) (here.1 (All-head Asked element elements all)) (rest.1 (All-tail Asked element elements all)),
     )
 
-    elements-kept : (elements : List (List ℕ)) (made : List (Option FormRow)) → in_order (map (row_of v limit state d) elements) ≡ Ok made → All (HasKeys keys) (those_there made) → All Kept (those_there made) ↔ All Asked elements
+    elements-kept : (elements : List (List ℕ)) (made : List (Option FormRow)) → in_order (map (row_of v limit state d) elements) ≡ Ok made → All (HasKeys keys) (present_rows made) → All Kept (present_rows made) ↔ All Asked elements
     elements-kept [] made e has =
-        subst (λ m. All Kept (those_there m) ↔ All Asked []) (only_value [] made e) (λ all. All-nil Asked, λ all. All-nil Kept)
+        subst (λ m. All Kept (present_rows m) ↔ All Asked []) (only_value [] made e) (λ all. All-nil Asked, λ all. All-nil Kept)
     elements-kept (element ∷ elements) made e has =
         let one = given (row_of v limit state d element) (λ z. in_order (map (row_of v limit state d) elements) and_then λ zs. Ok (z ∷ zs)) made e in
         let two = given (in_order (map (row_of v limit state d) elements)) (λ zs. Ok (one.value ∷ zs)) made one.next_is in
         let same : one.value ∷ two.value ≡ made = only_value (one.value ∷ two.value) made two.next_is in
-        let parts = there-first one.value two.value (subst (λ m. All (HasKeys keys) (those_there m)) (sym same) has) in
-        subst (λ m. All Kept (those_there m) ↔ All Asked (element ∷ elements)) same
+        let parts = there-first one.value two.value (subst (λ m. All (HasKeys keys) (present_rows m)) (sym same) has) in
+        subst (λ m. All Kept (present_rows m) ↔ All Asked (element ∷ elements)) same
         (more-kept element elements one.value two.value (labels-kept d linear (bound_to d element) (in_order (labels v limit state (bound_to d element) d.indices)) one.value one.is parts.0) (elements-kept elements two.value two.is parts.1))
 
-    definition-kept : (rows : List FormRow) → rows_of v limit state d ≡ Ok rows → All (HasKeys keys) rows → All Kept rows ↔ KeepsDefinition v limit state point d
+    definition-kept : (rows : List FormRow) → rows_of_definition v limit state d ≡ Ok rows → All (HasKeys keys) rows → All Kept rows ↔ KeepsDefinition v limit state point d
     definition-kept rows e has =
         let source = sourced v limit state d rows e in
         let all = elements-kept source.elements source.made source.answered (subst (All (HasKeys keys)) (sym source.is) has) in
         subst (λ those. All Kept those ↔ KeepsDefinition v limit state point d) source.is
         (λ those elements is. subst (All Asked) (only_value source.elements elements (sym source.domain ∙ is)) (all.0 those), λ keeps. all.1 (keeps source.elements source.domain))
 
-  model-kept : (ds : List (Definition F)) (those : List (List FormRow)) → All (IsLinearDefinition state) ds → in_order (map (rows_of v limit state) ds) ≡ Ok those → All (HasKeys keys) (flat_map (λ some. some) those) → All Kept (flat_map (λ some. some) those) ↔ All (KeepsDefinition v limit state point) ds
+  model-kept : (ds : List (Definition F)) (those : List (List FormRow)) → All (IsLinearDefinition state) ds → in_order (map (rows_of_definition v limit state) ds) ≡ Ok those → All (HasKeys keys) (flat_map (λ some. some) those) → All Kept (flat_map (λ some. some) those) ↔ All (KeepsDefinition v limit state point) ds
   model-kept [] those linear e has =
       subst (λ rows. All Kept (flat_map (λ some. some) rows) ↔ All (KeepsDefinition v limit state point) []) (only_value [] those e) (λ all. All-nil (KeepsDefinition v limit state point), λ all. All-nil Kept)
   model-kept (d ∷ ds) those linear e has =
-      let one = given (rows_of v limit state d) (λ z. in_order (map (rows_of v limit state) ds) and_then λ zs. Ok (z ∷ zs)) those e in
-      let two = given (in_order (map (rows_of v limit state) ds)) (λ zs. Ok (one.value ∷ zs)) those one.next_is in
+      let one = given (rows_of_definition v limit state d) (λ z. in_order (map (rows_of_definition v limit state) ds) and_then λ zs. Ok (z ∷ zs)) those e in
+      let two = given (in_order (map (rows_of_definition v limit state) ds)) (λ zs. Ok (one.value ∷ zs)) those one.next_is in
       let same : one.value ∷ two.value ≡ those = only_value (one.value ∷ two.value) those two.next_is in
       let later = flat_map (λ (some : List FormRow). some) two.value in
       let split : All (HasKeys keys) (one.value ++ later) = subst (λ rows. All (HasKeys keys) (flat_map (λ some. some) rows)) (sym same) has in
@@ -248,13 +248,13 @@ module _ (point : Key → Number) where
 
   module _ (columns : List (Column Number)) where
     abbrev Bounded : ℕ × Column Number → Type 0
-    Bounded p = KeepsBounds (λ (x : Number). x) p.1 (number_of (values_of columns) p.0)
+    Bounded p = KeepsBounds (λ (x : Number). x) p.1 (value_of_column (values_of columns) p.0)
 
     column-kept : (k : ℕ) (column : Column Number) → k < length columns → Bounded (0 + k, get_or columns k column) ↔ WithinColumn (get_or columns k column)
     column-kept k column below =
         let at = get_or columns k column in
         let place : 0 + k ≡ k = omega arith in
-        let value : number_of (values_of columns) (0 + k) ≡ point at.key = ap (number_of (values_of columns)) place ∙ get_or-map (λ (column : Column Number). point column.key) columns k column (whole (pos 0)) below in
+        let value : value_of_column (values_of columns) (0 + k) ≡ point at.key = ap (value_of_column (values_of columns)) place ∙ get_or-map (λ (column : Column Number). point column.key) columns k column (whole (pos 0)) below in
         subst (λ y. (KeepsLower (bound_value (λ (x : Number). x) at.lower) y × KeepsUpper (bound_value (λ (x : Number). x) at.upper) y) ↔ WithinColumn at) (sym value)
         (subst (λ l. (KeepsLower l (point at.key) × KeepsUpper (bound_value (λ (x : Number). x) at.upper) (point at.key)) ↔ WithinColumn at) (sym (same-bound at.lower))
         (subst (λ u. (KeepsLower at.lower (point at.key) × KeepsUpper u (point at.key)) ↔ WithinColumn at) (sym (same-bound at.upper)) (λ both. both, λ both. both)))
@@ -275,7 +275,7 @@ rows-in rows objective =
     let keys_in : FormRow → List Key = λ row. finite.keys row.form.numbers in
     All-weaker (λ row. All (λ key. is_among (flat_map keys_in rows) key ≡ true) (keys_in row)) (HasKeys (column_keys rows objective)) (λ row all. All-weaker (λ key. is_among (flat_map keys_in rows) key ≡ true) (λ key. is_among (column_keys rows objective) key ≡ true) (λ key there. among-ordered (objective ∷ flat_map keys_in rows) key ∙ ap (λ b. same_key key objective || b) there ∙ or-true (same_key key objective)) (keys_in row) all) rows (keys-there keys_in rows)
 
-sized-lp : (at : Place) (made lp : Lp Number) → sized at made ≡ Ok lp → made ≡ lp
+sized-lp : (at : Place) (made lp : Lp Number) → sized_program at made ≡ Ok lp → made ≡ lp
 sized-lp at made lp e = by (nat_lt 1500 (standard_rows made)) (nat_lt 3000 (standard_columns made)) e
   where
     by : (a b : Bool) → (if a then Err (too_many TooManyRows at (standard_rows made)) else if b then Err (too_many TooManyColumns at (standard_columns made)) else Ok made) ≡ Ok lp → made ≡ lp
@@ -322,8 +322,8 @@ module _ (state : State) (rows : List FormRow) (objective : Key) (maximize : Boo
 pub lp-feasible : {F : Type 0} (v : F → Number) (limit : ℕ) (state : State) (statements : List (Stmt F)) (model objective : ℕ) (maximize : Bool) (at : Place) (lp : Lp Number) (point : Key → Number) → All (IsLinearDefinition state) (definitions_of_model statements model) → program_lp v limit state statements model objective maximize at ≡ Ok lp → (KeepsModel v limit state point statements model × KeepsBoundsOf state point (column_elements lp)) ↔ Feasible (λ (x : Number). x) lp (map (λ (column : Column Number). point column.key) lp.columns)
 lp-feasible v limit state statements model objective maximize at lp point linear e =
     let key : Key = record { symbol = objective; tuple = [] } in
-    let one = given (rows_of_model v limit state statements model) (λ rows. sized at (program_of state rows key maximize)) lp e in
-    let two = given (in_order (map (rows_of v limit state) (definitions_of_model statements model))) (λ rows. Ok (flat_map (λ some. some) rows)) one.value one.is in
+    let one = given (rows_of_model v limit state statements model) (λ rows. sized_program at (program_of state rows key maximize)) lp e in
+    let two = given (in_order (map (rows_of_definition v limit state) (definitions_of_model statements model))) (λ rows. Ok (flat_map (λ some. some) rows)) one.value one.is in
     let rows : flat_map (λ some. some) two.value ≡ one.value = only_value (flat_map (λ some. some) two.value) one.value two.next_is in
     let up : AreOrdered (column_keys one.value key) = keys-ordered (finite.from_entries {R = key_cmp} (map (λ key. (key, true)) (key ∷ flat_map (λ row. finite.keys row.form.numbers) one.value))) in
     let has = subst (All (HasKeys (column_keys one.value key))) (sym rows) (rows-in one.value key) in

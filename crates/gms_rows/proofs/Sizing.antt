@@ -6,7 +6,7 @@ use Rattle.gq_number.specs.Number.{Number}
 use Rattle.gms_labels.specs.declared.place.Place.{Place}
 use Rattle.gms_eval.specs.Domain.{most_counted}
 use Rattle.gms_eval.specs.Faults.{Answer, Fault, nothing}
-use Rattle.gms_eval.specs.Gives.{Shows, Stops}
+use Rattle.gms_eval.specs.Gives.{Shows, ShowsStop}
 use Rattle.gms_eval.specs.declared.stop.StopKind.{StopKind}
 use Rattle.gms_eval.specs.declared.stop.StopKind.TheVariants.{TooManyRows, TooManyColumns}
 use Rattle.gms_eval.specs.declared.stop.ExecStopOrMemory.{ExecStopOrMemory}
@@ -20,7 +20,7 @@ use Rattle.lp_core.specs.declared.program.Row.{Row}
 use Rattle.lp_core.specs.declared.program.Lp.{Lp}
 use Rattle.gms_rows.specs.Rows.{FormRow}
 use Rattle.gms_rows.specs.declared.form_row.FormRow.{FormRow as OwnRow}
-use Rattle.gms_rows.specs.ProgramLp.{placed, too_many, sized}
+use Rattle.gms_rows.specs.ProgramLp.{placed, too_many, sized_program}
 use Rattle.gms_rows.specs.InnerWalks.{form_row_in}
 
 -- a sum over a mapped list
@@ -85,7 +85,7 @@ module _ {F : Type 0} (v : F → Number) where
 -- ---- programs that are too large
 
 -- a stop that shows a fault stops an answer that is this fault
-shows-stops : {F A : Type 0} (v : F → Number) (stop : ExecStopOrMemory F) (answer : Answer A) (fault : Fault) → answer ≡ Err fault → Shows v stop fault → Stops v stop answer
+shows-stops : {F A : Type 0} (v : F → Number) (stop : ExecStopOrMemory F) (answer : Answer A) (fault : Fault) → answer ≡ Err fault → Shows v stop fault → ShowsStop v stop answer
 shows-stops v Memory answer fault e s = tt
 shows-stops v (Stop stop) answer fault e s = e ∙ ap Err s
 
@@ -100,22 +100,22 @@ module _ {F : Type 0} (v : F → Number) (at : Place) (lp : Lp Number) (rows col
   abbrev by_rows : Bool → Answer (Lp Number)
   by_rows b = if b then Err (too_many TooManyRows at (standard_rows lp)) else by_columns (nat_lt 3000 (standard_columns lp))
 
-  few-rows : rows ≤ 1500 → sized at lp ≡ by_columns (nat_lt 3000 (standard_columns lp))
+  few-rows : rows ≤ 1500 → sized_program at lp ≡ by_columns (nat_lt 3000 (standard_columns lp))
   few-rows few = ap by_rows (le-ltb 1500 (standard_rows lp) (omega (arith, few, rows-are)))
 
   -- too many rows
-  pub sized-rows : (count : ℕ) (stop : ExecStopOrMemory F) → count ≡ min rows most_counted → 1500 < count → Shows v stop (record { kind = TooManyRows; at = at; binding = []; left = nothing; right = nothing; count = count }) → Stops v stop (sized at lp)
+  pub sized-rows : (count : ℕ) (stop : ExecStopOrMemory F) → count ≡ min rows most_counted → 1500 < count → Shows v stop (record { kind = TooManyRows; at = at; binding = []; left = nothing; right = nothing; count = count }) → ShowsStop v stop (sized_program at lp)
   sized-rows count stop is more s =
       let counted : min (standard_rows lp) most_counted ≡ count = omega (arith, is, rows-are) in
-      shows-stops v stop (sized at lp) (counted_fault TooManyRows at count) (ap by_rows (lt-ltb 1500 (standard_rows lp) (omega (arith, is, more, rows-are))) ∙ ap (λ n. Err (counted_fault TooManyRows at n)) counted) s
+      shows-stops v stop (sized_program at lp) (counted_fault TooManyRows at count) (ap by_rows (lt-ltb 1500 (standard_rows lp) (omega (arith, is, more, rows-are))) ∙ ap (λ n. Err (counted_fault TooManyRows at n)) counted) s
 
   -- too many columns
-  pub sized-columns : rows ≤ 1500 → (count : ℕ) (stop : ExecStopOrMemory F) → count ≡ min columns most_counted → 3000 < count → Shows v stop (record { kind = TooManyColumns; at = at; binding = []; left = nothing; right = nothing; count = count }) → Stops v stop (sized at lp)
+  pub sized-columns : rows ≤ 1500 → (count : ℕ) (stop : ExecStopOrMemory F) → count ≡ min columns most_counted → 3000 < count → Shows v stop (record { kind = TooManyColumns; at = at; binding = []; left = nothing; right = nothing; count = count }) → ShowsStop v stop (sized_program at lp)
   sized-columns few count stop is more s =
       let counted : min (standard_columns lp) most_counted ≡ count = omega (arith, is, columns-are) in
-      shows-stops v stop (sized at lp) (counted_fault TooManyColumns at count) (few-rows few ∙ ap by_columns (lt-ltb 3000 (standard_columns lp) (omega (arith, is, more, columns-are))) ∙ ap (λ n. Err (counted_fault TooManyColumns at n)) counted) s
+      shows-stops v stop (sized_program at lp) (counted_fault TooManyColumns at count) (few-rows few ∙ ap by_columns (lt-ltb 3000 (standard_columns lp) (omega (arith, is, more, columns-are))) ∙ ap (λ n. Err (counted_fault TooManyColumns at n)) counted) s
 
   -- neither
-  pub sized-few : rows ≤ 1500 → columns ≤ 3000 → sized at lp ≡ Ok lp
+  pub sized-few : rows ≤ 1500 → columns ≤ 3000 → sized_program at lp ≡ Ok lp
   sized-few few less =
       few-rows few ∙ ap by_columns (le-ltb 3000 (standard_columns lp) (omega (arith, less, columns-are)))

@@ -10,20 +10,20 @@ use Rattle.gms_ast.specs.declared.expression.Suffix.TheVariants as suffix
 use Rattle.gms_ast.specs.Trees.{Mark, signed}
 use Rattle.gms_ast.specs.Trees as tree
 use Rattle.gms_store.specs.State.{State, Content, variable_of, symbol_at}
-use Rattle.gms_eval.specs.Nodes.{Marked, Step, unmarked, chain, sum_step, product_step, in_order, each_holds}
+use Rattle.gms_eval.specs.Nodes.{Marked, ValueStep, unmarked, chain, sum_step, product_step, in_order, each_holds}
 use Rattle.gms_eval.specs.Bindings.{Pairs, controlled}
 use Rattle.gms_eval.specs.Faults.{Answer, nothing, faulted, ◌and_then◌}
 use Rattle.gms_eval.specs.References.{tuple_of}
 use Rattle.gms_eval.specs.Value.{value, values, labels, domain, sets_of}
 use Rattle.gms_eval.specs.declared.stop.StopKind.TheVariants.{Undefined}
-use Rattle.gms_rows.specs.Forms.{Form, constant_form, zero_form, column_form, sum_of, scaled, product_of, quotient_of}
+use Rattle.gms_rows.specs.Forms.{Form, constant_form, zero_form, column_form, sum_of_forms, scaled_form, product_of_forms, quotient_of}
 
 -- ---- what has variables
 
 -- whether a content is that of a variable
-abbrev pub is_variable : Content → Bool
-is_variable (variable_of type entries) = true
-is_variable content = false
+abbrev pub is_variable_content : Content → Bool
+is_variable_content (variable_of type entries) = true
+is_variable_content content = false
 
 -- whether a suffix is none
 abbrev pub is_plain : Suffix → Bool
@@ -35,7 +35,7 @@ module _ {F : Type 0} (state : State) where
     -- whether a variable occurs in an expression for its unknown value: outside conditions,
     -- relations, operands of logic and amounts of lags, where an accepted program has none
     pub has_variables : tree.Tree F → Bool
-    has_variables (tree.reference at name suffix indices) = is_plain suffix && is_variable (symbol_at state name).content
+    has_variables (tree.reference at name suffix indices) = is_plain suffix && is_variable_content (symbol_at state name).content
     has_variables (tree.fold_over at op control body) = has_variables body
     has_variables (tree.negated operand) = has_variables operand
     has_variables (tree.sum parts) = some_has_variables parts
@@ -60,9 +60,9 @@ form_of at binding (number x) = Ok (constant_form x)
 form_of at binding x = Err (faulted Undefined at binding x nothing)
 
 -- the place of a part
-abbrev pub place_of : Mark → Place
-place_of (signed at inverse) = at
-place_of mark = record { line = 0; column = 0 }
+abbrev pub part_place : Mark → Place
+part_place (signed at inverse) = at
+part_place mark = record { line = 0; column = 0 }
 
 -- whether a part is subtracted, or divides
 abbrev pub is_inverse : Mark → Bool
@@ -79,28 +79,28 @@ with_next join mark None form = Ok form
 with_next join mark (Some left) form = join mark left form
 
 -- the forms of parts joined in sequence to the form so far; without any, the form is 0
-abbrev pub joined : Join → Option Form → List (Mark × Answer Form) → Answer Form
-joined join so_far [] = Ok (unwrap_or so_far zero_form)
-joined join so_far (part ∷ parts) = part.1 and_then λ form. with_next join part.0 so_far form and_then λ next. joined join (Some next) parts
+abbrev pub joined_forms : Join → Option Form → List (Mark × Answer Form) → Answer Form
+joined_forms join so_far [] = Ok (unwrap_or so_far zero_form)
+joined_forms join so_far (part ∷ parts) = part.1 and_then λ form. with_next join part.0 so_far form and_then λ next. joined_forms join (Some next) parts
 
 -- the form of values, which has the place of the first: the number that they make from the left
-abbrev pub front : Pairs → Step → Marked → Answer (Option Form)
+abbrev pub front : Pairs → ValueStep → Marked → Answer (Option Form)
 front binding step [] = Ok None
-front binding step (first ∷ rest) = chain step (first ∷ rest) and_then λ x. form_of (place_of first.0) binding x and_then λ form. Ok (Some form)
+front binding step (first ∷ rest) = chain step (first ∷ rest) and_then λ x. form_of (part_place first.0) binding x and_then λ form. Ok (Some form)
 
 -- the first `count` values, and then each part by one step on forms
-abbrev pub chained : Pairs → Step → Join → ℕ → Marked → List (Mark × Answer Form) → Answer Form
-chained binding step join count values forms = front binding step (take count values) and_then λ so_far. joined join so_far (drop count forms)
+abbrev pub chained : Pairs → ValueStep → Join → ℕ → Marked → List (Mark × Answer Form) → Answer Form
+chained binding step join count values forms = front binding step (take count values) and_then λ so_far. joined_forms join so_far (drop count forms)
 
 module _ (limit : ℕ) (binding : Pairs) where
   -- the sum with the next part, or the difference
   abbrev pub plus : Join
-  plus mark left right = sum_of limit (place_of mark) binding (is_inverse mark) left right
+  plus mark left right = sum_of_forms limit (part_place mark) binding (is_inverse mark) left right
 
   -- the product with the next part, or the quotient: one of the two is a number
   abbrev pub times : Join
   times mark left right =
-      if is_inverse mark then quotient_of limit (place_of mark) binding left right.constant else product_of limit (place_of mark) binding left right
+      if is_inverse mark then quotient_of limit (part_place mark) binding left right.constant else product_of_forms limit (part_place mark) binding left right
 
 -- ---- expressions
 
@@ -111,8 +111,8 @@ element_form name (Some t) = column_form (record { symbol = name; tuple = t })
 
 module _ {F : Type 0} (number_of : F → Number) (limit : ℕ) (state : State) where
   -- the form of an expression without variables, whose first character is at a place: its value
-  abbrev pub constant_at : Place → Pairs → tree.Tree F → Answer Form
-  constant_at at binding e = value number_of limit state binding e and_then form_of at binding
+  abbrev pub form_of_constant : Place → Pairs → tree.Tree F → Answer Form
+  form_of_constant at binding e = value number_of limit state binding e and_then form_of at binding
 
   abbrev mutual
     -- the form of an expression with variables, whose first character is at a place
@@ -121,23 +121,23 @@ module _ {F : Type 0} (number_of : F → Number) (limit : ℕ) (state : State) w
         in_order (labels number_of limit state binding indices) and_then λ those. Ok (element_form name (tuple_of those))
     linear at binding (tree.fold_over place op control body) =
         domain number_of limit state binding place control and_then λ elements.
-        joined (plus limit binding) (Some zero_form) (map (λ element. (signed place false, linear place (controlled binding (sets_of control) element) body)) elements)
+        joined_forms (plus limit binding) (Some zero_form) (map (λ element. (signed place false, linear place (controlled binding (sets_of control) element) body)) elements)
     linear at binding (tree.negated operand) =
-        linear at binding operand and_then λ form. scaled limit at binding false form (neg_ℚ (whole (pos 1)))
+        linear at binding operand and_then λ form. scaled_form limit at binding false form (neg_ℚ (whole (pos 1)))
     linear at binding (tree.sum parts) =
         chained binding (sum_step limit binding) (plus limit binding) (in_front state parts) (values number_of limit state binding parts) (forms binding parts)
     linear at binding (tree.product parts) =
         chained binding (product_step limit binding) (times limit binding) (in_front state parts) (values number_of limit state binding parts) (forms binding parts)
     linear at binding (tree.guarded operand guards) =
         each_holds (unmarked (values number_of limit state binding guards)) and_then λ hold. if hold then linear at binding operand else Ok zero_form
-    linear at binding other = constant_at at binding other
+    linear at binding other = form_of_constant at binding other
 
     -- the forms of the parts of a sum or a product
     pub forms : Pairs → tree.Parts F → List (Mark × Answer Form)
     forms binding tree.no_part = []
     forms binding (tree.part mark part rest) =
-        (mark, (if has_variables state part then linear (place_of mark) binding part else constant_at (place_of mark) binding part)) ∷ forms binding rest
+        (mark, (if has_variables state part then linear (part_place mark) binding part else form_of_constant (part_place mark) binding part)) ∷ forms binding rest
 
   -- the affine form of an expression whose first character is at a place
   abbrev pub affine : Place → Pairs → tree.Tree F → Answer Form
-  affine at binding e = if has_variables state e then linear at binding e else constant_at at binding e
+  affine at binding e = if has_variables state e then linear at binding e else form_of_constant at binding e

@@ -18,12 +18,12 @@ use Rattle.gms_rows.specs.Plain.{ArePlain}
 use Rattle.gms_rows.specs.Rows.{Definition, FormRow, each_once, sets_among, sense_of, row_form}
 
 -- the sets of a definition
-abbrev pub sets_of : {F : Type 0} → Definition F → List ℕ
-sets_of d = each_once (sets_among d.indices)
+abbrev pub sets_of_definition : {F : Type 0} → Definition F → List ℕ
+sets_of_definition d = each_once (sets_among d.indices)
 
 -- the binding of an element
 abbrev pub bound_to : {F : Type 0} → Definition F → List ℕ → Pairs
-bound_to d element = controlled [] (sets_of d) element
+bound_to d element = controlled [] (sets_of_definition d) element
 
 -- the members of sets are in order
 abbrev pub AreInOrder : State → List ℕ → Type 0
@@ -33,7 +33,7 @@ AreInOrder state sets = All (λ set. IsOrdered (members_of state set)) sets
 -- in order and have one label each
 pub record HasPlainSets {F : Type 0} (state : State) (d : Definition F) : Type 0 where
   pub plain : ArePlain state d.indices
-  pub ordered : AreInOrder state (sets_of d)
+  pub ordered : AreInOrder state (sets_of_definition d)
 
 module _ {F : Type 0} (number_of : F → Number) (limit : ℕ) (state : State) where
   -- whether a condition, if any, holds for an element
@@ -47,7 +47,7 @@ module _ {F : Type 0} (number_of : F → Number) (limit : ℕ) (state : State) w
 
   -- A row of a definition is that of an element whose condition holds.
   pub record IsRowOf (d : Definition F) (row : FormRow) (element : List ℕ) : Type 0 where
-    pub there : has (elements state (sets_of d)) element ≡ true
+    pub there : has (elements state (sets_of_definition d)) element ≡ true
     pub holds : holds_for (bound_to d element) d.condition ≡ Ok true
     pub equation : row.key.symbol ≡ d.equation
     pub tuple : tuple_at d element ≡ Ok (Some row.key.tuple)

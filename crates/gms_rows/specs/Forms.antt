@@ -12,7 +12,7 @@ use Rattle.gms_eval.specs.declared.stop.StopKind.TheVariants.{Limit, Divide}
 use Rattle.lp_form.specs.declared.key.Key.{Key}
 use Rattle.lp_form.specs.Keys.{key_cmp}
 use Rattle.lp_form.specs.Affine.{Affine}
-use Rattle.lp_form.specs.Forms.{Step, sum_step, difference_step, product_step, quotient_step}
+use Rattle.lp_form.specs.Forms.{Step, sum_form_step, difference_step, product_form_step, quotient_step}
 
 -- A constant, and a number that is not 0 for each of finitely many elements of variables, in the
 -- order of keys.
@@ -86,9 +86,9 @@ abbrev pub entries_by : (Number → Number → Step) → Form → Number → Res
 entries_by step a x = entrywise (step a.constant x) (λ key. step (number_of_key a key) x) (finite.keys a.numbers)
 
 -- the number that a step reads: the constant of a form, or the number of a key
-abbrev pub entry_of : Form → Option Key → Extended
-entry_of form None = number form.constant
-entry_of form (Some key) = number (number_of_key form key)
+abbrev pub number_in_form : Form → Option Key → Extended
+number_in_form form None = number form.constant
+number_in_form form (Some key) = number (number_of_key form key)
 
 -- the form of steps at a place, or the fault Limit with the numbers of the step that does not fit
 abbrev pub where_fits : Place → Pairs → (Option Key → Extended) → (Option Key → Extended) → Result Form (Option Key) → Answer Form
@@ -97,23 +97,23 @@ where_fits at binding left right (Err key) = Err (faulted Limit at binding (left
 
 module _ (limit : ℕ) (at : Place) (binding : Pairs) where
   -- the sum of two forms, or their difference
-  abbrev pub sum_of : Bool → Form → Form → Answer Form
-  sum_of subtracts a b =
-      where_fits at binding (entry_of a) (entry_of b) (entries_of_two (if subtracts then difference_step limit else sum_step limit) a b)
+  abbrev pub sum_of_forms : Bool → Form → Form → Answer Form
+  sum_of_forms subtracts a b =
+      where_fits at binding (number_in_form a) (number_in_form b) (entries_of_two (if subtracts then difference_step limit else sum_form_step limit) a b)
 
   -- a form times a number, or over one that is not 0
-  abbrev pub scaled : Bool → Form → Number → Answer Form
-  scaled divides a x =
-      where_fits at binding (entry_of a) (λ key. number x) (entries_by (if divides then quotient_step limit else product_step limit) a x)
+  abbrev pub scaled_form : Bool → Form → Number → Answer Form
+  scaled_form divides a x =
+      where_fits at binding (number_in_form a) (λ key. number x) (entries_by (if divides then quotient_step limit else product_form_step limit) a x)
 
   -- a number times a form
   abbrev pub multiple : Number → Form → Answer Form
-  multiple x a = where_fits at binding (λ key. number x) (entry_of a) (entries_by (product_step limit) a x)
+  multiple x a = where_fits at binding (λ key. number x) (number_in_form a) (entries_by (product_form_step limit) a x)
 
   -- the product of two forms, one of which is a number
-  abbrev pub product_of : Form → Form → Answer Form
-  product_of a b = if is_number b then scaled false a b.constant else multiple a.constant b
+  abbrev pub product_of_forms : Form → Form → Answer Form
+  product_of_forms a b = if is_number b then scaled_form false a b.constant else multiple a.constant b
 
   -- a form over a number; over 0 there is none
   abbrev pub quotient_of : Form → Number → Answer Form
-  quotient_of a x = if is_not_zero x then scaled true a x else Err (faulted Divide at binding (number a.constant) (number x))
+  quotient_of a x = if is_not_zero x then scaled_form true a x else Err (faulted Divide at binding (number a.constant) (number x))

@@ -17,10 +17,10 @@ use Rattle.gms_ast.specs.Trees.{signed, Tree, Parts, Control}
 use Rattle.gms_ast.specs.declared.expression.Expr.{Expr}
 use Rattle.gms_ast.specs.declared.program.Stmt.{Stmt}
 use Rattle.gms_labels.specs.declared.place.Place.{Place}
-use Rattle.gms_rows.specs.Affine.{Join, joined, plus, times, chained, in_front, forms, affine}
+use Rattle.gms_rows.specs.Affine.{Join, joined_forms, plus, times, chained, in_front, forms, affine}
 use Rattle.gms_store.specs.State.{State}
 use Rattle.gms_rows.specs.ElementRows.{AreInOrder}
-use Rattle.gms_rows.specs.ProgramLp.{place_of}
+use Rattle.gms_rows.specs.ProgramLp.{place_of_key}
 use Rattle.gms_rows.specs.Rows.{FormRow, Definition, defined_at, definition_of, each_once, sets_among}
 use Rattle.gms_rows.specs.declared.equations.Definition.{Definition as OwnDefinition}
 use Rattle.gms_rows.specs.declared.form_row.FormRow.{FormRow as OwnRow}
@@ -57,7 +57,7 @@ module _ {F : Type 0} (number_of : F → Number) (limit : ℕ) (state : State) w
   -- each
   abbrev pub added_at : Place → Pairs → List ℕ → Tree F → Form → List (List ℕ) → Answer Form
   added_at at binding sets body so_far elements =
-      joined (plus limit binding) (Some so_far) (map (λ element. (signed at false, affine number_of limit state at (controlled binding sets element) body)) elements)
+      joined_forms (plus limit binding) (Some so_far) (map (λ element. (signed at false, affine number_of limit state at (controlled binding sets element) body)) elements)
 
   -- the form of a sum over a domain
   abbrev pub total_form : Place → Pairs → Control F → Tree F → Answer Form
@@ -145,4 +145,4 @@ pub record OrdersOnce {X : Type 0} (cmp : X → X → Ordering) (old new : List 
 abbrev pub placed_numbers : {F : Type 0} → List Key → List Key → List F → List (ℕ × F)
 placed_numbers columns [] numbers = []
 placed_numbers columns (key ∷ keys) [] = []
-placed_numbers columns (key ∷ keys) (x ∷ numbers) = (place_of columns key, x) ∷ placed_numbers columns keys numbers
+placed_numbers columns (key ∷ keys) (x ∷ numbers) = (place_of_key columns key, x) ∷ placed_numbers columns keys numbers

@@ -17,7 +17,7 @@ use Rattle.lp_core.specs.declared.program.Lp.{Lp}
 use Rattle.lp_core.specs.declared.program.Column.{Column}
 use Rattle.lp_form.specs.declared.key.Key.{Key}
 use Rattle.gms_rows.specs.Rows.{Definition, sense_of, definitions, definition_of, equations_of}
-use Rattle.gms_rows.specs.ElementRows.{sets_of, bound_to}
+use Rattle.gms_rows.specs.ElementRows.{sets_of_definition, bound_to}
 use Rattle.gms_rows.specs.PointValues.{value_at, is_linear}
 
 -- the definitions of the equations of a model, in order
@@ -47,7 +47,7 @@ module _ {F : Type 0} (number_of : F → Number) (limit : ℕ) (state : State) (
   -- a point satisfies a definition: for each element of its domain that has a tuple the two sides
   -- compare
   abbrev pub KeepsDefinition : Definition F → Type 0
-  KeepsDefinition d = (elements : List (List ℕ)) → domain number_of limit state [] d.at (control_over (sets_of d) d.condition) ≡ Ok elements →
+  KeepsDefinition d = (elements : List (List ℕ)) → domain number_of limit state [] d.at (control_over (sets_of_definition d) d.condition) ≡ Ok elements →
       All (λ element. is_there (in_order (labels number_of limit state (bound_to d element) d.indices)) ≡ true → SidesCompare d (bound_to d element)) elements
 
   -- a point satisfies a model: the definition of each of its equations

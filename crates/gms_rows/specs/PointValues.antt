@@ -13,7 +13,7 @@ use Rattle.gms_ast.specs.declared.expression.FoldOp.TheVariants.{Sum, Prod, Smin
 use Rattle.gms_ast.specs.Trees.{Mark, plain, signed}
 use Rattle.gms_ast.specs.Trees as tree
 use Rattle.gms_store.specs.State.{State}
-use Rattle.gms_eval.specs.Nodes.{Marked, Step, unmarked, chain, in_order, each_holds, start_of}
+use Rattle.gms_eval.specs.Nodes.{Marked, ValueStep, unmarked, chain, in_order, each_holds, start_of}
 use Rattle.gms_eval.specs.Nodes as nodes
 use Rattle.gms_eval.specs.Bindings.{Pairs, controlled}
 use Rattle.gms_eval.specs.Faults.{Answer, nothing, faulted, taken, ◌and_then◌}
@@ -49,13 +49,13 @@ exact_quotient x y = quotient 0 x y
 
 module _ (binding : Pairs) where
   -- a sum or a difference, by the sign before the right operand
-  abbrev pub exact_sum_step : Step
+  abbrev pub exact_sum_step : ValueStep
   exact_sum_step (signed at subtracts) x answer =
       answer and_then λ y. taken at binding x y (if subtracts then exact_difference x y else exact_sum x y)
   exact_sum_step mark x answer = answer
 
   -- a product or a quotient
-  abbrev pub exact_product_step : Step
+  abbrev pub exact_product_step : ValueStep
   exact_product_step (signed at divides) x answer =
       answer and_then λ y. taken at binding x y (if divides then exact_quotient x y else exact_product x y)
   exact_product_step mark x answer = answer
@@ -68,7 +68,7 @@ module _ (binding : Pairs) where
   exact_join Smax at x y = Ok (greater x y)
 
   -- a step of a fold
-  abbrev pub exact_fold_step : FoldOp → Place → Step
+  abbrev pub exact_fold_step : FoldOp → Place → ValueStep
   exact_fold_step op at mark x answer = answer and_then λ y. exact_join op at x y
 
   -- the values of a fold's bodies, joined in sequence
@@ -117,9 +117,9 @@ is_signed (signed at inverse) = true
 is_signed mark = false
 
 -- whether a fold is a sum
-abbrev pub is_sum : FoldOp → Bool
-is_sum Sum = true
-is_sum op = false
+abbrev pub is_sum_fold : FoldOp → Bool
+is_sum_fold Sum = true
+is_sum_fold op = false
 
 module _ {F : Type 0} (state : State) where
   -- of the factors after the first at most one has variables, and it does not divide
@@ -138,7 +138,7 @@ module _ {F : Type 0} (state : State) where
     -- whether an expression is linear in the variables: of a product at most one factor, and no
     -- divisor, has variables; of the folds, the body of a sum may
     pub is_linear : tree.Tree F → Bool
-    is_linear (tree.fold_over at op control body) = not (has_variables state body) || (is_sum op && is_linear body)
+    is_linear (tree.fold_over at op control body) = not (has_variables state body) || (is_sum_fold op && is_linear body)
     is_linear (tree.negated operand) = is_linear operand
     is_linear (tree.sum parts) = are_linear parts
     is_linear (tree.product parts) = are_linear parts && are_factors parts

@@ -19,16 +19,16 @@ use Rattle.lp_form.specs.Keys.{key_cmp, same_key}
 use Rattle.gms_rows.specs.Rows.{FormRow, rows_of_model}
 
 -- keys in order, without repetition
-abbrev pub ordered : List Key → List Key
-ordered keys = finite.keys (finite.from_entries {R = key_cmp} (map (λ key. (key, true)) keys))
+abbrev pub ordered_keys : List Key → List Key
+ordered_keys keys = finite.keys (finite.from_entries {R = key_cmp} (map (λ key. (key, true)) keys))
 
 -- the keys of the columns: the elements that occur in some row, and the objective
 abbrev pub column_keys : List FormRow → Key → List Key
-column_keys rows objective = ordered (objective ∷ flat_map (λ row. finite.keys row.form.numbers) rows)
+column_keys rows objective = ordered_keys (objective ∷ flat_map (λ row. finite.keys row.form.numbers) rows)
 
 -- the place of a key among keys
-abbrev pub place_of : List Key → Key → ℕ
-place_of keys key = unwrap_or (position (same_key key) keys) 0
+abbrev pub place_of_key : List Key → Key → ℕ
+place_of_key keys key = unwrap_or (position (same_key key) keys) 0
 
 -- a column: an element with its bounds
 abbrev pub column_of : State → Key → Column Number
@@ -38,13 +38,13 @@ column_of state key =
 -- a row: its numbers with the places of their columns, and on the right side the negated constant
 abbrev pub placed : List Key → FormRow → Row Number
 placed keys row =
-    record { key = row.key; sense = row.sense; right = neg_ℚ row.form.constant; entries = map (λ entry. (place_of keys entry.0, entry.1)) (finite.entries row.form.numbers) }
+    record { key = row.key; sense = row.sense; right = neg_ℚ row.form.constant; entries = map (λ entry. (place_of_key keys entry.0, entry.1)) (finite.entries row.form.numbers) }
 
 -- the linear program of rows with an objective
 abbrev pub program_of : State → List FormRow → Key → Bool → Lp Number
 program_of state rows objective maximize =
     let keys = column_keys rows objective in
-    record { columns = map (column_of state) keys; rows = map (placed keys) rows; objective = place_of keys objective; maximize = maximize }
+    record { columns = map (column_of state) keys; rows = map (placed keys) rows; objective = place_of_key keys objective; maximize = maximize }
 
 -- ---- the size of its standard form
 
@@ -55,8 +55,8 @@ too_many kind at count =
 
 -- a linear program of over 1,500 standard rows, or else of over 3,000 standard columns, is a fault
 -- at the solve
-abbrev pub sized : Place → Lp Number → Answer (Lp Number)
-sized at lp =
+abbrev pub sized_program : Place → Lp Number → Answer (Lp Number)
+sized_program at lp =
     if nat_lt 1500 (standard_rows lp) then Err (too_many TooManyRows at (standard_rows lp)) else
     if nat_lt 3000 (standard_columns lp) then Err (too_many TooManyColumns at (standard_columns lp)) else
     Ok lp
@@ -65,4 +65,4 @@ sized at lp =
 -- variable without indices.
 abbrev pub program_lp : {F : Type 0} → (F → Number) → ℕ → State → List (Stmt F) → ℕ → ℕ → Bool → Place → Answer (Lp Number)
 program_lp number_of limit state statements model objective maximize at =
-    rows_of_model number_of limit state statements model and_then λ rows. sized at (program_of state rows (record { symbol = objective; tuple = [] }) maximize)
+    rows_of_model number_of limit state statements model and_then λ rows. sized_program at (program_of state rows (record { symbol = objective; tuple = [] }) maximize)

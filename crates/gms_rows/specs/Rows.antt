@@ -23,7 +23,7 @@ use Rattle.gms_eval.specs.Value.{labels, domain, control_over}
 use Rattle.lp_core.specs.declared.program.Sense.{Sense}
 use Rattle.lp_core.specs.declared.program.Sense.TheVariants as sense
 use Rattle.lp_form.specs.declared.key.Key.{Key}
-use Rattle.gms_rows.specs.Forms.{Form, sum_of}
+use Rattle.gms_rows.specs.Forms.{Form, sum_of_forms}
 use Rattle.gms_rows.specs.Affine.{affine}
 
 -- ---- equations
@@ -47,19 +47,19 @@ pub record Definition (F : Type 0) : Type 0 where
   pub right : tree.Tree F
 
 -- the equations of a declared model: those that are listed, or all that were declared before
-abbrev pub listed : List ℕ → ModelDecl → List ℕ
-listed declared model = if model.all then declared else each_once (map (λ (equation : Named). equation.name) model.equations)
+abbrev pub listed_equations : List ℕ → ModelDecl → List ℕ
+listed_equations declared model = if model.all then declared else each_once (map (λ (equation : Named). equation.name) model.equations)
 
 -- the equations of the first of these models that has a name
 abbrev pub found : List ℕ → ℕ → List ModelDecl → Option (List ℕ)
 found declared name [] = None
-found declared name (model ∷ models) = if model.named.name == name then Some (listed declared model) else found declared name models
+found declared name (model ∷ models) = if model.named.name == name then Some (listed_equations declared model) else found declared name models
 
 module _ {F : Type 0} where
   -- the equations that an act declares, in order
-  abbrev pub declared_by : Act F → List ℕ
-  declared_by (Declare declaring.Equation items) = map (λ (item : Decl F). item.named.name) items
-  declared_by act = []
+  abbrev pub equations_declared_by : Act F → List ℕ
+  equations_declared_by (Declare declaring.Equation items) = map (λ (item : Decl F). item.named.name) items
+  equations_declared_by act = []
 
   -- whether an index has a lag
   abbrev pub has_lag : tree.Indices F → Bool
@@ -100,7 +100,7 @@ module _ {F : Type 0} where
   equations_from declared name (s ∷ statements) =
       elim (found (each_once declared) name (models_of s.act)) [
         | Some equations ↦ equations
-        | None ↦ equations_from (declared ++ declared_by s.act) name statements
+        | None ↦ equations_from (declared ++ equations_declared_by s.act) name statements
       ]
 
   -- the equations of a model, in order
@@ -136,10 +136,10 @@ pub record FormRow : Type 0 where
   pub form : Form
 
 -- the rows that exist
-abbrev pub those_there : List (Option FormRow) → List FormRow
-those_there [] = []
-those_there (None ∷ rest) = those_there rest
-those_there (Some row ∷ rest) = row ∷ those_there rest
+abbrev pub present_rows : List (Option FormRow) → List FormRow
+present_rows [] = []
+present_rows (None ∷ rest) = present_rows rest
+present_rows (Some row ∷ rest) = row ∷ present_rows rest
 
 module _ {F : Type 0} (number_of : F → Number) (limit : ℕ) (state : State) where
   -- the form of a row under a binding; the step between the two sides has the place of the right
@@ -148,7 +148,7 @@ module _ {F : Type 0} (number_of : F → Number) (limit : ℕ) (state : State) w
   row_form d binding =
       affine number_of limit state d.left_at binding d.left and_then λ left.
       affine number_of limit state d.right_at binding d.right and_then λ right.
-      sum_of limit d.right_at binding true left right
+      sum_of_forms limit d.right_at binding true left right
 
   -- the row of an element, if it exists
   abbrev pub row_under : Definition F → Pairs → Answer (Option FormRow)
@@ -160,13 +160,13 @@ module _ {F : Type 0} (number_of : F → Number) (limit : ℕ) (state : State) w
       ]
 
   -- the rows of a definition: one for each element of its domain, and no other
-  abbrev pub rows_of : Definition F → Answer (List FormRow)
-  rows_of d =
+  abbrev pub rows_of_definition : Definition F → Answer (List FormRow)
+  rows_of_definition d =
       let sets = each_once (sets_among d.indices) in
       domain number_of limit state [] d.at (control_over sets d.condition) and_then λ elements.
-      in_order (map (λ element. row_under d (controlled [] sets element)) elements) and_then λ rows. Ok (those_there rows)
+      in_order (map (λ element. row_under d (controlled [] sets element)) elements) and_then λ rows. Ok (present_rows rows)
 
   -- the rows of a model, equation by equation, or the first fault
   abbrev pub rows_of_model : List (Stmt F) → ℕ → Answer (List FormRow)
   rows_of_model statements model =
-      in_order (map rows_of (flat_map (definition_of (definitions statements)) (equations_of statements model))) and_then λ rows. Ok (flat_map (λ some. some) rows)
+      in_order (map rows_of_definition (flat_map (definition_of (definitions statements)) (equations_of statements model))) and_then λ rows. Ok (flat_map (λ some. some) rows)

@@ -3,9 +3,9 @@ ghost use Rattle.std.specs.Prelude.{◌≡◌, ◌++◌, ◌<◌, ◌^◌, [], m
 ghost use Rattle.std.specs.List.{All};
 ghost use Rattle.lp_form.specs.Affine.{IsForm};
 ghost use Rattle.lp_form.specs.Keys.{AreOrdered};
-ghost use Rattle.lp_core.specs.WellFormed.{AreEntries};
+ghost use Rattle.lp_core.specs.WellFormed.{AreRowEntries};
 ghost use Rattle.lp_core.specs.Numbers.{column_numbers, row_numbers};
-ghost use Rattle.gms_rows.specs.ProgramLp.{column_keys, column_of, place_of, placed};
+ghost use Rattle.gms_rows.specs.ProgramLp.{column_keys, column_of, place_of_key, placed};
 ghost use Rattle.gms_rows.specs.InnerWalks.{form_row_in, is_among, placed_numbers, OrdersOnce};
 
 use crate::form_row::FormRow;
@@ -61,7 +61,7 @@ pub(crate) fn place_of(keys: &[Key], key: &Key) -> u32
     requires ordered { AreOrdered keys.now }
     requires there { is_among keys.now key.now ≡ true }
     requires few { length keys.now < 2 ^ 32 }
-    ensures { result ≡ place_of keys.now key.now }
+    ensures { result ≡ place_of_key keys.now key.now }
 {
     match keys.binary_search(key) {
         Ok(place) => place as u32,
@@ -99,7 +99,7 @@ pub(crate) fn placed_rows<F: ExactField>(
     requires there { All (λ row. All (λ key. is_among keys.now key ≡ true) row.form.keys) rows.now }
     requires few { length keys.now < 2 ^ 32 }
     ensures rows { IfOk result (λ made. map (row_numbers F.value) made.items ≡ map (placed keys.now) (map (form_row_in F.value) rows.now)) }
-    ensures entries { IfOk result (λ made. All (λ row. AreEntries F.value (length keys.now) row.entries) made.items) }
+    ensures entries { IfOk result (λ made. All (λ row. AreRowEntries F.value (length keys.now) row.entries) made.items) }
 {
     let mut placed = Vec::new(alloc);
     for row in rows {

@@ -2,7 +2,7 @@
 ghost use Rattle.std.specs.Prelude.{◌≡◌, ℕ, List, ◌++◌, map, option_map, option_to_list, slice_index_or, None, IfOk, OnOk};
 ghost use Rattle.gms_ast.specs.Trees.{no_index};
 ghost use Rattle.gms_ast.specs.TreeView.{index_tree, indices_of};
-ghost use Rattle.gms_rows.specs.Rows.{each_once, listed, found, declared_by, models_of, has_lag, Definition as Defined, defined_at, definition_of, definitions, equations_of};
+ghost use Rattle.gms_rows.specs.Rows.{each_once, listed_equations, found, equations_declared_by, models_of, has_lag, Definition as Defined, defined_at, definition_of, definitions, equations_of};
 ghost use Rattle.gms_rows.specs.InnerWalks.{AreNoted, found_in, noted_by};
 
 use crate::names::{Names, reach};
@@ -154,7 +154,7 @@ pub(crate) fn noted_statements<'s, F: ExactField>(
 /// The equations of a model: those that are listed, without repetition, or all that were declared
 /// before it.
 fn listed(alloc: Global, model: &ModelDecl, declared: &[u32]) -> Result<Vec<u32>, AllocError>
-    ensures { IfOk result (λ equations. equations.items ≡ listed declared.now model.now) }
+    ensures { IfOk result (λ equations. equations.items ≡ listed_equations declared.now model.now) }
 {
     if model.all {
         return Vec::from_slice(alloc, declared);
@@ -212,7 +212,7 @@ fn push_names<F: ExactField>(names: &mut Names, items: &[Decl<F>]) -> Result<(),
 /// Adds the equations that an act declares, without repetition.
 fn push_declared<F: ExactField>(names: &mut Names, act: &Act<F>) -> Result<(), AllocError>
     ensures { (before : List ℕ) → names.old ≡ each_once before →
-        OnOk result (names.new ≡ each_once (before ++ declared_by act.now)) }
+        OnOk result (names.new ≡ each_once (before ++ equations_declared_by act.now)) }
 {
     match act {
         Act::Declare {

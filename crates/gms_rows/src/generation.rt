@@ -7,8 +7,8 @@ ghost use Rattle.gms_eval.specs.Nodes.{in_order};
 ghost use Rattle.gms_eval.specs.Faults.{◌and_then◌};
 ghost use Rattle.gms_eval.specs.Gives.{Gives};
 ghost use Rattle.gms_rows.specs.Plain.{HasPlainDefinitions};
-ghost use Rattle.gms_rows.specs.ProgramLp.{program_lp, program_of, sized};
-ghost use Rattle.gms_rows.specs.Rows.{Definition, definitions, definition_of, equations_of, rows_of, rows_of_model};
+ghost use Rattle.gms_rows.specs.ProgramLp.{program_lp, program_of, sized_program};
+ghost use Rattle.gms_rows.specs.Rows.{Definition, definitions, definition_of, equations_of, rows_of_definition, rows_of_model};
 ghost use Rattle.gms_rows.specs.InnerWalks.{AreNoted, form_row_in, HaveOrder};
 
 use crate::columns::{columns_of, keys_of, place_of, placed_rows};
@@ -35,7 +35,7 @@ fn push_equation<'s, F: ExactField>(
     rows: &mut Vec<FormRow<F>>,
 ) -> Result<(), ExecStopOrMemory<F>>
     ensures rows { (ds : List (Definition F)) → AreNoted noted.now ds → Gives F.value (λ _. map (form_row_in F.value) rows.new.items) result
-        (in_order (map (rows_of F.value F.limit store.now) (definition_of ds equation)) and_then λ those. Ok (map (form_row_in F.value) rows.old.items ++ flat_map (λ some. some) those)) }
+        (in_order (map (rows_of_definition F.value F.limit store.now) (definition_of ds equation)) and_then λ those. Ok (map (form_row_in F.value) rows.old.items ++ flat_map (λ some. some) those)) }
     ensures ordered { (ds : List (Definition F)) → AreNoted noted.now ds → OnOk result (HaveOrder store.now (definition_of ds equation)) }
 {
     match noted_definition(noted, equation) {
@@ -75,7 +75,7 @@ fn program_of<F: ExactField>(
     at: Place,
 ) -> Result<Lp<F>, ExecStopOrMemory<F>>
     ensures program { Gives F.value (lp_numbers F.value) result
-        (sized at (program_of store.now (map (form_row_in F.value) rows.now) (record { symbol = objective; tuple = [] }) maximize)) }
+        (sized_program at (program_of store.now (map (form_row_in F.value) rows.now) (record { symbol = objective; tuple = [] }) maximize)) }
     ensures formed { AllPairs (λ a b. a.key ≢ b.key) rows.now → IfOk result (IsWellFormed F.value) }
 {
     let keys = keys_of(alloc, rows, objective)?;

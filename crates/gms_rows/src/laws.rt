@@ -16,13 +16,13 @@ ghost use Rattle.lp_core.specs.Feasible.{Feasible};
 ghost use Rattle.lp_core.specs.declared.program.Column.{Column};
 ghost use Rattle.lp_core.specs.declared.program.Lp.{Lp};
 ghost use Rattle.gms_rows.specs.Affine.{affine};
-ghost use Rattle.gms_rows.specs.ElementRows.{sets_of, bound_to, holds_for, tuple_at, IsRowOf, HasPlainSets};
-ghost use Rattle.gms_rows.specs.Forms.{Form, is_number, sum_of, product_of, quotient_of};
+ghost use Rattle.gms_rows.specs.ElementRows.{sets_of_definition, bound_to, holds_for, tuple_at, IsRowOf, HasPlainSets};
+ghost use Rattle.gms_rows.specs.Forms.{Form, is_number, sum_of_forms, product_of_forms, quotient_of};
 ghost use Rattle.gms_rows.specs.ModelPoints.{IsLinearDefinition, KeepsBoundsOf, KeepsModel, column_elements, definitions_of_model};
 ghost use Rattle.gms_rows.specs.Points.{form_at};
 ghost use Rattle.gms_rows.specs.PointValues.{is_linear, value_at};
 ghost use Rattle.gms_rows.specs.ProgramLp.{program_lp};
-ghost use Rattle.gms_rows.specs.Rows.{Definition, FormRow, rows_of};
+ghost use Rattle.gms_rows.specs.Rows.{Definition, FormRow, rows_of_definition};
 
 use gq_field::ExactField;
 
@@ -33,16 +33,16 @@ use gq_field::ExactField;
 /// Guide, "Equations", "Conditional Equations".
 pub fn row_laws<F: ExactField>()
     ensures sources { (state : State) (d : Definition F) (rows : List FormRow) → HasPlainSets state d →
-        rows_of F.value F.limit state d ≡ Ok rows →
+        rows_of_definition F.value F.limit state d ≡ Ok rows →
         All (λ row. (element : List ℕ) × IsRowOf F.value F.limit state d row element) rows }
     ensures one { (state : State) (d : Definition F) (rows : List FormRow) (element tuple : List ℕ) (holds : Bool) → HasPlainSets state d →
-        rows_of F.value F.limit state d ≡ Ok rows →
-        has (elements state (sets_of d)) element ≡ true →
+        rows_of_definition F.value F.limit state d ≡ Ok rows →
+        has (elements state (sets_of_definition d)) element ≡ true →
         holds_for F.value F.limit state (bound_to d element) d.condition ≡ Ok holds →
         tuple_at F.value F.limit state d element ≡ Ok (Some tuple) →
         count_by (λ row. same_tuple row.key.tuple tuple) rows ≡ (if holds then 1 else 0) }
     ensures differ { (state : State) (d : Definition F) (rows : List FormRow) → HasPlainSets state d →
-        rows_of F.value F.limit state d ≡ Ok rows →
+        rows_of_definition F.value F.limit state d ≡ Ok rows →
         AllPairs (λ a b. a.key ≢ b.key) rows }
 {}
 
@@ -52,11 +52,11 @@ pub fn row_laws<F: ExactField>()
 /// Programming", chapter 1.
 pub fn form_laws<F: ExactField>()
     ensures sum { (point : Key → Number) (at : Place) (b : Pairs) (subtracts : Bool) (left right form : Form) →
-        sum_of F.limit at b subtracts left right ≡ Ok form →
+        sum_of_forms F.limit at b subtracts left right ≡ Ok form →
         form_at point form ≡ (if subtracts then form_at point left -ℚ form_at point right else form_at point left +ℚ form_at point right) }
     ensures product { (point : Key → Number) (at : Place) (b : Pairs) (left right form : Form) →
         (is_number left || is_number right) ≡ true →
-        product_of F.limit at b left right ≡ Ok form →
+        product_of_forms F.limit at b left right ≡ Ok form →
         form_at point form ≡ form_at point left *ℚ form_at point right }
     ensures quotient { (point : Key → Number) (at : Place) (b : Pairs) (left form : Form) (x : Number) →
         quotient_of F.limit at b left x ≡ Ok form →

@@ -8,7 +8,7 @@ ghost use Rattle.gms_eval.specs.Gives.{Gives};
 ghost use Rattle.gms_eval.specs.Nodes.{in_order, signed_step};
 ghost use Rattle.gms_eval.specs.References.{tuple_of};
 ghost use Rattle.gms_eval.specs.Value.{value, labels};
-ghost use Rattle.gms_rows.specs.Affine.{affine, constant_at, element_form, form_of, front, with_next};
+ghost use Rattle.gms_rows.specs.Affine.{affine, form_of_constant, element_form, form_of, front, with_next};
 ghost use Rattle.gms_rows.specs.Forms.{form_in};
 ghost use Rattle.gms_rows.specs.InnerWalks.{parts_in, added_at, chain_form, signed_join, total_form};
 
@@ -23,8 +23,7 @@ use gms_store::Store;
 use gms_tuple::Tuple;
 use gq_extended::Ext;
 use gq_field::ExactField;
-use lp_form::{Form, Key};
-use lp_sum::FormSum;
+use lp_form::{Form, FormSum, Key};
 use std::alloc::Global;
 
 /// The affine form of an expression in a state, where its controlled sets stand for the labels of a
@@ -101,7 +100,7 @@ fn constant<F: ExactField>(
     at: Place,
     b: &Binding,
 ) -> Result<Form<F>, ExecStopOrMemory<F>>
-    ensures { Gives F.value (form_in F.value) result (constant_at F.value F.limit store.now at b.now (tree_of e.now)) }
+    ensures { Gives F.value (form_in F.value) result (form_of_constant F.value F.limit store.now at b.now (tree_of e.now)) }
 {
     let value = value(alloc, store, e, b)?;
     number(alloc, value, at, b)

@@ -3,7 +3,7 @@ ghost use Rattle.std.specs.Prelude.{◌≡◌, ◌∷◌, [], ◌++◌, map, Ok,
 ghost use Rattle.gms_ast.specs.TreeView.{index_tree, indices_of};
 ghost use Rattle.gms_eval.specs.Faults.{◌and_then◌};
 ghost use Rattle.gms_eval.specs.Gives.{Gives};
-ghost use Rattle.gms_rows.specs.Rows.{each_once, sets_among, sense_of, those_there, row_under, rows_of};
+ghost use Rattle.gms_rows.specs.Rows.{each_once, sets_among, sense_of, present_rows, row_under, rows_of_definition};
 ghost use Rattle.gms_rows.specs.InnerWalks.{with_once, definition_in, form_row_in, HaveOrder};
 ghost use Rattle.gms_rows.specs.ElementRows.{AreInOrder};
 
@@ -90,7 +90,7 @@ fn push_row<F: ExactField>(
     row: Option<FormRow<F>>,
 ) -> Result<(), AllocError>
     ensures { OnOk result (map (form_row_in F.value) rows.new.items
-        ≡ map (form_row_in F.value) rows.old.items ++ those_there (option_map (form_row_in F.value) row ∷ [])) }
+        ≡ map (form_row_in F.value) rows.old.items ++ present_rows (option_map (form_row_in F.value) row ∷ [])) }
 {
     if let Some(row) = row {
         rows.push(row)?;
@@ -115,7 +115,7 @@ pub(crate) fn push_rows<F: ExactField>(
     rows: &mut Vec<FormRow<F>>,
 ) -> Result<(), ExecStopOrMemory<F>>
     ensures rows { Gives F.value (λ _. map (form_row_in F.value) rows.new.items) result
-        (rows_of F.value F.limit store.now (definition_in definition.now) and_then λ those. Ok (map (form_row_in F.value) rows.old.items ++ those)) }
+        (rows_of_definition F.value F.limit store.now (definition_in definition.now) and_then λ those. Ok (map (form_row_in F.value) rows.old.items ++ those)) }
     ensures ordered { OnOk result (HaveOrder store.now (definition_in definition.now ∷ [])) }
 {
     let sets = sets_of(alloc, definition.indices)?;

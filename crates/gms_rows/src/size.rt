@@ -7,7 +7,7 @@ ghost use Rattle.lp_core.specs.declared.program.Lp.{Lp};
 ghost use Rattle.gms_eval.specs.Domain.{most_counted};
 ghost use Rattle.gms_eval.specs.Faults.{nothing};
 ghost use Rattle.gms_eval.specs.Gives.{Gives, Shows};
-ghost use Rattle.gms_rows.specs.ProgramLp.{sized};
+ghost use Rattle.gms_rows.specs.ProgramLp.{sized_program};
 
 use crate::form_row::FormRow;
 use gms_eval::{Binding, ExecStopOrMemory, StopKind};
@@ -53,7 +53,7 @@ pub(crate) fn check_size<F: ExactField>(
     ensures stop { (lp : Lp Number) →
         standard_rows lp ≡ sum_by (λ row. rows_of_sense row.sense) rows.now + sum_by (λ column. rows_of_bounds column.lower column.upper) columns.now →
         standard_columns lp ≡ sum_by (λ column. variables_of_bounds column.lower column.upper) columns.now →
-        Gives F.value (λ _. lp) result (sized at lp) }
+        Gives F.value (λ _. lp) result (sized_program at lp) }
     ensures rows { OnOk result (sum_by (λ row. rows_of_sense row.sense) rows.now + sum_by (λ column. rows_of_bounds column.lower column.upper) columns.now ≤ 1500) }
     ensures columns { OnOk result (sum_by (λ column. variables_of_bounds column.lower column.upper) columns.now ≤ 3000) }
 {

@@ -3,22 +3,21 @@ ghost use Rattle.std.specs.Prelude.{◌≡◌, IfOk, OnErr, false, if◌then◌e
 ghost use Rattle.std.specs.Result.{result_map_both};
 ghost use Rattle.gq_extended.specs.Extended.{number};
 ghost use Rattle.gq_extended.specs.Meaning.{extended};
-ghost use Rattle.lp_form.specs.Forms.{sum_step, difference_step};
+ghost use Rattle.lp_form.specs.Forms.{sum_form_step, difference_step};
 ghost use Rattle.gms_eval.specs.Gives.{Gives};
-ghost use Rattle.gms_rows.specs.Forms.{form_in, entry_of, entries_of_two, sum_of, scaled, multiple, product_of, quotient_of};
+ghost use Rattle.gms_rows.specs.Forms.{form_in, number_in_form, entries_of_two, sum_of_forms, scaled_form, multiple, product_of_forms, quotient_of};
 ghost use Rattle.gms_rows.specs.InnerWalks.{Told, ShowsFault};
 
 use gms_eval::{Binding, ExecStopOrMemory, StopKind};
 use gms_labels::Place;
 use gq_extended::Ext;
 use gq_field::ExactField;
-use lp_form::{Form, FormFault, Key};
-use lp_sum::FormSum;
+use lp_form::{Form, FormFault, FormSum, Key};
 use std::alloc::{AllocError, Global};
 
 /// The number that a step reads: the constant of a form, or the number of a key.
 fn entry<F: ExactField>(form: &Form<F>, key: &Option<Key>) -> Ext<F>
-    ensures { extended F.value result ≡ entry_of (form_in F.value form.now) key.now }
+    ensures { extended F.value result ≡ number_in_form (form_in F.value form.now) key.now }
 {
     let _ = form.keys();
     match key {
@@ -37,7 +36,7 @@ fn of_two<F: ExactField>(
     at: Place,
     b: &Binding,
 ) -> ExecStopOrMemory<F>
-    ensures { ShowsFault F.value at b.now (entry_of (form_in F.value left.now)) (entry_of (form_in F.value right.now)) fault result }
+    ensures { ShowsFault F.value at b.now (number_in_form (form_in F.value left.now)) (number_in_form (form_in F.value right.now)) fault result }
 {
     match fault {
         FormFault::Memory => ExecStopOrMemory::Memory,
@@ -57,7 +56,7 @@ fn increase<F: ExactField>(
     subtracts: bool,
 ) -> Result<(), FormFault>
     ensures value { Told F.value (result_map_both (λ _. form.new) (λ fault. fault) result)
-        (entries_of_two (if subtracts then difference_step F.limit else sum_step F.limit) (form_in F.value form.old) (form_in F.value other.now)) }
+        (entries_of_two (if subtracts then difference_step F.limit else sum_form_step F.limit) (form_in F.value form.old) (form_in F.value other.now)) }
     ensures unchanged { OnErr result (form.new ≡ form.old) }
 {
     let _ = form.keys();
@@ -80,7 +79,7 @@ pub(crate) fn add<F: ExactField>(
     at: Place,
     b: &Binding,
 ) -> Result<Form<F>, ExecStopOrMemory<F>>
-    ensures { Gives F.value (form_in F.value) result (sum_of F.limit at b.now subtracts (form_in F.value left) (form_in F.value right.now)) }
+    ensures { Gives F.value (form_in F.value) result (sum_of_forms F.limit at b.now subtracts (form_in F.value left) (form_in F.value right.now)) }
 {
     let mut sum = left;
     match increase(alloc, &mut sum, right, subtracts) {
@@ -91,7 +90,7 @@ pub(crate) fn add<F: ExactField>(
 
 /// The number that a step reads: the constant of a sum in progress, or the number of a key.
 fn entry_of_sum<F: ExactField>(sum: &FormSum<F>, key: &Option<Key>) -> Ext<F>
-    ensures { extended F.value result ≡ entry_of (form_in F.value sum.now) key.now }
+    ensures { extended F.value result ≡ number_in_form (form_in F.value sum.now) key.now }
 {
     let constant = sum.offset();
     match key {
@@ -110,7 +109,7 @@ fn of_sum<F: ExactField>(
     at: Place,
     b: &Binding,
 ) -> ExecStopOrMemory<F>
-    ensures { ShowsFault F.value at b.now (entry_of (form_in F.value sum.now)) (entry_of (form_in F.value form.now)) fault result }
+    ensures { ShowsFault F.value at b.now (number_in_form (form_in F.value sum.now)) (number_in_form (form_in F.value form.now)) fault result }
 {
     match fault {
         FormFault::Memory => ExecStopOrMemory::Memory,
@@ -132,7 +131,7 @@ pub(crate) fn add_to<F: ExactField>(
     at: Place,
     b: &Binding,
 ) -> Result<(), ExecStopOrMemory<F>>
-    ensures { Gives F.value (form_in F.value) (result_map_both (λ _. sum.new) (λ stop. stop) result) (sum_of F.limit at b.now false (form_in F.value sum.old) (form_in F.value form.now)) }
+    ensures { Gives F.value (form_in F.value) (result_map_both (λ _. sum.new) (λ stop. stop) result) (sum_of_forms F.limit at b.now false (form_in F.value sum.old) (form_in F.value form.now)) }
 {
     let _ = sum.offset();
     let _ = form.keys();
@@ -162,7 +161,7 @@ pub(crate) fn scale<F: ExactField>(
     at: Place,
     b: &Binding,
 ) -> Result<Form<F>, ExecStopOrMemory<F>>
-    ensures { Gives F.value (form_in F.value) result (scaled F.limit at b.now false (form_in F.value form.now) (F.value x)) }
+    ensures { Gives F.value (form_in F.value) result (scaled_form F.limit at b.now false (form_in F.value form.now) (F.value x)) }
 {
     let _ = form.keys();
     match form.scale(alloc, x) {
@@ -198,7 +197,7 @@ pub(crate) fn multiply<F: ExactField>(
     at: Place,
     b: &Binding,
 ) -> Result<Form<F>, ExecStopOrMemory<F>>
-    ensures { Gives F.value (form_in F.value) result (product_of F.limit at b.now (form_in F.value left.now) (form_in F.value right.now)) }
+    ensures { Gives F.value (form_in F.value) result (product_of_forms F.limit at b.now (form_in F.value left.now) (form_in F.value right.now)) }
 {
     if right.keys().is_empty() {
         scale(alloc, left, right.offset(), at, b)
@@ -240,7 +239,7 @@ fn with_number<F: ExactField>(
     at: Place,
     b: &Binding,
 ) -> ExecStopOrMemory<F>
-    ensures { ShowsFault F.value at b.now (entry_of (form_in F.value form.now)) (λ _. number (F.value x)) fault result }
+    ensures { ShowsFault F.value at b.now (number_in_form (form_in F.value form.now)) (λ _. number (F.value x)) fault result }
 {
     match fault {
         FormFault::Memory => ExecStopOrMemory::Memory,
@@ -261,7 +260,7 @@ fn behind_number<F: ExactField>(
     at: Place,
     b: &Binding,
 ) -> ExecStopOrMemory<F>
-    ensures { ShowsFault F.value at b.now (λ _. number (F.value x)) (entry_of (form_in F.value form.now)) fault result }
+    ensures { ShowsFault F.value at b.now (λ _. number (F.value x)) (number_in_form (form_in F.value form.now)) fault result }
 {
     match fault {
         FormFault::Memory => ExecStopOrMemory::Memory,

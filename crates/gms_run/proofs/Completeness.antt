@@ -12,18 +12,18 @@ use Rattle.gms_save.specs.declared.fault.SaveFault.TheVariants.{SaveTooLong, Sav
 use Rattle.gms_save.specs.declared.fault.SaveFaultOrMemory.{SaveFaultOrMemory}
 use Rattle.gms_save.specs.declared.fault.SaveFaultOrMemory.TheVariants.{Fault}
 use Rattle.gms_save.specs.declared.saved.Saved.{Saved}
-use Rattle.gms_save.specs.Saves.{most_bytes as most_save_bytes, AnswersSave, GivesBack, IsRestored, with_solver}
+use Rattle.gms_save.specs.Saves.{most_save_bytes, AnswersSave, GivesBack, IsRestored, with_solver}
 use Rattle.gms_save.proofs.SeenJoints.{same-joint-errors}
 use Rattle.gms_save.proofs.SeenPrograms.{same-errors}
 use Rattle.gq_frac.specs.declared.frac.Frac.{Frac}
 use Rattle.gms_ast.specs.declared.program.Program.{Program}
 use Rattle.gms_store.specs.State.{State}
-use Rattle.gms_words.specs.CommandLine.{Asked, Origin, in_file, restarted, generated, request_of}
+use Rattle.gms_command.specs.CommandLine.{Asked, Origin, in_file, restarted, generated, request_of}
 use Rattle.gms_run.specs.Solving.{Solving, number_limit}
 use Rattle.gms_run.specs.Jobs.{Job}
-use Rattle.gms_run.specs.Scripts.{Script, joint_script, Matter, scripted, unrestored, Taken, from_start, from_save, IsMatter, IsUnrestored, errors_of}
-use Rattle.gms_run.specs.Listings.{IsAccepted, IsExecuted, IsJob, ShowsWhy}
-use Rattle.gms_run.specs.Statuses.{CanRun, CountsSo, EndsByNoFault, Gives, HasFile, HasOrigin, IsFileOf, IsGood, IsGoodSave, IsReadyFor, IsRun, IsRunOf, IsTaken, MeetsNoFault, NamesProgram, NamesSource}
+use Rattle.gms_run.specs.Scripts.{Script, joint_script, Matter, scripted, unrestored, Taken, from_start, from_save, IsMatter, IsUnrestored, errors_of_script}
+use Rattle.gms_run.specs.Listings.{IsAcceptedScript, IsExecuted, IsJob, ShowsWhy}
+use Rattle.gms_run.specs.Statuses.{CanRun, CountsSo, EndsByNoFault, IsContentOf, HasFile, HasOrigin, IsFileOf, IsGood, IsGoodSave, IsReadyFor, IsRun, IsRunOf, IsInputOf, MeetsNoFault, NamesProgram, NamesSource}
 use Rattle.gms_parse.specs.Outcomes.{program_view}
 use Rattle.gms_parse.proofs.OneReading.{one_program, program_or_fault}
 
@@ -39,7 +39,7 @@ ready_for old words n reliable =
     has : (file bytes : List ℕ) → HasFile old.outside file bytes → IsThere old.outside file
     has file bytes f = subst (λ (files : Option Files). IfSome files (λ fs. is_some (files_map.get fs file) ≡ true)) (sym f.1) (ap is_some f.2)
 
-    found : (o : Origin) (taken : Taken) → Gives old.outside o taken → HasOrigin old.outside o
+    found : (o : Origin) (taken : Taken) → IsContentOf old.outside o taken → HasOrigin old.outside o
     found (in_file file) (from_start source) f = has file source f
     found (in_file file) (from_save save source) f = absurd f
     found (restarted saved file) (from_start source) f = absurd f
@@ -53,7 +53,7 @@ one_file old file told bytes f is =
     one_value at f.2
 
 -- what an exposed host holds is the input that was read
-the_taken : (old : Outside) (o : Origin) (told taken : Taken) → Gives old o told → IsTaken old o taken → taken ≡ told
+the_taken : (old : Outside) (o : Origin) (told taken : Taken) → IsContentOf old o told → IsInputOf old o taken → taken ≡ told
 the_taken old (in_file file) (from_start told) (from_start source) f is = ap from_start (one_file old file told source f is)
 the_taken old (in_file file) (from_save a b) taken f is = absurd f
 the_taken old (in_file file) (from_start told) (from_save a b) f is = absurd is
@@ -67,7 +67,7 @@ the_taken old (generated size) (from_start told) (from_save a b) f is = absurd i
 -- the input that was read is the one that the arguments name
 pub named_taken : (status : Status) (solving : Solving) (old new : Outside) (words : List (List ℕ)) (request : Asked) (run : IsRunOf status solving old new request) (n : NamesSource old words) → n.request ≡ request → run.taken ≡ n.taken
 named_taken status solving old new words request run n same =
-    the_taken old n.request.source n.taken run.taken n.found (subst (λ (r : Asked). IsTaken old r.source run.taken) (sym same) run.is_taken)
+    the_taken old n.request.source n.taken run.taken n.found (subst (λ (r : Asked). IsInputOf old r.source run.taken) (sym same) run.is_taken)
 
 -- arguments that name a source are not refused
 pub names_some : (words : List (List ℕ)) (old : Outside) → NamesSource old words → request_of words ≡ None → ⊥
@@ -82,7 +82,7 @@ pub one_script : {x y : Script} → scripted x ≡ scripted y → x ≡ y
 one_script e = cc
 
 -- programs with equal views have the same errors
-same_errors_of : (saved : Option State) (line : ℕ) (solvers : List (List ℕ)) (one other : Program Frac) → program_view frac_value one ≡ program_view frac_value other → errors_of saved line one solvers ≡ errors_of saved line other solvers
+same_errors_of : (saved : Option State) (line : ℕ) (solvers : List (List ℕ)) (one other : Program Frac) → program_view frac_value one ≡ program_view frac_value other → errors_of_script saved line one solvers ≡ errors_of_script saved line other solvers
 same_errors_of None line solvers one other alike = same-errors one other alike solvers
 same_errors_of (Some state) line solvers one other alike = same-joint-errors one other alike line solvers
 
@@ -93,7 +93,7 @@ good_script solvers script text good (inr errors) =
     errors.some (good.no_error errors.program (one_program number_limit script.source (program_view frac_value errors.program) good.view errors.is_program good.has_program))
 
 -- The source of an accepted program is good.
-accepted_good : (solvers : List (List ℕ)) (script : Script) (program : Program Frac) → IsAccepted solvers script program → IsGood solvers script
+accepted_good : (solvers : List (List ℕ)) (script : Script) (program : Program Frac) → IsAcceptedScript solvers script program → IsGood solvers script
 accepted_good solvers script program accepted = record {
   view = program_view frac_value program;
   has_program = accepted.is_program;

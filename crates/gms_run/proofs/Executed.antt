@@ -20,7 +20,7 @@ use Rattle.lp_slot.specs.declared.solver.SolverRule.{SolverRule}
 use Rattle.lp_core.specs.Numbers.{answer_numbers}
 use Rattle.gms_exec.specs.Run.{Course}
 use Rattle.gms_exec.specs.Standing.{IsStanding, ShowsStanding}
-use Rattle.gms_exec.specs.Stepping.{Runs, Seen, come_to}
+use Rattle.gms_exec.specs.Stepping.{Runs, RunView, come_to}
 use Rattle.gms_exec.proofs.Behind.{behind}
 use Rattle.gms_list.specs.Conditions.{IsListable}
 use Rattle.gms_list.specs.ListingText.{event_text, events_text}
@@ -42,13 +42,13 @@ module _ (program : Program Frac) (rules : List SolverRule) (does : Course → C
   abbrev numbers : List (Answer Number)
   numbers = map (answer_numbers frac_value) new.answers
 
-  abbrev seen_old : Seen Frac
+  abbrev seen_old : RunView Frac
   seen_old = record { state = old.state; events = []; answers = old.answers }
 
-  abbrev seen_before : List (OwnEvent Frac) → Seen Frac
+  abbrev seen_before : List (OwnEvent Frac) → RunView Frac
   seen_before before = record { state = old.state; events = before; answers = old.answers }
 
-  abbrev seen_new : Seen Frac
+  abbrev seen_new : RunView Frac
   seen_new = record { state = new.state; events = events; answers = new.answers }
 
   -- after events that were shown before, the run does the same

@@ -16,12 +16,12 @@ use Rattle.lp_slot.specs.declared.solver.SolverRule.{SolverRule}
 use Rattle.lp_core.specs.declared.program.Lp.{Lp}
 use Rattle.gms_exec.specs.Run.{Course, one_after_another, of_statement, while_it_runs}
 use Rattle.gms_exec.specs.Dimensions.{AreOneDimensional}
-use Rattle.gms_exec.specs.Stepping.{AreKept}
+use Rattle.gms_exec.specs.Stepping.{AreValidSettings}
 use Rattle.gms_list.specs.ListingText.{echo_text}
 use Rattle.gms_run.specs.declared.status.Status.{Status}
 use Rattle.gms_run.specs.declared.status.Status.TheVariants.{Done, Execution}
 use Rattle.gms_run.specs.Solving.{Solvers, Solving, number_limit}
-use Rattle.gms_run.specs.Jobs.{IsCutOff, IsSolved, Job, body_of, first_of, shown_by}
+use Rattle.gms_run.specs.Jobs.{IsCutOff, IsRunSolved, Job, body_of, first_of, shown_by}
 use Rattle.gms_run.specs.InnerSteps.{Between, BreaksBehind, Ends, EndsBehind, IsListed, work}
 use Rattle.gms_run.proofs.Listed.{listed_none, listed_more, one_more}
 use Rattle.gms_run.proofs.Rest.{Done_so, EndsWith, begin, comes_to_rest, ends_done, ends_stopped, shown_by_first, solving_with, statements, statement_of, taken_by_first}
@@ -182,7 +182,7 @@ module _ (job : Job) (before : Solvers) (old : Outside) (due : List ℕ) where
 pub record AtStatement (job : Job) (before : Solvers) (many : ℕ) (old now : Meaning) (due : List ℕ) (i : ℕ) (at : Between) (left : List ℕ) : Type 0 where
   pub come : HasCome job before old.outside now.outside due i at left
   pub room : length left ≤ 4096
-  pub settings : AreKept many at.state.settings
+  pub settings : AreValidSettings many at.state.settings
   pub plain : AreOneDimensional at.state job.program.statements.items
   pub counts : CountsWriting all_done old.counts now.counts
 
@@ -200,7 +200,7 @@ pub record EndsJob (status : Status) (job : Job) (solving : Solving) (last : Sta
 
 -- The listing of the program was cut off.
 pub record BreaksJob (job : Job) (solving : Solving) (old new : Outside) : Type 0 where
-  pub solved : IsSolved job solving
+  pub solved : IsRunSolved job solving
   pub front : WritesFront old new (body_of job solving)
   pub cut : IsCutOff job solving (length front.1.bytes)
 
@@ -210,9 +210,9 @@ module _ (job : Job) (old mid : Outside) (spool rest : List ℕ) (first : Passes
   quiet_job state = work job.program state job.statements
 
   -- is solved as the one that is
-  echoed : (state : State) (solving : Solving) → state ≡ job.state → IsSolved (quiet_job state) solving → IsSolved job solving
+  echoed : (state : State) (solving : Solving) → state ≡ job.state → IsRunSolved (quiet_job state) solving → IsRunSolved job solving
   echoed state solving same s =
-      let r = subst (λ st. IsSolved (quiet_job st) solving) same s in
+      let r = subst (λ st. IsRunSolved (quiet_job st) solving) same s in
       record { all_taken = r.all_taken; answered = r.answered; ended = r.ended; grown = r.grown }
 
   -- the text before the statements' is the echo

@@ -14,11 +14,11 @@ use Rattle.gms_ast.specs.declared.program.Stmt.{Stmt}
 use Rattle.gms_store.specs.Declarations.{blank_state, can_join, declare, declare_alias, declare_each, declare_model, declare_models, declared_by, is_undeclared, join_name, model_symbol, names_of, positions_of, put_at}
 use Rattle.gms_store.specs.State.{State, symbol_at}
 use Rattle.gms_set.specs.declared.fault.SetFault.{SetFault}
-use Rattle.gms_set.specs.Expansion.{Given, expanded}
-use Rattle.gms_known.specs.Data.{given_to, with_datum}
+use Rattle.gms_set.specs.Expansion.{ExpandedData, expanded}
+use Rattle.gms_scope.specs.Data.{given_to, with_datum}
 use Rattle.gms_check.specs.Loaded.{loaded, sound}
 use Rattle.gms_check.specs.Past.{Past, after_act, after_statement, with_data, with_item, with_name}
-use Rattle.gms_exec.specs.Stepping.{AreKept}
+use Rattle.gms_exec.specs.Stepping.{AreValidSettings}
 
 -- ---- declarations
 
@@ -52,7 +52,7 @@ module _ {F : Type 0} (value : F → Number) where
   settings-given name [] state = refl
   settings-given name (datum ∷ given) state = settings-given name given (with_datum value name state datum) ∙ settings-datum name state datum
 
-  settings-data : (state : State) (name : ℕ) (given : Result (Given F) SetFault) → (with_data value state name given).settings ≡ state.settings
+  settings-data : (state : State) (name : ℕ) (given : Result (ExpandedData F) SetFault) → (with_data value state name given).settings ≡ state.settings
   settings-data state name (Ok given) = settings-given name given state
   settings-data state name (Err fault) = refl
 
@@ -91,6 +91,6 @@ module _ {F : Type 0} (value : F → Number) where
   settings-all (statement ∷ past) state = settings-all past (after_statement value state statement) ∙ settings-statement state statement
 
   -- A program begins with settings within their ranges.
-  pub begins-kept : (program : Program F) (solvers : ℕ) → AreKept solvers (loaded value program).settings
+  pub begins-kept : (program : Program F) (solvers : ℕ) → AreValidSettings solvers (loaded value program).settings
   begins-kept program solvers =
-      subst (AreKept solvers) (sym (settings-all (sound program.statements.items) (blank_state _))) (record { decimals = omega arith; chosen = λ some. some })
+      subst (AreValidSettings solvers) (sym (settings-all (sound program.statements.items) (blank_state _))) (record { decimals = omega arith; chosen = λ some. some })

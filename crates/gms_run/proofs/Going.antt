@@ -10,12 +10,12 @@ use Rattle.std.proofs.lemmas.List.Elements.{All-nil, All-weaker}
 use Rattle.std.proofs.lemmas.List.Quantifiers.{position-Some}
 use Rattle.std.proofs.lemmas.Result.{err_from_is_err_and}
 use Rattle.gms_store.specs.State.{State, Content, undeclared, alias_of, set_of, parameter_of, variable_of, equation_of, model_with, symbol_at, given_in, members_in}
-use Rattle.gms_saved.specs.Validity.{stands_at, stands_in}
+use Rattle.gms_save_text.specs.Validity.{stands_at, stands_in}
 use Rattle.gms_save.specs.declared.saved.Saved.{Saved}
 use Rattle.gms_save.specs.declared.fault.SaveFaultOrMemory.{SaveFaultOrMemory}
 use Rattle.gms_save.specs.declared.fault.SaveFaultOrMemory.TheVariants.{Memory}
 use Rattle.gms_save.specs.Saves.{GivesBack, IsRestored, Restores, place_of_solver}
-use Rattle.gms_seam.specs.Fronts.{first_line, joint_source}
+use Rattle.gms_joint_source.specs.Fronts.{first_line, joint_source}
 use Rattle.gms_restart.proofs.SavedFits.{saved_fits}
 use Rattle.gms_run.specs.InnerReports.{CanGoOn}
 

@@ -9,17 +9,17 @@ use Rattle.gms_host.specs.Rules.{with_said}
 use Rattle.gms_exec.specs.Run.{Halt, stopped, waiting}
 use Rattle.gms_list.specs.ListingText.{end_text}
 use Rattle.lp_core.specs.Numbers.{answer_numbers}
-use Rattle.gms_words.specs.CommandLine.{Asked, request_of, closing_line}
+use Rattle.gms_command.specs.CommandLine.{Asked, request_of, closing_line}
 use Rattle.gms_run.specs.declared.status.Status.{Status}
 use Rattle.gms_run.specs.declared.status.Status.TheVariants.{Done, Usage, Compile, Execution, ReadFault, WriteFault}
 use Rattle.gms_exec.specs.Answering.{AreAnswered}
 use Rattle.gms_parse.specs.Outcomes.{IsProgram}
 use Rattle.gms_run.specs.Solving.{Solving, number_limit, numbers_of}
-use Rattle.gms_run.specs.Scripts.{Script, Matter, Taken, from_start, from_save, scripted, unrestored, script_of, IsMatter, errors_of}
+use Rattle.gms_run.specs.Scripts.{Script, Matter, Taken, from_start, from_save, scripted, unrestored, script_of, IsMatter, errors_of_script}
 use Rattle.gms_run.specs.Laws.{RunIsAnsweredRightly}
-use Rattle.gms_run.specs.Jobs.{HasRightAnswers, Job, job_of, course_of, job_text, body_of, last_line, IsSolved, HaltsSo, status_code}
-use Rattle.gms_run.specs.Listings.{AreClosing, IsExecuted, IsJob, IsListing, IsRefused, ShowsWhy, save_file}
-use Rattle.gms_run.specs.Statuses.{IsFileOf, IsReported, IsRun, IsRunOf, IsTaken, RanSo, with_file, with_save, with_source, with_taken}
+use Rattle.gms_run.specs.Jobs.{HasRightAnswers, Job, job_of, course_of, job_text, body_of, last_line, IsRunSolved, HaltsSo, status_code}
+use Rattle.gms_run.specs.Listings.{AreClosing, IsExecuted, IsJob, IsListing, IsRefusalListing, ShowsWhy, save_file}
+use Rattle.gms_run.specs.Statuses.{IsFileOf, IsReported, IsRun, IsRunOf, IsInputOf, RanSo, with_file, with_save, with_source_read, with_taken}
 use Rattle.gms_run.specs.Headline.{HasListing, IsListingOf, IsRunListing, WritesListing, file_alone, run_of}
 
 -- the last line of a run that ends so
@@ -51,7 +51,7 @@ module _ (solving : Solving) (source : List ℕ) (text : List ℕ) where
       record {
         program = run.job.program;
         is_program = subst (λ (s : Script). IsProgram number_limit s.source frac_value run.job.program) same run.is_job.accepted.is_program;
-        no_error = subst (λ (s : Script). errors_of s.saved s.line run.job.program solving.before.names ≡ []) same run.is_job.accepted.no_error;
+        no_error = subst (λ (s : Script). errors_of_script s.saved s.line run.job.program solving.before.names ≡ []) same run.is_job.accepted.no_error;
         all_taken = subst (λ j. (course_of j solving).left ≡ []) is run.solved.all_taken;
         answered = subst (λ j. AreAnswered frac_value number_limit solving.before.rules solving.answers (course_of j solving).events) is run.solved.answered;
         says_so = subst (λ j. HasRightAnswers j solving) is (right (from_start source) (scripted (script_of source)) text refl run);
@@ -60,7 +60,7 @@ module _ (solving : Solving) (source : List ℕ) (text : List ℕ) where
             ∙ ap (λ t. body_of (job_of (script_of source) run.job.program) solving ++ t) (ends_with status (run_of run.job.program solving).halted (length solving.answers) ends ∙ ap (end_text (status_code status)) count);
       }
 
-  refused : IsRefused solving (scripted (script_of source)) text → IsListingOf Compile solving source text
+  refused : IsRefusalListing solving (scripted (script_of source)) text → IsListingOf Compile solving source text
   refused (inl fault, none) = (inl (record { fault = fault.fault; is_first = fault.refused; listing = fault.listing }), none)
   refused (inr errors, none) = (inr (record { program = errors.program; is_program = errors.is_program; some = errors.some; listing = errors.listing }), none)
 
@@ -78,7 +78,7 @@ module _ (solving : Solving) (source : List ℕ) (text : List ℕ) where
 module _ (status : Status) (solving : Solving) (old new : Outside) (file output : List ℕ) where
   -- a report of a source that was read is its listing, written, and the closing line
   of_report : (source : List ℕ) → IsFileOf old file source → ((text : List ℕ) → IsListing status solving (scripted (script_of source)) text → IsListingOf status solving source text) →
-      IsReported status solving (with_source old file source) new (file_alone file output) (scripted (script_of source)) → WritesListing status solving old new file output
+      IsReported status solving (with_source_read old file source) new (file_alone file output) (scripted (script_of source)) → WritesListing status solving old new file output
   of_report source is_source lists r =
       let said = one_line r.lines r.closing in
       record {
@@ -86,7 +86,7 @@ module _ (status : Status) (solving : Solving) (old new : Outside) (file output 
         is_source = is_source;
         text = r.text;
         listing = lists r.text r.listing;
-        outside = r.outside ∙ ap₂ (λ save lines. with_said (with_save (with_file (with_source old file source) output r.text) save r.save) lines) (no_save status) said;
+        outside = r.outside ∙ ap₂ (λ save lines. with_said (with_save (with_file (with_source_read old file source) output r.text) save r.save) lines) (no_save status) said;
       }
     where
       no_save : (s : Status) → save_file s (file_alone file output) ≡ None
@@ -108,10 +108,10 @@ module _ (status : Status) (solving : Solving) (old new : Outside) (file output 
       IsRunOf status solving old new (file_alone file output) → WritesListing status solving old new file output
   of_run lists reports run = by run.taken run.matter run.is_taken run.is_matter run.ran
     where
-      by : (taken : Taken) (matter : Matter) → IsTaken old (file_alone file output).source taken → IsMatter solving.before.names taken matter → RanSo status solving (with_taken old (file_alone file output).source taken) new (file_alone file output) matter →
+      by : (taken : Taken) (matter : Matter) → IsInputOf old (file_alone file output).source taken → IsMatter solving.before.names taken matter → RanSo status solving (with_taken old (file_alone file output).source taken) new (file_alone file output) matter →
           WritesListing status solving old new file output
       by (from_start source) (scripted script) is_source same ran =
-          of_report source is_source (lists source) (reports (with_source old file source) (scripted (script_of source)) (subst (λ s. RanSo status solving (with_source old file source) new (file_alone file output) (scripted s)) same ran))
+          of_report source is_source (lists source) (reports (with_source_read old file source) (scripted (script_of source)) (subst (λ s. RanSo status solving (with_source_read old file source) new (file_alone file output) (scripted s)) same ran))
       by (from_start source) (unrestored fault) is_source same ran = absurd same
       by (from_save save source) matter is_source same ran = absurd is_source
 

@@ -16,7 +16,7 @@ use Rattle.gms_ast.specs.declared.program.Program.{Program}
 use Rattle.gms_ast.specs.declared.program.Stmt.{Stmt}
 use Rattle.gms_ast.specs.Trees as tree
 use Rattle.gms_store.specs.State.{State}
-use Rattle.gms_known.specs.Names.{is_index_set}
+use Rattle.gms_scope.specs.Names.{is_index_set}
 use Rattle.gms_rows.specs.Plain.{ArePlain}
 use Rattle.gms_rows.specs.Rows.{Definition, has_lag, defined_at, definitions}
 use Rattle.gms_exec.specs.Dimensions.{AreOverOne, AreOneDimensional}

@@ -31,7 +31,7 @@ use Rattle.gms_rows.specs.ProgramLp.{program_lp}
 use Rattle.gms_rows.specs.Rows.{equations_of}
 use Rattle.gms_exec.specs.Assignment.{target_of, after_assignment}
 use Rattle.gms_exec.specs.Showing.{all_shown}
-use Rattle.gms_exec.specs.Run.{Course, Halt, World, OfAct, OfStatement, in_state, with_event, stopped_by, while_it_runs, with_value, one_after_another, for_each, display, abort, abort_where, over_elements, answered, solve, act_step, statement_step, of_statement, labels_in}
+use Rattle.gms_exec.specs.Run.{Course, Halt, World, OfAct, OfStatement, in_state, with_event, stopped_by, while_it_runs, with_evaluated, one_after_another, for_each, display, abort, abort_where, over_elements, answered, solve, act_step, statement_step, of_statement, labels_in}
 use Rattle.gms_run.specs.Solving.{Solving, number_limit, numbers_of, places_of, solve_of, solves_in}
 use Rattle.gms_run.specs.Jobs.{Job, course_of}
 
@@ -57,7 +57,7 @@ numbered_event : (c : Course) (e : Event) → places_in (e ∷ []) ≡ [] → Is
 numbered_event c e none is = places-append c.events (e ∷ []) ∙ ap (λ ps. places_in c.events ++ ps) none ∙ append-nil (places_in c.events) ∙ is
 
 -- a step with a value, or a stop by a fault
-numbered_value : {A : Type 0} (r : Evaluated A) (next : A → Course) (c : Course) → IsNumbered c → ((x : A) → IsNumbered (next x)) → IsNumbered (with_value r next c)
+numbered_value : {A : Type 0} (r : Evaluated A) (next : A → Course) (c : Course) → IsNumbered c → ((x : A) → IsNumbered (next x)) → IsNumbered (with_evaluated r next c)
 numbered_value (Ok x) next c is go = go x
 numbered_value (Err fault) next c is go = is
 
@@ -144,7 +144,7 @@ module _ {F : Type 0} (number_of : F → Number) (limit : ℕ) (world : World F)
   rolled : (x : Act-F F (Act F) (Stmt F)) (f : OfAct) → of_act (roll-Act F x) ≡ f → KeepsAct f → KeepsAct (of_act (roll-Act F x))
   rolled x f e q = subst KeepsAct (sym e) q
 
-  numbered_assign : (target : Target F) (condition : Option (Expr F)) (right_at : Place) (right : Expr F) → KeepsAct (λ at binding c. with_value (after_assignment number_of limit c.state at binding (target_of target) (option_map tree_of condition) right_at (tree_of right)) (in_state c) c)
+  numbered_assign : (target : Target F) (condition : Option (Expr F)) (right_at : Place) (right : Expr F) → KeepsAct (λ at binding c. with_evaluated (after_assignment number_of limit c.state at binding (target_of target) (option_map tree_of condition) right_at (tree_of right)) (in_state c) c)
   numbered_assign target condition right_at right at binding c is =
       numbered_value (after_assignment number_of limit c.state at binding (target_of target) (option_map tree_of condition) right_at (tree_of right)) (in_state c) c is (λ state. is)
 

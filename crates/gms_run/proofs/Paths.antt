@@ -16,7 +16,7 @@ use Rattle.gms_exec.specs.Answering.{AreAnswered, IsAnswered}
 use Rattle.gms_store.specs.State.{State}
 use Rattle.gms_exec.specs.Stepping.{Answered, paths_taken}
 use Rattle.gms_exec.proofs.Quiet.{IsNoSolve}
-use Rattle.gms_run.specs.Solving.{Solvers, HaveGrown, number_limit, paths_of, seen}
+use Rattle.gms_run.specs.Solving.{Solvers, HaveGrown, number_limit, paths_of, solver_views}
 
 -- the paths of all solvers
 abbrev pub AllPaths : Type 0
@@ -134,6 +134,6 @@ grown_quiet old new answers es more quiet p = record { names = p.names; rules = 
 
 -- What a statement says of its solvers, where nothing was shown before it.
 pub grown_answered : {S : Type 0} {before after : State} {given : List (Answer Frac)} (name : S → List ℕ) (rule : S → SolverRule) (paths : S → List (List Pivot)) (old new : List S) (answers : List (Answer Frac)) (none events : List (OwnEvent Frac)) → none ≡ [] →
-    Answered frac_value number_limit name rule paths old new (record { state = before; events = none; answers = given }) (record { state = after; events = events; answers = answers }) → HaveGrown (seen name rule paths old) (seen name rule paths new) answers (events_in frac_value events)
+    Answered frac_value number_limit name rule paths old new (record { state = before; events = none; answers = given }) (record { state = after; events = events; answers = answers }) → HaveGrown (solver_views name rule paths old) (solver_views name rule paths new) answers (events_in frac_value events)
 grown_answered name rule paths old new answers none events empty a =
     record { names = a.names; rules = a.rules; paths = grew_answered name rule paths old new answers none events empty a }

@@ -11,25 +11,25 @@ use Rattle.gms_exec.specs.Answering.{AreAnswered}
 use Rattle.gms_exec.specs.Run.{World}
 use Rattle.gms_save.specs.JointErrors.{joint_errors, resumed, saved_statements}
 use Rattle.gms_save.specs.Saves.{IsSavedBy}
-use Rattle.gms_plans.specs.Moments.{AnswersAreSo, whole_run}
+use Rattle.gms_plans.specs.Moments.{AnswersAreSo, run_with_answers}
 use Rattle.lp_core.specs.declared.answer.Answer.{Answer}
 use Rattle.lp_slot.specs.declared.solver.SolverRule.{SolverRule}
 use Rattle.gms_run.specs.Solving.{Solving, number_limit}
-use Rattle.gms_run.specs.Scripts.{Script, Taken, from_start, from_save, Matter, scripted, unrestored, IsMatter, IsJoint, script_of, joint_script, joint_source, first_line, errors_of}
+use Rattle.gms_run.specs.Scripts.{Script, Taken, from_start, from_save, Matter, scripted, unrestored, IsMatter, IsJoint, script_of, joint_script, joint_source, first_line, errors_of_script}
 use Rattle.gms_run.specs.Jobs.{Job, job_of, course_of, HasRightAnswers}
 use Rattle.gms_run.specs.Listings.{IsExecuted}
 use Rattle.gms_run.specs.Laws.{RunsAreAnsweredRightly}
 
 -- what the answers of a program's run say is true
 abbrev FromStart : Type 0
-FromStart = (world : World Frac) (rules : List SolverRule) (answers : List (Answer Frac)) → IsAccepted frac_value world.program → AreAnswered frac_value number_limit rules answers (whole_run frac_value number_limit world (loaded frac_value world.program) world.program.statements.items answers).events →
+FromStart = (world : World Frac) (rules : List SolverRule) (answers : List (Answer Frac)) → IsAccepted frac_value world.program → AreAnswered frac_value number_limit rules answers (run_with_answers frac_value number_limit world (loaded frac_value world.program) world.program.statements.items answers).events →
     AnswersAreSo frac_value number_limit world (loaded frac_value world.program) world.program.statements.items answers
 
 -- and those of a run from a save
 abbrev FromSave : Type 0
 FromSave = (limit : ℕ) (source file : List ℕ) (saved : Program Frac) (world : World Frac) (state : State) (solver : List ℕ) (rules : List SolverRule) (answers : List (Answer Frac)) → IsProgram number_limit source frac_value saved → IsProgram number_limit (joint_source source file) frac_value world.program →
     joint_errors frac_value world.program (first_line source) world.solvers ≡ [] → IsSavedBy saved state solver →
-    AreAnswered frac_value limit rules answers (whole_run frac_value limit world (resumed frac_value state world.program) (drop (length (saved_statements (first_line source) world.program)) world.program.statements.items) answers).events →
+    AreAnswered frac_value limit rules answers (run_with_answers frac_value limit world (resumed frac_value state world.program) (drop (length (saved_statements (first_line source) world.program)) world.program.statements.items) answers).events →
     AnswersAreSo frac_value limit world (resumed frac_value state world.program) (drop (length (saved_statements (first_line source) world.program)) world.program.statements.items) answers
 
 module _ (solving : Solving) (matter : Matter) (text : List ℕ) (run : IsExecuted solving matter text) where
@@ -47,14 +47,14 @@ module _ (solving : Solving) (matter : Matter) (text : List ℕ) (run : IsExecut
 
   from-start : FromStart → (source : List ℕ) → run.is_job.script ≡ script_of source → HasRightAnswers run.job solving
   from-start plans source same =
-      let none : compile_errors frac_value program solving.before.names ≡ [] = subst (λ (s : Script). errors_of s.saved s.line program solving.before.names ≡ []) same run.is_job.accepted.no_error in
+      let none : compile_errors frac_value program solving.before.names ≡ [] = subst (λ (s : Script). errors_of_script s.saved s.line program solving.before.names ≡ []) same run.is_job.accepted.no_error in
       says-so (script_of source) same (plans world solving.before.rules solving.answers (solving.before.names, none))
 
   from-joint : FromSave → (save file : List ℕ) (script : Script) → IsJoint solving.before.names save file script → run.is_job.script ≡ script → HasRightAnswers run.job solving
   from-joint plans save file script joint same =
       let source = joint.saved.source.items in
       let is : run.is_job.script ≡ joint_script source joint.saved.store file = same ∙ joint.joint in
-      let none : joint_errors frac_value program (first_line source) solving.before.names ≡ [] = subst (λ (s : Script). errors_of s.saved s.line program solving.before.names ≡ []) is run.is_job.accepted.no_error in
+      let none : joint_errors frac_value program (first_line source) solving.before.names ≡ [] = subst (λ (s : Script). errors_of_script s.saved s.line program solving.before.names ≡ []) is run.is_job.accepted.no_error in
       let whole : IsProgram number_limit (joint_source source file) frac_value program = subst (λ (s : Script). IsProgram number_limit s.source frac_value program) is run.is_job.accepted.is_program in
       let saved = joint.restored.is_save in
       says-so (joint_script source joint.saved.store file) is (plans number_limit source file joint.saved.program world joint.saved.store joint.restored.solver solving.before.rules solving.answers saved.is_program whole none saved.is_saved)

@@ -30,18 +30,18 @@ use Rattle.lp_slot.proofs.Under.{legal_under}
 use Rattle.lp_core.specs.declared.program.Lp.{Lp}
 use Rattle.lp_core.specs.Numbers.{lp_numbers}
 use Rattle.lp_slot.specs.SolverNames.{IsSolverName}
-use Rattle.gms_ranges.specs.Answered.{AreAnswered, IsAnswered}
-use Rattle.gms_ranges.specs.RangeTexts.{SaysRanges}
+use Rattle.gms_range_lines.specs.Answered.{AreSomeAnswers, IsSomeAnswer}
+use Rattle.gms_range_lines.specs.RangeTexts.{SaysRanges}
 use Rattle.gms_list.specs.ListingText.{echo_text, end_text, has_echo, refused_echo}
 use Rattle.gms_run.specs.declared.status.Status.{Status}
 use Rattle.gms_run.specs.declared.status.Status.TheVariants.{Done, Usage, Compile, Execution, ReadFault, WriteFault}
 use Rattle.gms_store.specs.State.{State, fits_at, symbol_of}
-use Rattle.gms_words.specs.CommandLine.{Asked, Origin, in_file, restarted, generated, closing_line}
+use Rattle.gms_command.specs.CommandLine.{Asked, Origin, in_file, restarted, generated, closing_line}
 use Rattle.gms_run.specs.Solving.{Solving, SolvesNothing, number_limit, numbers_of, solves_in}
-use Rattle.gms_saved.specs.SavedState.{saved_text}
-use Rattle.gms_run.specs.Scripts.{Matter, Script, scripted, errors_of}
-use Rattle.gms_run.specs.Jobs.{HaltsSo, IsCutOff, IsSolved, Job, body_of, course_of, first_of, job_of, job_text, last_line, save_text, solver_name, status_code}
-use Rattle.gms_run.specs.Listings.{AreClosing, AreRemarks, IsAccepted, IsExecuted, IsFront, IsJob, IsListing, IsModelLine, SavesLast, SavesSo, ShowsErrors, ShowsWhy, TellsModel, TellsRanges, TellsRun, TellsSpans, errors_text, refused_text, save_file, unrestored_text}
+use Rattle.gms_save_text.specs.SavedState.{saved_text}
+use Rattle.gms_run.specs.Scripts.{Matter, Script, scripted, errors_of_script}
+use Rattle.gms_run.specs.Jobs.{HaltsSo, IsCutOff, IsRunSolved, Job, body_of, course_of, first_of, job_of, job_text, last_line, save_text, solver_name, status_code}
+use Rattle.gms_run.specs.Listings.{AreClosing, AreRemarks, IsAcceptedScript, IsExecuted, IsWrittenPrefix, IsJob, IsListing, IsModelLine, SavesLast, SavesSo, ShowsErrors, ShowsWhy, TellsModel, TellsRanges, TellsRun, TellsSpans, errors_text, refused_text, save_file, unrestored_text}
 use Rattle.gms_run.specs.Statuses.{IsUnwritten}
 use Rattle.gms_save.specs.declared.fault.SaveFault.{SaveFault}
 use Rattle.gms_run.specs.declared.script.Matter.{Matter as OwnMatter}
@@ -88,9 +88,9 @@ prepares_why status solving now matter spool before pending after listed same no
 
 -- errors that are listed for these solvers are for the same
 pub lists_as : {X : Type 0} (name_of : X → List ℕ) (slice solvers : List X) (some : Bool) (script : Script) (program : Program Frac) (before after : List ℕ) → slice ≡ solvers →
-    ListsErrors some (errors_of script.saved script.line program (map name_of slice)) script before after → ListsErrors some (errors_of script.saved script.line program (map name_of solvers)) script before after
+    ListsErrors some (errors_of_script script.saved script.line program (map name_of slice)) script before after → ListsErrors some (errors_of_script script.saved script.line program (map name_of solvers)) script before after
 lists_as {X} name_of slice solvers some script program before after same lists =
-    subst (λ (xs : List X). ListsErrors some (errors_of script.saved script.line program (map name_of xs)) script before after) same lists
+    subst (λ (xs : List X). ListsErrors some (errors_of_script script.saved script.line program (map name_of xs)) script before after) same lists
 
 -- where none are listed there are none, and nothing is
 -- errors that are the same for each state are listed as those of each
@@ -103,14 +103,14 @@ pub lists_none : (some : Bool) (errors : List CompileError) (script : Script) (b
 lists_none some errors script before after is lists = subst (λ b. ListsErrors b errors script before after) is lists
 
 -- errors that are listed are those of the program
-pub shows_errors : (solvers : List (List ℕ)) (script : Script) (program : Program Frac) → IsProgram number_limit script.source frac_value program → errors_of script.saved script.line program solvers ≢ [] → ShowsErrors solvers script (refused_text (errors_text script (errors_of script.saved script.line program solvers)))
+pub shows_errors : (solvers : List (List ℕ)) (script : Script) (program : Program Frac) → IsProgram number_limit script.source frac_value program → errors_of_script script.saved script.line program solvers ≢ [] → ShowsErrors solvers script (refused_text (errors_text script (errors_of_script script.saved script.line program solvers)))
 shows_errors solvers script program is_program some = record { program = program; is_program = is_program; some = some; listing = refl }
 
 -- Errors of a program were listed, so that there is nothing to run.
-pub prepares_errors : (solving : Solving) (now : Outside) (script : Script) (program : Program Frac) (some : Bool) (spool before after : List ℕ) → IsProgram number_limit script.source frac_value program → some ≡ true → ListsErrors some (errors_of script.saved script.line program solving.before.names) script before after →
+pub prepares_errors : (solving : Solving) (now : Outside) (script : Script) (program : Program Frac) (some : Bool) (spool before after : List ℕ) → IsProgram number_limit script.source frac_value program → some ≡ true → ListsErrors some (errors_of_script script.saved script.line program solving.before.names) script before after →
     SolvesNothing solving → spool ++ before ≡ [] → Prepares Compile solving now now (scripted script) (spool ++ after)
 prepares_errors solving now script program some spool before after is_program is lists none empty =
-    let errors = errors_of script.saved script.line program solving.before.names in
+    let errors = errors_of_script script.saved script.line program solving.before.names in
     let listed : ListsErrors true errors script before after = subst (λ b. ListsErrors b errors script before after) is lists in
     prepares_why Compile solving now (scripted script) spool before spool after (errors_text script errors) refl none empty refl listed.1
     (inr (shows_errors solving.before.names script program is_program listed.0))
@@ -131,11 +131,11 @@ ends_line ReadFault halted n is = absurd is
 ends_line WriteFault halted n is = absurd is
 
 -- what is run of an accepted script
-abbrev pub job_of_script : (solvers : List (List ℕ)) (script : Script) (program : Program Frac) → IsAccepted solvers script program → IsJob solvers (scripted script) (job_of script program)
+abbrev pub job_of_script : (solvers : List (List ℕ)) (script : Script) (program : Program Frac) → IsAcceptedScript solvers script program → IsJob solvers (scripted script) (job_of script program)
 job_of_script solvers script program accepted = record { script = script; to_run = refl; accepted = accepted; is_job = refl }
 
 -- a program that ended has its listing
-listed_job : (status : Status) (solving : Solving) (matter : Matter) (job : Job) → IsJob solving.before.names matter job → IsSolved job solving → HaltsSo status (course_of job solving).halted →
+listed_job : (status : Status) (solving : Solving) (matter : Matter) (job : Job) → IsJob solving.before.names matter job → IsRunSolved job solving → HaltsSo status (course_of job solving).halted →
     IsListing status solving matter (body_of job solving ++ end_text (status_code status) (length solving.answers))
 listed_job status solving matter job is_job solved halts = by status halts
   where
@@ -264,19 +264,19 @@ are_closing status solving request matter remarks lines output solves told named
 -- ---- answers of the programs that were kept
 
 -- each answer is one of the program that was kept for its solve
-answered_by : (rules : List SolverRule) (answers : List (Answer Frac)) (programs : List (Lp Frac)) (events : List Event) → KeepsPrograms rules answers programs events → AreAnswered frac_value number_limit programs answers
+answered_by : (rules : List SolverRule) (answers : List (Answer Frac)) (programs : List (Lp Frac)) (events : List Event) → KeepsPrograms rules answers programs events → AreSomeAnswers frac_value number_limit programs answers
 answered_by rules answers programs events kept =
     let shown : length programs ≡ length (solves_in events) = sym (length-map programs (lp_numbers frac_value)) ∙ ap length kept.shown ∙ length-map (solves_in events) (λ (solved : Solved). solved.lp) in
     let placed : length (solves_in events) ≡ length answers = sym (length-map (solves_in events) (λ (solved : Solved). solved.answer)) ∙ ap length kept.in_order ∙ length-range_with_len 0 (length answers) in
     record { many = shown ∙ placed; each = λ place. at place (slice_get programs place) (kept.answered place) }
   where
-    at : (place : ℕ) (o : Option (Lp Frac)) → IfSome o (IsAnsweredAt rules answers place) → IfSome o (λ (lp : Lp Frac). IfSome (slice_get answers place) (IsAnswered frac_value number_limit lp))
+    at : (place : ℕ) (o : Option (Lp Frac)) → IfSome o (IsAnsweredAt rules answers place) → IfSome o (λ (lp : Lp Frac). IfSome (slice_get answers place) (IsSomeAnswer frac_value number_limit lp))
     at place None h = tt
     at place (Some lp) (settings, stands) =
-        subst (λ (o : Option (Answer Frac)). IfSome o (IsAnswered frac_value number_limit lp)) (sym stands.stands) (record { formed = stands.formed; iterlim = settings.iterlim; rule = Legal; is_answer = legal_under frac_value number_limit lp settings.iterlim stands.rule stands.given stands.is_answer })
+        subst (λ (o : Option (Answer Frac)). IfSome o (IsSomeAnswer frac_value number_limit lp)) (sym stands.stands) (record { formed = stands.formed; iterlim = settings.iterlim; rule = Legal; is_answer = legal_under frac_value number_limit lp settings.iterlim stands.rule stands.given stands.is_answer })
 
 -- each solve of a program that ended is answered
-pub ends_answered : (status : Status) (job : Job) (solving : Solving) (last : State) (programs : List (Lp Frac)) → Ends status job solving last programs → AreAnswered frac_value number_limit programs solving.answers
+pub ends_answered : (status : Status) (job : Job) (solving : Solving) (last : State) (programs : List (Lp Frac)) → Ends status job solving last programs → AreSomeAnswers frac_value number_limit programs solving.answers
 ends_answered status job solving last programs ends = answered_by solving.before.rules solving.answers programs (course_of job solving).events ends.kept
 
 -- ---- the last line
@@ -311,19 +311,19 @@ as_long a b x y line e =
 
 -- a listing is an expected prefix, where its body is written except for at most one spool
 listed_front : (status : Status) (solving : Solving) (matter : Matter) (body : List ℕ) (written : ℕ) → (status ≡ Compile) ⊎ (length body ≤ written + 4096) → IsListing status solving matter (body ++ end_text (status_code status) (length solving.answers)) →
-    IsFront solving matter (body ++ end_text (status_code status) (length solving.answers)) written
+    IsWrittenPrefix solving matter (body ++ end_text (status_code status) (length solving.answers)) written
 listed_front status solving matter body written room is = by status room is
   where
     text : Status → List ℕ
     text s = body ++ end_text (status_code s) (length solving.answers)
 
-    executed : (s : Status) → (run : IsExecuted solving matter (text s)) → HaltsSo s (course_of run.job solving).halted → length body ≤ written + 4096 → IsFront solving matter (text s) written
+    executed : (s : Status) → (run : IsExecuted solving matter (text s)) → HaltsSo s (course_of run.job solving).halted → length body ≤ written + 4096 → IsWrittenPrefix solving matter (text s) written
     executed s run h few =
         let job = run.job in
         let same : length body ≡ length (body_of job solving) = as_long body (body_of job solving) _ _ (ends_line s (course_of job solving).halted (length solving.answers) h) run.listing in
         inr (run, cut_whole job solving written run.solved.all_taken (omega (arith, same, few)))
 
-    by : (s : Status) → (s ≡ Compile) ⊎ (length body ≤ written + 4096) → IsListing s solving matter (text s) → IsFront solving matter (text s) written
+    by : (s : Status) → (s ≡ Compile) ⊎ (length body ≤ written + 4096) → IsListing s solving matter (text s) → IsWrittenPrefix solving matter (text s) written
     by Compile room is = inl is
     by Done (inr few) is = executed Done is.0 is.1 few
     by Execution (inr few) is = executed Execution is.0 is.1 few

@@ -20,7 +20,7 @@ use Rattle.gms_list.specs.ListingText.{event_text, events_text}
 use Rattle.gms_run.specs.declared.status.Status.{Status}
 use Rattle.gms_run.specs.declared.status.Status.TheVariants.{Done, Execution}
 use Rattle.gms_run.specs.Solving.{HaveGrown, Solvers, Solving, number_limit}
-use Rattle.gms_run.specs.Jobs.{IsSolved, Job, course_of, first_of, shown_by}
+use Rattle.gms_run.specs.Jobs.{IsRunSolved, Job, course_of, first_of, shown_by}
 use Rattle.gms_run.specs.InnerSteps.{Between, Ends, IsListed, KeepsPrograms, course_at}
 use Rattle.gms_run.proofs.Kept.{keeps_programs}
 use Rattle.gms_run.proofs.Listed.{halted_stays, in_two, texts-more}
@@ -58,7 +58,7 @@ module _ (job : Job) (before : Solvers) where
   pub record Rests (at : Between) (text : List ℕ) : Type 0 where
     pub later : List ℕ
     pub shown : shown_by job (solving_with at) ≡ text ++ later
-    pub solved : IsSolved job (solving_with at)
+    pub solved : IsRunSolved job (solving_with at)
 
   module _ (now : Between) (shown : List (OwnEvent Frac)) (standing : All (IsStanding frac_value number_limit before.rules now.answers) shown) where
     -- the events so far
@@ -78,7 +78,7 @@ module _ (job : Job) (before : Solvers) where
         ∙ flat_map-append (event_text job.program.names job.program.labels number_limit (map (answer_numbers frac_value) now.answers)) so_far (more ++ last_event course.halted)
 
   -- a program whose run is this one
-  solved_as : (now : Between) (course : Course) → course_of job (solving_with now) ≡ course → course.left ≡ [] → AreSettled before.rules now.answers course.events → HaveGrown before now.solvers now.answers course.events → IsSolved job (solving_with now)
+  solved_as : (now : Between) (course : Course) → course_of job (solving_with now) ≡ course → course.left ≡ [] → AreSettled before.rules now.answers course.events → HaveGrown before now.solvers now.answers course.events → IsRunSolved job (solving_with now)
   solved_as now course is left settled grown =
       let all = subst (AreSettled before.rules now.answers) (sym (ap (λ c. c.events) is)) settled in
       record {

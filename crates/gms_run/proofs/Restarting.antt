@@ -9,14 +9,14 @@ use Rattle.gms_store.specs.State.{State}
 use Rattle.gms_parse.specs.Outcomes.{IsProgram, program_view}
 use Rattle.gms_parse.proofs.OneReading.{one_program}
 use Rattle.gms_exec.specs.Run.{Course, World}
-use Rattle.gms_joint.specs.JointRun.{behind_run}
+use Rattle.gms_run_laws.specs.JointRun.{behind_run}
 use Rattle.gms_save.specs.declared.saved.Saved.{Saved}
 use Rattle.gms_save.specs.declared.fault.SaveFaultOrMemory.{SaveFaultOrMemory}
 use Rattle.gms_save.specs.JointErrors.{joint_errors, saved_statements}
 use Rattle.gms_save.specs.Saves.{GivesBack, IsBack, IsSaveOf, IsSavedBy, place_of_solver, with_solver}
 use Rattle.gms_save.proofs.SeenJoints.{same-joint-errors}
 use Rattle.gms_save.proofs.SeenPrograms.{same-names, same-saved}
-use Rattle.gms_saved.specs.SavedState.{saved_text}
+use Rattle.gms_save_text.specs.SavedState.{saved_text}
 use Rattle.gms_restart.specs.Restarts.{SaysTheSame, base_run, whole_run}
 use Rattle.gms_restart.proofs.Continuing.{says-the-same}
 use Rattle.gms_restart.proofs.ProgramsAlike.{restarted-alike, whole-alike}
@@ -26,7 +26,7 @@ use Rattle.gms_run.specs.declared.status.Status.TheVariants.{Done}
 use Rattle.gms_run.specs.Solving.{Solving, number_limit, numbers_of}
 use Rattle.gms_run.specs.Scripts.{IsJoint, IsMatter, Matter, Script, first_line, from_save, from_start, joint_script, joint_source, script_of, scripted}
 use Rattle.gms_run.specs.Jobs.{Job, course_of, first_of, job_of, save_text, solver_name}
-use Rattle.gms_run.specs.Listings.{IsAccepted, IsJob, IsListing, SavesLast}
+use Rattle.gms_run.specs.Listings.{IsAcceptedScript, IsJob, IsListing, SavesLast}
 use Rattle.gms_run.specs.Laws.{IsLongRun, IsRestart, RestartsSayTheSame, base_course}
 use Rattle.gms_run.proofs.Completeness.{one_value}
 
@@ -34,7 +34,7 @@ use Rattle.gms_run.proofs.Completeness.{one_value}
 
 -- What is run of a script.
 record IsJobOf (solvers : List (List ℕ)) (script : Script) (job : Job) : Type 0 where
-  accepted : IsAccepted solvers script job.program
+  accepted : IsAcceptedScript solvers script job.program
   is : job ≡ job_of script job.program
 
 -- a source that is run from its start
@@ -42,7 +42,7 @@ from-its-start : (solvers : List (List ℕ)) (source : List ℕ) (matter : Matte
 from-its-start solvers source matter job is j =
     let same : j.script ≡ script_of source = subst (IsMatter solvers (from_start source)) j.to_run is in
     record {
-      accepted = subst (λ (script : Script). IsAccepted solvers script job.program) same j.accepted;
+      accepted = subst (λ (script : Script). IsAcceptedScript solvers script job.program) same j.accepted;
       is = j.is_job ∙ ap (λ (script : Script). job_of script job.program) same;
     }
 
@@ -59,7 +59,7 @@ from-its-save solvers save file matter job is j =
       saved = joint.saved;
       back = joint.back;
       of = record {
-        accepted = subst (λ (script : Script). IsAccepted solvers script job.program) joint.joint j.accepted;
+        accepted = subst (λ (script : Script). IsAcceptedScript solvers script job.program) joint.joint j.accepted;
         is = j.is_job ∙ ap (λ (script : Script). job_of script job.program) joint.joint;
       };
     }
@@ -77,7 +77,7 @@ both-answers one other long e =
 
 -- A run of a program that ended, and whose last state was saved.
 record IsKept (first : Solving) (source save : List ℕ) (program : Program Frac) : Type 0 where
-  accepted : IsAccepted first.before.names (script_of source) program
+  accepted : IsAcceptedScript first.before.names (script_of source) program
   halted : (whole_run frac_value number_limit (world_of program first) (numbers_of first.answers)).halted ≡ None
   left : (whole_run frac_value number_limit (world_of program first) (numbers_of first.answers)).left ≡ []
   is_save : IsSaveOf save source program (whole_run frac_value number_limit (world_of program first) (numbers_of first.answers)).state (solver_name first.before.names (whole_run frac_value number_limit (world_of program first) (numbers_of first.answers)).state)

@@ -8,10 +8,10 @@ use Rattle.gq_frac.specs.Frac.{frac_value}
 use Rattle.gms_ast.specs.declared.program.Program.{Program}
 use Rattle.gms_ast.specs.declared.program.Stmt.{Stmt}
 use Rattle.gms_ast.specs.Trees as tree
-use Rattle.gms_store.specs.State.{State, Content, undeclared, alias_of, set_of, parameter_of, variable_of, equation_of, model_with, Symbol, no_symbol, symbol_at, behind, base_of, symbol_of, members_in, members_of}
+use Rattle.gms_store.specs.State.{State, Content, undeclared, alias_of, set_of, parameter_of, variable_of, equation_of, model_with, Symbol, no_symbol, symbol_at, alias_target, base_of, symbol_of, members_in, members_of}
 use Rattle.gms_store.specs.Declarations.{is_undeclared, declared_state}
 use Rattle.gms_store.specs.Overlays.{overlaid_symbols}
-use Rattle.gms_saved.specs.Validity.{emptied}
+use Rattle.gms_save_text.specs.Validity.{emptied}
 use Rattle.gms_rows.specs.Plain.{ArePlain}
 use Rattle.gms_rows.specs.Rows.{Definition, definitions}
 use Rattle.gms_exec.specs.Dimensions.{AreOverOne, AreOneDimensional}
@@ -36,7 +36,7 @@ either (x ∷ xs) (y ∷ ys) zero = by (is_undeclared y.content)
 either (x ∷ xs) (y ∷ ys) (suc n) = either xs ys n
 
 -- the set that a name stands for does not depend on its data
-keeps-behind : (n : ℕ) (c : Content) → behind n (emptied c) ≡ behind n c
+keeps-behind : (n : ℕ) (c : Content) → alias_target n (emptied c) ≡ alias_target n c
 keeps-behind n undeclared = refl
 keeps-behind n (alias_of base) = refl
 keeps-behind n (set_of members) = refl
@@ -58,11 +58,11 @@ module _ (saved : State) (joint : Program Frac) (alike : (name : ℕ) → IsAlik
 
   base-same : (set : ℕ) → base_of now set ≡ base_of first set
   base-same set =
-      (alike set).base ∙ sym (same-read (behind set) (keeps-behind set) first (declared_state joint) set (loaded-declares frac_value joint))
+      (alike set).base ∙ sym (same-read (alias_target set) (keeps-behind set) first (declared_state joint) set (loaded-declares frac_value joint))
 
   domain-same : (set : ℕ) → length (symbol_of now set).domain ≡ length (symbol_of first set).domain
   domain-same set =
-      let base : base_of first set ≡ base_of (declared_state joint) set = same-read (behind set) (keeps-behind set) first (declared_state joint) set (loaded-declares frac_value joint) in
+      let base : base_of first set ≡ base_of (declared_state joint) set = same-read (alias_target set) (keeps-behind set) first (declared_state joint) set (loaded-declares frac_value joint) in
       (alike set).positions
       ∙ ap (λ (n : ℕ). length (symbol_at (declared_state joint) n).domain) (sym base)
       ∙ sym (ap (λ (s : Symbol). length s.domain) (same-at first (declared_state joint) (base_of first set) (loaded-declares frac_value joint)))

@@ -12,22 +12,22 @@ use Rattle.gms_host.specs.Meaning.{Counts, Files, Meaning, Outside, Rose}
 use Rattle.gms_host.specs.Rules.{ClosesOutput, CountsReading, CountsWriting, IsThere, OpensOutput, with_kept, with_opened, with_output, with_said}
 use Rattle.gms_host.specs.Spooling.{SaysFront}
 use Rattle.gms_host.proofs.Counting.{all_done, done_with}
-use Rattle.gms_lex.specs.Tokens.{most_bytes}
-use Rattle.gms_parse.specs.Outcomes.{IsFault}
+use Rattle.gms_lex.specs.Tokens.{most_source_bytes}
+use Rattle.gms_parse.specs.Outcomes.{IsSourceFault}
 use Rattle.gms_save.specs.declared.saved.Saved.{Saved}
 use Rattle.gms_save.specs.declared.fault.SaveFault.{SaveFault}
 use Rattle.gms_save.specs.declared.fault.SaveFault.TheVariants.{SaveTooLong, SaveShape, SaveSolver}
-use Rattle.gms_save.specs.Saves.{GivesBack, most_bytes as most_save_bytes, IsRestored}
+use Rattle.gms_save.specs.Saves.{GivesBack, most_save_bytes, IsRestored}
 use Rattle.gms_run.specs.declared.status.Status.{Status}
 use Rattle.gms_run.specs.declared.status.Status.TheVariants.{Done, Usage, Compile, Execution, ReadFault, WriteFault}
-use Rattle.gms_gen.specs.Generator.{model_text}
-use Rattle.gms_words.specs.CommandLine.{Asked, Origin, in_file, restarted, generated, read_fault_line, request_of}
+use Rattle.gms_gen.specs.Generator.{generated_model_text}
+use Rattle.gms_command.specs.CommandLine.{Asked, Origin, in_file, restarted, generated, read_fault_line, request_of}
 use Rattle.gms_store.specs.State.{State}
 use Rattle.gms_run.specs.Solving.{Solving, SolvesNothing, number_limit}
 use Rattle.gms_run.specs.Scripts.{Script, Matter, scripted, unrestored, Taken, from_start, from_save, script_of, first_line, joint_script, joint_source, IsMatter, IsUnrestored}
 use Rattle.gms_run.specs.Jobs.{Job}
-use Rattle.gms_run.specs.Listings.{AreClosing, IsExecuted, IsFront, IsJob, IsListing, IsRefused, SavesLast, SavesSo, ShowsRefusal, ShowsWhy, TellsRanges, TellsRun, refusal_text, refused_text, save_file}
-use Rattle.gms_run.specs.Statuses.{CountsSo, EndsByNoFault, HasOrigin, IsFileOf, IsReadFault, IsReadyFor, IsReported, IsRun, IsTaken, IsUnread, IsUnreadOf, IsUnwritten, IsUnwrittenFile, IsWriteFault, OfRequest, RanSo, SaysLine, with_file, with_listing, with_read, with_save, with_saved, with_source, with_taken}
+use Rattle.gms_run.specs.Listings.{AreClosing, IsExecuted, IsWrittenPrefix, IsJob, IsListing, IsRefusalListing, SavesLast, SavesSo, ShowsRefusal, ShowsWhy, TellsRanges, TellsRun, refusal_text, refused_text, save_file}
+use Rattle.gms_run.specs.Statuses.{CountsSo, EndsByNoFault, HasOrigin, IsFileOf, IsReadFault, IsReadyFor, IsReported, IsRun, IsInputOf, IsUnread, IsUnreadOf, IsUnwritten, IsUnwrittenFile, IsWriteFault, OfRequest, RanSo, SaysLine, with_file, with_listing, with_read, with_save, with_saved, with_source_read, with_taken}
 use Rattle.gms_run.specs.InnerReports.{CountsMention, CountsRun, EndsAs, IsUnreadFile, Lists, LosesSave, RanBehind, RanOf, ReadsFile, WritesSave}
 use Rattle.gms_run.specs.InnerSteps.{ComesTo}
 use Rattle.gms_run.proofs.Comings.{failed_with}
@@ -35,20 +35,20 @@ use Rattle.gms_run.proofs.Comings.{failed_with}
 -- ---- sources that are too long
 
 -- The listing of the refusal of a script that is too long is that of another that is too long.
-long_refusal : (a b : Script) (text : List ℕ) → most_bytes < length a.source → most_bytes < length b.source → ShowsRefusal a text → ShowsRefusal b text
+long_refusal : (a b : Script) (text : List ℕ) → most_source_bytes < length a.source → most_source_bytes < length b.source → ShowsRefusal a text → ShowsRefusal b text
 long_refusal a b text long more r = by_fault r.refused
   where
-    by_fault : IsFault number_limit a.source r.fault → ShowsRefusal b text
+    by_fault : IsSourceFault number_limit a.source r.fault → ShowsRefusal b text
     by_fault (inl too) =
         record { fault = r.fault; refused = inl (more, too.1); listing = r.listing ∙ ap (λ fault. refused_text (refusal_text a fault)) too.1 ∙ sym (ap (λ fault. refused_text (refusal_text b fault)) too.1) }
-    by_fault (inr (inl lexical)) = let few : length a.source ≤ most_bytes = lexical.short in absurd (omega (arith, long, few))
-    by_fault (inr (inr syntactic)) = let few : length a.source ≤ most_bytes = syntactic.short in absurd (omega (arith, long, few))
+    by_fault (inr (inl lexical)) = let few : length a.source ≤ most_source_bytes = lexical.short in absurd (omega (arith, long, few))
+    by_fault (inr (inr syntactic)) = let few : length a.source ≤ most_source_bytes = syntactic.short in absurd (omega (arith, long, few))
 
 -- nothing is run of a script that is too long
-no_job : (solvers : List (List ℕ)) (script : Script) (job : Job) → most_bytes < length script.source → IsJob solvers (scripted script) job → ⊥
+no_job : (solvers : List (List ℕ)) (script : Script) (job : Job) → most_source_bytes < length script.source → IsJob solvers (scripted script) job → ⊥
 no_job solvers script job long is =
     let same : is.script ≡ script = one_script (sym is.to_run) in
-    let few : length is.script.source ≤ most_bytes = is.accepted.is_program.short in
+    let few : length is.script.source ≤ most_source_bytes = is.accepted.is_program.short in
     let size : length is.script.source ≡ length script.source = ap (λ (s : Script). length s.source) same in
     omega (arith, few, size, long)
   where
@@ -56,13 +56,13 @@ no_job solvers script job long is =
     one_script e = cc
 
 -- what is listed of why a script that is too long is not run is listed of another
-long_why : (solvers : List (List ℕ)) (a b : Script) (text : List ℕ) → most_bytes < length a.source → most_bytes < length b.source → ShowsWhy solvers (scripted a) text → ShowsWhy solvers (scripted b) text
+long_why : (solvers : List (List ℕ)) (a b : Script) (text : List ℕ) → most_source_bytes < length a.source → most_source_bytes < length b.source → ShowsWhy solvers (scripted a) text → ShowsWhy solvers (scripted b) text
 long_why solvers a b text long more (inl refusal) = inl (long_refusal a b text long more refusal)
-long_why solvers a b text long more (inr errors) = let few : length a.source ≤ most_bytes = errors.is_program.short in absurd (omega (arith, few, long))
+long_why solvers a b text long more (inr errors) = let few : length a.source ≤ most_source_bytes = errors.is_program.short in absurd (omega (arith, few, long))
 
-module _ (solving : Solving) (a b : Script) (long : most_bytes < length a.source) (more : most_bytes < length b.source) where
+module _ (solving : Solving) (a b : Script) (long : most_source_bytes < length a.source) (more : most_source_bytes < length b.source) where
   -- of two scripts that are too long the same is refused
-  long_refused : (text : List ℕ) → IsRefused solving (scripted a) text → IsRefused solving (scripted b) text
+  long_refused : (text : List ℕ) → IsRefusalListing solving (scripted a) text → IsRefusalListing solving (scripted b) text
   long_refused text (why, none) = (long_why solving.before.names a b text long more why, none)
 
   -- neither is executed
@@ -79,7 +79,7 @@ module _ (solving : Solving) (a b : Script) (long : most_bytes < length a.source
   long_listing WriteFault text is = absurd is
 
   -- and the same prefix is expected
-  long_front : (text : List ℕ) (written : ℕ) → IsFront solving (scripted a) text written → IsFront solving (scripted b) text written
+  long_front : (text : List ℕ) (written : ℕ) → IsWrittenPrefix solving (scripted a) text written → IsWrittenPrefix solving (scripted b) text written
   long_front text written (inl refused) = inl (long_refused text refused)
   long_front text written (inr run) = absurd (no_run text run.0)
 
@@ -148,31 +148,31 @@ of_whole most bytes P long is =
 
 module _ (status : Status) (solving : Solving) (old new : Outside) (request : Asked) where
   -- what a run did of the first bytes of a file it did of the file
-  pub ran_whole : (whole : List ℕ) → RanSo status solving old new request (scripted (script_of (take (most_bytes + 1) whole))) → RanSo status solving old new request (scripted (script_of whole))
+  pub ran_whole : (whole : List ℕ) → RanSo status solving old new request (scripted (script_of (take (most_source_bytes + 1) whole))) → RanSo status solving old new request (scripted (script_of whole))
   ran_whole whole =
-      of_whole most_bytes whole (λ b. RanSo status solving old new request (scripted (script_of b)))
-      (λ long more r. long_ran solving (script_of (take (most_bytes + 1) whole)) (script_of whole) long more status old new request r)
+      of_whole most_source_bytes whole (λ b. RanSo status solving old new request (scripted (script_of b)))
+      (λ long more r. long_ran solving (script_of (take (most_source_bytes + 1) whole)) (script_of whole) long more status old new request r)
 
   -- the same for a file that resumes from a saved state
-  joint_whole : (saved : List ℕ) (state : State) (whole : List ℕ) → RanSo status solving old new request (scripted (joint_script saved state (take (most_bytes + 1) whole))) → RanSo status solving old new request (scripted (joint_script saved state whole))
+  joint_whole : (saved : List ℕ) (state : State) (whole : List ℕ) → RanSo status solving old new request (scripted (joint_script saved state (take (most_source_bytes + 1) whole))) → RanSo status solving old new request (scripted (joint_script saved state whole))
   joint_whole saved state whole =
-      of_whole most_bytes whole (λ b. RanSo status solving old new request (scripted (joint_script saved state b)))
-      (λ long more r. long_ran solving (joint_script saved state (take (most_bytes + 1) whole)) (joint_script saved state whole) (too_long saved (take (most_bytes + 1) whole) long) (too_long saved whole more) status old new request r)
+      of_whole most_source_bytes whole (λ b. RanSo status solving old new request (scripted (joint_script saved state b)))
+      (λ long more r. long_ran solving (joint_script saved state (take (most_source_bytes + 1) whole)) (joint_script saved state whole) (too_long saved (take (most_source_bytes + 1) whole) long) (too_long saved whole more) status old new request r)
     where
       longer : (a b : List ℕ) → length b ≤ length (a ++ b)
       longer a b = omega (arith, length-append a b)
 
-      too_long : (a b : List ℕ) → most_bytes < length b → most_bytes < length (joint_source a b)
+      too_long : (a b : List ℕ) → most_source_bytes < length b → most_source_bytes < length (joint_source a b)
       too_long a b h =
           let seam : length b ≤ length (10 ∷ 59 ∷ 10 ∷ b) = longer (10 ∷ 59 ∷ 10 ∷ []) b in
           let joint : length (10 ∷ 59 ∷ 10 ∷ b) ≤ length (joint_source a b) = longer a (10 ∷ 59 ∷ 10 ∷ b) in
           omega (arith, h, seam, joint)
 
   -- what was run of a save and the first bytes of a file is what was run of the save and the file
-  pub file_whole : (save whole : List ℕ) → RanOf status solving old new request (from_save save (take (most_bytes + 1) whole)) → RanOf status solving old new request (from_save save whole)
+  pub file_whole : (save whole : List ℕ) → RanOf status solving old new request (from_save save (take (most_source_bytes + 1) whole)) → RanOf status solving old new request (from_save save whole)
   file_whole save whole r = by r.matter r.is_matter r.ran
     where
-      by : (m : Matter) → IsMatter solving.before.names (from_save save (take (most_bytes + 1) whole)) m → RanSo status solving old new request m → RanOf status solving old new request (from_save save whole)
+      by : (m : Matter) → IsMatter solving.before.names (from_save save (take (most_source_bytes + 1) whole)) m → RanSo status solving old new request m → RanOf status solving old new request (from_save save whole)
       by (unrestored fault) is ran = record { matter = unrestored fault; is_matter = is; ran = ran }
       by (scripted script) is ran =
           record {
@@ -206,7 +206,7 @@ says_from old mid new line there counts said = says_later old mid new mid.outsid
 -- ---- for a request
 
 -- What a run of the input did is what it did for a request.
-pub of_request : (status : Status) (solving : Solving) (old new : Meaning) (request : Asked) (taken : Taken) → IsTaken old.outside request.source taken → RanOf status solving (with_taken old.outside request.source taken) new.outside request taken → OfRequest status solving old new request
+pub of_request : (status : Status) (solving : Solving) (old new : Meaning) (request : Asked) (taken : Taken) → IsInputOf old.outside request.source taken → RanOf status solving (with_taken old.outside request.source taken) new.outside request taken → OfRequest status solving old new request
 of_request Done solving old new request taken is r = record { taken = taken; is_taken = is; matter = r.matter; is_matter = r.is_matter; ran = r.ran }
 of_request Compile solving old new request taken is r = record { taken = taken; is_taken = is; matter = r.matter; is_matter = r.is_matter; ran = r.ran }
 of_request Execution solving old new request taken is r = record { taken = taken; is_taken = is; matter = r.matter; is_matter = r.is_matter; ran = r.ran }
@@ -215,24 +215,24 @@ of_request Usage solving old new request taken is r = absurd r.ran
 of_request ReadFault solving old new request taken is r = absurd r.ran
 
 -- The same of a result, for a file whose first bytes were taken.
-pub of_file : (r : Result Status AllocError) (solving : Solving) (old mid new : Meaning) (request : Asked) (file : List ℕ) (source : Vec ℕ Global) (bytes : List ℕ) → request.source ≡ in_file file → bytes ≡ source.items → ReadsFile (most_bytes + 1) (done_with source) old.outside mid.outside file →
+pub of_file : (r : Result Status AllocError) (solving : Solving) (old mid new : Meaning) (request : Asked) (file : List ℕ) (source : Vec ℕ Global) (bytes : List ℕ) → request.source ≡ in_file file → bytes ≡ source.items → ReadsFile (most_source_bytes + 1) (done_with source) old.outside mid.outside file →
     IfOk r (λ status. RanSo status solving mid.outside new.outside request (scripted (script_of bytes))) → IfOk r (λ status. OfRequest status solving old new request)
 of_file (Ok status) solving old mid new request file source bytes in_it same read ran =
     let whole = read.0 in
-    let is : IsTaken old.outside request.source (from_start whole) = subst (λ (o : Origin). IsTaken old.outside o (from_start whole)) (sym in_it) read.1.0 in
-    let taken : bytes ≡ take (most_bytes + 1) whole = same ∙ read.1.1.0 in
+    let is : IsInputOf old.outside request.source (from_start whole) = subst (λ (o : Origin). IsInputOf old.outside o (from_start whole)) (sym in_it) read.1.0 in
+    let taken : bytes ≡ take (most_source_bytes + 1) whole = same ∙ read.1.1.0 in
     let place : mid.outside ≡ with_taken old.outside request.source (from_start whole) = read.1.1.1 ∙ ap (λ (o : Origin). with_taken old.outside o (from_start whole)) (sym in_it) in
-    let ran_so : RanSo status solving (with_taken old.outside request.source (from_start whole)) new.outside request (scripted (script_of (take (most_bytes + 1) whole))) =
-    subst (λ (o : Outside). RanSo status solving o new.outside request (scripted (script_of (take (most_bytes + 1) whole)))) place (subst (λ (b : List ℕ). RanSo status solving mid.outside new.outside request (scripted (script_of b))) taken ran) in
+    let ran_so : RanSo status solving (with_taken old.outside request.source (from_start whole)) new.outside request (scripted (script_of (take (most_source_bytes + 1) whole))) =
+    subst (λ (o : Outside). RanSo status solving o new.outside request (scripted (script_of (take (most_source_bytes + 1) whole)))) place (subst (λ (b : List ℕ). RanSo status solving mid.outside new.outside request (scripted (script_of b))) taken ran) in
     of_request status solving old new request (from_start whole) is
     (record { matter = scripted (script_of whole); is_matter = refl; ran = ran_whole status solving (with_taken old.outside request.source (from_start whole)) new.outside request whole ran_so })
 of_file (Err e) solving old mid new request file source bytes in_it same read ran = tt
 
 -- And for a model that was generated, without any call.
-pub of_generated : (r : Result Status AllocError) (solving : Solving) (old new : Meaning) (request : Asked) (size : ℕ) (source : List ℕ) → request.source ≡ generated size → source ≡ model_text size size size →
+pub of_generated : (r : Result Status AllocError) (solving : Solving) (old new : Meaning) (request : Asked) (size : ℕ) (source : List ℕ) → request.source ≡ generated size → source ≡ generated_model_text size size size →
     IfOk r (λ status. RanSo status solving old.outside new.outside request (scripted (script_of source))) → IfOk r (λ status. OfRequest status solving old new request)
 of_generated (Ok status) solving old new request size source e is ran =
-    of_request status solving old new request (from_start source) (subst (λ (o : Origin). IsTaken old.outside o (from_start source)) (sym e) is)
+    of_request status solving old new request (from_start source) (subst (λ (o : Origin). IsInputOf old.outside o (from_start source)) (sym e) is)
     (record { matter = scripted (script_of source); is_matter = refl; ran = subst (λ (o : Outside). RanSo status solving o new.outside request (scripted (script_of source))) (ap (λ (o : Origin). with_taken old.outside o (from_start source)) (sym e)) ran })
 of_generated (Err x) solving old new request size source e is ran = tt
 
@@ -269,7 +269,7 @@ of_unrestored (Ok status) solving old new request save file fault is ran = recor
 of_unrestored (Err e) solving old new request save file fault is ran = tt
 
 -- A run of a file that was read after its save is the run of that file.
-pub of_behind : (r : Result Status AllocError) (solving : Solving) (old mid new : Meaning) (request : Asked) (save file : List ℕ) (source : Vec ℕ Global) (bytes : List ℕ) → bytes ≡ source.items → ReadsFile (most_bytes + 1) (done_with source) old.outside mid.outside file →
+pub of_behind : (r : Result Status AllocError) (solving : Solving) (old mid new : Meaning) (request : Asked) (save file : List ℕ) (source : Vec ℕ Global) (bytes : List ℕ) → bytes ≡ source.items → ReadsFile (most_source_bytes + 1) (done_with source) old.outside mid.outside file →
     IfOk r (λ status. RanOf status solving mid.outside new.outside request (from_save save bytes)) → IfOk r (λ status. RanBehind status solving old new request save file)
 of_behind (Err e) solving old mid new request save file source bytes same read ran = tt
 of_behind (Ok status) solving old mid new request save file source bytes same read ran = by status ran
@@ -277,13 +277,13 @@ of_behind (Ok status) solving old mid new request save file source bytes same re
     whole : List ℕ
     whole = read.0
 
-    of_status : (s : Status) → RanOf s solving mid.outside new.outside request (from_save save bytes) → (source : List ℕ) × (IsFileOf old.outside file source × RanOf s solving (with_source old.outside file source) new.outside request (from_save save source))
+    of_status : (s : Status) → RanOf s solving mid.outside new.outside request (from_save save bytes) → (source : List ℕ) × (IsFileOf old.outside file source × RanOf s solving (with_source_read old.outside file source) new.outside request (from_save save source))
     of_status s r = (
       whole,
       (
         read.1.0,
-        file_whole s solving (with_source old.outside file whole) new.outside request save whole
-            (subst (λ (o : Outside). RanOf s solving o new.outside request (from_save save (take (most_bytes + 1) whole))) read.1.1.1 (subst (λ (b : List ℕ). RanOf s solving mid.outside new.outside request (from_save save b)) (same ∙ read.1.1.0) r)),
+        file_whole s solving (with_source_read old.outside file whole) new.outside request save whole
+            (subst (λ (o : Outside). RanOf s solving o new.outside request (from_save save (take (most_source_bytes + 1) whole))) read.1.1.1 (subst (λ (b : List ℕ). RanOf s solving mid.outside new.outside request (from_save save b)) (same ∙ read.1.1.0) r)),
       ),
     )
 
@@ -314,16 +314,16 @@ of_restart (Ok status) solving old mid new request saved file save bytes in_it s
     at : mid.outside ≡ with_saved old.outside saved whole
     at = read.1.1.1
 
-    of_status : (s : Status) → (source : List ℕ) × (IsFileOf mid.outside file source × RanOf s solving (with_source mid.outside file source) new.outside request (from_save bytes source)) → OfRequest s solving old new request
+    of_status : (s : Status) → (source : List ℕ) × (IsFileOf mid.outside file source × RanOf s solving (with_source_read mid.outside file source) new.outside request (from_save bytes source)) → OfRequest s solving old new request
     of_status s (source, (there, r)) =
         let found : IsFileOf (with_saved old.outside saved whole) file source = subst (λ (o : Outside). IsFileOf o file source) at there in
-        let is : IsTaken old.outside request.source (from_save whole source) = subst (λ (o : Origin). IsTaken old.outside o (from_save whole source)) (sym in_it) (read.1.0, found) in
-        let first : RanOf s solving (with_source (with_saved old.outside saved whole) file source) new.outside request (from_save (take (most_save_bytes + 1) whole) source) =
-        subst (λ (o : Outside). RanOf s solving (with_source o file source) new.outside request (from_save (take (most_save_bytes + 1) whole) source)) at
-        (subst (λ (b : List ℕ). RanOf s solving (with_source mid.outside file source) new.outside request (from_save b source)) (same ∙ read.1.1.0) r) in
+        let is : IsInputOf old.outside request.source (from_save whole source) = subst (λ (o : Origin). IsInputOf old.outside o (from_save whole source)) (sym in_it) (read.1.0, found) in
+        let first : RanOf s solving (with_source_read (with_saved old.outside saved whole) file source) new.outside request (from_save (take (most_save_bytes + 1) whole) source) =
+        subst (λ (o : Outside). RanOf s solving (with_source_read o file source) new.outside request (from_save (take (most_save_bytes + 1) whole) source)) at
+        (subst (λ (b : List ℕ). RanOf s solving (with_source_read mid.outside file source) new.outside request (from_save b source)) (same ∙ read.1.1.0) r) in
         of_request s solving old new request (from_save whole source) is
         (subst (λ (o : Origin). RanOf s solving (with_taken old.outside o (from_save whole source)) new.outside request (from_save whole source)) (sym in_it)
-        (save_whole s solving (with_source (with_saved old.outside saved whole) file source) new.outside request whole source first))
+        (save_whole s solving (with_source_read (with_saved old.outside saved whole) file source) new.outside request whole source first))
 
     unread_second : IsUnreadFile mid new file → IsReadFault old new request
     unread_second u =

@@ -16,12 +16,12 @@ use Rattle.gq_frac.specs.Frac.{frac_value}
 use Rattle.gms_ast.specs.declared.program.Program.{Program}
 use Rattle.gms_ast.specs.declared.program.Stmt.{Stmt}
 use Rattle.gms_labels.proofs.Places.{is_same_refl, position_misses}
-use Rattle.gms_store.specs.State.{Content, undeclared, alias_of, set_of, parameter_of, variable_of, equation_of, model_with, Symbol, State, no_symbol, behind, fits_at, symbol_at, symbol_of, with_content}
+use Rattle.gms_store.specs.State.{Content, undeclared, alias_of, set_of, parameter_of, variable_of, equation_of, model_with, Symbol, State, no_symbol, alias_target, fits_at, symbol_at, symbol_of, with_content}
 use Rattle.gms_parse.specs.Outcomes.{IsProgram}
 use Rattle.gms_check.specs.Loaded.{IsAccepted as IsAcceptedBy, loaded}
 use Rattle.gms_exec.specs.Run.{World, run_from}
-use Rattle.gms_saved.specs.SavedState.{saved_text}
-use Rattle.gms_saved.specs.Validity.{declared_in, emptied, is_solver_byte, is_solver_name}
+use Rattle.gms_save_text.specs.SavedState.{saved_text}
+use Rattle.gms_save_text.specs.Validity.{declared_symbols, emptied, is_solver_byte, is_solver_name}
 use Rattle.gms_save.specs.JointErrors.{joint_errors}
 use Rattle.gms_save.specs.Saves.{IsSaveOf, IsSavedBy, place_of_solver, solvers_chosen}
 use Rattle.gms_save.proofs.LoadedNames.{declared-count, loaded-declares}
@@ -33,9 +33,9 @@ use Rattle.gms_restart.proofs.Saved.{state-kept}
 use Rattle.gms_restart.specs.LastStates.{later_state}
 use Rattle.lp_slot.specs.SolverNames.{IsSolverName, may_stand_in_name}
 use Rattle.gms_run.specs.Solving.{Solving, number_limit, numbers_of}
-use Rattle.gms_run.specs.Scripts.{Script, errors_of, first_line, first_state, joint_source, statements_of}
+use Rattle.gms_run.specs.Scripts.{Script, errors_of_script, first_line, first_state, joint_source, statements_to_run}
 use Rattle.gms_run.specs.Jobs.{Job, course_of, job_of, save_text, solver_name}
-use Rattle.gms_run.specs.Listings.{IsAccepted}
+use Rattle.gms_run.specs.Listings.{IsAcceptedScript}
 use Rattle.gms_run.specs.InnerReports.{IsGoneOn, KeepsState}
 
 -- ---- the name of the solver
@@ -69,9 +69,9 @@ solver-saved (name ∷ names) (suc place) all = solver-saved names place (All-ta
 fits-itself : (limit : ℕ) (state : State) (name : ℕ) (t : List ℕ) → fits_at limit (symbol_of state name).content t ≡ true → fits_at limit (symbol_at state name).content t ≡ true
 fits-itself limit state name t fit = by (symbol_at state name).content refl
   where
-    here : (content : Content) → (symbol_at state name).content ≡ content → behind name content ≡ name → fits_at limit content t ≡ true
+    here : (content : Content) → (symbol_at state name).content ≡ content → alias_target name content ≡ name → fits_at limit content t ≡ true
     here content is same =
-        subst (λ (c : Content). fits_at limit c t ≡ true) is (subst (λ (n : ℕ). fits_at limit (symbol_at state n).content t ≡ true) (ap (behind name) is ∙ same) fit)
+        subst (λ (c : Content). fits_at limit c t ≡ true) is (subst (λ (n : ℕ). fits_at limit (symbol_at state n).content t ≡ true) (ap (alias_target name) is ∙ same) fit)
 
     by : (content : Content) → (symbol_at state name).content ≡ content → fits_at limit content t ≡ true
     by undeclared is = refl
@@ -95,19 +95,19 @@ fits-each limit state count size fit name t = by (nat_lt name count) refl
 -- ---- the last state
 
 -- a state declares as much as another
-counts-as : (state : State) (program : Program Frac) → declared_in state ≡ declared_in (loaded frac_value program) → length state.symbols ≡ length program.names
+counts-as : (state : State) (program : Program Frac) → declared_symbols state ≡ declared_symbols (loaded frac_value program) → length state.symbols ≡ length program.names
 counts-as state program declares =
     sym (length-map state.symbols (λ (symbol : Symbol). with_content symbol (emptied symbol.content)))
     ∙ ap length (declares ∙ loaded-declares frac_value program)
     ∙ declared-count program
 
-module _ (solving : Solving) (script : Script) (job : Job) (accepted : IsAccepted solving.before.names script job.program) (is_job : job ≡ job_of script job.program) where
+module _ (solving : Solving) (script : Script) (job : Job) (accepted : IsAcceptedScript solving.before.names script job.program) (is_job : job ≡ job_of script job.program) where
   abbrev world : World Frac
   world = record { program = job.program; solvers = solving.before.names }
 
   -- the state in which a script's program ends
   abbrev ended : Option State → State
-  ended saved = (run_from frac_value number_limit world (first_state saved job.program) (numbers_of solving.answers) (statements_of saved script.line job.program)).state
+  ended saved = (run_from frac_value number_limit world (first_state saved job.program) (numbers_of solving.answers) (statements_to_run saved script.line job.program)).state
 
   ended-is : (course_of job solving).state ≡ ended script.saved
   ended-is =
@@ -121,7 +121,7 @@ module _ (solving : Solving) (script : Script) (job : Job) (accepted : IsAccepte
   named_by state = solver_name solving.before.names state
 
   -- it is a saved state of the program, from the start and from a save
-  saved-by : (saved : Option State) → errors_of saved script.line job.program solving.before.names ≡ [] → IfSome saved (IsGoneOn solving.before.names script.source script.line) → FitsThere (ended saved) → All IsSolverName solving.before.names → IsSavedBy job.program (ended saved) (named_by (ended saved))
+  saved-by : (saved : Option State) → errors_of_script saved script.line job.program solving.before.names ≡ [] → IfSome saved (IsGoneOn solving.before.names script.source script.line) → FitsThere (ended saved) → All IsSolverName solving.before.names → IsSavedBy job.program (ended saved) (named_by (ended saved))
   saved-by None none origin fit named =
       let kept = state-kept frac_value number_limit world (solving.before.names, none) (has-its-labels number_limit script.source job.program accepted.is_program) (numbers_of solving.answers) in
       last-saved number_limit script.source world (numbers_of solving.answers) (named_by (ended None)) accepted.is_program none
@@ -148,7 +148,7 @@ module _ (solving : Solving) (script : Script) (job : Job) (accepted : IsAccepte
     where
       chosen : (saved : Option State) → IsFirst solving.before.names (first_state saved job.program).settings.solver → IsFirst solving.before.names (ended saved).settings.solver
       chosen saved first =
-          run-chooses frac_value number_limit world named (first_state saved job.program) (numbers_of solving.answers) (statements_of saved script.line job.program) first
+          run-chooses frac_value number_limit world named (first_state saved job.program) (numbers_of solving.answers) (statements_to_run saved script.line job.program) first
 
       by : (saved : Option State) → IfSome saved (IsGoneOn solving.before.names script.source script.line) → IsFirst solving.before.names (ended saved).settings.solver
       by None gone = chosen None (loaded-chooses frac_value job.program solving.before.names named)

@@ -11,13 +11,13 @@ use Rattle.gms_exec.specs.Run.{Course, World, stopped}
 use Rattle.gms_parse.specs.Outcomes.{program_view}
 use Rattle.gms_parse.proofs.OneReading.{one_program}
 use Rattle.gms_save.specs.declared.fault.SaveFault.{SaveFault}
-use Rattle.gms_words.specs.CommandLine.{Asked}
+use Rattle.gms_command.specs.CommandLine.{Asked}
 use Rattle.gms_run.specs.declared.status.Status.{Status}
 use Rattle.gms_run.specs.declared.status.Status.TheVariants.{Done, Usage, Compile, Execution, ReadFault, WriteFault}
 use Rattle.gms_run.specs.Solving.{Solving, number_limit, numbers_of}
 use Rattle.gms_run.specs.Scripts.{Script, joint_script, Matter, scripted, unrestored, Taken, from_start, from_save, IsMatter}
 use Rattle.gms_run.specs.Jobs.{Job, job_of, course_of, HaltsSo}
-use Rattle.gms_run.specs.Listings.{IsAccepted, IsExecuted, IsJob}
+use Rattle.gms_run.specs.Listings.{IsAcceptedScript, IsExecuted, IsJob}
 use Rattle.gms_run.specs.Statuses.{CountsSo, EndsByNoFault, IsReadyFor, IsRun, IsRunOf, IsStopped, MeetsNoFault, NamesSource}
 use Rattle.gms_restart.proofs.ProgramsAlike.{restarted-alike, whole-alike}
 use Rattle.gms_run.proofs.Completeness.{can_run_of, fault_met, named_taken, names_some, not_refused, one_script, one_value, same_restored}
@@ -45,8 +45,8 @@ module _ (solving : Solving) where
   script-course script a b ja jb =
       let is-a : script ≡ ja.script = one_script ja.to_run in
       let is-b : script ≡ jb.script = one_script jb.to_run in
-      let program-a = subst (λ (s : Script). IsAccepted solving.before.names s a.program) (sym is-a) ja.accepted in
-      let program-b = subst (λ (s : Script). IsAccepted solving.before.names s b.program) (sym is-b) jb.accepted in
+      let program-a = subst (λ (s : Script). IsAcceptedScript solving.before.names s a.program) (sym is-a) ja.accepted in
+      let program-b = subst (λ (s : Script). IsAcceptedScript solving.before.names s b.program) (sym is-b) jb.accepted in
       let alike = one_program number_limit script.source (program_view frac_value a.program) (program_view frac_value b.program) program-a.is_program program-b.is_program in
       ap (λ (j : Job). course_of j solving) (ja.is_job ∙ ap (λ (s : Script). job_of s a.program) (sym is-a))
       ∙ same-course a.program b.program alike solving script

@@ -6,7 +6,7 @@ use Rattle.gq_frac.specs.declared.frac.Frac.{Frac}
 use Rattle.gq_frac.specs.Frac.{frac_value}
 use Rattle.gms_ast.specs.declared.program.Program.{Program}
 use Rattle.gms_parse.specs.declared.fault.SourceFault.{SourceFault}
-use Rattle.gms_parse.specs.Outcomes.{IsProgram, IsFault}
+use Rattle.gms_parse.specs.Outcomes.{IsProgram, IsSourceFault}
 use Rattle.gms_check.specs.CompileErrors.{compile_errors}
 use Rattle.gms_check.specs.Loaded.{loaded}
 use Rattle.gms_exec.specs.Answering.{AreAnswered}
@@ -15,12 +15,12 @@ use Rattle.gms_plans.specs.Moments.{AnswersAreSo}
 use Rattle.gms_list.specs.ListingText.{run_listing, errors_listing, refused_listing}
 use Rattle.gms_host.specs.Meaning.{Outside}
 use Rattle.gms_host.specs.Rules.{with_said}
-use Rattle.gms_words.specs.CommandLine.{Asked, in_file, closing_line}
+use Rattle.gms_command.specs.CommandLine.{Asked, in_file, closing_line}
 use Rattle.gms_run.specs.declared.status.Status.{Status}
 use Rattle.gms_run.specs.declared.status.Status.TheVariants.{Done, Usage, Compile, Execution, ReadFault, WriteFault}
 use Rattle.gms_run.specs.Solving.{Solving, SolvesNothing, number_limit, numbers_of}
 use Rattle.gms_run.specs.Jobs.{HaltsSo, status_code}
-use Rattle.gms_run.specs.Statuses.{IsFileOf, with_source, with_file}
+use Rattle.gms_run.specs.Statuses.{IsFileOf, with_source_read, with_file}
 
 -- ---- runs
 
@@ -35,7 +35,7 @@ run_of program solving =
 -- The source is no program: the listing names its first fault.
 pub record IsFaultListing (source text : List ℕ) : Type 0 where
   pub fault : SourceFault
-  pub is_first : IsFault number_limit source fault
+  pub is_first : IsSourceFault number_limit source fault
   pub listing : text ≡ refused_listing 1 source fault
 
 -- The source is a program with errors: the listing has each of them.
@@ -90,4 +90,4 @@ pub record WritesListing (status : Status) (solving : Solving) (old new : Outsid
   pub is_source : IsFileOf old file source
   pub text : List ℕ
   pub listing : IsListingOf status solving source text
-  pub outside : new ≡ with_said (with_file (with_source old file source) output text) (closing_line (status_code status) (length solving.answers) output)
+  pub outside : new ≡ with_said (with_file (with_source_read old file source) output text) (closing_line (status_code status) (length solving.answers) output)

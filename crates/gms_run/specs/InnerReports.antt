@@ -18,15 +18,15 @@ use Rattle.gms_parse.specs.Outcomes.{IsProgram}
 use Rattle.gms_save.specs.JointErrors.{resumed}
 use Rattle.gms_save.specs.Saves.{IsSavedBy, place_of_solver}
 use Rattle.gms_restart.specs.Alike.{IsAlike}
-use Rattle.gms_exec.specs.Stepping.{AreKept}
+use Rattle.gms_exec.specs.Stepping.{AreValidSettings}
 use Rattle.gms_list.specs.ListingText.{end_text}
-use Rattle.gms_saved.specs.SavedState.{saved_text}
+use Rattle.gms_save_text.specs.SavedState.{saved_text}
 use Rattle.lp_core.specs.declared.answer.Answer.{Answer}
 use Rattle.lp_core.specs.declared.program.Lp.{Lp}
 use Rattle.lp_core.specs.Numbers.{lp_numbers}
 use Rattle.lp_slot.specs.SolverNames.{IsSolverName}
-use Rattle.gms_ranges.specs.RangeTexts.{SaysRanges}
-use Rattle.gms_words.specs.CommandLine.{Asked, Origin, in_file, restarted, generated, read_fault_line}
+use Rattle.gms_range_lines.specs.RangeTexts.{SaysRanges}
+use Rattle.gms_command.specs.CommandLine.{Asked, Origin, in_file, restarted, generated, read_fault_line}
 use Rattle.gms_run.specs.declared.status.Status.{Status}
 use Rattle.gms_run.specs.declared.status.Status.TheVariants.{Compile, ReadFault, WriteFault}
 use Rattle.gms_run.specs.declared.script.Script.{Script as OwnScript}
@@ -35,8 +35,8 @@ use Rattle.gms_run.specs.declared.script.Matter.TheVariants.{ToRun, Unrestored}
 use Rattle.gms_run.specs.Solving.{Solving, SolvesNothing, number_limit, numbers_of}
 use Rattle.gms_run.specs.Scripts.{Script, Matter, scripted, unrestored, Taken, from_save, IsMatter, first_line, first_state, joint_source}
 use Rattle.gms_run.specs.Jobs.{solver_name, status_code}
-use Rattle.gms_run.specs.Listings.{AreRemarks, IsAccepted, IsListing, IsModelLine, SavesSo, errors_text, save_file}
-use Rattle.gms_run.specs.Statuses.{CountsSo, EndsByNoFault, IsFileOf, IsUnread, IsUnwrittenFile, RanSo, SaysLine, with_read, with_save, with_source}
+use Rattle.gms_run.specs.Listings.{AreRemarks, IsAcceptedScript, IsListing, IsModelLine, SavesSo, errors_text, save_file}
+use Rattle.gms_run.specs.Statuses.{CountsSo, EndsByNoFault, IsFileOf, IsUnread, IsUnwrittenFile, RanSo, SaysLine, with_read, with_save, with_source_read}
 
 -- ---- views of arguments
 
@@ -74,7 +74,7 @@ pub record IsGoneOn (solvers : List (List ℕ)) (source : List ℕ) (line : ℕ)
 -- declares its names as the program does.
 pub record CanGoOn (solvers : List (List ℕ)) (source : List ℕ) (line : ℕ) (state : State) : Type 0 where
   pub origin : IsGoneOn solvers source line state
-  pub settings : AreKept (length solvers) state.settings
+  pub settings : AreValidSettings (length solvers) state.settings
   pub arity : (name : ℕ) → All (λ t. length t ≡ length (symbol_at state name).domain) (members_in (symbol_at state name).content)
   pub declares : (program : Program Frac) → IsProgram number_limit source frac_value program → (name : ℕ) → IsAlike (resumed frac_value state program) (declared_state program) name
 
@@ -92,7 +92,7 @@ IsSoundMatter solvers (unrestored fault) = Unit {0}
 -- written in a source, and the state is the program's first. A saved state that it resumes from is
 -- one of the saved source's program.
 pub record Begins (solvers : List (List ℕ)) (script : Script) (program : Program Frac) (state : State) : Type 0 where
-  pub accepted : IsAccepted solvers script program
+  pub accepted : IsAcceptedScript solvers script program
   pub named : All IsSolverName solvers
   pub origin : IfSome script.saved (IsGoneOn solvers script.source script.line)
   pub first : state ≡ first_state script.saved program
@@ -177,7 +177,7 @@ pub record IsUnreadFile (old new : Meaning) (file : List ℕ) : Type 0 where
 abbrev pub RanBehind : Status → Solving → Meaning → Meaning → Asked → List ℕ → List ℕ → Type 0
 RanBehind ReadFault solving old new request save file = IsUnreadFile old new file × SolvesNothing solving
 RanBehind status solving old new request save file =
-    (source : List ℕ) × (IsFileOf old.outside file source × RanOf status solving (with_source old.outside file source) new.outside request (from_save save source))
+    (source : List ℕ) × (IsFileOf old.outside file source × RanOf status solving (with_source_read old.outside file source) new.outside request (from_save save source))
 
 -- ---- remarks
 

@@ -26,8 +26,8 @@ use Rattle.gms_exec.specs.Run.{Course, stopped, last_event}
 use Rattle.gms_exec.specs.Standing.{IsStanding, IsStandingSolve}
 use Rattle.gms_list.specs.ListingText.{events_text}
 use Rattle.gms_run.specs.declared.status.Status.{Status}
-use Rattle.gms_run.specs.Solving.{Solvers, Solving, HaveGrown, number_limit, numbers_of, places_of, programs_of, seen, solves_in}
-use Rattle.gms_run.specs.Jobs.{Job, IsSolved, HaltsSo, course_of, first_of, shown_by}
+use Rattle.gms_run.specs.Solving.{Solvers, Solving, HaveGrown, number_limit, numbers_of, places_of, programs_of, solver_views, solves_in}
+use Rattle.gms_run.specs.Jobs.{Job, IsRunSolved, HaltsSo, course_of, first_of, shown_by}
 
 -- what work over a host results in: `Done` on success, `Broken` on a host fault; out of memory
 -- makes no claim
@@ -67,7 +67,7 @@ pub record Between : Type 0 where
 -- the view of a run between two statements
 abbrev pub between : {S : Type 0} → (S → List ℕ) → (S → SolverRule) → (S → List (List Pivot)) → State → List (Answer Frac) → List (Lp Frac) → List S → Between
 between name rule paths state answers programs solvers =
-    record { state = state; answers = answers; programs = programs; solvers = seen name rule paths solvers }
+    record { state = state; answers = answers; programs = programs; solvers = solver_views name rule paths solvers }
 
 -- the state of a run that has shown these events and has these answers left
 abbrev pub course_at : Between → List Event → List (Answer Number) → Option Fault → Course
@@ -105,7 +105,7 @@ work program state statements = record { program = program; state = state; state
 
 -- A program ended with this status, in this state, and the programs of its solves were kept.
 pub record Ends (status : Status) (job : Job) (solving : Solving) (last : State) (programs : List (Lp Frac)) : Type 0 where
-  pub solved : IsSolved job solving
+  pub solved : IsRunSolved job solving
   pub halts : HaltsSo status (course_of job solving).halted
   pub comes : (course_of job solving).state ≡ last
   pub kept : KeepsPrograms solving.before.rules solving.answers programs (course_of job solving).events
@@ -119,7 +119,7 @@ pub record EndsBehind (status : Status) (job : Job) (solving : Solving) (last : 
 
 -- The statements were executed up to one whose listing, after the text `due`, was not written.
 pub record BreaksBehind (job : Job) (solving : Solving) (old new : Outside) (due : List ℕ) : Type 0 where
-  pub solved : IsSolved job solving
+  pub solved : IsRunSolved job solving
   pub front : WritesFront old new (due ++ shown_by job solving)
   pub last : ℕ
   pub taken : (course_of (first_of (last + 1) job) solving).left ≡ []

@@ -14,8 +14,8 @@ use Rattle.gms_run.specs.declared.status.Status.{Status}
 use Rattle.gms_run.specs.declared.status.Status.TheVariants.{Done, Usage, Compile, Execution, ReadFault, WriteFault}
 pub use Rattle.gms_restart.specs.Restarts.{solver_name}
 use Rattle.gms_run.specs.Searches.{SearchesEnd}
-use Rattle.gms_saved.specs.SavedState.{saved_text}
-use Rattle.gms_run.specs.Scripts.{Script, first_state, statements_of}
+use Rattle.gms_save_text.specs.SavedState.{saved_text}
+use Rattle.gms_run.specs.Scripts.{Script, first_state, statements_to_run}
 use Rattle.gms_run.specs.Solving.{Solving, HaveGrown, SolvesNothing, number_limit, numbers_of}
 
 -- What is run: statements of a program, from a state. `source` is the source of the program; the
@@ -31,7 +31,7 @@ pub record Job : Type 0 where
 -- what is run of a script with this program
 abbrev pub job_of : Script → Program Frac → Job
 job_of script program =
-    record { program = program; state = first_state script.saved program; statements = statements_of script.saved script.line program; source = script.source; file = script.file; line = script.line }
+    record { program = program; state = first_state script.saved program; statements = statements_to_run script.saved script.line program; source = script.source; file = script.file; line = script.line }
 
 -- the first statements alone
 abbrev pub first_of : ℕ → Job → Job
@@ -47,7 +47,7 @@ course_of job solving =
 -- The run takes all answers. Each solve has an answer of the linear program that its model means at
 -- that point, under the rule of the solver that is chosen there. No search that has pivots enough
 -- for that rule is interrupted. The pivots of each answer are appended to the paths of its solver.
-pub record IsSolved (job : Job) (solving : Solving) : Type 0 where
+pub record IsRunSolved (job : Job) (solving : Solving) : Type 0 where
   pub all_taken : (course_of job solving).left ≡ []
   pub answered : AreAnswered frac_value number_limit solving.before.rules solving.answers (course_of job solving).events
   pub ended : SearchesEnd solving.before.rules solving.answers (course_of job solving).events

@@ -4,7 +4,7 @@ use Rattle.gq_frac.specs.declared.frac.Frac.{Frac}
 use Rattle.gq_frac.specs.Frac.{frac_value}
 use Rattle.gms_ast.specs.declared.program.Stmt.{Stmt}
 use Rattle.gms_exec.specs.Run.{Course, of_statement, one_after_another}
-use Rattle.gms_joint.specs.JointRun.{behind_run}
+use Rattle.gms_run_laws.specs.JointRun.{behind_run}
 use Rattle.gms_save.specs.JointErrors.{saved_statements}
 use Rattle.gms_run.specs.Solving.{Solving, number_limit}
 use Rattle.gms_run.specs.declared.status.Status.TheVariants.{Done}

@@ -10,7 +10,7 @@ use Rattle.gms_labels.specs.Labels.{place_of}
 use Rattle.gms_parse.specs.declared.fault.SourceError.{SourceError}
 use Rattle.gms_parse.specs.declared.fault.SourceError.TheVariants.{TooLong}
 use Rattle.gms_parse.specs.declared.fault.SourceFault.{SourceFault}
-use Rattle.gms_parse.specs.Outcomes.{IsProgram, IsFault}
+use Rattle.gms_parse.specs.Outcomes.{IsProgram, IsSourceFault}
 use Rattle.gms_check.specs.declared.error.CompileError.{CompileError}
 use Rattle.gms_store.specs.State.{State, symbol_of, statuses_in, attributes_of}
 use Rattle.gms_event.specs.Events.{Solved}
@@ -19,27 +19,27 @@ use Rattle.gq_text.specs.Shown.{IsRoundedText}
 use Rattle.gms_list.specs.ListingText.{compile_errors_text, echo_text, end_text, errors_listing, refused_echo, refused_listing, save_error_text, source_error_text}
 use Rattle.gms_save.specs.Saves.{IsSaveOf, place_of_solver}
 use Rattle.gms_save.specs.declared.fault.SaveFault.{SaveFault}
-use Rattle.gms_save.specs.Faults.{fault_code, fault_name}
-use Rattle.gms_words.specs.CommandLine.{Asked, Origin, in_file, restarted, generated, generated_line, closing_line}
-use Rattle.gms_ranges.specs.RangeTexts.{SaysRanges}
+use Rattle.gms_save.specs.Faults.{save_fault_code, fault_name}
+use Rattle.gms_command.specs.CommandLine.{Asked, Origin, in_file, restarted, generated, generated_line, closing_line}
+use Rattle.gms_range_lines.specs.RangeTexts.{SaysRanges}
 use Rattle.gms_run.specs.declared.status.Status.{Status}
 use Rattle.gms_run.specs.declared.status.Status.TheVariants.{Done, Usage, Compile, Execution, ReadFault, WriteFault}
 use Rattle.gms_run.specs.Solving.{Solving, SolvesNothing, number_limit, numbers_of, places_of, programs_of, solves_in}
-use Rattle.gms_run.specs.Scripts.{Script, Matter, scripted, unrestored, errors_of}
-use Rattle.gms_run.specs.Jobs.{Job, job_of, course_of, job_text, save_text, solver_name, IsSolved, IsCutOff, HaltsSo, status_code}
+use Rattle.gms_run.specs.Scripts.{Script, Matter, scripted, unrestored, errors_of_script}
+use Rattle.gms_run.specs.Jobs.{Job, job_of, course_of, job_text, save_text, solver_name, IsRunSolved, IsCutOff, HaltsSo, status_code}
 
 -- ---- what is accepted
 
 -- The source of a script is a program that has no error.
-pub record IsAccepted (solvers : List (List ℕ)) (script : Script) (program : Program Frac) : Type 0 where
+pub record IsAcceptedScript (solvers : List (List ℕ)) (script : Script) (program : Program Frac) : Type 0 where
   pub is_program : IsProgram number_limit script.source frac_value program
-  pub no_error : errors_of script.saved script.line program solvers ≡ []
+  pub no_error : errors_of_script script.saved script.line program solvers ≡ []
 
 -- The program that is run of the loaded input, where it is accepted.
 pub record IsJob (solvers : List (List ℕ)) (matter : Matter) (job : Job) : Type 0 where
   pub script : Script
   pub to_run : matter ≡ scripted script
-  pub accepted : IsAccepted solvers script job.program
+  pub accepted : IsAcceptedScript solvers script job.program
   pub is_job : job ≡ job_of script job.program
 
 -- ---- what is refused
@@ -54,7 +54,7 @@ errors_text script errors = echo_text script.line script.file ++ compile_errors_
 
 -- what is listed of a save that cannot be restored
 abbrev pub unrestored_text : SaveFault → List ℕ
-unrestored_text fault = save_error_text (fault_code fault) (fault_name fault) (record { line = 1; column = 1 })
+unrestored_text fault = save_error_text (save_fault_code fault) (fault_name fault) (record { line = 1; column = 1 })
 
 -- a listing without a run: what is listed, and the last line with status 2
 abbrev pub refused_text : List ℕ → List ℕ
@@ -63,15 +63,15 @@ refused_text listed = listed ++ end_text 2 0
 -- The source is no program, and the text is the listing that says why, and where.
 pub record ShowsRefusal (script : Script) (text : List ℕ) : Type 0 where
   pub fault : SourceFault
-  pub refused : IsFault number_limit script.source fault
+  pub refused : IsSourceFault number_limit script.source fault
   pub listing : text ≡ refused_listing script.line script.file fault
 
 -- The source is a program with errors, and the text is the listing that has them.
 pub record ShowsErrors (solvers : List (List ℕ)) (script : Script) (text : List ℕ) : Type 0 where
   pub program : Program Frac
   pub is_program : IsProgram number_limit script.source frac_value program
-  pub some : errors_of script.saved script.line program solvers ≢ []
-  pub listing : text ≡ errors_listing script.line script.file (errors_of script.saved script.line program solvers)
+  pub some : errors_of_script script.saved script.line program solvers ≢ []
+  pub listing : text ≡ errors_listing script.line script.file (errors_of_script script.saved script.line program solvers)
 
 -- the text is the listing that says why nothing can be run
 abbrev pub ShowsWhy : List (List ℕ) → Matter → List ℕ → Type 0
@@ -79,8 +79,8 @@ ShowsWhy solvers (scripted script) text = ShowsRefusal script text ⊎ ShowsErro
 ShowsWhy solvers (unrestored fault) text = text ≡ refused_text (unrestored_text fault)
 
 -- The loaded input is not accepted: the text is the listing that says why, and nothing is solved.
-abbrev pub IsRefused : Solving → Matter → List ℕ → Type 0
-IsRefused solving matter text = ShowsWhy solving.before.names matter text × SolvesNothing solving
+abbrev pub IsRefusalListing : Solving → Matter → List ℕ → Type 0
+IsRefusalListing solving matter text = ShowsWhy solving.before.names matter text × SolvesNothing solving
 
 -- ---- listings
 
@@ -89,7 +89,7 @@ IsRefused solving matter text = ShowsWhy solving.before.names matter text × Sol
 pub record IsExecuted (solving : Solving) (matter : Matter) (text : List ℕ) : Type 0 where
   pub job : Job
   pub is_job : IsJob solving.before.names matter job
-  pub solved : IsSolved job solving
+  pub solved : IsRunSolved job solving
   pub listing : text ≡ job_text job solving
 
 -- the program halted so that the run ends with this status
@@ -99,7 +99,7 @@ EndsSo status solving matter text run = HaltsSo status (course_of run.job solvin
 -- the text is the listing of the loaded input for a run that ends with this status; the other
 -- statuses have none
 abbrev pub IsListing : Status → Solving → Matter → List ℕ → Type 0
-IsListing Compile solving matter text = IsRefused solving matter text
+IsListing Compile solving matter text = IsRefusalListing solving matter text
 IsListing Done solving matter text = (run : IsExecuted solving matter text) × EndsSo Done solving matter text run
 IsListing Execution solving matter text = (run : IsExecuted solving matter text) × EndsSo Execution solving matter text run
 IsListing Usage solving matter text = ⊥
@@ -108,9 +108,9 @@ IsListing WriteFault solving matter text = ⊥
 
 -- The text is the expected listing of the loaded input, and exactly `written` bytes of it were
 -- written.
-abbrev pub IsFront : Solving → Matter → List ℕ → ℕ → Type 0
-IsFront solving matter text written =
-    IsRefused solving matter text ⊎ ((run : IsExecuted solving matter text) × IsCutOff run.job solving written)
+abbrev pub IsWrittenPrefix : Solving → Matter → List ℕ → ℕ → Type 0
+IsWrittenPrefix solving matter text written =
+    IsRefusalListing solving matter text ⊎ ((run : IsExecuted solving matter text) × IsCutOff run.job solving written)
 
 -- ---- saves
 

@@ -9,13 +9,13 @@ use Rattle.gms_store.specs.State.{State}
 use Rattle.gms_check.specs.declared.error.CompileError.{CompileError}
 use Rattle.gms_check.specs.CompileErrors.{compile_errors}
 use Rattle.gms_check.specs.Loaded.{loaded}
-pub use Rattle.gms_seam.specs.Fronts.{first_line, joint_source}
+pub use Rattle.gms_joint_source.specs.Fronts.{first_line, joint_source}
 use Rattle.gms_save.specs.declared.saved.Saved.{Saved}
 use Rattle.gms_save.specs.declared.fault.SaveFault.{SaveFault}
 use Rattle.gms_save.specs.declared.fault.SaveFaultOrMemory.{SaveFaultOrMemory}
 use Rattle.gms_save.specs.declared.fault.SaveFaultOrMemory.TheVariants.{Fault}
 use Rattle.gms_save.specs.JointErrors.{joint_errors, resumed, saved_statements}
-use Rattle.gms_save.specs.Saves.{most_bytes as most_save_bytes, GivesBack, IsRestored, Restores}
+use Rattle.gms_save.specs.Saves.{most_save_bytes, GivesBack, IsRestored, Restores}
 
 -- A source to run: a file alone, or a joint source, which is a saved source followed by the file.
 -- The lines of the file are echoed, and `line` is the number of the first.
@@ -72,9 +72,9 @@ IsMatter solvers (from_save save file) (unrestored fault) = IsUnrestored solvers
 -- ---- programs of scripts
 
 -- the errors of a program; in a restarted run, only those of the file, which begins at this line
-abbrev pub errors_of : Option State → ℕ → Program Frac → List (List ℕ) → List CompileError
-errors_of None line program solvers = compile_errors frac_value program solvers
-errors_of (Some state) line program solvers = joint_errors frac_value program line solvers
+abbrev pub errors_of_script : Option State → ℕ → Program Frac → List (List ℕ) → List CompileError
+errors_of_script None line program solvers = compile_errors frac_value program solvers
+errors_of_script (Some state) line program solvers = joint_errors frac_value program line solvers
 
 -- the state in which a program begins: loaded, or resumed
 abbrev pub first_state : Option State → Program Frac → State
@@ -82,6 +82,6 @@ first_state None program = loaded frac_value program
 first_state (Some state) program = resumed frac_value state program
 
 -- the statements that are run: all, or those after the saved source
-abbrev pub statements_of : Option State → ℕ → Program Frac → List (Stmt Frac)
-statements_of None line program = program.statements.items
-statements_of (Some state) line program = drop (length (saved_statements line program)) program.statements.items
+abbrev pub statements_to_run : Option State → ℕ → Program Frac → List (Stmt Frac)
+statements_to_run None line program = program.statements.items
+statements_to_run (Some state) line program = drop (length (saved_statements line program)) program.statements.items

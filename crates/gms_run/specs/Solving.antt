@@ -30,13 +30,13 @@ pub record Solving : Type 0 where
   pub answers : List (Answer Frac)
 
 -- the view of solvers: their names, rules and paths
-abbrev pub seen : {S : Type 0} → (S → List ℕ) → (S → SolverRule) → (S → List (List Pivot)) → List S → Solvers
-seen name rule paths solvers = record { names = map name solvers; rules = map rule solvers; paths = map paths solvers }
+abbrev pub solver_views : {S : Type 0} → (S → List ℕ) → (S → SolverRule) → (S → List (List Pivot)) → List S → Solvers
+solver_views name rule paths solvers = record { names = map name solvers; rules = map rule solvers; paths = map paths solvers }
 
 -- the view of a run's solvers before and after it, and their answers
 abbrev pub solving : {S : Type 0} → (S → List ℕ) → (S → SolverRule) → (S → List (List Pivot)) → List S → List S → List (Answer Frac) → Solving
 solving name rule paths old new answers =
-    record { before = seen name rule paths old; after = seen name rule paths new; answers = answers }
+    record { before = solver_views name rule paths old; after = solver_views name rule paths new; answers = answers }
 
 -- the numbers that answers mean
 abbrev pub numbers_of : List (Answer Frac) → List (Answer Number)

@@ -8,19 +8,19 @@ use Rattle.gms_host.specs.Meaning.{Meaning, Outside, Counts, Files, Rose}
 use Rattle.gms_host.specs.Rules.{IsThere, with_asked, with_emptied, with_kept, with_opened, with_output, with_said}
 use Rattle.gms_host.specs.Spooling.{SaysFront}
 use Rattle.gms_ast.specs.declared.program.Program.{Program}
-use Rattle.gms_lex.specs.Tokens.{most_bytes}
-use Rattle.gms_gen.specs.Generator.{model_text}
+use Rattle.gms_lex.specs.Tokens.{most_source_bytes}
+use Rattle.gms_gen.specs.Generator.{generated_model_text}
 use Rattle.gms_parse.specs.Outcomes.{HasProgram, ProgramView, program_view}
 use Rattle.gms_store.specs.State.{State}
 use Rattle.gms_save.specs.declared.saved.Saved.{Saved}
-use Rattle.gms_save.specs.Saves.{most_bytes as most_save_bytes, IsRestored, IsSaveOf, place_of_solver}
-use Rattle.gms_words.specs.CommandLine.{Asked, Origin, in_file, restarted, generated, request_of, usage_line, read_fault_line}
+use Rattle.gms_save.specs.Saves.{most_save_bytes, IsRestored, IsSaveOf, place_of_solver}
+use Rattle.gms_command.specs.CommandLine.{Asked, Origin, in_file, restarted, generated, request_of, usage_line, read_fault_line}
 use Rattle.gms_run.specs.declared.status.Status.{Status}
 use Rattle.gms_run.specs.declared.status.Status.TheVariants.{Done, Usage, Compile, Execution, ReadFault, WriteFault}
 use Rattle.gms_run.specs.Solving.{Solving, SolvesNothing, number_limit}
-use Rattle.gms_run.specs.Scripts.{Script, Matter, Taken, from_start, from_save, script_of, joint_script, errors_of, IsMatter}
+use Rattle.gms_run.specs.Scripts.{Script, Matter, Taken, from_start, from_save, script_of, joint_script, errors_of_script, IsMatter}
 use Rattle.gms_run.specs.Jobs.{Job, course_of, HaltsSo}
-use Rattle.gms_run.specs.Listings.{IsJob, IsListing, IsFront, AreClosing, SavesLast, SavesSo, save_file}
+use Rattle.gms_run.specs.Listings.{IsJob, IsListing, IsWrittenPrefix, AreClosing, SavesLast, SavesSo, save_file}
 
 -- ---- the input
 
@@ -30,11 +30,11 @@ IsFileOf o file bytes = IfSome o.files (λ files. files_map.get files file ≡ S
 
 -- the input of a request: the bytes of a file, or of a save and a file, or the text of a generated
 -- model
-abbrev pub IsTaken : Outside → Origin → Taken → Type 0
-IsTaken o (in_file file) (from_start source) = IsFileOf o file source
-IsTaken o (restarted saved file) (from_save save source) = IsFileOf o saved save × IsFileOf o file source
-IsTaken o (generated size) (from_start source) = source ≡ model_text size size size
-IsTaken o origin taken = ⊥
+abbrev pub IsInputOf : Outside → Origin → Taken → Type 0
+IsInputOf o (in_file file) (from_start source) = IsFileOf o file source
+IsInputOf o (restarted saved file) (from_save save source) = IsFileOf o saved save × IsFileOf o file source
+IsInputOf o (generated size) (from_start source) = source ≡ generated_model_text size size size
+IsInputOf o origin taken = ⊥
 
 -- the host's state after a file was read: its name was requested, and at most `most` bytes were
 -- taken from the input
@@ -43,8 +43,8 @@ with_read most o file bytes =
     record (with_asked o (file ∷ [])) { input = option_map (λ _. drop most bytes) o.input; reading = true }
 
 -- the host's state after a source was read: at most one byte more is taken than a source may have
-abbrev pub with_source : Outside → List ℕ → List ℕ → Outside
-with_source o file source = with_read (most_bytes + 1) o file source
+abbrev pub with_source_read : Outside → List ℕ → List ℕ → Outside
+with_source_read o file source = with_read (most_source_bytes + 1) o file source
 
 -- the host's state after a save was read: at most one byte more is taken than a save may have
 abbrev pub with_saved : Outside → List ℕ → List ℕ → Outside
@@ -53,8 +53,8 @@ with_saved o file save = with_read (most_save_bytes + 1) o file save
 -- the host's state after reading the input: a save is read before the file that resumes from it,
 -- and a generated model is not read
 abbrev pub with_taken : Outside → Origin → Taken → Outside
-with_taken o (in_file file) (from_start source) = with_source o file source
-with_taken o (restarted saved file) (from_save save source) = with_source (with_saved o saved save) file source
+with_taken o (in_file file) (from_start source) = with_source_read o file source
+with_taken o (restarted saved file) (from_save save source) = with_source_read (with_saved o saved save) file source
 with_taken o origin taken = o
 
 -- ---- ends without a listing
@@ -145,7 +145,7 @@ pub record IsUnopened (solving : Solving) (old new : Outside) (request : Asked) 
 pub record IsUnwritten (solving : Solving) (opened new : Outside) (matter : Matter) : Type 0 where
   pub text : List ℕ
   pub prefix : AddsPrefix opened new text
-  pub due : IsFront solving matter text (length prefix.added)
+  pub due : IsWrittenPrefix solving matter text (length prefix.added)
 
 -- The whole listing was written, but the output was not closed well.
 pub record IsUnclosed (solving : Solving) (old new : Outside) (request : Asked) (matter : Matter) : Type 0 where
@@ -197,7 +197,7 @@ RanSo _ solving old new request matter = ⊥
 -- The requested input was read and run. If the host hides its files, some input was.
 pub record IsRunOf (status : Status) (solving : Solving) (old new : Outside) (request : Asked) : Type 0 where
   pub taken : Taken
-  pub is_taken : IsTaken old request.source taken
+  pub is_taken : IsInputOf old request.source taken
   pub matter : Matter
   pub is_matter : IsMatter solving.before.names taken matter
   pub ran : RanSo status solving (with_taken old request.source taken) new request matter
@@ -247,18 +247,18 @@ HasFile o file bytes = (files : Files) × (o.files ≡ Some files) × (files_map
 
 -- this input is what a host that exposes its files holds: the bytes of files, or the text of a
 -- generated model
-abbrev pub Gives : Outside → Origin → Taken → Type 0
-Gives o (in_file file) (from_start source) = HasFile o file source
-Gives o (restarted saved file) (from_save save source) = HasFile o saved save × HasFile o file source
-Gives o (generated size) (from_start source) = source ≡ model_text size size size
-Gives o origin taken = ⊥
+abbrev pub IsContentOf : Outside → Origin → Taken → Type 0
+IsContentOf o (in_file file) (from_start source) = HasFile o file source
+IsContentOf o (restarted saved file) (from_save save source) = HasFile o saved save × HasFile o file source
+IsContentOf o (generated size) (from_start source) = source ≡ generated_model_text size size size
+IsContentOf o origin taken = ⊥
 
 -- The source of a script is a program without errors: it has a program with this view, and a
 -- program with this view has no error, wherever its parts are in memory.
 pub record IsGood (solvers : List (List ℕ)) (script : Script) : Type 0 where
   pub view : ProgramView
   pub has_program : HasProgram number_limit script.source view
-  pub no_error : (program : Program Frac) → program_view frac_value program ≡ view → errors_of script.saved script.line program solvers ≡ []
+  pub no_error : (program : Program Frac) → program_view frac_value program ≡ view → errors_of_script script.saved script.line program solvers ≡ []
 
 -- A save can be restored: it is not too long, it is the save of a state of a program, and a solver
 -- has the name that it has.
@@ -283,7 +283,7 @@ pub record NamesSource (old : Outside) (words : List (List ℕ)) : Type 0 where
   pub request : Asked
   pub named : request_of words ≡ Some request
   pub taken : Taken
-  pub found : Gives old request.source taken
+  pub found : IsContentOf old request.source taken
 
 -- The arguments name what can be run.
 pub record NamesProgram (solvers : List (List ℕ)) (old : Outside) (words : List (List ℕ)) : Type 0 where

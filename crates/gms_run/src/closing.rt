@@ -3,8 +3,8 @@
 ghost use Rattle.std.specs.Prelude.{◌≡◌, ◌<◌, ◌++◌, ℕ, List, true, codes, length, map, option_map, slice_get, unwrap_or, IfOk, OnOk, string_bytes};
 ghost use Rattle.gq_frac.specs.Frac.{frac_value};
 ghost use Rattle.gms_store.specs.State.{fits_at, symbol_of};
-ghost use Rattle.gms_ranges.specs.Answered.{AreAnswered};
-ghost use Rattle.gms_words.specs.CommandLine.{asked_by, closing_line, origin};
+ghost use Rattle.gms_range_lines.specs.Answered.{AreSomeAnswers};
+ghost use Rattle.gms_command.specs.CommandLine.{asked_by, closing_line, origin};
 ghost use Rattle.gms_host.specs.Rules.{CountsWriting};
 ghost use Rattle.gms_run.specs.InnerReports.{IsRanged, IsRemarked, IsSave, IsTold, LosesSave, WritesSave};
 ghost use Rattle.gms_run.specs.InnerSteps.{ComesTo};
@@ -16,12 +16,12 @@ use crate::execution::Run;
 use crate::status::Status;
 use crate::transfer::write_file;
 use gms_ast::Program;
+use gms_command::{Request, Source, closing_line, generated_line};
 use gms_host::{Failed, Host};
-use gms_ranges::ranges_text;
+use gms_range_lines::ranges_text;
 use gms_save::save;
 use gms_store::Store;
 use gms_tuple::Tuple;
-use gms_words::{Request, Source, closing_line, generated_line};
 use gq_field::ExactField;
 use gq_frac::Frac;
 use gq_text::{Digits, put_rounded};
@@ -149,7 +149,7 @@ impl Run {
         program: &Program<Frac>,
         answers: &[Answer<Frac>],
     ) -> Result<String, AllocError>
-        requires { AreAnswered frac_value number_limit self.now.solved.items answers.now }
+        requires { AreSomeAnswers frac_value number_limit self.now.solved.items answers.now }
         ensures { IfOk result (λ text. IsRanged asked program.now self.now.solved.items answers.now (string_bytes text)) }
     {
         if !asked {
@@ -167,7 +167,7 @@ impl Run {
         program: &Program<Frac>,
         answers: &[Answer<Frac>],
     ) -> Result<String, AllocError>
-        requires { AreAnswered frac_value number_limit self.now.solved.items answers.now }
+        requires { AreSomeAnswers frac_value number_limit self.now.solved.items answers.now }
         ensures { IfOk result (λ text. IsRemarked (asked_by request.entry) program.now self.now.store self.now.solved.items answers.now (string_bytes text)) }
     {
         let mut text = self.ranged(alloc, request.ranges, program, answers)?;

@@ -9,15 +9,15 @@ ghost use Rattle.gms_store.specs.State.{State};
 ghost use Rattle.gms_exec.specs.Dimensions.{AreOneDimensional};
 ghost use Rattle.gms_exec.specs.Run.{of_statement};
 ghost use Rattle.gms_exec.specs.Standing.{ShowsStanding};
-ghost use Rattle.gms_exec.specs.Stepping.{AreKept, Answered, Runs, UnlessMemory};
+ghost use Rattle.gms_exec.specs.Stepping.{AreValidSettings, Answered, Runs, UnlessMemory};
 ghost use Rattle.gms_list.specs.Conditions.{IsListable};
 ghost use Rattle.gms_list.specs.ListingText.{echo_text, event_text, events_text};
 ghost use Rattle.gms_host.specs.Rules.{CountsWriting};
 ghost use Rattle.gms_host.specs.Spooling.{Passes, WritesFront};
-ghost use Rattle.gms_words.specs.CommandLine.{asked_by};
+ghost use Rattle.gms_command.specs.CommandLine.{asked_by};
 ghost use Rattle.gms_run.specs.InnerReports.{Begins, Follows, IsRemarked, IsSave, Prepares, script_in};
 ghost use Rattle.gms_run.specs.InnerSteps.{BreaksBehind, ComesTo, EndsBehind, IsListed, between, programs_in, work};
-ghost use Rattle.gms_run.specs.Scripts.{scripted, statements_of};
+ghost use Rattle.gms_run.specs.Scripts.{scripted, statements_to_run};
 ghost use Rattle.gms_run.specs.Solving.{number_limit, numbers_of, solving};
 ghost use Rattle.gms_run.specs.Statuses.{IsUnwritten};
 
@@ -26,13 +26,13 @@ use crate::restart::statements_of;
 use crate::script::Script;
 use crate::status::Status;
 use gms_ast::{Program, Stmt};
+use gms_command::Request;
 use gms_eval::{Binding, ExecStop, ExecStopOrMemory};
 use gms_event::Event;
 use gms_exec::step;
 use gms_host::{Failed, Host};
 use gms_list::Listing;
 use gms_store::Store;
-use gms_words::Request;
 use gq_frac::Frac;
 use lp_core::{Answer, Lp};
 use lp_slot::LpSolver;
@@ -129,7 +129,7 @@ fn step_alone(
     events: &mut Vec<Event<Frac>>,
 ) -> Result<(), ExecStopOrMemory<Frac>>
     requires few { length solvers.old.items < 2 ^ 32 }
-    requires settings { AreKept (length solvers.old.items) store.old.settings }
+    requires settings { AreValidSettings (length solvers.old.items) store.old.settings }
     requires plain { AreOneDimensional store.old program.now.statements.items }
     ensures runs { Runs frac_value result (of_statement frac_value number_limit (record { program = program.now; solvers = map name solvers.old.items }) s.now [])
         (record { state = store.old; events = events.old.items; answers = answers.old.items })
@@ -138,7 +138,7 @@ fn step_alone(
         (record { state = store.old; events = events.old.items; answers = answers.old.items })
         (record { state = store.new; events = events.new.items; answers = answers.new.items })) }
     ensures standing { UnlessMemory result (ShowsStanding frac_value number_limit (map rule solvers.old.items) answers.new.items events.old.items events.new.items) }
-    ensures settings { UnlessMemory result (AreKept (length solvers.old.items) store.new.settings) }
+    ensures settings { UnlessMemory result (AreValidSettings (length solvers.old.items) store.new.settings) }
     ensures plain { UnlessMemory result (AreOneDimensional store.new program.now.statements.items) }
 {
     let none = Binding::new(alloc);
@@ -171,11 +171,11 @@ fn statement(
     listing: &mut Listing,
 ) -> Result<bool, AllocError>
     requires few { length solvers.old.items < 2 ^ 32 }
-    requires settings { AreKept (length solvers.old.items) store.old.settings }
+    requires settings { AreValidSettings (length solvers.old.items) store.old.settings }
     requires plain { AreOneDimensional store.old program.now.statements.items }
     ensures listed { IfOk result (λ goes_on. IsListed goes_on (of_statement frac_value number_limit (record { program = program.now; solvers = map name solvers.old.items }) s.now []) program.now (map rule solvers.old.items)
         (between name rule paths store.old answers.old.items solved.old.items solvers.old.items) (between name rule paths store.new answers.new.items solved.new.items solvers.new.items) listing.old listing.new) }
-    ensures settings { OnOk result (AreKept (length solvers.old.items) store.new.settings) }
+    ensures settings { OnOk result (AreValidSettings (length solvers.old.items) store.new.settings) }
     ensures plain { OnOk result (AreOneDimensional store.new program.now.statements.items) }
 {
     let mut events = Vec::new(alloc);
@@ -209,7 +209,7 @@ fn statements<H: Host>(
 ) -> Result<Status, Failed>
     requires open { (H.meaning host.old).outside.writing ≡ true }
     requires few { length solvers.old.items < 2 ^ 32 }
-    requires settings { AreKept (length solvers.old.items) store.old.settings }
+    requires settings { AreValidSettings (length solvers.old.items) store.old.settings }
     requires plain { AreOneDimensional store.old program.now.statements.items }
     requires none { answers.old.items ≡ [] }
     requires unsolved { solved.old.items ≡ [] }
@@ -259,13 +259,13 @@ impl Run {
     ) -> Result<Status, Failed>
         requires open { (H.meaning host.old).outside.writing ≡ true }
         requires few { length solvers.old.items < 2 ^ 32 }
-        requires settings { AreKept (length solvers.old.items) self.old.store.settings }
+        requires settings { AreValidSettings (length solvers.old.items) self.old.store.settings }
         requires plain { AreOneDimensional self.old.store program.now.statements.items }
         requires none { answers.old.items ≡ [] }
         requires unsolved { self.old.solved.items ≡ [] }
         requires room { length (outlet.old.spool ++ outlet.old.listing) ≤ 4096 }
-        ensures outside { (state : State) → ComesTo result (λ status. EndsBehind status (work program.now self.old.store (statements_of (script_in script.entry state).saved script.entry.line program.now)) (solving name rule paths solvers.old.items solvers.new.items answers.new.items) self.new.store self.new.solved.items (H.meaning host.old).outside (H.meaning host.new).outside (outlet.old.spool ++ outlet.old.listing) (outlet.new.spool ++ outlet.new.listing))
-            (BreaksBehind (work program.now self.old.store (statements_of (script_in script.entry state).saved script.entry.line program.now)) (solving name rule paths solvers.old.items solvers.new.items answers.new.items) (H.meaning host.old).outside (H.meaning host.new).outside (outlet.old.spool ++ outlet.old.listing)) }
+        ensures outside { (state : State) → ComesTo result (λ status. EndsBehind status (work program.now self.old.store (statements_to_run (script_in script.entry state).saved script.entry.line program.now)) (solving name rule paths solvers.old.items solvers.new.items answers.new.items) self.new.store self.new.solved.items (H.meaning host.old).outside (H.meaning host.new).outside (outlet.old.spool ++ outlet.old.listing) (outlet.new.spool ++ outlet.new.listing))
+            (BreaksBehind (work program.now self.old.store (statements_to_run (script_in script.entry state).saved script.entry.line program.now)) (solving name rule paths solvers.old.items solvers.new.items answers.new.items) (H.meaning host.old).outside (H.meaning host.new).outside (outlet.old.spool ++ outlet.old.listing)) }
         ensures told { IfOk result (λ status. IsRemarked (asked_by request.entry) program.now self.new.store self.new.solved.items answers.new.items (string_bytes self.new.remarks)) }
         ensures saved { IfOk result (λ status. IsSave status (asked_by request.entry) (map name solvers.new.items) script.entry.source.now program.now self.new.store self.new.save.items) }
         ensures counts { CountsWriting result (H.meaning host.old).counts (H.meaning host.new).counts }
@@ -325,7 +325,7 @@ pub(crate) fn execute<H: Host>(
 ) -> Result<Status, Failed>
     requires open { (H.meaning host.old).outside.writing ≡ true }
     requires few { length solvers.old.items < 2 ^ 32 }
-    requires settings { AreKept (length solvers.old.items) run.old.store.settings }
+    requires settings { AreValidSettings (length solvers.old.items) run.old.store.settings }
     requires plain { AreOneDimensional run.old.store program.now.statements.items }
     requires unsolved { run.old.solved.items ≡ [] }
     requires none { answers.old.items ≡ [] }

@@ -5,13 +5,13 @@ ghost use Rattle.gq_frac.specs.Frac.{frac_value};
 ghost use Rattle.gms_host.specs.Rules.{CountsWriting};
 ghost use Rattle.gms_store.specs.State.{State};
 ghost use Rattle.gms_parse.specs.Outcomes.{IsProgram};
-ghost use Rattle.gms_words.specs.CommandLine.{asked_by};
+ghost use Rattle.gms_command.specs.CommandLine.{asked_by};
 ghost use Rattle.lp_slot.specs.SolverNames.{IsSolverName};
 ghost use Rattle.gms_run.specs.InnerReports.{Follows, IsSound, IsSoundMatter, Lists, ListsErrors, Prepares, matter_in, script_in};
 ghost use Rattle.gms_run.specs.InnerSteps.{ComesTo};
 ghost use Rattle.gms_list.specs.ListingText.{has_echo};
 ghost use Rattle.gms_run.specs.Listings.{refusal_text, unrestored_text};
-ghost use Rattle.gms_run.specs.Scripts.{errors_of, scripted};
+ghost use Rattle.gms_run.specs.Scripts.{errors_of_script, scripted};
 ghost use Rattle.gms_run.specs.Solving.{number_limit, solving};
 ghost use Rattle.gms_run.specs.Statuses.{IsUnwritten};
 
@@ -22,12 +22,12 @@ use crate::script::{Matter, Script};
 use crate::status::Status;
 use gms_ast::Program;
 use gms_check::CompileError;
+use gms_command::Request;
 use gms_host::{Failed, Host};
 use gms_labels::Place;
 use gms_list::Listing;
 use gms_parse::{SourceError, SourceFault, SourceFaultOrMemory, parse};
 use gms_save::SaveFault;
-use gms_words::Request;
 use gq_frac::Frac;
 use lp_core::Answer;
 use lp_slot::LpSolver;
@@ -116,7 +116,7 @@ fn errors_for(
     program: &Program<Frac>,
     solvers: &[Box<dyn LpSolver>],
 ) -> Result<Vec<CompileError>, AllocError>
-    ensures errors { IfOk result (λ errors. (state : State) → errors.items ≡ errors_of (script_in script.entry state).saved script.entry.line program.now (map name solvers.now)) }
+    ensures errors { IfOk result (λ errors. (state : State) → errors.items ≡ errors_of_script (script_in script.entry state).saved script.entry.line program.now (map name solvers.now)) }
     ensures named { IfOk result (λ errors. All IsSolverName (map name solvers.now)) }
 {
     let names = names_of(alloc, solvers)?;
@@ -133,7 +133,7 @@ fn has_errors(
     solvers: &[Box<dyn LpSolver>],
     listing: &mut Listing,
 ) -> Result<bool, AllocError>
-    ensures listed { IfOk result (λ some. (state : State) → ListsErrors some (errors_of (script_in script.entry state).saved script.entry.line program.now (map name solvers.now)) (script_in script.entry state) listing.old listing.new) }
+    ensures listed { IfOk result (λ some. (state : State) → ListsErrors some (errors_of_script (script_in script.entry state).saved script.entry.line program.now (map name solvers.now)) (script_in script.entry state) listing.old listing.new) }
     ensures named { IfOk result (λ some. All IsSolverName (map name solvers.now)) }
 {
     let errors = errors_for(alloc, script, program, solvers)?;

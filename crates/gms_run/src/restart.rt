@@ -5,7 +5,7 @@ ghost use Rattle.gms_store.specs.State.{State};
 ghost use Rattle.gms_save.specs.JointErrors.{is_saved};
 ghost use Rattle.gms_save.specs.Saves.{GivesBack, Restores};
 ghost use Rattle.gms_run.specs.InnerReports.{script_in};
-ghost use Rattle.gms_run.specs.Scripts.{errors_of, first_state, statements_of};
+ghost use Rattle.gms_run.specs.Scripts.{errors_of_script, first_state, statements_to_run};
 
 use crate::report::names_of;
 use crate::script::Script;
@@ -39,7 +39,7 @@ pub(crate) fn errors_of(
     program: &Program<Frac>,
     solvers: &[String],
 ) -> Result<Vec<CompileError>, AllocError>
-    ensures { IfOk result (λ errors. (state : State) → errors.items ≡ errors_of (script_in script.entry state).saved script.entry.line program.now (map string_bytes solvers.now)) }
+    ensures { IfOk result (λ errors. (state : State) → errors.items ≡ errors_of_script (script_in script.entry state).saved script.entry.line program.now (map string_bytes solvers.now)) }
 {
     if script.joint {
         return joint_errors(alloc, program, script.line, solvers);
@@ -55,7 +55,7 @@ pub(crate) fn begin(
     program: &Program<Frac>,
     store: &mut Store<Frac>,
 ) -> Result<(), AllocError>
-    requires { (solvers : List (List ℕ)) × (errors_of (script_in script store.old).saved script.line program.now solvers ≡ []) }
+    requires { (solvers : List (List ℕ)) × (errors_of_script (script_in script store.old).saved script.line program.now solvers ≡ []) }
     ensures { OnOk result (store.new ≡ first_state (script_in script.entry store.old).saved program.now) }
 {
     if script.joint {
@@ -86,7 +86,7 @@ fn count_saved(statements: &[Stmt<Frac>], line: u32) -> usize
 
 /// The statements of a script's program that are run.
 pub(crate) fn statements_of<'p>(script: Script, program: &'p Program<Frac>) -> &'p [Stmt<Frac>]
-    ensures { (state : State) → result.now ≡ statements_of (script_in script.entry state).saved script.entry.line program.now }
+    ensures { (state : State) → result.now ≡ statements_to_run (script_in script.entry state).saved script.entry.line program.now }
 {
     let all = program.statements.as_slice();
     if script.joint {

@@ -1,6 +1,6 @@
 //! The loaded input: a source, alone or joint, or a save that cannot be restored.
 ghost use Rattle.std.specs.Prelude.{◌≡◌, ◌≤◌, length, IfOk};
-ghost use Rattle.gms_lex.specs.Tokens.{most_bytes};
+ghost use Rattle.gms_lex.specs.Tokens.{most_source_bytes};
 ghost use Rattle.gms_run.specs.Scripts.{first_line, joint_source};
 
 use gms_save::SaveFault;
@@ -46,7 +46,7 @@ pub(crate) fn joint_source(alloc: Global, saved: &[u8], file: &[u8]) -> Result<V
 
 /// The line of a joint source at which the file begins, by the saved source.
 pub(crate) fn first_line(saved: &[u8]) -> u32
-    requires { length saved.now ≤ most_bytes }
+    requires { length saved.now ≤ most_source_bytes }
     ensures { result ≡ first_line saved.now }
 {
     let ends = saved.iter().filter(|byte| **byte == b'\n').count();

@@ -3,8 +3,8 @@
 ghost use Rattle.std.specs.Prelude.{◌≡◌, ◌<◌, ◌≤◌, ◌^◌, ◌↔◌, ◌⊎◌, ℕ, List, [], true, length, map, Some, IfOk, OnOk, string_bytes};
 ghost use Rattle.gms_host.specs.Rules.{CountsWriting, IsThere};
 ghost use Rattle.gms_store.specs.State.{State};
-ghost use Rattle.gms_lex.specs.Tokens.{most_bytes};
-ghost use Rattle.gms_words.specs.CommandLine.{texts, request_of, asked_by, in_file, restarted, generated, read_fault_line};
+ghost use Rattle.gms_lex.specs.Tokens.{most_source_bytes};
+ghost use Rattle.gms_command.specs.CommandLine.{texts, request_of, asked_by, in_file, restarted, generated, read_fault_line};
 ghost use Rattle.gms_run.specs.Headline.{HasListing, WritesListing, file_alone};
 ghost use Rattle.gms_run.specs.InnerReports.{CanGoOn, CountsMention, CountsRun, EndsAs, IsSoundMatter, RanBehind, RanOf, matter_in};
 ghost use Rattle.gms_run.specs.InnerSteps.{ComesTo};
@@ -21,11 +21,11 @@ use crate::restart::restored;
 use crate::script::{Matter, Script, first_line, joint_source};
 use crate::status::Status;
 use crate::transfer::{read_file, say_line};
+use gms_command::{Request, Source, output_of, read_fault_line, request_of, usage_line};
 use gms_gen::generate;
 use gms_host::{Failed, Host};
 use gms_lex::MOST_BYTES;
 use gms_save::{MOST_BYTES as MOST_SAVE_BYTES, SaveFaultOrMemory, Saved};
-use gms_words::{Request, Source, output_of, read_fault_line, request_of, usage_line};
 use gq_frac::Frac;
 use lp_core::Answer;
 use lp_slot::LpSolver;
@@ -183,7 +183,7 @@ fn run_joint<H: Host>(
     answers: &mut Vec<Answer<Frac>>,
 ) -> Result<Status, AllocError>
     requires few { length solvers.old.items < 2 ^ 32 }
-    requires short { length saved.old.source.items ≤ most_bytes }
+    requires short { length saved.old.source.items ≤ most_source_bytes }
     requires sound { CanGoOn (map name solvers.old.items) (joint_source saved.old.source.items file.now) (first_line saved.old.source.items) saved.old.store }
     requires none { answers.old.items ≡ [] }
     ensures ran { IfOk result (λ status. RanSo status (solving name rule paths solvers.old.items solvers.new.items answers.new.items) (H.meaning host.old).outside (H.meaning host.new).outside (asked_by request.entry) (scripted (joint_script saved.old.source.items saved.old.store file.now))) }

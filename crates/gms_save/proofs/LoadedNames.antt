@@ -15,14 +15,14 @@ use Rattle.gms_ast.specs.declared.program.Act.TheVariants.{Declare, Alias, Model
 use Rattle.gms_ast.specs.declared.program.Program.{Program}
 use Rattle.gms_ast.specs.declared.program.Stmt.{Stmt}
 use Rattle.gms_set.specs.declared.fault.SetFault.{SetFault}
-use Rattle.gms_set.specs.Expansion.{Given, expanded}
+use Rattle.gms_set.specs.Expansion.{ExpandedData, expanded}
 use Rattle.gms_store.specs.declared.kind.VariableType.TheVariants as type
-use Rattle.gms_store.specs.State.{Content, undeclared, alias_of, set_of, parameter_of, variable_of, equation_of, model_with, Symbol, State, no_symbol, behind, symbol_at, base_of, symbol_of, with_content, if_fits, with_membership, with_value}
+use Rattle.gms_store.specs.State.{Content, undeclared, alias_of, set_of, parameter_of, variable_of, equation_of, model_with, Symbol, State, no_symbol, alias_target, symbol_at, base_of, symbol_of, with_content, if_fits, with_membership, with_value}
 use Rattle.gms_store.specs.Declarations.{names_of, positions_of, content_of, retyped, is_set, is_undeclared, declared_again, put_at, declare, alias_symbol, model_symbol, join_name, can_join, declare_alias, declare_model, declare_models, blank_state, declare_each, declared_by, declared_by_all, declared_state}
-use Rattle.gms_known.specs.Data.{given_to, with_datum}
+use Rattle.gms_scope.specs.Data.{given_to, with_datum}
 use Rattle.gms_check.specs.Loaded.{loaded, sound}
 use Rattle.gms_check.specs.Past.{after_act, after_statement, with_data, with_item}
-use Rattle.gms_saved.specs.Validity.{emptied, declared_in}
+use Rattle.gms_save_text.specs.Validity.{emptied, declared_symbols}
 
 -- a symbol with nothing given
 abbrev pub blanked : Symbol → Symbol
@@ -41,12 +41,12 @@ blank-read (x ∷ xs) zero = refl
 blank-read (x ∷ xs) (suc n) = blank-read xs n
 
 -- two states that declare the same have at each name a symbol that declares the same
-pub same-at : (a b : State) (n : ℕ) → declared_in a ≡ declared_in b → blanked (symbol_at a n) ≡ blanked (symbol_at b n)
+pub same-at : (a b : State) (n : ℕ) → declared_symbols a ≡ declared_symbols b → blanked (symbol_at a n) ≡ blanked (symbol_at b n)
 same-at a b n e =
     sym (blank-read a.symbols n) ∙ ap (λ (xs : List Symbol). unwrap_or (slice_get xs n) no_symbol) e ∙ blank-read b.symbols n
 
 -- what does not depend on data is read alike
-pub same-read : {X : Type 0} (read : Content → X) → ((c : Content) → read (emptied c) ≡ read c) → (a b : State) (n : ℕ) → declared_in a ≡ declared_in b → read (symbol_at a n).content ≡ read (symbol_at b n).content
+pub same-read : {X : Type 0} (read : Content → X) → ((c : Content) → read (emptied c) ≡ read c) → (a b : State) (n : ℕ) → declared_symbols a ≡ declared_symbols b → read (symbol_at a n).content ≡ read (symbol_at b n).content
 same-read read keeps a b n e =
     sym (keeps (symbol_at a n).content) ∙ ap (λ (s : Symbol). read s.content) (same-at a b n e) ∙ keeps (symbol_at b n).content
 
@@ -68,7 +68,7 @@ keeps-undeclared (variable_of t entries) = refl
 keeps-undeclared (equation_of entries) = refl
 keeps-undeclared (model_with m s) = refl
 
-pub keeps-behind : (n : ℕ) (c : Content) → behind n (emptied c) ≡ behind n c
+pub keeps-behind : (n : ℕ) (c : Content) → alias_target n (emptied c) ≡ alias_target n c
 keeps-behind n undeclared = refl
 keeps-behind n (alias_of base) = refl
 keeps-behind n (set_of members) = refl
@@ -77,12 +77,12 @@ keeps-behind n (variable_of t entries) = refl
 keeps-behind n (equation_of entries) = refl
 keeps-behind n (model_with m s) = refl
 
-same-base : (a b : State) (n : ℕ) → declared_in a ≡ declared_in b → base_of a n ≡ base_of b n
-same-base a b n e = same-read (behind n) (keeps-behind n) a b n e
+same-base : (a b : State) (n : ℕ) → declared_symbols a ≡ declared_symbols b → base_of a n ≡ base_of b n
+same-base a b n e = same-read (alias_target n) (keeps-behind n) a b n e
 
 -- ---- declarations, side by side
 
-same-put : (a b : State) (n : ℕ) (s t : Symbol) → declared_in a ≡ declared_in b → blanked s ≡ blanked t → declared_in (put_at a n s) ≡ declared_in (put_at b n t)
+same-put : (a b : State) (n : ℕ) (s t : Symbol) → declared_symbols a ≡ declared_symbols b → blanked s ≡ blanked t → declared_symbols (put_at a n s) ≡ declared_symbols (put_at b n t)
 same-put a b n s t e f =
     blank-set a.symbols n s ∙ ap₂ (λ (xs : List Symbol) (u : Symbol). set xs n u) e f ∙ sym (blank-set b.symbols n t)
 
@@ -115,36 +115,36 @@ again-blanked kind domain s =
     by true = refl
     by false = ap (λ (c : Content). record { domain = s.domain; content = c }) (again-free kind s.content)
 
-same-declare : (kind : DeclKind) (domain : List (Option ℕ)) (a b : State) (n : ℕ) → declared_in a ≡ declared_in b → declared_in (declare kind domain a n) ≡ declared_in (declare kind domain b n)
+same-declare : (kind : DeclKind) (domain : List (Option ℕ)) (a b : State) (n : ℕ) → declared_symbols a ≡ declared_symbols b → declared_symbols (declare kind domain a n) ≡ declared_symbols (declare kind domain b n)
 same-declare kind domain a b n e =
     same-put a b n (declared_again kind domain (symbol_at a n)) (declared_again kind domain (symbol_at b n)) e (again-blanked kind domain (symbol_at a n) ∙ ap (λ (s : Symbol). blanked (declared_again kind domain s)) (same-at a b n e) ∙ sym (again-blanked kind domain (symbol_at b n)))
 
-same-alias : (a b : State) (first second : ℕ) → declared_in a ≡ declared_in b → declared_in (declare_alias a first second) ≡ declared_in (declare_alias b first second)
+same-alias : (a b : State) (first second : ℕ) → declared_symbols a ≡ declared_symbols b → declared_symbols (declare_alias a first second) ≡ declared_symbols (declare_alias b first second)
 same-alias a b first second e =
-    ap₂ (λ (p q : Bool). declared_in (if p then join_name a first second else (if q then join_name a second first else declare Set [] (declare Set [] a first) second))) (joins first second) (joins second first) ∙ by (can_join b first second) (can_join b second first)
+    ap₂ (λ (p q : Bool). declared_symbols (if p then join_name a first second else (if q then join_name a second first else declare Set [] (declare Set [] a first) second))) (joins first second) (joins second first) ∙ by (can_join b first second) (can_join b second first)
   where
     joins : (old new : ℕ) → can_join a old new ≡ can_join b old new
     joins old new =
         ap₂ (λ (p q : Bool). p && q) (same-read is_set keeps-set a b old e) (same-read is_undeclared keeps-undeclared a b new e)
 
-    joined : (old new : ℕ) → declared_in (join_name a old new) ≡ declared_in (join_name b old new)
+    joined : (old new : ℕ) → declared_symbols (join_name a old new) ≡ declared_symbols (join_name b old new)
     joined old new =
         same-put a b new (alias_symbol (base_of a old)) (alias_symbol (base_of b old)) e (ap (λ (n : ℕ). blanked (alias_symbol n)) (same-base a b old e))
 
-    by : (p q : Bool) → declared_in (if p then join_name a first second else (if q then join_name a second first else declare Set [] (declare Set [] a first) second)) ≡ declared_in (if p then join_name b first second else (if q then join_name b second first else declare Set [] (declare Set [] b first) second))
+    by : (p q : Bool) → declared_symbols (if p then join_name a first second else (if q then join_name a second first else declare Set [] (declare Set [] a first) second)) ≡ declared_symbols (if p then join_name b first second else (if q then join_name b second first else declare Set [] (declare Set [] b first) second))
     by true q = joined first second
     by false true = joined second first
     by false false = same-declare Set [] (declare Set [] a first) (declare Set [] b first) second (same-declare Set [] a b first e)
 
-same-model : (a b : State) (n : ℕ) → declared_in a ≡ declared_in b → declared_in (declare_model a n) ≡ declared_in (declare_model b n)
+same-model : (a b : State) (n : ℕ) → declared_symbols a ≡ declared_symbols b → declared_symbols (declare_model a n) ≡ declared_symbols (declare_model b n)
 same-model a b n e =
-    ap (λ (p : Bool). declared_in (if p then put_at a n model_symbol else a)) (same-read is_undeclared keeps-undeclared a b n e) ∙ by (is_undeclared (symbol_at b n).content)
+    ap (λ (p : Bool). declared_symbols (if p then put_at a n model_symbol else a)) (same-read is_undeclared keeps-undeclared a b n e) ∙ by (is_undeclared (symbol_at b n).content)
   where
-    by : (p : Bool) → declared_in (if p then put_at a n model_symbol else a) ≡ declared_in (if p then put_at b n model_symbol else b)
+    by : (p : Bool) → declared_symbols (if p then put_at a n model_symbol else a) ≡ declared_symbols (if p then put_at b n model_symbol else b)
     by true = same-put a b n model_symbol model_symbol e refl
     by false = e
 
-same-models : (a b : State) (models : List ModelDecl) → declared_in a ≡ declared_in b → declared_in (declare_models a models) ≡ declared_in (declare_models b models)
+same-models : (a b : State) (models : List ModelDecl) → declared_symbols a ≡ declared_symbols b → declared_symbols (declare_models a models) ≡ declared_symbols (declare_models b models)
 same-models a b [] e = e
 same-models a b (model ∷ models) e =
     same-models (declare_model a model.named.name) (declare_model b model.named.name) models (same-model a b model.named.name e)
@@ -183,7 +183,7 @@ fits-kept s t new same = by (length t == length s.domain)
     by false = refl
 
 module _ {F : Type 0} (value : F → Number) where
-  datum-kept : (name : ℕ) (state : State) (datum : List ℕ × Option (Ext F)) → declared_in (with_datum value name state datum) ≡ declared_in state
+  datum-kept : (name : ℕ) (state : State) (datum : List ℕ × Option (Ext F)) → declared_symbols (with_datum value name state datum) ≡ declared_symbols state
   datum-kept name state (t, None) =
       let s = symbol_of state name in
       set-kept state.symbols (base_of state name) (if_fits s t (with_membership s.content t true)) (fits-kept s t (with_membership s.content t true) (keeps-membership s.content t true))
@@ -191,34 +191,34 @@ module _ {F : Type 0} (value : F → Number) where
       let s = symbol_of state name in
       set-kept state.symbols (base_of state name) (if_fits s t (with_value s.content t (meaning value x))) (fits-kept s t (with_value s.content t (meaning value x)) (keeps-value s.content t (meaning value x)))
 
-  given-kept : (name : ℕ) (state : State) (given : List (List ℕ × Option (Ext F))) → declared_in (given_to value name state given) ≡ declared_in state
+  given-kept : (name : ℕ) (state : State) (given : List (List ℕ × Option (Ext F))) → declared_symbols (given_to value name state given) ≡ declared_symbols state
   given-kept name state [] = refl
   given-kept name state (datum ∷ given) = given-kept name (with_datum value name state datum) given ∙ datum-kept name state datum
 
-  data-kept : (state : State) (name : ℕ) (r : Result (Given F) SetFault) → declared_in (with_data value state name r) ≡ declared_in state
+  data-kept : (state : State) (name : ℕ) (r : Result (ExpandedData F) SetFault) → declared_symbols (with_data value state name r) ≡ declared_symbols state
   data-kept state name (Ok given) = given-kept name state given
   data-kept state name (Err fault) = refl
 
   -- ---- statements, with data and without
 
-  same-items : (kind : DeclKind) (a b : State) (items : List (Decl F)) → declared_in a ≡ declared_in b → declared_in (fold (with_item value kind) a items) ≡ declared_in (declare_each kind b items)
+  same-items : (kind : DeclKind) (a b : State) (items : List (Decl F)) → declared_symbols a ≡ declared_symbols b → declared_symbols (fold (with_item value kind) a items) ≡ declared_symbols (declare_each kind b items)
   same-items kind a b [] e = e
   same-items kind a b (item ∷ items) e =
       same-items kind (with_item value kind a item) (declare kind (names_of item.domain) b item.named.name) items (data-kept (declare kind (names_of item.domain) a item.named.name) item.named.name (expanded a (positions_of kind (names_of item.domain)) item.items) ∙ same-declare kind (names_of item.domain) a b item.named.name e)
 
-  same-act : (a b : State) (act : Act F) → declared_in a ≡ declared_in b → declared_in (after_act value a act) ≡ declared_in (declared_by b act)
+  same-act : (a b : State) (act : Act F) → declared_symbols a ≡ declared_symbols b → declared_symbols (after_act value a act) ≡ declared_symbols (declared_by b act)
   same-act a b (Declare kind items) e = same-items kind a b items e
   same-act a b (Alias first second) e = same-alias a b first.name second.name e
   same-act a b (Model models) e = same-models a b models e
   same-act a b act e = e
 
-  same-acts : (a b : State) (statements : List (Stmt F)) → declared_in a ≡ declared_in b → declared_in (fold (after_statement value) a (sound statements)) ≡ declared_in (declared_by_all b statements)
+  same-acts : (a b : State) (statements : List (Stmt F)) → declared_symbols a ≡ declared_symbols b → declared_symbols (fold (after_statement value) a (sound statements)) ≡ declared_symbols (declared_by_all b statements)
   same-acts a b [] e = e
   same-acts a b (statement ∷ statements) e =
       same-acts (after_act value a statement.act) (declared_by b statement.act) statements (same-act a b statement.act e)
 
   -- the state with the data declares what the declarations do
-  pub loaded-declares : (program : Program F) → declared_in (loaded value program) ≡ declared_in (declared_state program)
+  pub loaded-declares : (program : Program F) → declared_symbols (loaded value program) ≡ declared_symbols (declared_state program)
   loaded-declares program =
       same-acts (blank_state (length program.names)) (blank_state (length program.names)) program.statements.items refl
 
@@ -226,7 +226,7 @@ module _ {F : Type 0} (value : F → Number) where
 
 -- a state has `n` names
 abbrev Counts : ℕ → State → Type 0
-Counts n state = length (declared_in state) ≡ n
+Counts n state = length (declared_symbols state) ≡ n
 
 count-put : (n : ℕ) (state : State) (name : ℕ) (s : Symbol) → Counts n state → Counts n (put_at state name s)
 count-put n state name s count = by state.symbols name ∙ count
@@ -279,5 +279,5 @@ module _ {F : Type 0} where
   count-acts n state (statement ∷ statements) count = count-acts n (declared_by state statement.act) statements (count-act n state statement.act count)
 
   -- as many names are declared as a program has
-  pub declared-count : (program : Program F) → length (declared_in (declared_state program)) ≡ length program.names
+  pub declared-count : (program : Program F) → length (declared_symbols (declared_state program)) ≡ length program.names
   declared-count program = count-acts (length program.names) (blank_state (length program.names)) program.statements.items (count-first (length program.names))

@@ -27,17 +27,17 @@ use Rattle.gms_ast.specs.declared.program.Stmt.{Stmt}
 use Rattle.gms_ast.specs.declared.program.Target.{Target}
 use Rattle.gms_store.specs.State.{Symbol, State, no_symbol, symbol_at, base_of}
 use Rattle.gms_store.specs.Declarations.{alias_symbol, blank_state, can_join, declare, declare_alias, declare_each, declare_model, declare_models, declared_again, declared_by, declared_by_all, declared_state, is_set, is_undeclared, join_name, model_symbol, names_of, put_at}
-use Rattle.gms_known.specs.DynamicSets.{assigned}
-use Rattle.gms_known.specs.Facts.{marked, with_marks}
+use Rattle.gms_scope.specs.DynamicSets.{assigned_names}
+use Rattle.gms_scope.specs.Facts.{marked, with_marks}
 use Rattle.gms_check.specs.declared.error.CompileError.{CompileError}
-use Rattle.gms_check.specs.Errors.{first_of, sooner}
+use Rattle.gms_check.specs.Errors.{first_error, sooner}
 use Rattle.gms_check.specs.Past.{is_among}
 use Rattle.gms_check.proofs.Outlines.{read-at}
 use Rattle.gms_check.proofs.PastFacts.{mark-one}
 use Rattle.gms_check.proofs.Sooner.{first_of-append}
 use Rattle.gms_save.specs.declared.restart.RestartCheck.{RestartCheck}
-use Rattle.gms_save.specs.JointErrors.{is_fixed, is_fixed_set, is_saved, is_saved_variable, restart_at, restart_error, restarts_at, saved_assigned, saved_names, saved_statements, targets, targets_step, typed_names}
-use Rattle.gms_save.specs.RestartChecks.{IsCheckOf, error_by, fixed_by, unmarked_in, variable_in}
+use Rattle.gms_save.specs.JointErrors.{names_fixed_set, is_fixed_set, is_saved, is_saved_variable, restart_at, restart_error, restarts_at, saved_assigned, saved_names, saved_statements, targets, targets_step, typed_names}
+use Rattle.gms_save.specs.InnerRestartChecks.{IsCheckOf, error_by, fixed_by, unmarked_in, variable_in}
 
 -- ---- the first error, name by name
 
@@ -46,26 +46,26 @@ restarts-append test xs ys =
     ap (map {B = CompileError} (λ (named : Place × ℕ). restart_at named.0)) (filter-append (λ (named : Place × ℕ). test named.1) xs ys) ∙ map-append {B = CompileError} (λ (named : Place × ℕ). restart_at named.0) (filter (λ (named : Place × ℕ). test named.1) xs) (filter (λ (named : Place × ℕ). test named.1) ys)
 
 -- the first error among names and others
-pub first-append : (test : ℕ → Bool) (xs ys : List (Place × ℕ)) → first_of (restarts_at test (xs ++ ys)) ≡ sooner (first_of (restarts_at test xs)) (first_of (restarts_at test ys))
-first-append test xs ys = ap first_of (restarts-append test xs ys) ∙ first_of-append (restarts_at test xs) (restarts_at test ys)
+pub first-append : (test : ℕ → Bool) (xs ys : List (Place × ℕ)) → first_error (restarts_at test (xs ++ ys)) ≡ sooner (first_error (restarts_at test xs)) (first_error (restarts_at test ys))
+first-append test xs ys = ap first_error (restarts-append test xs ys) ∙ first_of-append (restarts_at test xs) (restarts_at test ys)
 
 -- the error at one name
-pub first-one : (test : ℕ → Bool) (at : Place) (name : ℕ) → (if test name then Some (restart_at at) else None) ≡ first_of (restarts_at test ((at, name) ∷ []))
+pub first-one : (test : ℕ → Bool) (at : Place) (name : ℕ) → (if test name then Some (restart_at at) else None) ≡ first_error (restarts_at test ((at, name) ∷ []))
 first-one test at name = by (test name)
   where
-    by : (b : Bool) → (if b then Some (restart_at at) else None) ≡ first_of (map {B = CompileError} (λ (named : Place × ℕ). restart_at named.0) (if b then (at, name) ∷ [] else []))
+    by : (b : Bool) → (if b then Some (restart_at at) else None) ≡ first_error (map {B = CompileError} (λ (named : Place × ℕ). restart_at named.0) (if b then (at, name) ∷ [] else []))
     by true = refl
     by false = refl
 
 -- an error at one name, found by a test of it
-pub first-where : (test : ℕ → Bool) (at : Place) (name : ℕ) (is_error : Bool) (found : Option CompileError) → found ≡ (if is_error then Some (restart_at at) else None) → is_error ≡ test name → found ≡ first_of (restarts_at test ((at, name) ∷ []))
+pub first-where : (test : ℕ → Bool) (at : Place) (name : ℕ) (is_error : Bool) (found : Option CompileError) → found ≡ (if is_error then Some (restart_at at) else None) → is_error ≡ test name → found ≡ first_error (restarts_at test ((at, name) ∷ []))
 first-where test at name is_error found e is =
     e ∙ ap (λ (b : Bool). if b then Some (restart_at at) else None) is ∙ first-one test at name
 
 -- the names of one more
-pub first-more : {X : Type 0} (test : ℕ → Bool) (f : X → List (Place × ℕ)) (xs : List X) (i : ℕ) (x : X) (now next found : Option CompileError) → i < length xs → x ≡ get_or xs i x → now ≡ first_of (restarts_at test (flat_map f (take i xs))) → found ≡ first_of (restarts_at test (f x)) → next ≡ sooner now found → next ≡ first_of (restarts_at test (flat_map f (take (i + 1) xs)))
+pub first-more : {X : Type 0} (test : ℕ → Bool) (f : X → List (Place × ℕ)) (xs : List X) (i : ℕ) (x : X) (now next found : Option CompileError) → i < length xs → x ≡ get_or xs i x → now ≡ first_error (restarts_at test (flat_map f (take i xs))) → found ≡ first_error (restarts_at test (f x)) → next ≡ sooner now found → next ≡ first_error (restarts_at test (flat_map f (take (i + 1) xs)))
 first-more test f xs i x now next found l is so one step =
-    step ∙ ap (λ o. sooner o found) so ∙ ap (sooner (first_of (restarts_at test (flat_map f (take i xs))))) one ∙ sym (first-append test (flat_map f (take i xs)) (f x)) ∙ ap (λ names. first_of (restarts_at test names)) whole
+    step ∙ ap (λ o. sooner o found) so ∙ ap (sooner (first_error (restarts_at test (flat_map f (take i xs))))) one ∙ sym (first-append test (flat_map f (take i xs)) (f x)) ∙ ap (λ names. first_error (restarts_at test names)) whole
   where
     whole : flat_map f (take i xs) ++ f x ≡ flat_map f (take (i + 1) xs)
     whole =
@@ -76,9 +76,9 @@ one-each : {X : Type 0} (g : X → Place × ℕ) (xs : List X) → map g xs ≡ 
 one-each g [] = refl
 one-each g (x ∷ xs) = ap (λ names. g x ∷ names) (one-each g xs)
 
-pub first-next : {X : Type 0} (test : ℕ → Bool) (g : X → Place × ℕ) (xs : List X) (i : ℕ) (x : X) (now next found : Option CompileError) → i < length xs → x ≡ get_or xs i x → now ≡ first_of (restarts_at test (map g (take i xs))) → found ≡ first_of (restarts_at test (g x ∷ [])) → next ≡ sooner now found → next ≡ first_of (restarts_at test (map g (take (i + 1) xs)))
+pub first-next : {X : Type 0} (test : ℕ → Bool) (g : X → Place × ℕ) (xs : List X) (i : ℕ) (x : X) (now next found : Option CompileError) → i < length xs → x ≡ get_or xs i x → now ≡ first_error (restarts_at test (map g (take i xs))) → found ≡ first_error (restarts_at test (g x ∷ [])) → next ≡ sooner now found → next ≡ first_error (restarts_at test (map g (take (i + 1) xs)))
 first-next {X} test g xs i x now next found l is so one step =
-    first-more test (λ (x : X). g x ∷ []) xs i x now next found l is (so ∙ ap (λ names. first_of (restarts_at test names)) (one-each g (take i xs))) one step ∙ ap (λ names. first_of (restarts_at test names)) (sym (one-each g (take (i + 1) xs)))
+    first-more test (λ (x : X). g x ∷ []) xs i x now next found l is (so ∙ ap (λ names. first_error (restarts_at test names)) (one-each g (take i xs))) one step ∙ ap (λ names. first_error (restarts_at test names)) (sym (one-each g (take (i + 1) xs)))
 
 -- ---- what is given a type, and what is assigned
 
@@ -230,11 +230,11 @@ module _ {F : Type 0} (line : ℕ) (xs : List (Stmt F)) (i : ℕ) (x : Stmt F) (
       step ∙ ap (λ (s : State). declared_by s x.act) so ∙ sym (ap (declared_by_all first) (kept-by true (sym e)) ∙ fold-append (λ (state : State) (statement : Stmt F). declared_by state statement.act) first (filter (is_saved line) (take i xs)) (x ∷ []))
 
   -- and assigns
-  pub kept-marks : (base : ℕ → ℕ) (first old new : List Bool) → true ≡ is_saved line x → old ≡ with_marks first (map base (flat_map assigned (filter (is_saved line) (take i xs)))) → new ≡ with_marks old (map base (assigned x)) → new ≡ with_marks first (map base (flat_map assigned (filter (is_saved line) (take (i + 1) xs))))
+  pub kept-marks : (base : ℕ → ℕ) (first old new : List Bool) → true ≡ is_saved line x → old ≡ with_marks first (map base (flat_map assigned_names (filter (is_saved line) (take i xs)))) → new ≡ with_marks old (map base (assigned_names x)) → new ≡ with_marks first (map base (flat_map assigned_names (filter (is_saved line) (take (i + 1) xs))))
   kept-marks base first old new e so step =
       let before = filter (is_saved line) (take i xs) in
-      let all : flat_map assigned before ++ assigned x ≡ flat_map assigned (filter (is_saved line) (take (i + 1) xs)) = ap (λ names. flat_map assigned before ++ names) (sym (append-nil (assigned x))) ∙ sym (flat_map-append assigned before (x ∷ [])) ∙ ap (flat_map assigned) (sym (kept-by true (sym e))) in
-      step ∙ ap (λ (ms : List Bool). with_marks ms (map base (assigned x))) so ∙ sym (marks-append first (map base (flat_map assigned before)) (map base (assigned x))) ∙ ap (with_marks first) (sym (map-append base (flat_map assigned before) (assigned x)) ∙ ap (map base) all)
+      let all : flat_map assigned_names before ++ assigned_names x ≡ flat_map assigned_names (filter (is_saved line) (take (i + 1) xs)) = ap (λ names. flat_map assigned_names before ++ names) (sym (append-nil (assigned_names x))) ∙ sym (flat_map-append assigned_names before (x ∷ [])) ∙ ap (flat_map assigned_names) (sym (kept-by true (sym e))) in
+      step ∙ ap (λ (ms : List Bool). with_marks ms (map base (assigned_names x))) so ∙ sym (marks-append first (map base (flat_map assigned_names before)) (map base (assigned_names x))) ∙ ap (with_marks first) (sym (map-append base (flat_map assigned_names before) (assigned_names x)) ∙ ap (map base) all)
 
 -- ---- the check of a joint program
 
@@ -251,7 +251,7 @@ unassigned line joint set = by (nat_lt set (length joint.names)) refl
         ap (λ (s : Symbol). is_set s.content && not (marked (with_marks (replicate (length joint.names) false) (saved_assigned line joint)) set)) none ∙ sym (ap (λ (s : Symbol). is_set s.content && not (is_among (saved_assigned line joint) set)) none)
 
 module _ (line : ℕ) (joint : Program Frac) (check : RestartCheck) (is : IsCheckOf line joint check) where
-  fixed-same : (name : ℕ) → fixed_by check name ≡ is_fixed line joint name
+  fixed-same : (name : ℕ) → fixed_by check name ≡ names_fixed_set line joint name
   fixed-same name =
       ap (λ (d : State). unmarked_in check.saved check.assigned (base_of d name)) is.declared
       ∙ ap (λ (s : State). unmarked_in s check.assigned (base_of (declared_state joint) name)) is.saved
@@ -261,6 +261,6 @@ module _ (line : ℕ) (joint : Program Frac) (check : RestartCheck) (is : IsChec
   -- what it finds of a statement is the statement's first Restart
   pub error-same : (s : Stmt Frac) → error_by check s ≡ restart_error line joint s
   error-same s =
-      ap (λ (from : ℕ). if is_saved from s then None else first_of (restarts_at (variable_in check.saved) (typed_names s.act) ++ restarts_at (fixed_by check) (targets s))) is.begins
-      ∙ ap (λ (state : State). if is_saved line s then None else first_of (restarts_at (variable_in state) (typed_names s.act) ++ restarts_at (fixed_by check) (targets s))) is.saved
-      ∙ ap (λ (test : ℕ → Bool). if is_saved line s then None else first_of (restarts_at (is_saved_variable line joint) (typed_names s.act) ++ restarts_at test (targets s))) (fun_ext fixed-same)
+      ap (λ (from : ℕ). if is_saved from s then None else first_error (restarts_at (variable_in check.saved) (typed_names s.act) ++ restarts_at (fixed_by check) (targets s))) is.begins
+      ∙ ap (λ (state : State). if is_saved line s then None else first_error (restarts_at (variable_in state) (typed_names s.act) ++ restarts_at (fixed_by check) (targets s))) is.saved
+      ∙ ap (λ (test : ℕ → Bool). if is_saved line s then None else first_error (restarts_at (is_saved_variable line joint) (typed_names s.act) ++ restarts_at test (targets s))) (fun_ext fixed-same)

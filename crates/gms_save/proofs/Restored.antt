@@ -10,25 +10,25 @@ use Rattle.gms_ast.specs.declared.program.Program.{Program}
 use Rattle.gms_store.specs.State.{State}
 use Rattle.gms_parse.specs.declared.fault.SourceFaultOrMemory.{SourceFaultOrMemory}
 use Rattle.gms_parse.specs.declared.fault.SourceFaultOrMemory.TheVariants as parsed
-use Rattle.gms_parse.specs.Outcomes.{IsProgram, IsRefusal, program_view}
+use Rattle.gms_parse.specs.Outcomes.{IsProgram, IsSourceRefusal, program_view}
 use Rattle.gms_parse.proofs.OneReading.{one_program, program_or_fault}
-use Rattle.gms_saved.specs.declared.fault.ReadFault.{ReadFault}
-use Rattle.gms_saved.specs.declared.fault.ReadFault.TheVariants as read
-use Rattle.gms_saved.specs.Reading.{Finds}
-use Rattle.gms_saved.specs.SavedState.{line_of, saved_text, source_text, state_text}
+use Rattle.gms_save_text.specs.declared.fault.ReadFault.{ReadFault}
+use Rattle.gms_save_text.specs.declared.fault.ReadFault.TheVariants as read
+use Rattle.gms_save_text.specs.Reading.{Finds}
+use Rattle.gms_save_text.specs.SavedState.{saved_line, saved_text, source_text, state_text}
 use Rattle.gms_save.specs.declared.fault.SaveFault.TheVariants.{SaveTooLong, SaveShape, SaveSolver}
 use Rattle.gms_save.specs.declared.fault.SaveFaultOrMemory.{SaveFaultOrMemory}
 use Rattle.gms_save.specs.declared.fault.SaveFaultOrMemory.TheVariants.{Memory, Fault}
 use Rattle.gms_save.specs.declared.saved.Saved.{Saved}
 use Rattle.gms_save.specs.Faults.{fault_of_reading, fault_of_source}
-use Rattle.gms_save.specs.RestoreSteps.{IsFaulty, IsFaultyBy, IsFree, IsNoStateBy, IsSavedIn, IsStateOf, IsUnplacedBy}
-use Rattle.gms_save.specs.Saves.{GivesBack, IsNoSave, IsSaveOf, IsUnfit, Restores, most_bytes, number_limit, place_of_solver, with_solver}
+use Rattle.gms_save.specs.InnerRestoreSteps.{IsFaulty, IsFaultyBy, IsFree, IsNoStateBy, IsSavedIn, IsStateOf, IsUnplacedBy}
+use Rattle.gms_save.specs.Saves.{GivesBack, IsNoSave, IsSaveOf, IsUnfit, Restores, most_save_bytes, greatest_part, place_of_solver, with_solver}
 use Rattle.gms_save.proofs.SavedNames.{saved-placed, text-placed}
 use Rattle.gms_save.proofs.SeenPrograms.{same-names, same-saved}
 
 -- the text before the source
 abbrev pub front : List ℕ
-front = line_of (codes "gams25 save 1")
+front = saved_line (codes "gams25 save 1")
 
 -- ---- answers
 
@@ -48,12 +48,12 @@ no-save : (bytes : List ℕ) → IsNoSave bytes → (source : List ℕ) (program
 no-save bytes none source program state solver save = by (none source program.names state solver save.text)
   where
     by : IsUnfit source program.names state solver → ⊥
-    by (inl (fault, is_fault)) = program_or_fault number_limit source (program_view frac_value program) fault save.is_program is_fault
+    by (inl (fault, is_fault)) = program_or_fault greatest_part source (program_view frac_value program) fault save.is_program is_fault
     by (inr (found, is_program, unfit)) =
-        let alike = one_program number_limit source (program_view frac_value program) (program_view frac_value found) save.is_program is_program in
+        let alike = one_program greatest_part source (program_view frac_value program) (program_view frac_value found) save.is_program is_program in
         unfit (same-names program found alike) (same-saved program found alike state solver save.is_saved)
 
-shapeless : (solvers : List (List ℕ)) (bytes : List ℕ) → length bytes ≤ most_bytes → IsNoSave bytes → Both solvers bytes (Err (Fault SaveShape))
+shapeless : (solvers : List (List ℕ)) (bytes : List ℕ) → length bytes ≤ most_save_bytes → IsNoSave bytes → Both solvers bytes (Err (Fault SaveShape))
 shapeless solvers bytes short none = ((short, none), no-save bytes none)
 
 memoryless : (solvers : List (List ℕ)) (bytes : List ℕ) → Both solvers bytes (Err Memory)
@@ -75,7 +75,7 @@ abbrev pub Splits : List ℕ → List ℕ → List ℕ → Type 0
 Splits bytes source text = (other rest : List ℕ) → bytes ≡ front ++ (source_text other ++ rest) → (source ≡ other) × (text ≡ rest)
 
 -- no source was read: the bytes are no save
-pub unread : {A : Type 0} (Q : List ℕ → List ℕ → A → Type 0) (r : Result Saved SaveFaultOrMemory) (f : ReadFault) (solvers : List (List ℕ)) (bytes : List ℕ) → length bytes ≤ most_bytes → IsErrAnd r (λ e. e ≡ fault_of_reading f) → ((source rest : List ℕ) → bytes ≡ front ++ (source_text source ++ rest) → Finds (Err f) (Q source rest)) → Both solvers bytes r
+pub unread : {A : Type 0} (Q : List ℕ → List ℕ → A → Type 0) (r : Result Saved SaveFaultOrMemory) (f : ReadFault) (solvers : List (List ℕ)) (bytes : List ℕ) → length bytes ≤ most_save_bytes → IsErrAnd r (λ e. e ≡ fault_of_reading f) → ((source rest : List ℕ) → bytes ≡ front ++ (source_text source ++ rest) → Finds (Err f) (Q source rest)) → Both solvers bytes r
 unread {A} Q r f solvers bytes short h found = answered r (fault_of_reading f) solvers bytes h (by f found)
   where
     by : (f : ReadFault) → ((source rest : List ℕ) → bytes ≡ front ++ (source_text source ++ rest) → Finds (Err f) (Q source rest)) → Both solvers bytes (Err (fault_of_reading f))
@@ -90,10 +90,10 @@ wanting r solvers bytes h = answered r Memory solvers bytes h (memoryless solver
 -- ---- the program
 
 -- a source without a program is refused
-pub refused : (r : Result (Program Frac) SaveFaultOrMemory) (f : SourceFaultOrMemory) (source : List ℕ) → IsErrAnd r (λ e. e ≡ fault_of_source f) → IsRefusal number_limit source f → MatchResult r (λ program. IsFree source program) (λ fault. IsFaultyBy source fault)
+pub refused : (r : Result (Program Frac) SaveFaultOrMemory) (f : SourceFaultOrMemory) (source : List ℕ) → IsErrAnd r (λ e. e ≡ fault_of_source f) → IsSourceRefusal greatest_part source f → MatchResult r (λ program. IsFree source program) (λ fault. IsFaultyBy source fault)
 refused r f source h refusal = let p = err_from_is_err_and r h in rw (p.1, p.2) (by f refusal)
   where
-    by : (f : SourceFaultOrMemory) → IsRefusal number_limit source f → IsFaultyBy source (fault_of_source f)
+    by : (f : SourceFaultOrMemory) → IsSourceRefusal greatest_part source f → IsFaultyBy source (fault_of_source f)
     by parsed.Memory refusal = tt
     by (parsed.Fault fault) refusal = inl (fault, refusal)
 
@@ -117,7 +117,7 @@ none_there {A} xs ys r same e = (λ t. sym same ∙ is_none xs (sym e ∙ t), λ
 
 -- ---- the whole
 
-module _ (solvers : List (List ℕ)) (bytes source text : List ℕ) (short : length bytes ≤ most_bytes) (splits : Splits bytes source text) where
+module _ (solvers : List (List ℕ)) (bytes source text : List ℕ) (short : length bytes ≤ most_save_bytes) (splits : Splits bytes source text) where
   -- a source that has no program without errors
   unfit-source : (other : List ℕ) (names : List (List ℕ)) (state : State) (solver : List ℕ) → source ≡ other → IsFaulty source → IsUnfit other names state solver
   unfit-source other names state solver same (inl fault) = subst (λ (s : List ℕ). IsUnfit s names state solver) same (inl fault)
@@ -156,7 +156,7 @@ module _ (solvers : List (List ℕ)) (bytes source text : List ℕ) (short : len
     here : (other : List ℕ) (found : Program Frac) (state : State) (name : List ℕ) → IsSaveOf bytes other found state name → IsHere source text program other found state name
     here other found state name save =
         let parts = splits other (state_text found.names state name) save.text in
-        let alike = one_program number_limit source (program_view frac_value program) (program_view frac_value found) free.is_program (subst (λ (s : List ℕ). IsProgram number_limit s frac_value found) (sym parts.0) save.is_program) in
+        let alike = one_program greatest_part source (program_view frac_value program) (program_view frac_value found) free.is_program (subst (λ (s : List ℕ). IsProgram greatest_part s frac_value found) (sym parts.0) save.is_program) in
         record {
           source_is = parts.0;
           alike = alike;

@@ -11,18 +11,18 @@ use Rattle.gms_ast.specs.declared.program.Program.{Program}
 use Rattle.gms_tuple.specs.TupleSet.{has}
 use Rattle.gms_tuple.proofs.Ordered.{ordered-nil}
 use Rattle.gms_store.specs.declared.settings.Settings.{Settings}
-use Rattle.gms_store.specs.State.{Content, undeclared, alias_of, set_of, parameter_of, variable_of, equation_of, model_with, Symbol, State, no_symbol, absent, behind, given_in, members_in, members_of, symbol_at, with_settings}
+use Rattle.gms_store.specs.State.{Content, undeclared, alias_of, set_of, parameter_of, variable_of, equation_of, model_with, Symbol, State, no_symbol, absent, alias_target, given_in, members_in, members_of, symbol_at, with_settings}
 use Rattle.gms_store.specs.Declarations.{declared_state, is_alias}
 use Rattle.gms_store.proofs.Views.{no_difference}
-use Rattle.gms_known.specs.DynamicSets.{dynamic_sets}
-use Rattle.gms_known.specs.Facts.{marked, with_marks}
+use Rattle.gms_scope.specs.DynamicSets.{dynamic_sets}
+use Rattle.gms_scope.specs.Facts.{marked, with_marks}
 use Rattle.gms_check.specs.Loaded.{loaded}
 use Rattle.gms_check.specs.Past.{is_among}
 use Rattle.gms_check.proofs.PastFacts.{stands-first}
-use Rattle.gms_saved.specs.SavedState.{line_of, part, parts_from, settings_line, state_text}
-use Rattle.gms_saved.specs.Validity.{IsGivenWell, are_in_range, declared_in, emptied, is_solver_name, stands_in}
-use Rattle.gms_save.specs.Saves.{number_limit, with_solver}
-use Rattle.gms_save.specs.RestoreSteps.{IsSavedAt, IsSavedIn}
+use Rattle.gms_save_text.specs.SavedState.{saved_line, part, parts_from, settings_line, state_text}
+use Rattle.gms_save_text.specs.Validity.{IsGivenWell, are_in_range, declared_symbols, emptied, is_solver_name, stands_in}
+use Rattle.gms_save.specs.Saves.{greatest_part, with_solver}
+use Rattle.gms_save.specs.InnerRestoreSteps.{IsSavedAt, IsSavedIn}
 use Rattle.gms_save.proofs.LoadedNames.{blanked, declared-count, loaded-declares, same-at}
 
 -- ---- names that a program does not have
@@ -32,7 +32,7 @@ past-end [] n past = refl
 past-end (x ∷ xs) zero past = absurd (omega arith)
 past-end (x ∷ xs) (suc n) past = past-end xs n (omega arith)
 
-nothing-past : (state : State) (n : ℕ) → length (declared_in state) ≤ n → symbol_at state n ≡ no_symbol
+nothing-past : (state : State) (n : ℕ) → length (declared_symbols state) ≤ n → symbol_at state n ≡ no_symbol
 nothing-past state n past = past-end state.symbols n past
 
 -- an undeclared name has no data
@@ -52,7 +52,7 @@ keeps-alias (equation_of entries) = refl
 keeps-alias (model_with m s) = refl
 
 -- an alias in one of two states that declare the same is one in the other
-pub alias-too : (a b : State) (n : ℕ) (is : Bool) → declared_in a ≡ declared_in b → is_alias (symbol_at a n).content ≡ is → is_alias (symbol_at b n).content ≡ is
+pub alias-too : (a b : State) (n : ℕ) (is : Bool) → declared_symbols a ≡ declared_symbols b → is_alias (symbol_at a n).content ≡ is → is_alias (symbol_at b n).content ≡ is
 alias-too a b n is e f =
     sym (keeps-alias (symbol_at b n).content) ∙ ap (λ (s : Symbol). is_alias s.content) (sym (same-at a b n e)) ∙ keeps-alias (symbol_at a n).content ∙ f
 
@@ -70,8 +70,8 @@ alias-members (model_with m s) e = refl
 pub own-members : (state : State) (n : ℕ) → is_alias (symbol_at state n).content ≡ false → members_of state n ≡ members_in (symbol_at state n).content
 own-members state n e = by (symbol_at state n).content refl e
   where
-    here : (c : Content) → (symbol_at state n).content ≡ c → behind n c ≡ n → members_of state n ≡ members_in (symbol_at state n).content
-    here c is own = ap (λ (m : ℕ). members_in (symbol_at state m).content) (ap (behind n) is ∙ own)
+    here : (c : Content) → (symbol_at state n).content ≡ c → alias_target n c ≡ n → members_of state n ≡ members_in (symbol_at state n).content
+    here c is own = ap (λ (m : ℕ). members_in (symbol_at state m).content) (ap (alias_target n) is ∙ own)
 
     by : (c : Content) → (symbol_at state n).content ≡ c → is_alias c ≡ false → members_of state n ≡ members_in (symbol_at state n).content
     by undeclared is e = here undeclared is refl
@@ -93,10 +93,10 @@ marked-is : (program : Program Frac) (n : ℕ) → n < length program.names → 
 marked-is program n below =
     (stands-first frac_value program).dynamic n ∙ ap (λ (b : Bool). b && is_among (dynamic_sets program) n) (lt-ltb n (length program.names) below)
 
-module _ (program : Program Frac) (state first : State) (marks : List Bool) (labels : ℕ) (names : ℕ) (solver : List ℕ) (declares : declared_in state ≡ declared_in (declared_state program)) (first_is : first ≡ loaded frac_value program) (marks_are : marks ≡ marks_of program) (labels_are : labels ≡ length program.labels) (names_are : names ≡ length program.names) where
+module _ (program : Program Frac) (state first : State) (marks : List Bool) (labels : ℕ) (names : ℕ) (solver : List ℕ) (declares : declared_symbols state ≡ declared_symbols (declared_state program)) (first_is : first ≡ loaded frac_value program) (marks_are : marks ≡ marks_of program) (labels_are : labels ≡ length program.labels) (names_are : names ≡ length program.names) where
   -- the data declare what the state does
-  pub same-declares : declared_in state ≡ declared_in first
-  same-declares = declares ∙ sym (loaded-declares frac_value program) ∙ sym (ap declared_in first_is)
+  pub same-declares : declared_symbols state ≡ declared_symbols first
+  same-declares = declares ∙ sym (loaded-declares frac_value program) ∙ sym (ap declared_symbols first_is)
 
   state-past : (n : ℕ) → length program.names ≤ n → symbol_at state n ≡ no_symbol
   state-past n past = nothing-past state n (let size = ap length declares ∙ declared-count program in omega (arith, size, past))
@@ -110,14 +110,14 @@ module _ (program : Program Frac) (state first : State) (marks : List Bool) (lab
     at-name : (n : ℕ) → n < length program.names → IsSavedAt labels (marked marks) first state n
     at-name n below = all n (omega (arith, names_are, below))
 
-    given-at : (n : ℕ) → IsGivenWell number_limit (length program.labels) state (symbol_at state n)
+    given-at : (n : ℕ) → IsGivenWell greatest_part (length program.labels) state (symbol_at state n)
     given-at n = by (nat_lt n (length program.names)) refl
       where
-        by : (b : Bool) → nat_lt n (length program.names) ≡ b → IsGivenWell number_limit (length program.labels) state (symbol_at state n)
-        by true e = subst (λ (count : ℕ). IsGivenWell number_limit count state (symbol_at state n)) labels_are (at-name n (ltb-true n (length program.names) e)).given
+        by : (b : Bool) → nat_lt n (length program.names) ≡ b → IsGivenWell greatest_part (length program.labels) state (symbol_at state n)
+        by true e = subst (λ (count : ℕ). IsGivenWell greatest_part count state (symbol_at state n)) labels_are (at-name n (ltb-true n (length program.names) e)).given
         by false e =
             let past : length program.names ≤ n = grind (arith, nat_tests) in
-            subst (IsGivenWell number_limit (length program.labels) state) (sym (state-past n past)) (none-well number_limit (length program.labels) state)
+            subst (IsGivenWell greatest_part (length program.labels) state) (sym (state-past n past)) (none-well greatest_part (length program.labels) state)
 
     static-at : (n : ℕ) → is_among (dynamic_sets program) n ≡ false → members_in (symbol_at state n).content ≡ members_in (symbol_at (loaded frac_value program) n).content
     static-at n fixed = by (nat_lt n (length program.names)) refl
@@ -138,7 +138,7 @@ module _ (program : Program Frac) (state first : State) (marks : List Bool) (lab
   names-from-saved saved n within =
       let below : n < length program.names = omega (arith, names_are, within) in
       record {
-        given = subst (λ (count : ℕ). IsGivenWell number_limit count state (symbol_at state n)) (sym labels_are) (saved.given n);
+        given = subst (λ (count : ℕ). IsGivenWell greatest_part count state (symbol_at state n)) (sym labels_are) (saved.given n);
         static = λ fixed. saved.static n (sym (ap (λ (ms : List Bool). marked ms n) marks_are ∙ marked-is program n below) ∙ fixed) ∙ ap (λ (s : State). members_in (symbol_at s n).content) (sym first_is);
       }
 
@@ -167,7 +167,7 @@ module _ (labels : ℕ) (state : State) (settings : Settings) where
 saved-settled : (program : Program Frac) (state : State) (settings : Settings) (solver : List ℕ) → are_in_range settings ≡ true → IsSavedIn program state solver → IsSavedIn program (with_settings state settings) solver
 saved-settled program state settings solver ranges saved = record {
   declares = saved.declares;
-  given = λ n. given-settled (length program.labels) state settings number_limit (symbol_at state n) (saved.given n);
+  given = λ n. given-settled (length program.labels) state settings greatest_part (symbol_at state n) (saved.given n);
   static = saved.static;
   ranges = ranges;
   named = saved.named;
@@ -185,4 +185,4 @@ parts-settled state settings n (name ∷ names) = ap (λ (text : List ℕ). part
 -- the text of a state says nothing of the place of its solver
 pub text-placed : (names : List (List ℕ)) (state : State) (place : ℕ) (solver : List ℕ) → state_text names (with_solver state place) solver ≡ state_text names state solver
 text-placed names state place solver =
-    ap (λ (parts : List ℕ). settings_line state.settings solver ++ (parts ++ line_of (codes "end"))) (parts-settled state (with_solver state place).settings 0 names)
+    ap (λ (parts : List ℕ). settings_line state.settings solver ++ (parts ++ saved_line (codes "end"))) (parts-settled state (with_solver state place).settings 0 names)

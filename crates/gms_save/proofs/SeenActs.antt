@@ -19,24 +19,24 @@ use Rattle.gms_ast.specs.declared.program.Right.TheVariants.{Value}
 use Rattle.gms_ast.specs.declared.program.Stmt.{Stmt, roll-Stmt}
 use Rattle.gms_ast.specs.Numbers.{in_numbers, indices_in_numbers, control_in_numbers}
 use Rattle.gms_ast.specs.StatementTrees.{Act, declares, aliases, assigns, defines, declares_models, solves, displays, loops, sets_options, aborts, Statements, no_statement, statement}
-use Rattle.gms_ast.specs.StatementView.{act_step, declared_in, in_order, shown_tree, statement_step, statement_view}
+use Rattle.gms_ast.specs.StatementView.{act_view_step, declared_in, statements_in_order, shown_tree, statement_view_step, statement_view}
 use Rattle.gms_ast.specs.TreeView.{control_tree, tree_of}
 use Rattle.gms_ast.specs.Trees.{Tree, Indices, Control}
-use Rattle.gms_parse.specs.Meanings.{act_view}
+use Rattle.gms_parse.specs.InnerMeanings.{act_view}
 use Rattle.gms_parse.proofs.Looped.{view-Stmt}
 use Rattle.gms_store.specs.State.{State}
 use Rattle.gms_store.specs.Declarations.{declared_by}
-use Rattle.gms_known.specs.DynamicSets.{assigned, assigned_step}
+use Rattle.gms_scope.specs.DynamicSets.{assigned_names, assigned_step}
 use Rattle.gms_check.specs.declared.error.CompileError.{CompileError}
 use Rattle.gms_check.specs.CompileErrors.{act_errors, declaration_errors, errors_of, model_errors}
 use Rattle.gms_check.specs.DeclarationUses.{kind_uses}
-use Rattle.gms_check.specs.Past.{Known, after_act, equations_declared, gives_unordered, models_in, names_declared}
+use Rattle.gms_check.specs.Past.{Known, after_act, equations_declared, gives_unordered, models_declared_by, names_declared}
 use Rattle.gms_check.specs.Past.{defines as defines_equation}
 use Rattle.gms_check.specs.Standing.{as_side}
-use Rattle.gms_check.specs.Statements.{act_uses}
-use Rattle.gms_check.specs.StatementUses.{OfAct, OfStatement, index_list, option_uses, right_standing, show_uses, statement_uses}
-use Rattle.gms_check.specs.StatementUses.{act_step as use_step, statement_step as use_statement}
-use Rattle.gms_check.specs.Uses.{Uses, assigning, condition_uses, control_uses, defining, first_alias, index_sets, method, optimizing, second_alias, sets_of, shift_uses, solving, uses}
+use Rattle.gms_check.specs.InnerStatements.{act_uses}
+use Rattle.gms_check.specs.StatementUses.{UsesOfAct, UsesOfStatement, index_list, option_uses, right_standing, show_uses, statement_uses}
+use Rattle.gms_check.specs.StatementUses.{act_uses_step as use_step, statement_uses_step as use_statement}
+use Rattle.gms_check.specs.Uses.{Uses, assigning, condition_uses, control_uses, defining, first_alias, index_sets, method, optimizing, second_alias, sets_of_control, shift_uses, solving, uses}
 use Rattle.gms_check.proofs.ActUses.{uses-act}
 use Rattle.gms_save.specs.JointErrors.{targets, targets_step, typed_names}
 use Rattle.gms_save.specs.Saves.{option_solvers, solvers_in, solvers_step}
@@ -90,10 +90,10 @@ module _ (P : ActNode Frac → Type 0) where
 
 -- what a layer shows
 abbrev pub shown_layer : Layer → Act Number
-shown_layer x = act_step frac_value (map-Act Frac (ActNode Frac) (Stmt Frac) (Act Number) (Statements Number → Statements Number) shown (statement_view frac_value) x)
+shown_layer x = act_view_step frac_value (map-Act Frac (ActNode Frac) (Stmt Frac) (Act Number) (Statements Number → Statements Number) shown (statement_view frac_value) x)
 
 pub shows : (x : Layer) → shown (roll-Act Frac x) ≡ shown_layer x
-shows = fold-roll-Act Frac (Act Number) (Statements Number → Statements Number) (act_step frac_value) (statement_step frac_value)
+shows = fold-roll-Act Frac (Act Number) (Statements Number → Statements Number) (act_view_step frac_value) (statement_view_step frac_value)
 
 -- ---- what acts use
 
@@ -122,7 +122,7 @@ abbrev mutual
       (model.at, solving model.name) ∷ (word.at, method word.text) ∷ (objective.at, optimizing objective.name) ∷ []
   uses_of (displays items) state at controlled = flat_map show_uses items
   uses_of (loops control body) state at controlled =
-      control_uses at controlled (control_in_numbers value_of control) ++ all_uses body state (controlled ++ sets_of (control_in_numbers value_of control))
+      control_uses at controlled (control_in_numbers value_of control) ++ all_uses body state (controlled ++ sets_of_control (control_in_numbers value_of control))
   uses_of (sets_options options) state at controlled = flat_map option_uses (map (option_in value_of) options)
   uses_of (aborts condition items) state at controlled = condition_uses at controlled (option_map (in_numbers value_of) condition) ++ flat_map show_uses items
 
@@ -135,16 +135,16 @@ abbrev SameUses : ActNode Frac → Type 0
 SameUses act = (state : State) (at : Place) (controlled : List ℕ) → uses_of (shown act) state at controlled ≡ act_uses act state at controlled
 
 -- what a layer uses
-abbrev used_layer : Layer → OfAct Frac
-used_layer x = use_step (map-Act Frac (ActNode Frac) (Stmt Frac) (OfAct Frac) (OfStatement Frac) act_uses statement_uses x)
+abbrev used_layer : Layer → UsesOfAct Frac
+used_layer x = use_step (map-Act Frac (ActNode Frac) (Stmt Frac) (UsesOfAct Frac) (UsesOfStatement Frac) act_uses statement_uses x)
 
 used : (x : Layer) → act_uses (roll-Act Frac x) ≡ used_layer x
-used = fold-roll-Act Frac (OfAct Frac) (OfStatement Frac) use_step use_statement
+used = fold-roll-Act Frac (UsesOfAct Frac) (UsesOfStatement Frac) use_step use_statement
 
-body-uses : (ss : List (Stmt Frac)) → AllSuch SameUses ss → (state : State) (controlled : List ℕ) → all_uses (in_order frac_value (map {B = Statements Number → Statements Number} (statement_view frac_value) ss)) state controlled ≡ flat_map (λ (f : OfStatement Frac). f state controlled) (map statement_uses ss)
+body-uses : (ss : List (Stmt Frac)) → AllSuch SameUses ss → (state : State) (controlled : List ℕ) → all_uses (statements_in_order frac_value (map {B = Statements Number → Statements Number} (statement_view frac_value) ss)) state controlled ≡ flat_map (λ (f : UsesOfStatement Frac). f state controlled) (map statement_uses ss)
 body-uses [] all state controlled = refl
 body-uses (s ∷ ss) all state controlled =
-    ap (λ (w : Statements Number). all_uses w state controlled) (view-Stmt frac_value s (in_order frac_value (map {B = Statements Number → Statements Number} (statement_view frac_value) ss)))
+    ap (λ (w : Statements Number). all_uses w state controlled) (view-Stmt frac_value s (statements_in_order frac_value (map {B = Statements Number → Statements Number} (statement_view frac_value) ss)))
     ∙ ap₂ (λ (a b : Uses Frac). a ++ b) (all.0 state s.at controlled ∙ sym (uses-act s state controlled)) (body-uses ss all.1 state controlled)
 
 layer-uses : (x : Layer) → LayerSuch SameUses x → (state : State) (at : Place) (controlled : List ℕ) → uses_of (shown_layer x) state at controlled ≡ used_layer x state at controlled
@@ -163,8 +163,8 @@ layer-uses (Act-F.Model models) all state at controlled = refl
 layer-uses (Act-F.Solve model word objective maximize) all state at controlled = refl
 layer-uses (Act-F.Display items) all state at controlled = refl
 layer-uses (Act-F.Loop control body) all state at controlled =
-    ap (λ (c : Control Frac). control_uses at controlled c ++ all_uses (in_order frac_value (map {B = Statements Number → Statements Number} (statement_view frac_value) body.items)) state (controlled ++ sets_of c)) (control_back (control_tree control))
-    ∙ ap (λ (us : Uses Frac). control_uses at controlled (control_tree control) ++ us) (body-uses body.items all state (controlled ++ sets_of (control_tree control)))
+    ap (λ (c : Control Frac). control_uses at controlled c ++ all_uses (statements_in_order frac_value (map {B = Statements Number → Statements Number} (statement_view frac_value) body.items)) state (controlled ++ sets_of_control c)) (control_back (control_tree control))
+    ∙ ap (λ (us : Uses Frac). control_uses at controlled (control_tree control) ++ us) (body-uses body.items all state (controlled ++ sets_of_control (control_tree control)))
 layer-uses (Act-F.Options options) all state at controlled = ap (flat_map option_uses) (options_back options)
 layer-uses (Act-F.Abort condition items) all state at controlled =
     ap (λ (c : Option (Tree Frac)). condition_uses at controlled c ++ flat_map show_uses items) (condition_back condition)
@@ -175,7 +175,7 @@ same-uses s state controlled = each-act SameUses layers s state s.at controlled 
   where
     layers : (x : Layer) → LayerSuch SameUses x → SameUses (roll-Act Frac x)
     layers x all state at controlled =
-        ap (λ (v : Act Number). uses_of v state at controlled) (shows x) ∙ layer-uses x all state at controlled ∙ sym (ap (λ (f : OfAct Frac). f state at controlled) (used x))
+        ap (λ (v : Act Number). uses_of v state at controlled) (shows x) ∙ layer-uses x all state at controlled ∙ sym (ap (λ (f : UsesOfAct Frac). f state at controlled) (used x))
 
 -- ---- what statements give in sequence, those of a loop's body too
 
@@ -218,10 +218,10 @@ module _ {A : Type 0} (step : Act-F Frac (List A) (List A) → List A) (own : Ac
   given-act : (s : Stmt Frac) → given_in s ≡ given_by s.act
   given-act s = fold_out-Stmt Frac (List A) (List A) step act_of s
 
-  body-given : (ss : List (Stmt Frac)) → AllSuch SameGiven ss → all_gathered (in_order frac_value (map {B = Statements Number → Statements Number} (statement_view frac_value) ss)) ≡ flat_map (λ xs. xs) (map given_in ss)
+  body-given : (ss : List (Stmt Frac)) → AllSuch SameGiven ss → all_gathered (statements_in_order frac_value (map {B = Statements Number → Statements Number} (statement_view frac_value) ss)) ≡ flat_map (λ xs. xs) (map given_in ss)
   body-given [] all = refl
   body-given (s ∷ ss) all =
-      ap all_gathered (view-Stmt frac_value s (in_order frac_value (map {B = Statements Number → Statements Number} (statement_view frac_value) ss)))
+      ap all_gathered (view-Stmt frac_value s (statements_in_order frac_value (map {B = Statements Number → Statements Number} (statement_view frac_value) ss)))
       ∙ ap₂ (λ (a b : List A). a ++ b) (all.0 ∙ sym (given-act s)) (body-given ss all.1)
 
   module _ (loop : (control : ControlNode Frac) (body : Vec (Stmt Frac) Global) → given_layer (Act-F.Loop control body) ≡ flat_map (λ xs. xs) (map given_in body.items)) (plain : (x : Layer) → IsPlain x → gathered (shown_layer x) ≡ given_layer x) where
@@ -252,7 +252,7 @@ own_assigned act = []
 abbrev pub assigned_of : Act Number → List ℕ
 assigned_of = gathered assigned_step own_assigned
 
-pub same-assigned : (s : Stmt Frac) → assigned_of (shown s.act) ≡ assigned s
+pub same-assigned : (s : Stmt Frac) → assigned_of (shown s.act) ≡ assigned_names s
 same-assigned = same-given assigned_step own_assigned (λ control body. refl) plain
   where
     plain : (x : Layer) → IsPlain x → assigned_of (shown_layer x) ≡ given_layer assigned_step own_assigned x
@@ -315,7 +315,7 @@ told act = record {
   names = names_declared act;
   equations = equations_declared act;
   is_defined = λ name. defines_equation name act;
-  models = λ equations sound. models_in equations sound act;
+  models = λ equations sound. models_declared_by equations sound act;
   is_unordered = λ name. gives_unordered name act;
   declared = λ state. declared_by state act;
   given = λ state. after_act frac_value state act;

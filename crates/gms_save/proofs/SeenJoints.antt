@@ -10,10 +10,10 @@ use Rattle.gms_parse.specs.Outcomes.{program_view}
 use Rattle.gms_store.specs.State.{State, base_of, symbol_at}
 use Rattle.gms_store.specs.Declarations.{blank_state, declared_state, is_set}
 use Rattle.gms_store.specs.Overlays.{overlaid}
-use Rattle.gms_known.specs.DynamicSets.{dynamic_sets}
+use Rattle.gms_scope.specs.DynamicSets.{dynamic_sets}
 use Rattle.gms_check.specs.declared.error.CompileError.{CompileError}
 use Rattle.gms_check.specs.CompileErrors.{statement_errors}
-use Rattle.gms_check.specs.Errors.{first_of, sooner}
+use Rattle.gms_check.specs.Errors.{first_error, sooner}
 use Rattle.gms_check.specs.Names.{is_variable}
 use Rattle.gms_check.specs.Past.{is_among}
 use Rattle.gms_save.specs.JointErrors.{each_sooner, is_saved, joint_errors, restart_error, restarts_at, resumed, saved_assigned, saved_names, saved_statements}
@@ -36,7 +36,7 @@ saved-are from (x ∷ xs) = by (is_saved from x) (saved-are from xs)
 -- declared in all
 abbrev restart_from : ℕ → State → List ℕ → State → Place → List (Place × ℕ) → List (Place × ℕ) → Option CompileError
 restart_from from saved assigned declared at typed targets =
-    if nat_lt at.line from then None else first_of (restarts_at (λ name. is_variable (symbol_at saved name).content) typed ++ restarts_at (λ name. is_set (symbol_at saved (base_of declared name)).content && not (is_among assigned (base_of declared name))) targets)
+    if nat_lt at.line from then None else first_error (restarts_at (λ name. is_variable (symbol_at saved name).content) typed ++ restarts_at (λ name. is_set (symbol_at saved (base_of declared name)).content && not (is_among assigned (base_of declared name))) targets)
 
 abbrev seen_restart : ℕ → State → List ℕ → State → Seen → Option CompileError
 seen_restart from saved assigned declared v = restart_from from saved assigned declared v.0 (told_by v.1).typed (targets_of v.1)

@@ -17,17 +17,17 @@ use Rattle.gms_parse.specs.Outcomes.{ProgramView, program_view}
 use Rattle.gms_parse.proofs.Looped.{view-Stmt}
 use Rattle.gms_store.specs.State.{State, base_of}
 use Rattle.gms_store.specs.Declarations.{blank_state, declared_by_all, declared_state}
-use Rattle.gms_known.specs.DynamicSets.{assigned, dynamic_sets}
-use Rattle.gms_known.specs.Names.{is_equation, kind_of}
+use Rattle.gms_scope.specs.DynamicSets.{assigned_names, dynamic_sets}
+use Rattle.gms_scope.specs.Names.{is_equation, declared_kind}
 use Rattle.gms_check.specs.declared.error.CompileError.{CompileError}
 use Rattle.gms_check.specs.Above.{directly_above}
 use Rattle.gms_check.specs.CompileErrors.{compile_errors, each_error, known_after, statement_error}
-use Rattle.gms_check.specs.Errors.{first_of}
+use Rattle.gms_check.specs.Errors.{first_error}
 use Rattle.gms_check.specs.Loaded.{loaded, sound}
 use Rattle.gms_check.specs.Past.{Past, Known, after_statement, declared_names, is_among, is_defined, is_unordered, models_after}
 use Rattle.gms_check.specs.Uses.{Uses}
-use Rattle.gms_saved.specs.Validity.{IsSavedOf}
-use Rattle.gms_save.specs.Saves.{IsSavedBy, number_limit, solvers_chosen, solvers_in}
+use Rattle.gms_save_text.specs.Validity.{IsSavedOf}
+use Rattle.gms_save.specs.Saves.{IsSavedBy, greatest_part, solvers_chosen, solvers_in}
 use Rattle.gms_save.proofs.SeenActs.{Told, assigned_of, chosen_of, same-assigned, same-chosen, same-told, same-uses, shown, told, told-errors, told_by, uses_of}
 
 -- ---- statements
@@ -95,7 +95,7 @@ known_from count solvers dynamic state names unordered defined models = record {
   assigned = λ name. nat_lt name count && is_among dynamic name;
   unordered = λ name. nat_lt name count && unordered name;
   defined = λ name. nat_lt name count && defined name;
-  models = map (λ (model : ℕ × List ℕ). (model.0, filter (λ equation. is_equation (kind_of state equation)) model.1)) (filter (λ (model : ℕ × List ℕ). nat_lt model.0 count && true) models);
+  models = map (λ (model : ℕ × List ℕ). (model.0, filter (λ equation. is_equation (declared_kind state equation)) model.1)) (filter (λ (model : ℕ × List ℕ). nat_lt model.0 count && true) models);
   solvers = solvers;
 }
 
@@ -127,11 +127,11 @@ known-is program solvers past =
 
 -- the error of a statement, by what it shows
 abbrev pub seen_error : Known Frac → Seen → Option CompileError
-seen_error known v = first_of ((told_by v.1).errors known v.0 (uses_of v.1 known.state v.0 []))
+seen_error known v = first_error ((told_by v.1).errors known v.0 (uses_of v.1 known.state v.0 []))
 
 error-is : (known : Known Frac) (s : Stmt Frac) → statement_error known s ≡ seen_error known (seen s)
 error-is known s =
-    ap first_of (sym (told-errors known s s.act) ∙ ap₂ (λ (t : Told) (us : Uses Frac). t.errors known s.at us) (sym (same-told s.act)) (sym (same-uses s known.state [])))
+    ap first_error (sym (told-errors known s s.act) ∙ ap₂ (λ (t : Told) (us : Uses Frac). t.errors known s.at us) (sym (same-told s.act)) (sym (same-uses s known.state [])))
 
 -- the errors of statements, by what they show
 abbrev pub seen_errors : ℕ → List (List ℕ) → List ℕ → ToldPast → List Seen → List (Option CompileError)
@@ -170,7 +170,7 @@ loaded-are [] state = refl
 loaded-are (x ∷ xs) state =
     ap (λ (t : Told). fold (after_statement frac_value) (t.given state) (sound xs)) (sym (same-told x.act)) ∙ loaded-are xs ((told_by (shown x.act)).given state)
 
-pub assigned-are : (xs : List (Stmt Frac)) → flat_map assigned xs ≡ flat_map (λ (v : Seen). assigned_of v.1) (map seen xs)
+pub assigned-are : (xs : List (Stmt Frac)) → flat_map assigned_names xs ≡ flat_map (λ (v : Seen). assigned_of v.1) (map seen xs)
 assigned-are [] = refl
 assigned-are (x ∷ xs) = ap₂ (λ (a b : List ℕ). a ++ b) (sym (same-assigned x)) (assigned-are xs)
 
@@ -243,8 +243,8 @@ module _ (one other : Program Frac) (alike : program_view frac_value one ≡ pro
   pub same-saved : (state : State) (solver : List ℕ) → IsSavedBy one state solver → IsSavedBy other state solver
   same-saved state solver saved = record {
     no_error = sym (same-errors (solvers_chosen other)) ∙ ap (compile_errors frac_value one) (sym same-solvers) ∙ saved.no_error;
-    is_saved = subst (λ (count : ℕ). IsSavedOf number_limit count (declared_state other) (loaded frac_value other) (is_among (dynamic_sets other)) state solver) (ap (λ (labels : List (List ℕ)). length labels) same-labels)
-        (subst (λ (declared : State). IsSavedOf number_limit (length one.labels) declared (loaded frac_value other) (is_among (dynamic_sets other)) state solver) same-declared
-        (subst (λ (first : State). IsSavedOf number_limit (length one.labels) (declared_state one) first (is_among (dynamic_sets other)) state solver) same-loaded
-        (subst (λ (dynamic : List ℕ). IsSavedOf number_limit (length one.labels) (declared_state one) (loaded frac_value one) (is_among dynamic) state solver) same-assigned-sets saved.is_saved)));
+    is_saved = subst (λ (count : ℕ). IsSavedOf greatest_part count (declared_state other) (loaded frac_value other) (is_among (dynamic_sets other)) state solver) (ap (λ (labels : List (List ℕ)). length labels) same-labels)
+        (subst (λ (declared : State). IsSavedOf greatest_part (length one.labels) declared (loaded frac_value other) (is_among (dynamic_sets other)) state solver) same-declared
+        (subst (λ (first : State). IsSavedOf greatest_part (length one.labels) (declared_state one) first (is_among (dynamic_sets other)) state solver) same-loaded
+        (subst (λ (dynamic : List ℕ). IsSavedOf greatest_part (length one.labels) (declared_state one) (loaded frac_value one) (is_among dynamic) state solver) same-assigned-sets saved.is_saved)));
   }

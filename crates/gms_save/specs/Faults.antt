@@ -4,16 +4,16 @@ use Rattle.gms_save.specs.declared.fault.SaveFault.{SaveFault}
 use Rattle.gms_save.specs.declared.fault.SaveFault.TheVariants.{SaveTooLong, SaveShape, SaveSolver}
 use Rattle.gms_save.specs.declared.fault.SaveFaultOrMemory.{SaveFaultOrMemory}
 use Rattle.gms_save.specs.declared.fault.SaveFaultOrMemory.TheVariants.{Memory, Fault}
-use Rattle.gms_saved.specs.declared.fault.ReadFault.{ReadFault}
-use Rattle.gms_saved.specs.declared.fault.ReadFault.TheVariants as read
+use Rattle.gms_save_text.specs.declared.fault.ReadFault.{ReadFault}
+use Rattle.gms_save_text.specs.declared.fault.ReadFault.TheVariants as read
 use Rattle.gms_parse.specs.declared.fault.SourceFaultOrMemory.{SourceFaultOrMemory}
 use Rattle.gms_parse.specs.declared.fault.SourceFaultOrMemory.TheVariants as parsed
 
 -- the number of a fault
-abbrev pub fault_code : SaveFault → ℕ
-fault_code SaveShape = 41
-fault_code SaveTooLong = 42
-fault_code SaveSolver = 43
+abbrev pub save_fault_code : SaveFault → ℕ
+save_fault_code SaveShape = 41
+save_fault_code SaveTooLong = 42
+save_fault_code SaveSolver = 43
 
 -- the name of a fault
 abbrev pub fault_name : SaveFault → List ℕ

@@ -15,10 +15,10 @@ use Rattle.gms_ast.specs.declared.program.Act.TheFolds.{fold-Stmt}
 use Rattle.gms_store.specs.State.{State, symbol_at, base_of}
 use Rattle.gms_store.specs.Declarations.{blank_state, content_of, declared_by_all, declared_state, is_set}
 use Rattle.gms_store.specs.Overlays.{overlaid}
-use Rattle.gms_known.specs.DynamicSets.{assigned}
+use Rattle.gms_scope.specs.DynamicSets.{assigned_names}
 use Rattle.gms_check.specs.declared.error.ErrorKind.TheVariants.{Restart}
 use Rattle.gms_check.specs.declared.error.CompileError.{CompileError}
-use Rattle.gms_check.specs.Errors.{first_of, sooner}
+use Rattle.gms_check.specs.Errors.{first_error, sooner}
 use Rattle.gms_check.specs.Names.{is_variable}
 use Rattle.gms_check.specs.Past.{is_among}
 use Rattle.gms_check.specs.CompileErrors.{statement_errors}
@@ -54,7 +54,7 @@ module _ {F : Type 0} where
 
   -- the sets that the saved source assigns, an alias as its set
   abbrev pub saved_assigned : ℕ → Program F → List ℕ
-  saved_assigned from joint = map (base_of (declared_state joint)) (flat_map assigned (saved_statements from joint))
+  saved_assigned from joint = map (base_of (declared_state joint)) (flat_map assigned_names (saved_statements from joint))
 
   -- whether a name is that of a saved variable
   abbrev pub is_saved_variable : ℕ → Program F → ℕ → Bool
@@ -66,8 +66,8 @@ module _ {F : Type 0} where
 
   -- whether a name is that of a set that the saved source declares and does not assign, an alias as
   -- its set
-  abbrev pub is_fixed : ℕ → Program F → ℕ → Bool
-  is_fixed from joint name = is_fixed_set from joint (base_of (declared_state joint) name)
+  abbrev pub names_fixed_set : ℕ → Program F → ℕ → Bool
+  names_fixed_set from joint name = is_fixed_set from joint (base_of (declared_state joint) name)
 
   -- the names that are declared, each with its place
   abbrev pub names_at : List (Decl F) → List (Place × ℕ)
@@ -96,11 +96,11 @@ module _ {F : Type 0} where
   -- statement assigns and the saved source does not
   abbrev pub restart_errors : ℕ → Program F → Stmt F → List CompileError
   restart_errors from joint statement =
-      restarts_at (is_saved_variable from joint) (typed_names statement.act) ++ restarts_at (is_fixed from joint) (targets statement)
+      restarts_at (is_saved_variable from joint) (typed_names statement.act) ++ restarts_at (names_fixed_set from joint) (targets statement)
 
   -- the first Restart of a statement of the new file; the saved source has none
   abbrev pub restart_error : ℕ → Program F → Stmt F → Option CompileError
-  restart_error from joint statement = if is_saved from statement then None else first_of (restart_errors from joint statement)
+  restart_error from joint statement = if is_saved from statement then None else first_error (restart_errors from joint statement)
 
   -- the errors of the joint program: those of a check, and Restart among them, at most one a
   -- statement

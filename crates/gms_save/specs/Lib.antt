@@ -1,5 +1,5 @@
 pub mod Faults
 pub mod JointErrors
-pub mod RestartChecks
-pub mod RestoreSteps
+pub mod InnerRestartChecks
+pub mod InnerRestoreSteps
 pub mod Saves

@@ -14,25 +14,25 @@ use Rattle.gms_ast.specs.declared.program.Act.TheFolds.{fold-Stmt}
 use Rattle.gms_store.specs.State.{State}
 use Rattle.gms_store.specs.Declarations.{declared_state}
 use Rattle.gms_parse.specs.declared.fault.SourceFault.{SourceFault}
-use Rattle.gms_parse.specs.Outcomes.{IsProgram, IsFault, program_view}
-use Rattle.gms_known.specs.DynamicSets.{dynamic_sets}
+use Rattle.gms_parse.specs.Outcomes.{IsProgram, IsSourceFault, program_view}
+use Rattle.gms_scope.specs.DynamicSets.{dynamic_sets}
 use Rattle.gms_check.specs.Past.{is_among}
 use Rattle.gms_check.specs.CompileErrors.{compile_errors}
 use Rattle.gms_check.specs.Loaded.{loaded}
-use Rattle.gms_saved.specs.SavedState.{saved_text}
-use Rattle.gms_saved.specs.Validity.{IsSavedOf}
+use Rattle.gms_save_text.specs.SavedState.{saved_text}
+use Rattle.gms_save_text.specs.Validity.{IsSavedOf}
 use Rattle.gms_save.specs.declared.saved.Saved.{Saved}
 use Rattle.gms_save.specs.declared.fault.SaveFault.TheVariants.{SaveTooLong, SaveShape, SaveSolver}
 use Rattle.gms_save.specs.declared.fault.SaveFaultOrMemory.{SaveFaultOrMemory}
 use Rattle.gms_save.specs.declared.fault.SaveFaultOrMemory.TheVariants.{Memory, Fault}
 
 -- the greatest magnitude of a part of a number
-abbrev pub number_limit : ℕ
-number_limit = 2 ^ 127 - 1
+abbrev pub greatest_part : ℕ
+greatest_part = 2 ^ 127 - 1
 
 -- how many bytes a save has at most
-abbrev pub most_bytes : ℕ
-most_bytes = 67108864
+abbrev pub most_save_bytes : ℕ
+most_save_bytes = 67108864
 
 -- ---- the names of solvers
 
@@ -66,11 +66,11 @@ place_of_solver solvers solver =
 -- a state is a saved one of a program without errors, for solvers of the names that it chooses
 pub record IsSavedBy (program : Program Frac) (state : State) (solver : List ℕ) : Type 0 where
   pub no_error : compile_errors frac_value program (solvers_chosen program) ≡ []
-  pub is_saved : IsSavedOf number_limit (length program.labels) (declared_state program) (loaded frac_value program) (is_among (dynamic_sets program)) state solver
+  pub is_saved : IsSavedOf greatest_part (length program.labels) (declared_state program) (loaded frac_value program) (is_among (dynamic_sets program)) state solver
 
 -- Bytes are the save of a state of a program, with a solver of this name and the program's source.
 pub record IsSaveOf (bytes source : List ℕ) (program : Program Frac) (state : State) (solver : List ℕ) : Type 0 where
-  pub is_program : IsProgram number_limit source frac_value program
+  pub is_program : IsProgram greatest_part source frac_value program
   pub is_saved : IsSavedBy program state solver
   pub text : bytes ≡ saved_text source program.names state solver
 
@@ -78,7 +78,7 @@ pub record IsSaveOf (bytes source : List ℕ) (program : Program Frac) (state : 
 -- names, or does not have the state as a saved one.
 abbrev pub IsUnfit : List ℕ → List (List ℕ) → State → List ℕ → Type 0
 IsUnfit source names state solver =
-    ((fault : SourceFault) × IsFault number_limit source fault) ⊎ ((program : Program Frac) × IsProgram number_limit source frac_value program × (names ≡ program.names → IsSavedBy program state solver → ⊥))
+    ((fault : SourceFault) × IsSourceFault greatest_part source fault) ⊎ ((program : Program Frac) × IsProgram greatest_part source frac_value program × (names ≡ program.names → IsSavedBy program state solver → ⊥))
 
 -- Bytes are no save: whenever they are the text of a state with a source, that source has no such
 -- saved state.
@@ -103,11 +103,11 @@ pub record IsRestored (solvers : List (List ℕ)) (bytes : List ℕ) (saved : Sa
 
 -- the answer of restoring bytes, with solvers of these names
 abbrev pub Restores : List (List ℕ) → List ℕ → Result Saved SaveFaultOrMemory → Type 0
-Restores solvers bytes (Ok saved) = (length bytes ≤ most_bytes) × IsRestored solvers bytes saved
+Restores solvers bytes (Ok saved) = (length bytes ≤ most_save_bytes) × IsRestored solvers bytes saved
 Restores solvers bytes (Err Memory) = Unit {0}
-Restores solvers bytes (Err (Fault SaveTooLong)) = most_bytes < length bytes
-Restores solvers bytes (Err (Fault SaveShape)) = (length bytes ≤ most_bytes) × IsNoSave bytes
-Restores solvers bytes (Err (Fault SaveSolver)) = (length bytes ≤ most_bytes) × LacksSolver solvers bytes
+Restores solvers bytes (Err (Fault SaveTooLong)) = most_save_bytes < length bytes
+Restores solvers bytes (Err (Fault SaveShape)) = (length bytes ≤ most_save_bytes) × IsNoSave bytes
+Restores solvers bytes (Err (Fault SaveSolver)) = (length bytes ≤ most_save_bytes) × LacksSolver solvers bytes
 
 -- a state with the solver at this place
 abbrev pub with_solver : State → ℕ → State
@@ -126,7 +126,7 @@ pub record IsBack (solvers : List (List ℕ)) (saved : Saved) (source : List ℕ
 abbrev pub AnswersSave : List (List ℕ) → List ℕ → List ℕ → Program Frac → State → List ℕ → Result Saved SaveFaultOrMemory → Type 0
 AnswersSave solvers bytes source program state solver (Ok saved) = IsBack solvers saved source program state solver
 AnswersSave solvers bytes source program state solver (Err Memory) = Unit {0}
-AnswersSave solvers bytes source program state solver (Err (Fault SaveTooLong)) = most_bytes < length bytes
+AnswersSave solvers bytes source program state solver (Err (Fault SaveTooLong)) = most_save_bytes < length bytes
 AnswersSave solvers bytes source program state solver (Err (Fault SaveShape)) = ⊥
 AnswersSave solvers bytes source program state solver (Err (Fault SaveSolver)) = place_of_solver solvers solver ≡ None
 

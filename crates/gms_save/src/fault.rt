@@ -1,10 +1,10 @@
 //! Why a save was not restored.
 ghost use Rattle.std.specs.Prelude.{◌≡◌};
 ghost use Rattle.gms_save.specs.declared.fault.SaveFaultOrMemory.TheVariants.{Memory};
-ghost use Rattle.gms_save.specs.Faults.{fault_code, fault_name, fault_of_reading, fault_of_source};
+ghost use Rattle.gms_save.specs.Faults.{save_fault_code, fault_name, fault_of_reading, fault_of_source};
 
 use gms_parse::SourceFaultOrMemory;
-use gms_saved::ReadFault;
+use gms_save_text::ReadFault;
 use std::alloc::{AllocError, AllocFailed};
 use thiserror::Error;
 
@@ -25,7 +25,7 @@ pub enum SaveFault {
 impl SaveFault {
     /// The number of the fault in a listing.
     pub fn code(self) -> u8
-        ensures { result ≡ fault_code self }
+        ensures { result ≡ save_fault_code self }
     {
         match self {
             SaveFault::SaveShape => 41,

@@ -5,7 +5,7 @@ ghost use Rattle.gq_frac.specs.Frac.{frac_value};
 ghost use Rattle.gms_ast.specs.declared.program.Program.{Program};
 ghost use Rattle.gms_store.specs.State.{State};
 ghost use Rattle.gms_store.specs.Declarations.{declared_state};
-ghost use Rattle.gms_known.specs.DynamicSets.{dynamic_sets};
+ghost use Rattle.gms_scope.specs.DynamicSets.{dynamic_sets};
 ghost use Rattle.gms_parse.specs.Outcomes.{program_view};
 ghost use Rattle.gms_check.specs.CompileErrors.{compile_errors};
 ghost use Rattle.gms_check.specs.Loaded.{loaded};

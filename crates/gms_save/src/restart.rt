@@ -1,16 +1,16 @@
 //! The check of what a new file may not do to saved names.
 ghost use Rattle.std.specs.Prelude.{◌≡◌, ◌∷◌, [], false, None, Some, flat_map, length, replicate, if◌then◌else◌, IfOk};
 ghost use Rattle.gms_store.specs.Declarations.{content_of, declared_state};
-ghost use Rattle.gms_known.specs.Facts.{with_marks};
-ghost use Rattle.gms_check.specs.Errors.{first_of, sooner};
+ghost use Rattle.gms_scope.specs.Facts.{with_marks};
+ghost use Rattle.gms_check.specs.Errors.{first_error, sooner};
 ghost use Rattle.gms_check.specs.Names.{is_variable};
 ghost use Rattle.gms_save.specs.JointErrors.{each_sooner, is_saved, names_typed, restart_at, restarts_at, saved_assigned, saved_names, targets, typed_names};
-ghost use Rattle.gms_save.specs.RestartChecks.{IsCheckOf, error_by, fixed_by, variable_in};
+ghost use Rattle.gms_save.specs.InnerRestartChecks.{IsCheckOf, error_by, fixed_by, variable_in};
 
 use gms_ast::{Act, Decl, DeclKind, Named, Program, Stmt, Target};
 use gms_check::{CompileError, ErrorKind};
-use gms_known::{Marks, mark_statement};
 use gms_labels::Place;
+use gms_scope::{Marks, mark_statement};
 use gms_store::{Store, SymbolKind};
 use gq_frac::Frac;
 use std::alloc::{AllocError, Global};
@@ -120,7 +120,7 @@ impl RestartCheck {
 
     /// The first saved variable to which an act gives a type.
     fn type_error(&self, act: &Act<Frac>) -> Option<CompileError>
-        ensures { result ≡ first_of (restarts_at (variable_in self.now.saved) (typed_names act.now)) }
+        ensures { result ≡ first_error (restarts_at (variable_in self.now.saved) (typed_names act.now)) }
     {
         match act {
             Act::Declare { kind, items } => self.type_error_among(*kind, items.as_slice()),
@@ -130,7 +130,7 @@ impl RestartCheck {
 
     /// The first saved variable among declared names, if the declaration gives them a type.
     fn type_error_among(&self, kind: DeclKind, items: &[Decl<Frac>]) -> Option<CompileError>
-        ensures { result ≡ first_of (restarts_at (variable_in self.now.saved) (names_typed kind items.now)) }
+        ensures { result ≡ first_error (restarts_at (variable_in self.now.saved) (names_typed kind items.now)) }
     {
         if !gives_type(kind) {
             return None;
@@ -144,7 +144,7 @@ impl RestartCheck {
 
     /// `Restart` at a name that is given a type, if it is that of a saved variable.
     fn type_error_at(&self, named: Named) -> Option<CompileError>
-        ensures { result ≡ first_of (restarts_at (variable_in self.now.saved) ((named.at, named.name) ∷ [])) }
+        ensures { result ≡ first_error (restarts_at (variable_in self.now.saved) ((named.at, named.name) ∷ [])) }
     {
         error_where(self.is_saved_variable(named.name), named.at)
     }
@@ -152,7 +152,7 @@ impl RestartCheck {
     /// The first set of the saved source that a statement assigns and the saved source does not.
     #[cycle(targets)]
     fn target_error(&self, statement: &Stmt<Frac>) -> Option<CompileError>
-        ensures { result ≡ first_of (restarts_at (fixed_by self.now) (targets statement.now)) }
+        ensures { result ≡ first_error (restarts_at (fixed_by self.now) (targets statement.now)) }
     {
         match &statement.act {
             Act::Assign { target, .. } => self.target_error_at(target),
@@ -164,7 +164,7 @@ impl RestartCheck {
     /// The first such set among those that some statements assign.
     #[cycle(targets)]
     fn target_error_among(&self, statements: &[Stmt<Frac>]) -> Option<CompileError>
-        ensures { result ≡ first_of (restarts_at (fixed_by self.now) (flat_map targets statements.now)) }
+        ensures { result ≡ first_error (restarts_at (fixed_by self.now) (flat_map targets statements.now)) }
     {
         let mut first = None;
         for statement in statements {
@@ -175,7 +175,7 @@ impl RestartCheck {
 
     /// `Restart` at an assigned name, if it is that of such a set.
     fn target_error_at(&self, target: &Target<Frac>) -> Option<CompileError>
-        ensures { result ≡ first_of (restarts_at (fixed_by self.now) ((target.now.at, target.now.name) ∷ [])) }
+        ensures { result ≡ first_error (restarts_at (fixed_by self.now) ((target.now.at, target.now.name) ∷ [])) }
     {
         error_where(self.is_fixed(target.name), target.at)
     }

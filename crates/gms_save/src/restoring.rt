@@ -3,25 +3,25 @@ ghost use Rattle.std.specs.Prelude.{◌≡◌, ◌↔◌, ◌<◌, ◌^◌, [], 
 ghost use Rattle.gq_frac.specs.Frac.{frac_value};
 ghost use Rattle.gms_store.specs.State.{members_in, symbol_at};
 ghost use Rattle.gms_store.specs.Declarations.{declared_state};
-ghost use Rattle.gms_known.specs.Facts.{marked};
+ghost use Rattle.gms_scope.specs.Facts.{marked};
 ghost use Rattle.gms_check.specs.CompileErrors.{compile_errors};
 ghost use Rattle.gms_check.specs.Loaded.{IsAccepted};
-ghost use Rattle.gms_saved.specs.SavedState.{saved_text};
-ghost use Rattle.gms_saved.specs.Validity.{declared_in};
+ghost use Rattle.gms_save_text.specs.SavedState.{saved_text};
+ghost use Rattle.gms_save_text.specs.Validity.{declared_symbols};
 ghost use Rattle.gms_save.specs.Saves.{GivesBack, Restores, solvers_chosen, with_solver};
-ghost use Rattle.gms_save.specs.RestoreSteps.{IsFree, IsFaultyBy, IsNoStateBy, IsPlaced, IsSavedAt, IsSavedIn, IsStateOf, IsUnplacedBy};
+ghost use Rattle.gms_save.specs.InnerRestoreSteps.{IsFree, IsFaultyBy, IsNoStateBy, IsPlaced, IsSavedAt, IsSavedIn, IsStateOf, IsUnplacedBy};
 
 use crate::fault::{SaveFault, SaveFaultOrMemory};
 use crate::saved::Saved;
 use crate::solvers::{place_of_solver, solvers_chosen};
 use gms_ast::Program;
 use gms_check::{found_errors, load, statement_errors};
-use gms_known::{Marks, dynamic_sets};
 use gms_parse::parse;
-use gms_saved::{
+use gms_save_text::{
     are_in_range, has_same_members, is_given_well, is_solver_name, is_text_of, read_source,
     read_state, text_of,
 };
+use gms_scope::{Marks, dynamic_sets};
 use gms_store::Store;
 use gq_frac::Frac;
 use std::alloc::{AllocError, Global};
@@ -130,7 +130,7 @@ fn is_saved(
     solver: &[u8],
 ) -> Result<bool, AllocError>
     requires accepted { IsAccepted frac_value program.now }
-    requires declares { declared_in store.now ≡ declared_in (declared_state program.now) }
+    requires declares { declared_symbols store.now ≡ declared_symbols (declared_state program.now) }
     ensures { IfOk result (λ saved. IsTrue saved ↔ IsSavedIn program.now store.now solver.now) }
 {
     if !are_in_range(store.settings()) {
@@ -160,7 +160,7 @@ fn are_saved(
     labels: u32,
     names: u32,
 ) -> Result<bool, AllocError>
-    requires { declared_in store.now ≡ declared_in first.now }
+    requires { declared_symbols store.now ≡ declared_symbols first.now }
     ensures { IfOk result (λ saved. IsTrue saved ↔ ((n : ℕ) → n < names → IsSavedAt labels (marked assigned.now) first.now store.now n)) }
 {
     for name in 0..names {
@@ -180,7 +180,7 @@ fn is_saved_at(
     labels: u32,
     name: u32,
 ) -> Result<bool, AllocError>
-    requires { declared_in store.now ≡ declared_in first.now }
+    requires { declared_symbols store.now ≡ declared_symbols first.now }
     ensures { IfOk result (λ saved. IsTrue saved ↔ IsSavedAt labels (marked assigned.now) first.now store.now name) }
 {
     if !is_given_well(alloc, store, labels, name)? {
@@ -191,7 +191,7 @@ fn is_saved_at(
 
 /// Whether a set that is not assigned has the members of the data.
 fn keeps_members(store: &Store<Frac>, first: &Store<Frac>, assigned: &Marks, name: u32) -> bool
-    requires { declared_in store.now ≡ declared_in first.now }
+    requires { declared_symbols store.now ≡ declared_symbols first.now }
     ensures { IsTrue result ↔ (marked assigned.now name ≡ false → members_in (symbol_at store.now name).content ≡ members_in (symbol_at first.now name).content) }
 {
     if assigned.is_set(name) {

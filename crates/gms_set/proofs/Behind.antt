@@ -14,7 +14,7 @@ use Rattle.gms_tuple.specs.TupleOrder.{tuple_cmp, same_tuple, IsOrdered}
 use Rattle.gms_tuple.specs.TupleSet.{has}
 use Rattle.gms_tuple.proofs.Lines.{ends-with}
 use Rattle.gms_tuple.proofs.Ordered.{same_tuple-Less, ordered-join, ordered-nil, ordered-cons}
-use Rattle.gms_set.specs.Expansion.{Given, tuples_of}
+use Rattle.gms_set.specs.Expansion.{ExpandedData, tuples_of}
 use Rattle.gms_set.proofs.Repeats.{has-append}
 
 -- a tuple that comes after all others is none of them
@@ -54,12 +54,12 @@ seen-more seen after xs t same more other =
 
 module _ {F : Type 0} where
   -- a tuple after the last of those that are given in order
-  pub given-behind : (given : Given F) (pair : List ℕ × Option (Ext F)) (t : List ℕ) → slice_get given (length given - 1) ≡ Some pair → IsOrdered (tuples_of given) → tuple_cmp pair.0 t ≡ Less → IsOrdered (tuples_of given ++ t ∷ [])
+  pub given-behind : (given : ExpandedData F) (pair : List ℕ × Option (Ext F)) (t : List ℕ) → slice_get given (length given - 1) ≡ Some pair → IsOrdered (tuples_of given) → tuple_cmp pair.0 t ≡ Less → IsOrdered (tuples_of given ++ t ∷ [])
   given-behind given pair t last ordered less =
       let whole : tuples_of given ≡ tuples_of (take (length given - 1) given) ++ pair.0 ∷ [] = ap tuples_of (ends-with given pair last) ∙ map-append (λ (pair : List ℕ × Option (Ext F)). pair.0) (take (length given - 1) given) (pair ∷ []) in
       subst (λ xs. IsOrdered (xs ++ t ∷ [])) (sym whole) (ordered-more (tuples_of (take (length given - 1) given)) pair.0 t (subst IsOrdered whole ordered) less)
 
   -- a tuple after none
-  pub none-behind : (given : Given F) (t : List ℕ) → slice_get given (length given - 1) ≡ None → IsOrdered (tuples_of given ++ t ∷ [])
+  pub none-behind : (given : ExpandedData F) (t : List ℕ) → slice_get given (length given - 1) ≡ None → IsOrdered (tuples_of given ++ t ∷ [])
   none-behind [] t none = ordered-one t
   none-behind (pair ∷ given) t none = absurd (none-some _ (sym none ∙ slice_get-get_or (pair ∷ given) (length (pair ∷ given) - 1) pair (omega arith)))

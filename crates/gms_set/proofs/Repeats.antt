@@ -7,7 +7,7 @@ use Rattle.std.proofs.lemmas.Cmp.{nat_list_eq_equiv}
 use Rattle.gq_extended.specs.declared.extended.Ext.{Ext}
 use Rattle.gms_tuple.specs.TupleOrder.{same_tuple}
 use Rattle.gms_tuple.specs.TupleSet.{has}
-use Rattle.gms_set.specs.Expansion.{Given, has_repeat, tuples_of, with_value}
+use Rattle.gms_set.specs.Expansion.{ExpandedData, has_repeat, tuples_of, tuples_with_value}
 
 -- the members of two lists
 pub has-append : (xs ys : List (List ℕ)) (t : List ℕ) → has (xs ++ ys) t ≡ (has xs t || has ys t)
@@ -39,21 +39,21 @@ has_repeat-new (x ∷ xs) t distinct new =
 
 module _ {F : Type 0} where
   -- the tuples of the given ones, followed by others of one value
-  pub tuples_of-with : (given : Given F) (value : Option (Ext F)) (tuples : List (List ℕ)) → tuples_of (given ++ with_value value tuples) ≡ tuples_of given ++ tuples
-  tuples_of-with given value tuples = map-append (λ (pair : List ℕ × Option (Ext F)). pair.0) given (with_value value tuples) ∙ ap (λ ts. tuples_of given ++ ts) (alone tuples)
+  pub tuples_of-with : (given : ExpandedData F) (value : Option (Ext F)) (tuples : List (List ℕ)) → tuples_of (given ++ tuples_with_value value tuples) ≡ tuples_of given ++ tuples
+  tuples_of-with given value tuples = map-append (λ (pair : List ℕ × Option (Ext F)). pair.0) given (tuples_with_value value tuples) ∙ ap (λ ts. tuples_of given ++ ts) (alone tuples)
     where
-      alone : (tuples : List (List ℕ)) → tuples_of (with_value value tuples) ≡ tuples
+      alone : (tuples : List (List ℕ)) → tuples_of (tuples_with_value value tuples) ≡ tuples
       alone [] = refl
       alone (t ∷ ts) = ap (λ ts. t ∷ ts) (alone ts)
 
   -- one tuple more
-  pub with_value-more : (given : Given F) (value : Option (Ext F)) (tuples : List (List ℕ)) (i : ℕ) → i < length tuples → (given ++ with_value value (take i tuples)) ++ (get_or tuples i [], value) ∷ [] ≡ given ++ with_value value (take (i + 1) tuples)
+  pub with_value-more : (given : ExpandedData F) (value : Option (Ext F)) (tuples : List (List ℕ)) (i : ℕ) → i < length tuples → (given ++ tuples_with_value value (take i tuples)) ++ (get_or tuples i [], value) ∷ [] ≡ given ++ tuples_with_value value (take (i + 1) tuples)
   with_value-more given value tuples i l =
-      append_assoc given (with_value value (take i tuples)) ((get_or tuples i [], value) ∷ [])
-      ∙ ap (λ pairs. given ++ pairs) (sym (ap (with_value value) (take_more tuples i [] l) ∙ map-append (λ tuple. (tuple, value)) (take i tuples) (get_or tuples i [] ∷ [])))
+      append_assoc given (tuples_with_value value (take i tuples)) ((get_or tuples i [], value) ∷ [])
+      ∙ ap (λ pairs. given ++ pairs) (sym (ap (tuples_with_value value) (take_more tuples i [] l) ∙ map-append (λ tuple. (tuple, value)) (take i tuples) (get_or tuples i [] ∷ [])))
 
   -- the tuple at a place is among those given and the tuples before it, so it is a repeat among all
-  pub repeat-at : (given : Given F) (value : Option (Ext F)) (tuples : List (List ℕ)) (i : ℕ) → i < length tuples → has (tuples_of (given ++ with_value value (take i tuples))) (get_or tuples i []) ≡ true → has_repeat (tuples_of given ++ tuples) ≡ true
+  pub repeat-at : (given : ExpandedData F) (value : Option (Ext F)) (tuples : List (List ℕ)) (i : ℕ) → i < length tuples → has (tuples_of (given ++ tuples_with_value value (take i tuples))) (get_or tuples i []) ≡ true → has_repeat (tuples_of given ++ tuples) ≡ true
   repeat-at given value tuples i l there =
       let front = tuples_of given ++ take i tuples in
       let whole : tuples_of given ++ tuples ≡ front ++ get_or tuples i [] ∷ drop (i + 1) tuples =
@@ -61,8 +61,8 @@ module _ {F : Type 0} where
       ap has_repeat whole ∙ has_repeat-again front (get_or tuples i []) (drop (i + 1) tuples) (sym (ap (λ ts. has ts (get_or tuples i [])) (tuples_of-with given value (take i tuples))) ∙ there)
 
   -- one more tuple after the given ones
-  pub tuples_of-push : (given : Given F) (t : List ℕ) (value : Option (Ext F)) → tuples_of (given ++ (t, value) ∷ []) ≡ tuples_of given ++ t ∷ []
+  pub tuples_of-push : (given : ExpandedData F) (t : List ℕ) (value : Option (Ext F)) → tuples_of (given ++ (t, value) ∷ []) ≡ tuples_of given ++ t ∷ []
   tuples_of-push given t value = tuples_of-with given value (t ∷ [])
 
-  pub distinct-more : (given : Given F) (t : List ℕ) (value : Option (Ext F)) → has_repeat (tuples_of given) ≡ false → has (tuples_of given) t ≡ false → has_repeat (tuples_of (given ++ (t, value) ∷ [])) ≡ false
+  pub distinct-more : (given : ExpandedData F) (t : List ℕ) (value : Option (Ext F)) → has_repeat (tuples_of given) ≡ false → has (tuples_of given) t ≡ false → has_repeat (tuples_of (given ++ (t, value) ∷ [])) ≡ false
   distinct-more given t value distinct new = ap has_repeat (tuples_of-push given t value) ∙ has_repeat-new (tuples_of given) t distinct new

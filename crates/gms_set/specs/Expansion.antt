@@ -6,7 +6,7 @@ use Rattle.std.specs.List.{list_any}
 use Rattle.gms_labels.specs.declared.place.Place.{Place}
 use Rattle.gms_ast.specs.declared.declaration.Item.{Item}
 use Rattle.gq_extended.specs.declared.extended.Ext.{Ext}
-use Rattle.gms_tuple.specs.Products.{product}
+use Rattle.gms_tuple.specs.Products.{tuple_product}
 use Rattle.gms_tuple.specs.TupleSet.{has}
 use Rattle.gms_store.specs.State.{State, members_of}
 use Rattle.gms_set.specs.declared.fault.SetError.{SetError}
@@ -31,41 +31,41 @@ has_outside state (set ∷ sets) (labels ∷ rest) = list_any (is_outside state 
 has_outside state sets parts = false
 
 -- tuples in the order of the data, each with the value of its item
-abbrev pub Given : Type 0 → Type 0
-Given F = List (List ℕ × Option (Ext F))
+abbrev pub ExpandedData : Type 0 → Type 0
+ExpandedData F = List (List ℕ × Option (Ext F))
 
 module _ {F : Type 0} where
   -- the tuples alone
-  abbrev pub tuples_of : Given F → List (List ℕ)
+  abbrev pub tuples_of : ExpandedData F → List (List ℕ)
   tuples_of given = map (λ (pair : List ℕ × Option (Ext F)). pair.0) given
 
   -- tuples with one value
-  abbrev pub with_value : Option (Ext F) → List (List ℕ) → Given F
-  with_value value tuples = map (λ tuple. (tuple, value)) tuples
+  abbrev pub tuples_with_value : Option (Ext F) → List (List ℕ) → ExpandedData F
+  tuples_with_value value tuples = map (λ tuple. (tuple, value)) tuples
 
   -- what is wrong with an item, where the items before it gave these tuples: a label outside its
   -- set comes before a bad range, that before more than 1,048,576 tuples in all, and that before a
   -- tuple that is given twice
   abbrev pub error_of : State → List (Option ℕ) → List (List ℕ) → Item F → Option SetError
   error_of state domain before item =
-      if has_outside state domain item.parts then Some Outside else if item.bad_range then Some BadRange else if nat_lt 1048576 (length before + length (product item.parts)) then Some Full else if has_repeat (before ++ product item.parts) then Some Repeated else None
+      if has_outside state domain item.parts then Some Outside else if item.bad_range then Some BadRange else if nat_lt 1048576 (length before + length (tuple_product item.parts)) then Some Full else if has_repeat (before ++ tuple_product item.parts) then Some Repeated else None
 
   -- the fault of an item that has an error; otherwise what the items give from there on
-  abbrev pub unless : Option SetError → Place → Result (Given F) SetFault → Result (Given F) SetFault
+  abbrev pub unless : Option SetError → Place → Result (ExpandedData F) SetFault → Result (ExpandedData F) SetFault
   unless (Some error) at rest = Err (record { error = error; at = at })
   unless None at rest = rest
 
   -- the items in sequence, where those before them gave these tuples
-  abbrev pub with_items : State → List (Option ℕ) → Given F → List (Item F) → Result (Given F) SetFault
+  abbrev pub with_items : State → List (Option ℕ) → ExpandedData F → List (Item F) → Result (ExpandedData F) SetFault
   with_items state domain given [] = Ok given
   with_items state domain given (item ∷ items) =
-      unless (error_of state domain (tuples_of given) item) item.at (with_items state domain (given ++ with_value item.value (product item.parts)) items)
+      unless (error_of state domain (tuples_of given) item) item.at (with_items state domain (given ++ tuples_with_value item.value (tuple_product item.parts)) items)
 
   -- what the items of a list give
-  abbrev pub expanded : State → List (Option ℕ) → List (Item F) → Result (Given F) SetFault
+  abbrev pub expanded : State → List (Option ℕ) → List (Item F) → Result (ExpandedData F) SetFault
   expanded state domain items = with_items state domain [] items
 
   -- the error is the fault of the list, or memory ran out
-  abbrev pub IsFaultOf : Result (Given F) SetFault → SetFaultOrMemory → Type 0
+  abbrev pub IsFaultOf : Result (ExpandedData F) SetFault → SetFaultOrMemory → Type 0
   IsFaultOf meant Memory = Unit {0}
   IsFaultOf meant (Fault fault) = meant ≡ Err fault

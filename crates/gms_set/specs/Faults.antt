@@ -4,15 +4,15 @@ use Rattle.gms_set.specs.declared.fault.SetError.{SetError}
 use Rattle.gms_set.specs.declared.fault.SetError.TheVariants.{BadRange, Repeated, Outside, Full}
 
 -- the number of an error
-abbrev pub error_code : SetError → ℕ
-error_code BadRange = 1
-error_code Repeated = 2
-error_code Outside = 3
-error_code Full = 4
+abbrev pub set_error_code : SetError → ℕ
+set_error_code BadRange = 1
+set_error_code Repeated = 2
+set_error_code Outside = 3
+set_error_code Full = 4
 
 -- the name of an error
-abbrev pub error_name : SetError → List ℕ
-error_name BadRange = codes "BadRange"
-error_name Repeated = codes "Repeated"
-error_name Outside = codes "Outside"
-error_name Full = codes "Full"
+abbrev pub set_error_name : SetError → List ℕ
+set_error_name BadRange = codes "BadRange"
+set_error_name Repeated = codes "Repeated"
+set_error_name Outside = codes "Outside"
+set_error_name Full = codes "Full"

@@ -1,4 +1,4 @@
 pub mod Expansion
 pub mod Faults
 pub mod Ranges
-pub mod Seen
+pub mod InnerGiven

@@ -15,16 +15,16 @@ abbrev pub text_length : List ℕ → ℕ
 text_length label = length label - suffix_len is_ascii_digit label
 
 -- the text before the digits at the end of a label
-abbrev pub text_of : List ℕ → List ℕ
-text_of label = take (text_length label) label
+abbrev pub text_before_digits : List ℕ → List ℕ
+text_before_digits label = take (text_length label) label
 
 -- the digits at the end of a label
 abbrev pub digits_of : List ℕ → List ℕ
 digits_of label = drop (text_length label) label
 
 -- the number of a label
-abbrev pub number_of : List ℕ → ℕ
-number_of label = digits_value 10 (digits_of label)
+abbrev pub number_in_label : List ℕ → ℕ
+number_in_label label = digits_value 10 (digits_of label)
 
 -- whether digits begin with a 0 and are more than one, so that their width counts
 abbrev pub is_padded : List ℕ → Bool
@@ -47,21 +47,21 @@ is_short first last = nat_le first last && nat_lt (last - first) 65536
 -- most 65,536 members
 abbrev pub is_range : List ℕ → List ℕ → Bool
 is_range from to =
-    str_eq_ignore_ascii_case (text_of from) (text_of to) && (is_numbered from && (is_numbered to && (go_together (digits_of from) (digits_of to) && is_short (number_of from) (number_of to))))
+    str_eq_ignore_ascii_case (text_before_digits from) (text_before_digits to) && (is_numbered from && (is_numbered to && (go_together (digits_of from) (digits_of to) && is_short (number_in_label from) (number_in_label to))))
 
 -- how many digits the members of a range have at least: as many as the first, if that one's are
 -- padded
-abbrev pub width_of : List ℕ → ℕ
-width_of digits = if is_padded digits then length digits else 0
+abbrev pub digit_width : List ℕ → ℕ
+digit_width digits = if is_padded digits then length digits else 0
 
 -- a number in digits, with zeros before it up to this width
-abbrev pub written : ℕ → ℕ → List ℕ
-written width n = replicate (width - length (decimal n)) 48 ++ decimal n
+abbrev pub padded_digits : ℕ → ℕ → List ℕ
+padded_digits width n = replicate (width - length (decimal n)) 48 ++ decimal n
 
 -- the members of a range, in order, each with the text of the first
 abbrev pub members : List ℕ → List ℕ → List (List ℕ)
 members from to =
-    map (λ n. text_of from ++ written (width_of (digits_of from)) n) (range_with_len (number_of from) (number_of to - number_of from + 1))
+    map (λ n. text_before_digits from ++ padded_digits (digit_width (digits_of from)) n) (range_with_len (number_in_label from) (number_in_label to - number_in_label from + 1))
 
 -- the fault of a range by itself, which has no place
 abbrev pub no_range : SetFault

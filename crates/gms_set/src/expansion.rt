@@ -1,8 +1,8 @@
 //! The tuples that are given so far.
 ghost use Rattle.std.specs.Prelude.{◌≡◌, ◌≤◌, ◌++◌, ◌∷◌, [], false, not, length, None, IfOk, IsTrue};
 ghost use Rattle.gms_tuple.specs.TupleSet.{has};
-ghost use Rattle.gms_tuple.specs.Products.{product};
-ghost use Rattle.gms_set.specs.Expansion.{error_of, has_repeat, tuples_of, with_value};
+ghost use Rattle.gms_tuple.specs.Products.{tuple_product};
+ghost use Rattle.gms_set.specs.Expansion.{error_of, has_repeat, tuples_of, tuples_with_value};
 
 use crate::fault::SetError;
 use crate::outside::has_outside;
@@ -31,10 +31,10 @@ pub struct Expansion<F> {
 
 impl<F> Model for Expansion<F> {
     ghost use Rattle.std.specs.Prelude.{◌≡◌, false};
-    ghost use Rattle.gms_set.specs.Expansion.{Given, has_repeat, tuples_of};
-    ghost use Rattle.gms_set.specs.Seen.{AreSeen};
+    ghost use Rattle.gms_set.specs.Expansion.{ExpandedData, has_repeat, tuples_of};
+    ghost use Rattle.gms_set.specs.InnerGiven.{AreSeen};
 
-    ghost Value = { Given F };
+    ghost Value = { ExpandedData F };
 
     ghost view = { λ e. e.given.items };
 
@@ -72,7 +72,7 @@ impl<F: ExactField> Expansion<F> {
         requires parts { length item.now.parts ≡ length domain.now }
         requires few { length domain.now ≤ 10 }
         ensures error { IfOk result (λ error. error ≡ error_of store.now domain.now (tuples_of self.old) item.now) }
-        ensures given { IfOk result (λ error. error ≡ None → self.new ≡ self.old ++ with_value item.now.value (product item.now.parts)) }
+        ensures given { IfOk result (λ error. error ≡ None → self.new ≡ self.old ++ tuples_with_value item.now.value (tuple_product item.now.parts)) }
     {
         let parts = item.parts.as_slice();
         if has_outside(alloc, store, domain, parts)? {
@@ -101,10 +101,10 @@ impl<F: ExactField> Expansion<F> {
         value: Option<Ext<F>>,
     ) -> Result<bool, AllocError>
         requires distinct { has_repeat (tuples_of self.old) ≡ false }
-        requires count { count ≡ length (product parts.now) }
+        requires count { count ≡ length (tuple_product parts.now) }
         requires few { length parts.now ≤ 10 }
-        ensures new { IfOk result (λ new. new ≡ not (has_repeat (tuples_of self.old ++ product parts.now))) }
-        ensures given { IfOk result (λ new. IsTrue new → self.new ≡ self.old ++ with_value value (product parts.now)) }
+        ensures new { IfOk result (λ new. new ≡ not (has_repeat (tuples_of self.old ++ tuple_product parts.now))) }
+        ensures given { IfOk result (λ new. IsTrue new → self.new ≡ self.old ++ tuples_with_value value (tuple_product parts.now)) }
     {
         self.given.reserve(count)?;
         for place in 0..count {

@@ -1,6 +1,6 @@
 //! Why a data list has no tuples, and where.
 ghost use Rattle.std.specs.Prelude.{◌≡◌};
-ghost use Rattle.gms_set.specs.Faults.{error_code, error_name};
+ghost use Rattle.gms_set.specs.Faults.{set_error_code, set_error_name};
 ghost use Rattle.gms_set.specs.declared.fault.SetFaultOrMemory.TheVariants.{Memory};
 
 use gms_labels::Place;
@@ -27,7 +27,7 @@ pub enum SetError {
 impl SetError {
     /// The number of the error.
     pub fn code(self) -> u8
-        ensures { result ≡ error_code self }
+        ensures { result ≡ set_error_code self }
     {
         match self {
             SetError::BadRange => 1,
@@ -39,7 +39,7 @@ impl SetError {
 
     /// The name of the error.
     pub fn name(self) -> &'static str
-        ensures { result.now ≡ error_name self }
+        ensures { result.now ≡ set_error_name self }
     {
         match self {
             SetError::BadRange => "BadRange",

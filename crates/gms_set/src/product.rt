@@ -1,6 +1,6 @@
 //! The tuples that have at each position one of the labels there.
 ghost use Rattle.std.specs.Prelude.{◌≡◌, ◌≤◌, ◌<◌, ◌^◌, ◌-◌, min, Some, IfOk, length, slice_get};
-ghost use Rattle.gms_tuple.specs.Products.{product};
+ghost use Rattle.gms_tuple.specs.Products.{tuple_product};
 
 use gms_ast::Sequence;
 use gms_tuple::Tuple;
@@ -8,7 +8,7 @@ use std::alloc::{AllocError, Global};
 
 /// How many tuples have at each position one of the labels there, at most the greatest `usize`.
 pub fn count(parts: &[Sequence<u32>]) -> usize
-    ensures { result ≡ min (length (product parts.now)) (2 ^ 64 - 1) }
+    ensures { result ≡ min (length (tuple_product parts.now)) (2 ^ 64 - 1) }
 {
     let mut count: usize = 1;
     for part in parts {
@@ -24,10 +24,10 @@ pub fn tuple_at(
     count: usize,
     place: usize,
 ) -> Result<Tuple, AllocError>
-    requires count { count ≡ length (product parts.now) }
+    requires count { count ≡ length (tuple_product parts.now) }
     requires place { place < count }
     requires few { length parts.now ≤ 10 }
-    ensures { IfOk result (λ tuple. slice_get (product parts.now) place ≡ Some tuple) }
+    ensures { IfOk result (λ tuple. slice_get (tuple_product parts.now) place ≡ Some tuple) }
 {
     let mut tuple = Tuple::new(alloc);
     let mut below = count;

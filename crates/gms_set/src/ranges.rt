@@ -4,7 +4,7 @@ ghost use Rattle.std.specs.Result.{IfErr};
 ghost use Rattle.std.specs.List.{range_with_len};
 ghost use Rattle.std.specs.Int.{IsInRange};
 ghost use Rattle.std.specs.Str.{IsCharBoundary};
-ghost use Rattle.gms_set.specs.Ranges.{digits_of, go_together, IsRangeError, is_numbered, is_padded, is_range, members, number_of, text_length, text_of, width_of, written};
+ghost use Rattle.gms_set.specs.Ranges.{digits_of, go_together, IsRangeError, is_numbered, is_padded, is_range, members, number_in_label, text_length, text_before_digits, digit_width, padded_digits};
 
 use crate::fault::{SetError, SetFault, SetFaultOrMemory};
 use gms_labels::Place;
@@ -40,7 +40,7 @@ pub fn range(alloc: Global, from: &str, to: &str) -> Result<Vec<String>, SetFaul
 
 /// The first number of a range, and how many it has.
 fn numbers(from: &str, to: &str) -> Option<(u32, u32)>
-    ensures value { result ≡ (if is_range from.now to.now then Some (number_of from.now, number_of to.now - number_of from.now + 1) else None) }
+    ensures value { result ≡ (if is_range from.now to.now then Some (number_in_label from.now, number_in_label to.now - number_in_label from.now + 1) else None) }
     ensures room { IfSome result (λ numbers. numbers.0 + numbers.1 ≤ 2 ^ 32) }
 {
     let (first_text, first_digits) = parts(from);
@@ -61,7 +61,7 @@ fn numbers(from: &str, to: &str) -> Option<(u32, u32)>
 fn labels(alloc: Global, from: &str, first: u32, count: u32) -> Result<Vec<String>, AllocError>
     requires room { first + count ≤ 2 ^ 32 }
     ensures { IfOk result (λ labels. map string_bytes labels.items
-        ≡ map (λ n. text_of from.now ++ written (width_of (digits_of from.now)) n) (range_with_len first count)) }
+        ≡ map (λ n. text_before_digits from.now ++ padded_digits (digit_width (digits_of from.now)) n) (range_with_len first count)) }
 {
     let (text, digits) = parts(from);
     let width = width(digits);
@@ -74,7 +74,7 @@ fn labels(alloc: Global, from: &str, first: u32, count: u32) -> Result<Vec<Strin
 
 /// The text, followed by the number with zeros before it up to this width.
 fn label(alloc: Global, text: &str, width: usize, number: u32) -> Result<String, AllocError>
-    ensures { IfOk result (λ label. string_bytes label ≡ text.now ++ written width number) }
+    ensures { IfOk result (λ label. string_bytes label ≡ text.now ++ padded_digits width number) }
 {
     let digits = format!(in alloc; "{number}")?;
     let mut label = String::from_str(alloc, text)?;
@@ -87,7 +87,7 @@ fn label(alloc: Global, text: &str, width: usize, number: u32) -> Result<String,
 
 /// The number of a label that ends in 1 to 9 digits.
 fn number(label: &str) -> Option<u32>
-    ensures { result ≡ (if is_numbered label.now then Some (number_of label.now) else None) }
+    ensures { result ≡ (if is_numbered label.now then Some (number_in_label label.now) else None) }
 {
     let (_, digits) = parts(label);
     if digits.is_empty() || digits.len() > MOST_DIGITS {
@@ -109,7 +109,7 @@ fn goes_together(first: &str, last: &str) -> bool
 
 /// How many digits a member has at least.
 fn width(digits: &str) -> usize
-    ensures { result ≡ width_of digits.now }
+    ensures { result ≡ digit_width digits.now }
 {
     if is_padded(digits) { digits.len() } else { 0 }
 }
@@ -124,7 +124,7 @@ fn is_padded(digits: &str) -> bool
 
 /// A label without the digits at its end, and these digits.
 fn parts(label: &str) -> (&str, &str)
-    ensures text { result.0.now ≡ text_of label.now }
+    ensures text { result.0.now ≡ text_before_digits label.now }
     ensures digits { result.1.now ≡ digits_of label.now }
     ensures decimal { (i : ℕ) → i < length result.1.now → IsInRange 48 57 (get_or result.1.now i 0) }
 {

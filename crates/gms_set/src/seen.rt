@@ -3,7 +3,7 @@ ghost use Rattle.std.specs.Prelude.{◌≡◌, ◌++◌, ◌∷◌, [], ℕ, Lis
 ghost use Rattle.gms_tuple.specs.TupleOrder.{IsOrdered};
 ghost use Rattle.gms_tuple.specs.TupleSet.{has};
 ghost use Rattle.gms_set.specs.Expansion.{tuples_of};
-ghost use Rattle.gms_set.specs.Seen.{AreSeen};
+ghost use Rattle.gms_set.specs.InnerGiven.{AreSeen};
 
 use gms_tuple::{Tuple, TupleSet};
 use gq_extended::Ext;

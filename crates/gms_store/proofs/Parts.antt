@@ -21,7 +21,7 @@ use Rattle.gms_tuple.specs.TupleSet.{has, inserted, removed}
 use Rattle.gms_tuple.proofs.Ordered.{tuple_cmp-Equal, same_tuple-Decides, same_tuple-Less, first-before, rest-ordered, ordered-nil, ordered-join}
 use Rattle.gms_tuple.proofs.Members.{same_from_members, has-inserted, has-removed, inserted-known, IsOrdered-inserted, IsOrdered-filter}
 use Rattle.gms_store.specs.State.{Entries}
-use Rattle.gms_store.specs.Parts.{written, in_two_parts, StandsAt}
+use Rattle.gms_store.specs.InnerParts.{written, in_two_parts, StandsAt}
 use Rattle.gms_store.proofs.Maps.{get-lookup, same_map, same-tie, tie-sym, Writes, removed-inserted}
 use Rattle.gms_store.proofs.Views.{keys-ordered, has-keys_of_map}
 

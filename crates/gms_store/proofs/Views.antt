@@ -16,7 +16,7 @@ use Rattle.std.proofs.lemmas.Cmp.{tied_itself}
 use Rattle.gms_tuple.specs.TupleOrder.{tuple_cmp, IsOrdered}
 use Rattle.gms_tuple.specs.OrderLaws.{tuple_cmp-total}
 use Rattle.gms_store.specs.declared.content.Content as kept
-use Rattle.gms_store.specs.Shown.{entries_shown, attributes_shown, content_shown}
+use Rattle.gms_store.specs.Shown.{entries_mapped, attributes_shown, content_shown}
 use Rattle.gms_store.specs.declared.attributes.Attributes as own
 use Rattle.gms_store.specs.declared.content.Content.TheVariants as variant
 use Rattle.gms_store.specs.declared.kind.VariableType.{VariableType}
@@ -24,7 +24,7 @@ use Rattle.gq_extended.specs.declared.extended.Ext.{Ext}
 use Rattle.gq_extended.specs.declared.extended.Ext.TheVariants as ext
 use Rattle.gq_extended.specs.Meaning.{extended}
 use Rattle.std.proofs.lemmas.Bool.{eqb-true, eq-eqb}
-use Rattle.gms_store.specs.State.{Entries, Attributes, Content, undeclared, alias_of, set_of, parameter_of, variable_of, equation_of, model_with, Symbol, after_write, if_fits, with_value, with_attributes, with_membership, is_given, zero, same_number, same_bound, same_attributes, absent_variable, unbounded, given_in, differs_in, IsKept, AreDifferent, value_fits, bound_fits, attributes_fit, fits_at}
+use Rattle.gms_store.specs.State.{Entries, Attributes, Content, undeclared, alias_of, set_of, parameter_of, variable_of, equation_of, model_with, Symbol, entries_after_write, if_fits, with_value, with_attributes, with_membership, is_given, zero, same_number, same_bound, same_attributes, absent_variable, unbounded, given_in, differs_in, IsNormalContent, AreDifferent, value_fits, bound_fits, attributes_fit, fits_at}
 use Rattle.gms_store.specs.Declarations.{content_of}
 use Rattle.gms_store.specs.declared.kind.VariableType.TheVariants as type
 use Rattle.gms_ast.specs.declared.declaration.DeclKind.{DeclKind}
@@ -49,19 +49,19 @@ find-seen_as f q (e ∷ es) = by (find-seen_as f q es) (eq_by_cmp tuple_cmp q e.
     by rest false = rest
 
 -- a map shown has at each tuple what is shown of the map's value there
-pub get-shown : {X Y : Type 0} (f : X → Y) (m : Entries X) (q : List ℕ) → finite.get (entries_shown f m) q ≡ option_map f (finite.get m q)
+pub get-shown : {X Y : Type 0} (f : X → Y) (m : Entries X) (q : List ℕ) → finite.get (entries_mapped f m) q ≡ option_map f (finite.get m q)
 get-shown f m q =
     finite.get-from_entries tuple_cmp-total (map (seen_as f) (finite.entries m)) q ∙ find-seen_as f q (finite.entries m) ∙ ap (option_map f) (sym (finite.get-entries m q))
 
 -- what a read answers, shown
-pub read-shown : {X Y : Type 0} (f : X → Y) (m : Entries X) (t : List ℕ) (d : X) (d' : Y) → f d ≡ d' → f (unwrap_or (finite.get m t) d) ≡ unwrap_or (finite.get (entries_shown f m) t) d'
+pub read-shown : {X Y : Type 0} (f : X → Y) (m : Entries X) (t : List ℕ) (d : X) (d' : Y) → f d ≡ d' → f (unwrap_or (finite.get m t) d) ≡ unwrap_or (finite.get (entries_mapped f m) t) d'
 read-shown f m t d d' e = by (finite.get m t) ∙ ap (λ o. unwrap_or o d') (sym (get-shown f m t))
   where
     by : (o : Option _) → f (unwrap_or o d) ≡ unwrap_or (option_map f o) d'
     by None = e
     by (Some x) = refl
 
-pub shown-empty : {X Y : Type 0} (f : X → Y) → entries_shown f finite.empty ≡ finite.empty
+pub shown-empty : {X Y : Type 0} (f : X → Y) → entries_mapped f finite.empty ≡ finite.empty
 shown-empty f = ap (λ es. made (map (seen_as f) es)) no_entries
 
 map-cond : {X Y : Type 0} (f : X → Y) (b : Bool) (x : Option X) (y : Option X) → option_map f (cond b x y) ≡ cond b (option_map f x) (option_map f y)
@@ -69,11 +69,11 @@ map-cond f true x y = refl
 map-cond f false x y = refl
 
 -- a write, shown, is the write of what is shown
-pub shown-write : {X Y : Type 0} (f : X → Y) (b : Bool) (m : Entries X) (t : List ℕ) (x : X) → entries_shown f (after_write b m t x) ≡ after_write b (entries_shown f m) t (f x)
+pub shown-write : {X Y : Type 0} (f : X → Y) (b : Bool) (m : Entries X) (t : List ℕ) (x : X) → entries_mapped f (entries_after_write b m t x) ≡ entries_after_write b (entries_mapped f m) t (f x)
 shown-write f true m t x =
-    same_map (entries_shown f (finite.insert m t x)) (finite.insert (entries_shown f m) t (f x)) (λ q. get-shown f (finite.insert m t x) q ∙ ap (option_map f) (finite.get-insert tuple_cmp-total m t x q) ∙ map-cond f (eq_by_cmp tuple_cmp q t) (Some x) (finite.get m q) ∙ ap (cond (eq_by_cmp tuple_cmp q t) (Some (f x))) (sym (get-shown f m q)) ∙ sym (finite.get-insert tuple_cmp-total (entries_shown f m) t (f x) q))
+    same_map (entries_mapped f (finite.insert m t x)) (finite.insert (entries_mapped f m) t (f x)) (λ q. get-shown f (finite.insert m t x) q ∙ ap (option_map f) (finite.get-insert tuple_cmp-total m t x q) ∙ map-cond f (eq_by_cmp tuple_cmp q t) (Some x) (finite.get m q) ∙ ap (cond (eq_by_cmp tuple_cmp q t) (Some (f x))) (sym (get-shown f m q)) ∙ sym (finite.get-insert tuple_cmp-total (entries_mapped f m) t (f x) q))
 shown-write f false m t x =
-    same_map (entries_shown f (finite.remove m t)) (finite.remove (entries_shown f m) t) (λ q. get-shown f (finite.remove m t) q ∙ ap (option_map f) (finite.get-remove tuple_cmp-total m t q) ∙ map-cond f (eq_by_cmp tuple_cmp q t) None (finite.get m q) ∙ ap (cond (eq_by_cmp tuple_cmp q t) None) (sym (get-shown f m q)) ∙ sym (finite.get-remove tuple_cmp-total (entries_shown f m) t q))
+    same_map (entries_mapped f (finite.remove m t)) (finite.remove (entries_mapped f m) t) (λ q. get-shown f (finite.remove m t) q ∙ ap (option_map f) (finite.get-remove tuple_cmp-total m t q) ∙ map-cond f (eq_by_cmp tuple_cmp q t) None (finite.get m q) ∙ ap (cond (eq_by_cmp tuple_cmp q t) None) (sym (get-shown f m q)) ∙ sym (finite.get-remove tuple_cmp-total (entries_mapped f m) t q))
 
 -- ---- order
 
@@ -108,7 +108,7 @@ keys-seen_as f [] = refl
 keys-seen_as f (e ∷ es) = ap (λ ks. e.0 ∷ ks) (keys-seen_as f es)
 
 -- a map shown has the tuples of the map
-pub keys-shown : {X Y : Type 0} (f : X → Y) (m : Entries X) → finite.keys (entries_shown f m) ≡ finite.keys m
+pub keys-shown : {X Y : Type 0} (f : X → Y) (m : Entries X) → finite.keys (entries_mapped f m) ≡ finite.keys m
 keys-shown f m =
     let same = keys-seen_as f (finite.entries m) in
     keys-from_entries (map (seen_as f) (finite.entries m)) (subst IsOrdered (sym same) (keys-ordered m)) ∙ same
@@ -119,8 +119,8 @@ keys-shown f m =
 pub content-seen : {F : Type 0} (value : F → Number) (domain : List (Option ℕ)) (inside own : kept.Content F) (s : Symbol) → record { domain = domain; content = content_shown value inside } ≡ s → inside ≡ own → content_shown value own ≡ s.content
 content-seen value domain inside own s view is = ap (content_shown value) (sym is) ∙ ap (λ (s : Symbol). s.content) view
 
-pub kept-seen : {F : Type 0} (value : F → Number) (domain : List (Option ℕ)) (inside : kept.Content F) (s : Symbol) → record { domain = domain; content = content_shown value inside } ≡ s → IsKept (length domain) (content_shown value inside) → IsKept (length s.domain) s.content
-kept-seen value domain inside s view kept = subst (λ (s : Symbol). IsKept (length s.domain) s.content) view kept
+pub kept-seen : {F : Type 0} (value : F → Number) (domain : List (Option ℕ)) (inside : kept.Content F) (s : Symbol) → record { domain = domain; content = content_shown value inside } ≡ s → IsNormalContent (length domain) (content_shown value inside) → IsNormalContent (length s.domain) s.content
+kept-seen value domain inside s view kept = subst (λ (s : Symbol). IsNormalContent (length s.domain) s.content) view kept
 
 -- ---- what is kept
 
@@ -139,7 +139,7 @@ tied q t e = tuple_cmp-Equal q t (equal_from (tuple_cmp q t) e)
     equal_from Greater e = absurd cc
 
 -- what a write keeps
-pub kept-after_write : {X : Type 0} (differs : X → Bool) (arity : ℕ) (m : Entries X) (t : List ℕ) (x : X) → length t ≡ arity → AreDifferent differs arity m → AreDifferent differs arity (after_write (differs x) m t x)
+pub kept-after_write : {X : Type 0} (differs : X → Bool) (arity : ℕ) (m : Entries X) (t : List ℕ) (x : X) → length t ≡ arity → AreDifferent differs arity m → AreDifferent differs arity (entries_after_write (differs x) m t x)
 kept-after_write {X} differs arity m t x fits kept q y found = by (differs x) refl found
   where
     put_in : (b : Bool) → eq_by_cmp tuple_cmp q t ≡ b → differs x ≡ true → cond b (Some x) (finite.get m q) ≡ Some y → (length q ≡ arity) × (differs y ≡ true)
@@ -150,7 +150,7 @@ kept-after_write {X} differs arity m t x fits kept q y found = by (differs x) re
     taken_out true found = absurd (none_some y found)
     taken_out false found = kept q y found
 
-    by : (b : Bool) → differs x ≡ b → finite.get (after_write b m t x) q ≡ Some y → (length q ≡ arity) × (differs y ≡ true)
+    by : (b : Bool) → differs x ≡ b → finite.get (entries_after_write b m t x) q ≡ Some y → (length q ≡ arity) × (differs y ≡ true)
     by true some found = put_in (eq_by_cmp tuple_cmp q t) refl some (sym (finite.get-insert tuple_cmp-total m t x q) ∙ found)
     by false none found = taken_out (eq_by_cmp tuple_cmp q t) (sym (finite.get-remove tuple_cmp-total m t q) ∙ found)
 
@@ -158,7 +158,7 @@ pub kept-empty : {X : Type 0} (differs : X → Bool) (arity : ℕ) → AreDiffer
 kept-empty differs arity t x found = absurd (none_some x (sym (finite.get-empty tuple_cmp t) ∙ found))
 
 -- what a declaration declares keeps nothing
-pub kept-content_of : (arity : ℕ) (kind : DeclKind) → IsKept arity (content_of kind)
+pub kept-content_of : (arity : ℕ) (kind : DeclKind) → IsNormalContent arity (content_of kind)
 kept-content_of arity Set = λ t member. absurd cc
 kept-content_of arity Parameter = kept-empty is_given arity
 kept-content_of arity Scalar = kept-empty is_given arity
@@ -169,7 +169,7 @@ kept-content_of arity Negative = kept-empty (λ a. not (same_attributes a (absen
 kept-content_of arity Discrete = kept-empty (λ a. not (same_attributes a (absent_variable type.Discrete))) arity
 kept-content_of arity Equation = kept-empty (λ a. not (same_attributes a unbounded)) arity
 
-pub kept-with_value : (arity : ℕ) (content : Content) (t : List ℕ) (x : Extended) → length t ≡ arity → IsKept arity content → IsKept arity (with_value content t x)
+pub kept-with_value : (arity : ℕ) (content : Content) (t : List ℕ) (x : Extended) → length t ≡ arity → IsNormalContent arity content → IsNormalContent arity (with_value content t x)
 kept-with_value arity undeclared t x fits kept = kept
 kept-with_value arity (alias_of base) t x fits kept = kept
 kept-with_value arity (set_of members) t x fits kept = kept
@@ -178,7 +178,7 @@ kept-with_value arity (variable_of type entries) t x fits kept = kept
 kept-with_value arity (equation_of entries) t x fits kept = kept
 kept-with_value arity (model_with model solver) t x fits kept = kept
 
-pub kept-with_attributes : (arity : ℕ) (content : Content) (t : List ℕ) (a : Attributes) → length t ≡ arity → IsKept arity content → IsKept arity (with_attributes content t a)
+pub kept-with_attributes : (arity : ℕ) (content : Content) (t : List ℕ) (a : Attributes) → length t ≡ arity → IsNormalContent arity content → IsNormalContent arity (with_attributes content t a)
 kept-with_attributes arity undeclared t a fits kept = kept
 kept-with_attributes arity (alias_of base) t a fits kept = kept
 kept-with_attributes arity (set_of members) t a fits kept = kept
@@ -188,21 +188,21 @@ kept-with_attributes arity (variable_of type entries) t a fits kept =
 kept-with_attributes arity (equation_of entries) t a fits kept = kept-after_write (λ a. not (same_attributes a unbounded)) arity entries t a fits kept
 kept-with_attributes arity (model_with model solver) t a fits kept = kept
 
-kept-inserted : (arity : ℕ) (members : List (List ℕ)) (t : List ℕ) → length t ≡ arity → IsKept arity (set_of members) → IsKept arity (set_of (inserted members t))
+kept-inserted : (arity : ℕ) (members : List (List ℕ)) (t : List ℕ) → length t ≡ arity → IsNormalContent arity (set_of members) → IsNormalContent arity (set_of (inserted members t))
 kept-inserted arity members t fits kept q member = by (same_tuple t q) refl (sym (has-inserted members t q) ∙ member)
   where
     by : (b : Bool) → same_tuple t q ≡ b → (b || has members q) ≡ true → length q ≡ arity
     by true same _ = ap length (sym ((same_tuple-Decides t q).0 same)) ∙ fits
     by false other there = kept q there
 
-kept-removed : (arity : ℕ) (members : List (List ℕ)) (t : List ℕ) → IsKept arity (set_of members) → IsKept arity (set_of (removed members t))
+kept-removed : (arity : ℕ) (members : List (List ℕ)) (t : List ℕ) → IsNormalContent arity (set_of members) → IsNormalContent arity (set_of (removed members t))
 kept-removed arity members t kept q member = kept q (by (has members q) (not (same_tuple t q)) (sym (has-removed members t q) ∙ member))
   where
     by : (a b : Bool) → (a && b) ≡ true → a ≡ true
     by true b e = refl
     by false b e = e
 
-pub kept-with_membership : (arity : ℕ) (content : Content) (t : List ℕ) (on : Bool) → length t ≡ arity → IsKept arity content → IsKept arity (with_membership content t on)
+pub kept-with_membership : (arity : ℕ) (content : Content) (t : List ℕ) (on : Bool) → length t ≡ arity → IsNormalContent arity content → IsNormalContent arity (with_membership content t on)
 kept-with_membership arity undeclared t on fits kept = kept
 kept-with_membership arity (alias_of base) t on fits kept = kept
 kept-with_membership arity (set_of members) t true fits kept = kept-inserted arity members t fits kept
@@ -224,17 +224,17 @@ after-change domain old new s t change view fits e =
     subst (λ (s : Symbol). length t ≡ length s.domain → record { domain = domain; content = new } ≡ if_fits s t (change s.content)) view inside fits
 
 -- a parameter whose entries were written
-pub value-written : {F : Type 0} (value : F → Number) (inside : kept.Content F) (entries written : Entries (Ext F)) (t : List ℕ) (x : Ext F) (b : Bool) → inside ≡ variant.Parameter entries → b ≡ is_given (extended value x) → written ≡ after_write b entries t x → content_shown value (variant.Parameter written) ≡ with_value (content_shown value inside) t (extended value x)
+pub value-written : {F : Type 0} (value : F → Number) (inside : kept.Content F) (entries written : Entries (Ext F)) (t : List ℕ) (x : Ext F) (b : Bool) → inside ≡ variant.Parameter entries → b ≡ is_given (extended value x) → written ≡ entries_after_write b entries t x → content_shown value (variant.Parameter written) ≡ with_value (content_shown value inside) t (extended value x)
 value-written value inside entries written t x b is given e =
     rw (is, e, given) (ap parameter_of (shown-write (extended value) (is_given (extended value x)) entries t x))
 
 -- a variable whose entries were written
-pub variable-written : {F : Type 0} (value : F → Number) (inside : kept.Content F) (type : VariableType) (entries written : Entries (own.Attributes F)) (t : List ℕ) (a : own.Attributes F) (b : Bool) → inside ≡ variant.Variable type entries → b ≡ not (same_attributes (attributes_shown value a) (absent_variable type)) → written ≡ after_write b entries t a → content_shown value (variant.Variable type written) ≡ with_attributes (content_shown value inside) t (attributes_shown value a)
+pub variable-written : {F : Type 0} (value : F → Number) (inside : kept.Content F) (type : VariableType) (entries written : Entries (own.Attributes F)) (t : List ℕ) (a : own.Attributes F) (b : Bool) → inside ≡ variant.Variable type entries → b ≡ not (same_attributes (attributes_shown value a) (absent_variable type)) → written ≡ entries_after_write b entries t a → content_shown value (variant.Variable type written) ≡ with_attributes (content_shown value inside) t (attributes_shown value a)
 variable-written value inside type entries written t a b is given e =
     rw (is, e, given) (ap (variable_of type) (shown-write (attributes_shown value) (not (same_attributes (attributes_shown value a) (absent_variable type))) entries t a))
 
 -- an equation whose entries were written
-pub equation-written : {F : Type 0} (value : F → Number) (inside : kept.Content F) (entries written : Entries (own.Attributes F)) (t : List ℕ) (a : own.Attributes F) (b : Bool) → inside ≡ variant.Equation entries → b ≡ not (same_attributes (attributes_shown value a) unbounded) → written ≡ after_write b entries t a → content_shown value (variant.Equation written) ≡ with_attributes (content_shown value inside) t (attributes_shown value a)
+pub equation-written : {F : Type 0} (value : F → Number) (inside : kept.Content F) (entries written : Entries (own.Attributes F)) (t : List ℕ) (a : own.Attributes F) (b : Bool) → inside ≡ variant.Equation entries → b ≡ not (same_attributes (attributes_shown value a) unbounded) → written ≡ entries_after_write b entries t a → content_shown value (variant.Equation written) ≡ with_attributes (content_shown value inside) t (attributes_shown value a)
 equation-written value inside entries written t a b is given e =
     rw (is, e, given) (ap equation_of (shown-write (attributes_shown value) (not (same_attributes (attributes_shown value a) unbounded)) entries t a))
 
@@ -276,7 +276,7 @@ pub zero_is_none : is_given zero ≡ false
 zero_is_none = ap not (same_number-refl (whole (pos 0)))
 
 -- a tuple is given just where what is read there differs from what an absent entry reads as
-pub given-differs : (arity : ℕ) (content : Content) → IsKept arity content → (t : List ℕ) → has (given_in content) t ≡ differs_in content t
+pub given-differs : (arity : ℕ) (content : Content) → IsNormalContent arity content → (t : List ℕ) → has (given_in content) t ≡ differs_in content t
 given-differs arity undeclared kept t = sym (no_difference unbounded)
 given-differs arity (alias_of base) kept t = sym (no_difference unbounded)
 given-differs arity (set_of members) kept t = refl
@@ -287,7 +287,7 @@ given-differs arity (equation_of entries) kept t =
     kept-there (λ a. not (same_attributes a unbounded)) arity entries unbounded (no_difference unbounded) kept t
 given-differs arity (model_with model solver) kept t = sym (no_difference unbounded)
 
-pub given-arity : (arity : ℕ) (content : Content) → IsKept arity content → (t : List ℕ) → has (given_in content) t ≡ true → length t ≡ arity
+pub given-arity : (arity : ℕ) (content : Content) → IsNormalContent arity content → (t : List ℕ) → has (given_in content) t ≡ true → length t ≡ arity
 given-arity arity undeclared kept t there = absurd cc
 given-arity arity (alias_of base) kept t there = absurd cc
 given-arity arity (set_of members) kept t there = kept t there

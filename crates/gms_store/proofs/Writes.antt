@@ -14,7 +14,7 @@ use Rattle.gms_tuple.specs.OrderLaws.{tuple_cmp-total}
 use Rattle.gms_tuple.specs.TupleSet.{has, inserted, removed}
 use Rattle.gms_tuple.proofs.Ordered.{same_tuple_refl}
 use Rattle.gms_tuple.proofs.Members.{has-inserted, has-removed}
-use Rattle.gms_store.specs.State.{Entries, Attributes, Content, undeclared, alias_of, set_of, parameter_of, variable_of, equation_of, model_with, Symbol, State, no_symbol, symbol_at, behind, base_of, symbol_of, with_symbol, with_content, if_fits, after_write, with_value, with_attributes, with_membership, value_in, attributes_in, members_in, value_of, attributes_of, members_of, after_value, after_attributes, after_membership, is_given, has_attributes, same_number, same_bound, same_attributes, absent_variable, unbounded}
+use Rattle.gms_store.specs.State.{Entries, Attributes, Content, undeclared, alias_of, set_of, parameter_of, variable_of, equation_of, model_with, Symbol, State, no_symbol, symbol_at, alias_target, base_of, symbol_of, with_symbol, with_content, if_fits, entries_after_write, with_value, with_attributes, with_membership, value_in, attributes_in, members_in, value_of, attributes_of, members_of, after_value, after_attributes, after_membership, is_given, has_attributes, same_number, same_bound, same_attributes, absent_variable, unbounded}
 use Rattle.gms_store.specs.State as state_words
 use Rattle.std.proofs.lemmas.Bool.{and_parts}
 use Rattle.gms_store.proofs.Maps.{same-tie, tie-sym}
@@ -54,12 +54,12 @@ module _ (state : State) (name : ℕ) (new : Symbol) where
             | inr changed ↦ inr (sym here, subst (λ n. unwrap_or (slice_get (set state.symbols (base_of state name) new) n) no_symbol ≡ new) here (ap (λ s. unwrap_or s no_symbol) changed))
           ]
 
-  module _ (alike : (n : ℕ) → behind n new.content ≡ behind n (symbol_of state name).content) where
+  module _ (alike : (n : ℕ) → alias_target n new.content ≡ alias_target n (symbol_of state name).content) where
     -- what a name stands for stays
     pub base-after : (other : ℕ) → base_of (with_symbol state name new) other ≡ base_of state other
     base-after other = elim (at-after other) [
-      | inl same ↦ ap (λ (s : Symbol). behind other s.content) same
-      | inr changed ↦ ap (λ (s : Symbol). behind other s.content) changed.1 ∙ alike other ∙ ap (λ n. behind other (symbol_at state n).content) (sym changed.0)
+      | inl same ↦ ap (λ (s : Symbol). alias_target other s.content) same
+      | inr changed ↦ ap (λ (s : Symbol). alias_target other s.content) changed.1 ∙ alike other ∙ ap (λ n. alias_target other (symbol_at state n).content) (sym changed.0)
     ]
 
     -- what another name shows is as before, unless it stands for the changed symbol
@@ -100,11 +100,11 @@ tie-itself t = sym (same-tie t t) ∙ same_tuple_refl t
 apart-tie : (t u : List ℕ) → same_tuple t u ≡ false → eq_by_cmp tuple_cmp u t ≡ false
 apart-tie t u apart = tie-sym u t ∙ sym (same-tie t u) ∙ apart
 
-get-after_other : {X : Type 0} (b : Bool) (m : Entries X) (t : List ℕ) (x : X) (u : List ℕ) → same_tuple t u ≡ false → finite.get (after_write b m t x) u ≡ finite.get m u
+get-after_other : {X : Type 0} (b : Bool) (m : Entries X) (t : List ℕ) (x : X) (u : List ℕ) → same_tuple t u ≡ false → finite.get (entries_after_write b m t x) u ≡ finite.get m u
 get-after_other true m t x u apart = finite.get-insert tuple_cmp-total m t x u ∙ ap (λ b. cond b (Some x) (finite.get m u)) (apart-tie t u apart)
 get-after_other false m t x u apart = finite.get-remove tuple_cmp-total m t u ∙ ap (λ b. cond b None (finite.get m u)) (apart-tie t u apart)
 
-get-after_same : {X : Type 0} (b : Bool) (m : Entries X) (t : List ℕ) (x absent : X) → (b ≡ false → absent ≡ x) → unwrap_or (finite.get (after_write b m t x) t) absent ≡ x
+get-after_same : {X : Type 0} (b : Bool) (m : Entries X) (t : List ℕ) (x absent : X) → (b ≡ false → absent ≡ x) → unwrap_or (finite.get (entries_after_write b m t x) t) absent ≡ x
 get-after_same true m t x absent kept =
     ap (λ o. unwrap_or o absent) (finite.get-insert tuple_cmp-total m t x t ∙ ap (λ b. cond b (Some x) (finite.get m t)) (tie-itself t))
 get-after_same false m t x absent kept =
@@ -112,7 +112,7 @@ get-after_same false m t x absent kept =
 
 -- ---- parameters
 
-pub behind-value : (content : Content) (t : List ℕ) (x : extended.Extended) (n : ℕ) → behind n (with_value content t x) ≡ behind n content
+pub behind-value : (content : Content) (t : List ℕ) (x : extended.Extended) (n : ℕ) → alias_target n (with_value content t x) ≡ alias_target n content
 behind-value undeclared t x n = refl
 behind-value (alias_of base) t x n = refl
 behind-value (set_of members) t x n = refl
@@ -146,18 +146,18 @@ pub value_after : (state : State) (name : ℕ) (t : List ℕ) (x : extended.Exte
 value_after state name t x entries within is fits =
     let s = symbol_of state name in
     let new = if_fits s t (with_value s.content t x) in
-    ap (λ (s : Symbol). value_in s.content t) (symbol-changed state name new (λ n. fits-either (λ c. behind n c ≡ behind n s.content) s t (with_value s.content t x) refl (behind-value s.content t x n)) within)
+    ap (λ (s : Symbol). value_in s.content t) (symbol-changed state name new (λ n. fits-either (λ c. alias_target n c ≡ alias_target n s.content) s t (with_value s.content t x) refl (behind-value s.content t x n)) within)
     ∙ ap (λ c. value_in c t) (fitted s t (with_value s.content t x) fits ∙ ap (λ c. with_value c t x) is)
     ∙ get-after_same (is_given x) entries t x state_words.zero (nothing-given x)
 
 pub value_elsewhere : (state : State) (name : ℕ) (t : List ℕ) (x : extended.Extended) (other : ℕ) (u : List ℕ) → (base_of state other ≡ base_of state name → same_tuple t u ≡ false) → value_of (after_value state name t x) other u ≡ value_of state other u
 value_elsewhere state name t x other u apart =
     let s = symbol_of state name in
-    reads-same state name (if_fits s t (with_value s.content t x)) (λ n. fits-either (λ c. behind n c ≡ behind n s.content) s t (with_value s.content t x) refl (behind-value s.content t x n)) (λ c. value_in c u) other (λ same. fits-either (λ c. value_in c u ≡ value_in s.content u) s t (with_value s.content t x) refl (value-other s.content t x u (apart same)))
+    reads-same state name (if_fits s t (with_value s.content t x)) (λ n. fits-either (λ c. alias_target n c ≡ alias_target n s.content) s t (with_value s.content t x) refl (behind-value s.content t x n)) (λ c. value_in c u) other (λ same. fits-either (λ c. value_in c u ≡ value_in s.content u) s t (with_value s.content t x) refl (value-other s.content t x u (apart same)))
 
 -- ---- sets
 
-pub behind-membership : (content : Content) (t : List ℕ) (on : Bool) (n : ℕ) → behind n (with_membership content t on) ≡ behind n content
+pub behind-membership : (content : Content) (t : List ℕ) (on : Bool) (n : ℕ) → alias_target n (with_membership content t on) ≡ alias_target n content
 behind-membership undeclared t on n = refl
 behind-membership (alias_of base) t on n = refl
 behind-membership (set_of members) t on n = refl
@@ -187,18 +187,18 @@ pub membership_after : (state : State) (name : ℕ) (t : List ℕ) (on : Bool) (
 membership_after state name t on members within is fits =
     let s = symbol_of state name in
     let new = if_fits s t (with_membership s.content t on) in
-    ap (λ (s : Symbol). has (members_in s.content) t) (symbol-changed state name new (λ n. fits-either (λ c. behind n c ≡ behind n s.content) s t (with_membership s.content t on) refl (behind-membership s.content t on n)) within)
+    ap (λ (s : Symbol). has (members_in s.content) t) (symbol-changed state name new (λ n. fits-either (λ c. alias_target n c ≡ alias_target n s.content) s t (with_membership s.content t on) refl (behind-membership s.content t on n)) within)
     ∙ ap (λ c. has (members_in c) t) (fitted s t (with_membership s.content t on) fits ∙ ap (λ c. with_membership c t on) is)
     ∙ member-same members t on
 
 pub membership_elsewhere : (state : State) (name : ℕ) (t : List ℕ) (on : Bool) (other : ℕ) (u : List ℕ) → (base_of state other ≡ base_of state name → same_tuple t u ≡ false) → has (members_of (after_membership state name t on) other) u ≡ has (members_of state other) u
 membership_elsewhere state name t on other u apart =
     let s = symbol_of state name in
-    reads-same state name (if_fits s t (with_membership s.content t on)) (λ n. fits-either (λ c. behind n c ≡ behind n s.content) s t (with_membership s.content t on) refl (behind-membership s.content t on n)) (λ c. has (members_in c) u) other (λ same. fits-either (λ c. has (members_in c) u ≡ has (members_in s.content) u) s t (with_membership s.content t on) refl (membership-other s.content t on u (apart same)))
+    reads-same state name (if_fits s t (with_membership s.content t on)) (λ n. fits-either (λ c. alias_target n c ≡ alias_target n s.content) s t (with_membership s.content t on) refl (behind-membership s.content t on n)) (λ c. has (members_in c) u) other (λ same. fits-either (λ c. has (members_in c) u ≡ has (members_in s.content) u) s t (with_membership s.content t on) refl (membership-other s.content t on u (apart same)))
 
 -- ---- variables and equations
 
-pub behind-attributes : (content : Content) (t : List ℕ) (a : Attributes) (n : ℕ) → behind n (with_attributes content t a) ≡ behind n content
+pub behind-attributes : (content : Content) (t : List ℕ) (a : Attributes) (n : ℕ) → alias_target n (with_attributes content t a) ≡ alias_target n content
 behind-attributes undeclared t a n = refl
 behind-attributes (alias_of base) t a n = refl
 behind-attributes (set_of members) t a n = refl
@@ -219,7 +219,7 @@ attributes-other (model_with model solver) t a u apart = refl
 pub attributes_elsewhere : (state : State) (name : ℕ) (t : List ℕ) (a : Attributes) (other : ℕ) (u : List ℕ) → (base_of state other ≡ base_of state name → same_tuple t u ≡ false) → attributes_of (after_attributes state name t a) other u ≡ attributes_of state other u
 attributes_elsewhere state name t a other u apart =
     let s = symbol_of state name in
-    reads-same state name (if_fits s t (with_attributes s.content t a)) (λ n. fits-either (λ c. behind n c ≡ behind n s.content) s t (with_attributes s.content t a) refl (behind-attributes s.content t a n)) (λ c. attributes_in c u) other (λ same. fits-either (λ c. attributes_in c u ≡ attributes_in s.content u) s t (with_attributes s.content t a) refl (attributes-other s.content t a u (apart same)))
+    reads-same state name (if_fits s t (with_attributes s.content t a)) (λ n. fits-either (λ c. alias_target n c ≡ alias_target n s.content) s t (with_attributes s.content t a) refl (behind-attributes s.content t a n)) (λ c. attributes_in c u) other (λ same. fits-either (λ c. attributes_in c u ≡ attributes_in s.content u) s t (with_attributes s.content t a) refl (attributes-other s.content t a u (apart same)))
 
 same-number : (a b : Number) → same_number a b ≡ true → a ≡ b
 same-number a b e = (number_cmp_decides a b).1.0 (number_equal (number_cmp a b) (ap not e))
@@ -254,6 +254,6 @@ pub attributes_after : (state : State) (name : ℕ) (t : List ℕ) (a : Attribut
 attributes_after state name t a within is fits =
     let s = symbol_of state name in
     let new = if_fits s t (with_attributes s.content t a) in
-    ap (λ (s : Symbol). attributes_in s.content t) (symbol-changed state name new (λ n. fits-either (λ c. behind n c ≡ behind n s.content) s t (with_attributes s.content t a) refl (behind-attributes s.content t a n)) within)
+    ap (λ (s : Symbol). attributes_in s.content t) (symbol-changed state name new (λ n. fits-either (λ c. alias_target n c ≡ alias_target n s.content) s t (with_attributes s.content t a) refl (behind-attributes s.content t a n)) within)
     ∙ ap (λ c. attributes_in c t) (fitted s t (with_attributes s.content t a) fits)
     ∙ attributes-same s.content t a is

@@ -9,8 +9,8 @@ use Rattle.gms_store.specs.declared.content.Content.TheVariants as variant
 use Rattle.gms_store.specs.State.{Entries, Attributes, Content, undeclared, alias_of, set_of, parameter_of, variable_of, equation_of, model_with}
 
 -- a finite map with each of its values mapped
-abbrev pub entries_shown : {X Y : Type 0} → (X → Y) → Entries X → Entries Y
-entries_shown f entries = finite.from_entries (map (λ e. (e.0, f e.1)) (finite.entries entries))
+abbrev pub entries_mapped : {X Y : Type 0} → (X → Y) → Entries X → Entries Y
+entries_mapped f entries = finite.from_entries (map (λ e. (e.0, f e.1)) (finite.entries entries))
 
 module _ {F : Type 0} (value : F → Number) where
   abbrev pub attributes_shown : own.Attributes F → Attributes
@@ -21,7 +21,7 @@ module _ {F : Type 0} (value : F → Number) where
   content_shown variant.Undeclared = undeclared
   content_shown (variant.Alias base) = alias_of base
   content_shown (variant.Set members) = set_of members
-  content_shown (variant.Parameter entries) = parameter_of (entries_shown (extended value) entries)
-  content_shown (variant.Variable type entries) = variable_of type (entries_shown attributes_shown entries)
-  content_shown (variant.Equation entries) = equation_of (entries_shown attributes_shown entries)
+  content_shown (variant.Parameter entries) = parameter_of (entries_mapped (extended value) entries)
+  content_shown (variant.Variable type entries) = variable_of type (entries_mapped attributes_shown entries)
+  content_shown (variant.Equation entries) = equation_of (entries_mapped attributes_shown entries)
   content_shown (variant.Model model solver) = model_with model solver

@@ -65,13 +65,13 @@ abbrev pub symbol_at : State → ℕ → Symbol
 symbol_at state name = unwrap_or (slice_get state.symbols name) no_symbol
 
 -- the name that a content denotes: the set of an alias, and else the name itself
-abbrev pub behind : ℕ → Content → ℕ
-behind name (alias_of base) = base
-behind name content = name
+abbrev pub alias_target : ℕ → Content → ℕ
+alias_target name (alias_of base) = base
+alias_target name content = name
 
 -- the set of an alias; every other name denotes itself
 abbrev pub base_of : State → ℕ → ℕ
-base_of state name = behind name (symbol_at state name).content
+base_of state name = alias_target name (symbol_at state name).content
 
 -- what the name of this number denotes
 abbrev pub symbol_of : State → ℕ → Symbol
@@ -208,18 +208,18 @@ AreDifferent differs arity entries = (t : List ℕ) (x : _) → finite.get entri
 
 -- The invariant of a content: it has no tuple of another length, and no entry equal to an absent
 -- one.
-abbrev pub IsKept : ℕ → Content → Type 0
-IsKept arity (set_of members) = (t : List ℕ) → has members t ≡ true → length t ≡ arity
-IsKept arity (parameter_of entries) = AreDifferent is_given arity entries
-IsKept arity (variable_of type entries) = AreDifferent (λ a. not (same_attributes a (absent_variable type))) arity entries
-IsKept arity (equation_of entries) = AreDifferent (λ a. not (same_attributes a unbounded)) arity entries
-IsKept arity content = Unit {0}
+abbrev pub IsNormalContent : ℕ → Content → Type 0
+IsNormalContent arity (set_of members) = (t : List ℕ) → has members t ≡ true → length t ≡ arity
+IsNormalContent arity (parameter_of entries) = AreDifferent is_given arity entries
+IsNormalContent arity (variable_of type entries) = AreDifferent (λ a. not (same_attributes a (absent_variable type))) arity entries
+IsNormalContent arity (equation_of entries) = AreDifferent (λ a. not (same_attributes a unbounded)) arity entries
+IsNormalContent arity content = Unit {0}
 
 -- ---- what is written
 
 -- a map after a write: the entry is kept if it differs from an absent one
-abbrev pub after_write : {X : Type 0} → Bool → Entries X → List ℕ → X → Entries X
-after_write differs entries t x = if differs then finite.insert entries t x else finite.remove entries t
+abbrev pub entries_after_write : {X : Type 0} → Bool → Entries X → List ℕ → X → Entries X
+entries_after_write differs entries t x = if differs then finite.insert entries t x else finite.remove entries t
 
 -- a value, if any, put into a map at a tuple
 abbrev pub put_where : {X : Type 0} → Option X → Entries X → List ℕ → Entries X
@@ -233,13 +233,13 @@ with_membership content t on = content
 
 -- a parameter with another value at a tuple
 abbrev pub with_value : Content → List ℕ → extended.Extended → Content
-with_value (parameter_of entries) t x = parameter_of (after_write (is_given x) entries t x)
+with_value (parameter_of entries) t x = parameter_of (entries_after_write (is_given x) entries t x)
 with_value content t x = content
 
 -- a variable or an equation with other attributes at a tuple
 abbrev pub with_attributes : Content → List ℕ → Attributes → Content
-with_attributes (variable_of type entries) t a = variable_of type (after_write (not (same_attributes a (absent_variable type))) entries t a)
-with_attributes (equation_of entries) t a = equation_of (after_write (not (same_attributes a unbounded)) entries t a)
+with_attributes (variable_of type entries) t a = variable_of type (entries_after_write (not (same_attributes a (absent_variable type))) entries t a)
+with_attributes (equation_of entries) t a = equation_of (entries_after_write (not (same_attributes a unbounded)) entries t a)
 with_attributes content t a = content
 
 -- a model with other statuses

@@ -2,7 +2,7 @@
 ghost use Rattle.std.specs.Prelude.{◌≡◌, OnOk, OnErr};
 ghost use Rattle.std.specs.FinMap as finite;
 ghost use Rattle.gms_tuple.specs.TupleOrder.{IsOrdered};
-ghost use Rattle.gms_store.specs.State.{after_write};
+ghost use Rattle.gms_store.specs.State.{entries_after_write};
 
 use crate::values::Values;
 use gms_tuple::{Tuple, TupleSet};
@@ -102,7 +102,7 @@ impl<X: Copy> Entries<X> {
         value: X,
         keep: bool,
     ) -> Result<(), AllocError>
-        ensures ok { OnOk result (self.new ≡ after_write keep self.old t.now value) }
+        ensures ok { OnOk result (self.new ≡ entries_after_write keep self.old t.now value) }
         ensures err { OnErr result (self.new ≡ self.old) }
     {
         if keep {

@@ -4,7 +4,7 @@ ghost use Rattle.gq_extended.specs.Meaning.{extended};
 ghost use Rattle.gms_tuple.specs.TupleOrder.{IsOrdered};
 ghost use Rattle.gms_tuple.specs.TupleSet.{has};
 ghost use Rattle.gms_store.specs.Shown.{attributes_shown, content_shown};
-ghost use Rattle.gms_store.specs.State.{no_symbol, behind, if_fits, fits_at, given_in, members_in, value_in, attributes_in, statuses_in, with_content, with_membership, with_value, with_attributes, with_statuses, is_given, IsKept};
+ghost use Rattle.gms_store.specs.State.{no_symbol, alias_target, if_fits, fits_at, given_in, members_in, value_in, attributes_in, statuses_in, with_content, with_membership, with_value, with_attributes, with_statuses, is_given, IsNormalContent};
 ghost use Rattle.gms_store.specs.Overlays.{chosen};
 ghost use Rattle.gms_store.specs.Declarations.{symbol_of_kind, positions_of, names_of, declared_again, retyped, content_of, alias_symbol, model_symbol, is_alias, is_free, is_set, is_undeclared, kind_in};
 
@@ -38,7 +38,7 @@ impl<F: ExactField> Drop for Symbol<F> {
 
 impl<F: ExactField> Model for Symbol<F> {
     ghost use Rattle.std.specs.Prelude.{length};
-    ghost use Rattle.gms_store.specs.State.{Symbol as StateSymbol, IsKept};
+    ghost use Rattle.gms_store.specs.State.{Symbol as StateSymbol, IsNormalContent};
     ghost use Rattle.gms_store.specs.Codes.{symbol_code};
 
     ghost Value = { StateSymbol };
@@ -49,7 +49,7 @@ impl<F: ExactField> Model for Symbol<F> {
 
     ghost view = { λ s. record { domain = s.domain; content = content_shown F.value s.content } };
 
-    ghost invariant = { λ s. IsKept (length s.domain) (content_shown F.value s.content) };
+    ghost invariant = { λ s. IsNormalContent (length s.domain) (content_shown F.value s.content) };
 }
 
 impl<F: ExactField> Symbol<F> {
@@ -200,7 +200,7 @@ impl<F: ExactField> Symbol<F> {
 
     /// The number of the set of an alias, and else `name`.
     pub fn behind(&self, name: u32) -> u32
-        ensures { result ≡ behind name self.now.content }
+        ensures { result ≡ alias_target name self.now.content }
     {
         match &self.content {
             Content::Alias(base) => *base,
@@ -220,7 +220,7 @@ impl<F: ExactField> Symbol<F> {
         ensures some { IfSome result (λ set. set.now ≡ given_in self.now.content) }
         ensures none { IfNone result (given_in self.now.content ≡ []) }
         ensures ordered { IfSome result (λ set. IsOrdered set.now) }
-        ensures kept { IsKept (length self.now.domain) self.now.content }
+        ensures kept { IsNormalContent (length self.now.domain) self.now.content }
         ensures fit { (t : List ℕ) → fits_at F.limit self.now.content t ≡ true }
     {
         match &self.content {

@@ -3,7 +3,7 @@ ghost use Rattle.std.specs.Prelude.{◌≡◌, ◌<◌, ◌++◌, ◌∷◌, [],
 ghost use Rattle.std.specs.Map.{keys_of};
 ghost use Rattle.std.specs.FinMap as finite;
 ghost use Rattle.gms_tuple.specs.TupleOrder.{tuple_cmp, IsOrdered};
-ghost use Rattle.gms_store.specs.Parts.{StandsAt};
+ghost use Rattle.gms_store.specs.InnerParts.{StandsAt};
 
 use gms_tuple::Tuple;
 use std::alloc::{AllocError, Global};
@@ -30,7 +30,7 @@ impl<X> Model for Values<X> {
     ghost use Rattle.std.specs.Map.{keys_of};
     ghost use Rattle.std.specs.FinMap as finite;
     ghost use Rattle.gms_tuple.specs.TupleOrder.{tuple_cmp, IsOrdered};
-    ghost use Rattle.gms_store.specs.Parts.{in_two_parts};
+    ghost use Rattle.gms_store.specs.InnerParts.{in_two_parts};
 
     ghost Value = { finite.FinMap tuple_cmp X };
 

@@ -13,8 +13,8 @@ use Rattle.std.proofs.lemmas.List.Folds.{list_any-append}
 use Rattle.std.proofs.lemmas.Slice.Eq.{bytes_eq-Decides}
 use Rattle.gms_table.specs.declared.entry.Entry.{Entry}
 use Rattle.gms_table.specs.declared.given.Cell.{Cell}
-use Rattle.gms_table.specs.Given.{same_numbers, is_given}
-use Rattle.gms_table.specs.Cells.{has_cell, AreCellsOf}
+use Rattle.gms_table.specs.InnerGiven.{same_numbers, is_given}
+use Rattle.gms_table.specs.InnerCells.{has_cell, AreCellsOf}
 
 -- a cell has these labels
 abbrev pub is_cell : Cell → List ℕ → List ℕ → Bool

@@ -5,8 +5,8 @@ use Rattle.std.proofs.lemmas.List.{map_push, map-append, take_more}
 use Rattle.gms_labels.specs.Labels.{place_of, entered, IsFullFor, most_labels}
 use Rattle.gms_labels.specs.declared.fault.LabelFault.{LabelFault}
 use Rattle.gms_labels.specs.declared.fault.LabelFault.TheVariants as label
-use Rattle.gms_table.specs.WordLabels.{all_entered, GoesOn}
-use Rattle.gms_table.specs.Names.{read_all, AreEntered, IsEntering}
+use Rattle.gms_table.specs.WordLabels.{all_entered, IsPrefix}
+use Rattle.gms_table.specs.InnerNames.{read_all, AreEntered, IsEntering}
 use Rattle.gms_table.proofs.LabelLemmas.{Stay, all_entered-append, Stay-entered, AreNumbers-push, GoesOn-all_entered, GoesOn-entered, GoesOn-trans, full-all_entered}
 
 -- one label more
@@ -33,8 +33,8 @@ enter_stops before table after front numbers text others all label.Full so_far s
 enter_stops before table after front numbers text others all label.Memory so_far split full = tt
 
 -- a table begins with what was entered so far, and is extended by one more label
-pub goes_on-so_far : (before table texts : List (List ℕ)) (numbers : List ℕ) → AreEntered before table texts numbers → GoesOn before table
-goes_on-so_far before table texts numbers so_far = subst (GoesOn before) (sym so_far.table) (GoesOn-all_entered before texts)
+pub goes_on-so_far : (before table texts : List (List ℕ)) (numbers : List ℕ) → AreEntered before table texts numbers → IsPrefix before table
+goes_on-so_far before table texts numbers so_far = subst (IsPrefix before) (sym so_far.table) (GoesOn-all_entered before texts)
 
-pub goes_on-more : (before table after texts : List (List ℕ)) (numbers : List ℕ) (text : List ℕ) → AreEntered before table texts numbers → after ≡ entered table text → GoesOn before after
-goes_on-more before table after texts numbers text so_far is = GoesOn-trans before table after (goes_on-so_far before table texts numbers so_far) (subst (GoesOn table) (sym is) (GoesOn-entered table text))
+pub goes_on-more : (before table after texts : List (List ℕ)) (numbers : List ℕ) (text : List ℕ) → AreEntered before table texts numbers → after ≡ entered table text → IsPrefix before after
+goes_on-more before table after texts numbers text so_far is = GoesOn-trans before table after (goes_on-so_far before table texts numbers so_far) (subst (IsPrefix table) (sym is) (GoesOn-entered table text))

@@ -6,9 +6,9 @@ use Rattle.std.proofs.lemmas.List.Sorted.{IsPartitionedBy-leb, IsNonDecreasingBy
 use Rattle.std.specs.List.Sorted.{IsPartitionedBy, IsPartitionPoint}
 use Rattle.gms_table.specs.declared.heading.Heading.{Heading}
 use Rattle.gms_table.specs.Words.{Word}
-use Rattle.gms_table.specs.Shown.{AreSpacedFrom, AreHeadings, IsHeading, begin_before}
+use Rattle.gms_table.specs.InnerShown.{AreSpacedFrom, AreHeadings, IsHeading, begin_before}
 use Rattle.gms_table.specs.TableEntries.{meet, met}
-use Rattle.gms_table.specs.Progress.{AreLeft}
+use Rattle.gms_table.specs.InnerProgress.{AreLeft}
 use Rattle.gms_table.proofs.LabelLemmas.{Stay, AreNumbers-stay}
 
 -- headings stay those of their words while labels keep their numbers

@@ -6,8 +6,8 @@ use Rattle.gms_labels.specs.Labels.{place_of, entered, IsFullFor, most_labels}
 use Rattle.gms_labels.proofs.Places.{place_of-entered_kept}
 use Rattle.gms_lines.proofs.LineLemmas.{true_or_false}
 use Rattle.gms_table.specs.Words.{parted}
-use Rattle.gms_table.specs.WordLabels.{label_of, with_label, labels_among, all_entered, AreNumbers, GoesOn}
-use Rattle.gms_lexemes.specs.Stretches.{is_dot, stretch_bytes}
+use Rattle.gms_table.specs.WordLabels.{label_of_text, with_label, labels_among, all_entered, AreLabelNumbers, IsPrefix}
+use Rattle.gms_lines.specs.Stretches.{is_dot, stretch_bytes}
 use Rattle.gms_table.proofs.StretchLemmas.{stretches_behind, parted-stretch}
 
 -- entering some labels and then others
@@ -23,7 +23,7 @@ Stay-all_entered table [] = record { stays = λ text n h. h }
 Stay-all_entered table (t ∷ texts) = record { stays = λ text n h. (Stay-all_entered (entered table t) texts).stays text n (place_of-entered_kept table t text n h) }
 
 -- numbers of labels stay
-pub AreNumbers-stay : (before after : List (List ℕ)) → Stay before after → (numbers : List ℕ) (texts : List (List ℕ)) → AreNumbers before numbers texts → AreNumbers after numbers texts
+pub AreNumbers-stay : (before after : List (List ℕ)) → Stay before after → (numbers : List ℕ) (texts : List (List ℕ)) → AreLabelNumbers before numbers texts → AreLabelNumbers after numbers texts
 AreNumbers-stay before after stay [] [] are = refl
 AreNumbers-stay before after stay [] (t ∷ texts) are = absurd (cc)
 AreNumbers-stay before after stay (n ∷ numbers) [] are = absurd (cc)
@@ -46,19 +46,19 @@ length-all_entered table [] = omega arith
 length-all_entered table (t ∷ texts) = omega (arith, length-entered table t, length-all_entered (entered table t) texts)
 
 -- a table is extended by the labels that are entered
-pub GoesOn-entered : (table : List (List ℕ)) (text : List ℕ) → GoesOn table (entered table text)
+pub GoesOn-entered : (table : List (List ℕ)) (text : List ℕ) → IsPrefix table (entered table text)
 GoesOn-entered table text = elim (true_or_false (is_some (place_of table text))) [
   | inl h ↦ ([], rw h (sym (append-nil table)))
   | inr h ↦ (text ∷ [], rw h refl)
 ]
 
-pub GoesOn-trans : (a b c : List (List ℕ)) → GoesOn a b → GoesOn b c → GoesOn a c
+pub GoesOn-trans : (a b c : List (List ℕ)) → IsPrefix a b → IsPrefix b c → IsPrefix a c
 GoesOn-trans a b c f g = (f.0 ++ g.0, g.1 ∙ ap (λ l. l ++ g.0) f.1 ∙ append_assoc a f.0 g.0)
 
-pub GoesOn-refl : (table : List (List ℕ)) → GoesOn table table
+pub GoesOn-refl : (table : List (List ℕ)) → IsPrefix table table
 GoesOn-refl table = ([], sym (append-nil table))
 
-pub GoesOn-all_entered : (table texts : List (List ℕ)) → GoesOn table (all_entered table texts)
+pub GoesOn-all_entered : (table texts : List (List ℕ)) → IsPrefix table (all_entered table texts)
 GoesOn-all_entered table [] = GoesOn-refl table
 GoesOn-all_entered table (t ∷ texts) = GoesOn-trans table (entered table t) _ (GoesOn-entered table t) (GoesOn-all_entered (entered table t) texts)
 
@@ -81,27 +81,27 @@ labels_from rest = labels_among (parted is_dot rest)
 abbrev pub label_length : List ℕ → ℕ
 label_length rest = stretch_bytes is_dot rest
 
-labels_from-stretch : (rest : List ℕ) → labels_from rest ≡ with_label (label_of (take (label_length rest) rest)) (labels_among (stretches_behind is_dot (drop (label_length rest) rest)))
+labels_from-stretch : (rest : List ℕ) → labels_from rest ≡ with_label (label_of_text (take (label_length rest) rest)) (labels_among (stretches_behind is_dot (drop (label_length rest) rest)))
 labels_from-stretch rest = ap labels_among (parted-stretch is_dot rest)
 
 -- a field that is no label
-pub labels_from-none : (done : List (List ℕ)) (rest : List ℕ) → label_of (take (label_length rest) rest) ≡ None → joined done (labels_from rest) ≡ None
+pub labels_from-none : (done : List (List ℕ)) (rest : List ℕ) → label_of_text (take (label_length rest) rest) ≡ None → joined done (labels_from rest) ≡ None
 labels_from-none done rest h = ap (joined done) (labels_from-stretch rest ∙ ap (λ o. with_label o (labels_among (stretches_behind is_dot (drop (label_length rest) rest)))) h)
 
 -- a label with nothing after it
-pub labels_from-last : (done : List (List ℕ)) (rest label : List ℕ) → label_of (take (label_length rest) rest) ≡ Some label → drop (label_length rest) rest ≡ [] → joined done (labels_from rest) ≡ Some (done ++ label ∷ [])
+pub labels_from-last : (done : List (List ℕ)) (rest label : List ℕ) → label_of_text (take (label_length rest) rest) ≡ Some label → drop (label_length rest) rest ≡ [] → joined done (labels_from rest) ≡ Some (done ++ label ∷ [])
 labels_from-last done rest label h last =
     ap (joined done) (labels_from-stretch rest ∙ ap (λ o. with_label o (labels_among (stretches_behind is_dot (drop (label_length rest) rest)))) h ∙ ap (λ t. with_label (Some label) (labels_among (stretches_behind is_dot t))) last)
 
 -- a label with more after it
-pub labels_from-more : (done : List (List ℕ)) (rest label : List ℕ) (b : ℕ) (others : List ℕ) → label_of (take (label_length rest) rest) ≡ Some label → drop (label_length rest) rest ≡ b ∷ others → joined done (labels_from rest) ≡ joined (done ++ label ∷ []) (labels_from others)
+pub labels_from-more : (done : List (List ℕ)) (rest label : List ℕ) (b : ℕ) (others : List ℕ) → label_of_text (take (label_length rest) rest) ≡ Some label → drop (label_length rest) rest ≡ b ∷ others → joined done (labels_from rest) ≡ joined (done ++ label ∷ []) (labels_from others)
 labels_from-more done rest label b others h more =
     ap (joined done) (labels_from-stretch rest ∙ ap (λ o. with_label o (labels_among (stretches_behind is_dot (drop (label_length rest) rest)))) h ∙ ap (λ t. with_label (Some label) (labels_among (stretches_behind is_dot t))) more) ∙ joined-with done label (labels_from others)
 
 -- ---- numbers of labels
 
 -- one number more
-pub AreNumbers-push : (before after : List (List ℕ)) → Stay before after → (numbers : List ℕ) (texts : List (List ℕ)) (n : ℕ) (text : List ℕ) → AreNumbers before numbers texts → place_of after text ≡ Some n → AreNumbers after (numbers ++ n ∷ []) (texts ++ text ∷ [])
+pub AreNumbers-push : (before after : List (List ℕ)) → Stay before after → (numbers : List ℕ) (texts : List (List ℕ)) (n : ℕ) (text : List ℕ) → AreLabelNumbers before numbers texts → place_of after text ≡ Some n → AreLabelNumbers after (numbers ++ n ∷ []) (texts ++ text ∷ [])
 AreNumbers-push before after stay numbers texts n text are here =
     map_push Some numbers n ∙ ap (λ ns. ns ++ Some n ∷ []) (AreNumbers-stay before after stay numbers texts are) ∙ ap (λ p. map (place_of after) texts ++ p ∷ []) (sym here) ∙ sym (map_push (place_of after) texts text)
 
@@ -132,19 +132,19 @@ behind_first [] some = absurd (omega arith)
 behind_first (x ∷ xs) some = record { first = x; split = ap (λ l. x ∷ l) (sym (take_rest (x ∷ xs) 1)) }
 
 module _ (done : List (List ℕ)) (rest : List ℕ) (n : ℕ) (front back : List ℕ) (n_is : n ≡ label_length rest) (front_is : front ≡ take n rest) (back_is : back ≡ drop n rest) where
-  front_here : label_of (take (label_length rest) rest) ≡ label_of front
-  front_here = ap (λ k. label_of (take k rest)) (sym n_is) ∙ ap label_of (sym front_is)
+  front_here : label_of_text (take (label_length rest) rest) ≡ label_of_text front
+  front_here = ap (λ k. label_of_text (take k rest)) (sym n_is) ∙ ap label_of_text (sym front_is)
 
   back_here : drop (label_length rest) rest ≡ back
   back_here = ap (λ k. drop k rest) (sym n_is) ∙ sym back_is
 
-  pub labels-none : None ≡ label_of front → joined done (labels_from rest) ≡ None
+  pub labels-none : None ≡ label_of_text front → joined done (labels_from rest) ≡ None
   labels-none h = labels_from-none done rest (front_here ∙ sym h)
 
-  pub labels-last : (label : List ℕ) → Some label ≡ label_of front → length back < 1 → joined done (labels_from rest) ≡ Some (done ++ label ∷ [])
+  pub labels-last : (label : List ℕ) → Some label ≡ label_of_text front → length back < 1 → joined done (labels_from rest) ≡ Some (done ++ label ∷ [])
   labels-last label h short = labels_from-last done rest label (front_here ∙ sym h) (back_here ∙ nothing back short)
 
-  pub labels-more : (label : List ℕ) → Some label ≡ label_of front → 1 ≤ length back → joined done (labels_from rest) ≡ joined (done ++ label ∷ []) (labels_from (take (length back - 1) (drop 1 back)))
+  pub labels-more : (label : List ℕ) → Some label ≡ label_of_text front → 1 ≤ length back → joined done (labels_from rest) ≡ joined (done ++ label ∷ []) (labels_from (take (length back - 1) (drop 1 back)))
   labels-more label h some =
       let parts = behind_first back some in
       labels_from-more done rest label parts.first (take (length back - 1) (drop 1 back)) (front_here ∙ sym h) (back_here ∙ parts.split)

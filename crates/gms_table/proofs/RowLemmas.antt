@@ -7,11 +7,11 @@ use Rattle.gms_table.specs.declared.fault.TableFaultOrMemory.TheVariants.{Memory
 use Rattle.gms_table.specs.declared.heading.Heading.{Heading}
 use Rattle.gms_table.specs.declared.word.Word.{Word as Kept}
 use Rattle.gms_table.specs.Words.{Word}
-use Rattle.gms_table.specs.WordLabels.{names_of}
-use Rattle.gms_table.specs.Shown.{seen, seen_all, AreHeadings}
-use Rattle.gms_table.specs.Names.{IsName, IsNoName, Enters}
-use Rattle.gms_table.specs.TableEntries.{Part, name, IsFirstFault}
-use Rattle.gms_table.specs.Progress.{Progress, Refuses}
+use Rattle.gms_table.specs.WordLabels.{labels_of_word}
+use Rattle.gms_table.specs.InnerShown.{seen, seen_all, AreHeadings}
+use Rattle.gms_table.specs.InnerNames.{IsName, IsNoName, Enters}
+use Rattle.gms_table.specs.TableEntries.{TablePart, name, IsFirstPartFault}
+use Rattle.gms_table.specs.InnerProgress.{Progress, Refuses}
 use Rattle.gms_table.proofs.LabelLemmas.{Stay, Stay-all_entered}
 use Rattle.gms_table.proofs.HeadingLemmas.{AreHeadings-stay, AreHeadings-push}
 use Rattle.gms_table.proofs.PartLemmas.{IsFirstFault-more}
@@ -19,9 +19,9 @@ use Rattle.gms_table.proofs.StandLemmas.{name_fault, name_more}
 
 -- labels stay where a name was entered
 pub Stay-name : (before after : List (List ℕ)) (word : Word) (numbers : List ℕ) → IsName before after word numbers → Stay before after
-Stay-name before after word numbers is = subst (Stay before) (sym is.table) (Stay-all_entered before (names_of word))
+Stay-name before after word numbers is = subst (Stay before) (sym is.table) (Stay-all_entered before (labels_of_word word))
 
-module _ (limit : ℕ) (labels : List (List ℕ)) (before : List Part) where
+module _ (limit : ℕ) (labels : List (List ℕ)) (before : List TablePart) where
   -- the parts of words and of one more
   names-push : (front : List Word) (word : Word) → before ++ map name (front ++ word ∷ []) ≡ (before ++ map name front) ++ name word ∷ []
   names-push front word = ap (λ ps. before ++ ps) (map_push name front word) ∙ sym (append_assoc before (map name front) (name word ∷ []))
@@ -43,17 +43,17 @@ module _ (limit : ℕ) (labels : List (List ℕ)) (before : List Part) where
   }
 
   -- a word that is no heading
-  pub headings_fault : (front : List Word) (word : Word) (others : List Word) (table : List (List ℕ)) (headings : List Heading) (fault : TableFault) → HeadingsSoFar front table headings → IsNoName table word fault → IsFirstFault limit labels (before ++ map name (front ++ word ∷ others)) fault
+  pub headings_fault : (front : List Word) (word : Word) (others : List Word) (table : List (List ℕ)) (headings : List Heading) (fault : TableFault) → HeadingsSoFar front table headings → IsNoName table word fault → IsFirstPartFault limit labels (before ++ map name (front ++ word ∷ others)) fault
   headings_fault front word others table headings fault so_far is =
       let here = name_fault limit labels (before ++ map name front) word table fault so_far.progress is in
       let more = IsFirstFault-more limit labels ((before ++ map name front) ++ name word ∷ []) (map name others) fault here in
       let e : ((before ++ map name front) ++ name word ∷ []) ++ map name others ≡ before ++ map name (front ++ word ∷ others) = ap (λ ps. ps ++ map name others) (append_assoc before (map name front) (name word ∷ [])) ∙ append_assoc before (map name front ++ name word ∷ []) (map name others) ∙ ap (λ ps. before ++ ps) (append_assoc (map name front) (name word ∷ []) (map name others) ∙ sym (map-append name front (word ∷ others))) in
-      subst (λ ps. IsFirstFault limit labels ps fault) e more
+      subst (λ ps. IsFirstPartFault limit labels ps fault) e more
 
   -- what is answered in place of headings
   pub headings_refused : (front : List Word) (word : Word) (others all : List Word) (table after : List (List ℕ)) (headings : List Heading) (error : TableFaultOrMemory) → all ≡ front ++ word ∷ others → HeadingsSoFar front table headings → Enters table after word (Err error) → Refuses limit labels (before ++ map name all) error
   headings_refused front word others all table after headings (Fault fault) split so_far is =
-      subst (λ ws. IsFirstFault limit labels (before ++ map name ws) fault) (sym split) (headings_fault front word others table headings fault so_far is)
+      subst (λ ws. IsFirstPartFault limit labels (before ++ map name ws) fault) (sym split) (headings_fault front word others table headings fault so_far is)
   headings_refused front word others all table after headings Memory split so_far is = tt
 
 -- a word that is not there

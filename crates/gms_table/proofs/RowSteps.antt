@@ -8,10 +8,10 @@ use Rattle.gms_table.specs.declared.fault.TableFaultOrMemory.TheVariants.{Memory
 use Rattle.gms_table.specs.declared.heading.Heading.{Heading}
 use Rattle.gms_table.specs.Words.{Word}
 use Rattle.gms_table.specs.WordLabels.{all_entered}
-use Rattle.gms_table.specs.Shown.{AreSpacedFrom, AreSpaced, AreHeadings}
-use Rattle.gms_table.specs.Names.{IsName, Enters}
-use Rattle.gms_table.specs.TableEntries.{Part, name, cell, is_plus, under, texts_of, AreEntries}
-use Rattle.gms_table.specs.Progress.{Progress, Refuses, IsRow, Keeps, LinesSoFar, row_parts}
+use Rattle.gms_table.specs.InnerShown.{AreSpacedFrom, AreSpaced, AreHeadings}
+use Rattle.gms_table.specs.InnerNames.{IsName, Enters}
+use Rattle.gms_table.specs.TableEntries.{TablePart, name, cell, is_plus, under, label_texts, AreEntries}
+use Rattle.gms_table.specs.InnerProgress.{Progress, Refuses, IsRow, Keeps, LinesSoFar, row_parts}
 use Rattle.gms_table.proofs.LabelLemmas.{Stay, Stay-all_entered, all_entered-append}
 use Rattle.gms_table.proofs.HeadingLemmas.{AreHeadings-stay}
 use Rattle.gms_table.proofs.PartLemmas.{texts_of-append, AreEntries-stay, AreEntries-name, IsFirstFault-more}
@@ -19,11 +19,11 @@ use Rattle.gms_table.proofs.RowLemmas.{Stay-name}
 use Rattle.gms_table.proofs.StandLemmas.{name_fault, name_more}
 
 -- what is answered in place of some parts is answered in place of more
-pub Refuses-more : (limit : ℕ) (labels : List (List ℕ)) (parts others all : List Part) (error : TableFaultOrMemory) → all ≡ parts ++ others → Refuses limit labels parts error → Refuses limit labels all error
+pub Refuses-more : (limit : ℕ) (labels : List (List ℕ)) (parts others all : List TablePart) (error : TableFaultOrMemory) → all ≡ parts ++ others → Refuses limit labels parts error → Refuses limit labels all error
 Refuses-more limit labels parts others all (Fault fault) is refused = subst (λ ps. Refuses limit labels ps (Fault fault)) (sym is) (IsFirstFault-more limit labels parts others fault refused)
 Refuses-more limit labels parts others all Memory is refused = tt
 
-module _ {F : Type 0} (limit : ℕ) (value : F → Number) (labels : List (List ℕ)) (before : List Part) where
+module _ {F : Type 0} (limit : ℕ) (value : F → Number) (labels : List (List ℕ)) (before : List TablePart) where
   -- A row so far.
   pub record RowSoFar (label : Word) (names front : List Word) (table : List (List ℕ)) (entries : List (Entry F)) (row : List ℕ) (headings : List Heading) : Type 0 where
     pub keeps : Keeps limit value labels (before ++ row_parts label names front) table entries
@@ -69,9 +69,9 @@ module _ {F : Type 0} (limit : ℕ) (value : F → Number) (labels : List (List 
       refused
 
 -- labels stay while more parts are read
-pub Stay-progress : (limit : ℕ) (labels : List (List ℕ)) (parts more : List Part) (table after : List (List ℕ)) → Progress limit labels parts table → Progress limit labels (parts ++ more) after → Stay table after
+pub Stay-progress : (limit : ℕ) (labels : List (List ℕ)) (parts more : List TablePart) (table after : List (List ℕ)) → Progress limit labels parts table → Progress limit labels (parts ++ more) after → Stay table after
 Stay-progress limit labels parts more table after p q =
-    subst (λ (t : List (List ℕ)). Stay t after) (sym p.table_is) (subst (Stay (all_entered labels (texts_of parts))) (sym (q.table_is ∙ ap (all_entered labels) (texts_of-append parts more) ∙ all_entered-append labels (texts_of parts) (texts_of more))) (Stay-all_entered (all_entered labels (texts_of parts)) (texts_of more)))
+    subst (λ (t : List (List ℕ)). Stay t after) (sym p.table_is) (subst (Stay (all_entered labels (label_texts parts))) (sym (q.table_is ∙ ap (all_entered labels) (texts_of-append parts more) ∙ all_entered-append labels (label_texts parts) (label_texts more))) (Stay-all_entered (all_entered labels (label_texts parts)) (label_texts more)))
 
 -- ---- lines
 
@@ -83,7 +83,7 @@ AreSpacedFrom-weaker low high (word ∷ words) le spaced = (omega (arith, spaced
 pub AreSpaced-rest : (first : Word) (words : List Word) → AreSpaced (first ∷ words) → AreSpaced words
 AreSpaced-rest first words spaced = AreSpacedFrom-weaker 0 first.end words (omega arith) spaced.2
 
-module _ {F : Type 0} (limit : ℕ) (value : F → Number) (labels : List (List ℕ)) (before : List Part) (begun : List Word) (all : List (List Word)) where
+module _ {F : Type 0} (limit : ℕ) (value : F → Number) (labels : List (List ℕ)) (before : List TablePart) (begun : List Word) (all : List (List Word)) where
   abbrev pub SoFar : List (List Word) → List (List ℕ) → List (Entry F) → List Heading → Type 0
   SoFar rest table entries headings = LinesSoFar limit value labels before begun all rest table entries headings
 
@@ -128,7 +128,7 @@ module _ {F : Type 0} (limit : ℕ) (value : F → Number) (labels : List (List 
       parts_are = plus_parts plus;
     }
       where
-        AreEntries-names : (after : List (List ℕ)) (parts : List Part) (words : List Word) → AreEntries limit value after parts entries → AreEntries limit value after (parts ++ map name words) entries
+        AreEntries-names : (after : List (List ℕ)) (parts : List TablePart) (words : List Word) → AreEntries limit value after parts entries → AreEntries limit value after (parts ++ map name words) entries
         AreEntries-names after parts [] are = subst (λ ps. AreEntries limit value after ps entries) (sym (append-nil parts)) are
         AreEntries-names after parts (word ∷ words) are = subst (λ ps. AreEntries limit value after ps entries) (append_assoc parts (name word ∷ []) (map name words)) (AreEntries-names after (parts ++ name word ∷ []) words (AreEntries-name limit value after parts word entries are))
 

@@ -1,8 +1,8 @@
 -- A text is its first field and what follows it.
 use Rattle.std.proofs.Common.{◌≡◌, ℕ, zero, suc, ◌≤◌, ◌<◌, Bool, List, [], ◌∷◌, length, take, drop, refl, ap, arith}
 use Rattle.std.proofs.lemmas.List.{length-drop}
-use Rattle.gms_lexemes.specs.Stretches.{stretch_bytes}
-use Rattle.gms_lexemes.proofs.StretchLemmas.{stretch_length-le}
+use Rattle.gms_lines.specs.Stretches.{stretch_bytes}
+use Rattle.gms_lines.proofs.StretchLemmas.{stretch_length-le}
 use Rattle.gms_table.specs.Words.{others_by, first_stretches, parted}
 
 -- a field is within its text

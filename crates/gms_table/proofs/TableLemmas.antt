@@ -6,8 +6,8 @@ use Rattle.gms_table.specs.declared.entry.Entry.{Entry}
 use Rattle.gms_table.specs.declared.fault.TableFaultOrMemory.{TableFaultOrMemory}
 use Rattle.gms_table.specs.declared.fault.TableFaultOrMemory.TheVariants.{Memory, Fault}
 use Rattle.gms_table.specs.Words.{Word}
-use Rattle.gms_table.specs.TableEntries.{Part, name, under, table_of, parts_of, AreEntries, IsTable, IsFirstFault, IsRefusal}
-use Rattle.gms_table.specs.Progress.{Progress, Refuses, Keeps, IsFirstLine, words_in, lines_of}
+use Rattle.gms_table.specs.TableEntries.{TablePart, name, under, table_of, table_parts, AreEntries, IsTable, IsFirstPartFault, IsTableRefusal}
+use Rattle.gms_table.specs.InnerProgress.{Progress, Refuses, Keeps, IsFirstLine, words_in, lines_of}
 
 -- before anything is read
 pub nothing_read : (limit : ℕ) (labels : List (List ℕ)) → Progress limit labels [] labels
@@ -22,18 +22,18 @@ pub headings_read : {F : Type 0} (limit : ℕ) (value : F → Number) (labels ta
 headings_read limit value labels table words entries none progress = record { progress = progress; entries_are = AreEntries-headings limit value table words entries none }
 
 -- an answer in place of entries
-pub table_refused : (limit : ℕ) (lines : List TableLine) (labels : List (List ℕ)) (parts : List Part) (error : TableFaultOrMemory) → parts_of lines ≡ parts → Refuses limit labels parts error → IsRefusal limit lines labels error
-table_refused limit lines labels parts (Fault fault) is refused = inr (subst (λ ps. IsFirstFault limit labels ps fault) (sym is) refused)
+pub table_refused : (limit : ℕ) (lines : List TableLine) (labels : List (List ℕ)) (parts : List TablePart) (error : TableFaultOrMemory) → table_parts lines ≡ parts → Refuses limit labels parts error → IsTableRefusal limit lines labels error
+table_refused limit lines labels parts (Fault fault) is refused = inr (subst (λ ps. IsFirstPartFault limit labels ps fault) (sym is) refused)
 table_refused limit lines labels parts Memory is refused = tt
 
-some_parts : (words : List Word) (others : List Part) → ¬ (words ≡ []) → ¬ (map name words ++ others ≡ [])
+some_parts : (words : List Word) (others : List TablePart) → ¬ (words ≡ []) → ¬ (map name words ++ others ≡ [])
 some_parts [] others some none = some refl
 some_parts (word ∷ words) others some none = absurd (cc)
 
 -- the entries of the table
 pub table_read : {F : Type 0} (limit : ℕ) (value : F → Number) (lines : List TableLine) (labels table : List (List ℕ)) (words : List Word) (rest : List (List Word)) (entries : List (Entry F)) → IsFirstLine (lines_of lines) words rest → Keeps limit value labels (map name words ++ under words rest) table entries → IsTable limit value lines labels table entries
 table_read limit value lines labels table words rest entries first keeps =
-    let all : Keeps limit value labels (parts_of lines) table entries = subst (λ ps. Keeps limit value labels ps table entries) (sym first.parts_are) keeps in
+    let all : Keeps limit value labels (table_parts lines) table entries = subst (λ ps. Keeps limit value labels ps table entries) (sym first.parts_are) keeps in
     record {
       headed = λ none. some_parts words (under words rest) first.some (sym first.parts_are ∙ none);
       sound = all.progress.sound;

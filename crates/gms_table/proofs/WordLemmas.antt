@@ -4,15 +4,15 @@ use Rattle.std.proofs.lemmas.List.Sums.{fold-append, fold_more}
 use Rattle.std.proofs.Math.Seq.{take-add}
 use Rattle.std.proofs.lemmas.List.{length-drop, length-take-le, drop-drop, drop_all, take_rest}
 use Rattle.gms_lines.specs.Lines.{is_blank}
-use Rattle.gms_lexemes.specs.Columns.{column_after}
-use Rattle.gms_table.specs.Words.{Word, parted, column_of, word_of, word_at, words_among, words_of}
-use Rattle.gms_table.specs.Shown.{AreSpacedFrom}
-use Rattle.gms_lexemes.specs.Stretches.{stretch_bytes}
-use Rattle.gms_lexemes.proofs.ColumnLemmas.{column_after-bounds}
+use Rattle.gms_lines.specs.Columns.{column_after}
+use Rattle.gms_table.specs.Words.{Word, parted, column_of_byte, word_of, word_at, words_among, words_of}
+use Rattle.gms_table.specs.InnerShown.{AreSpacedFrom}
+use Rattle.gms_lines.specs.Stretches.{stretch_bytes}
+use Rattle.gms_lines.proofs.ColumnLemmas.{column_after-bounds}
 use Rattle.gms_table.proofs.StretchLemmas.{stretch_bytes-le, stretches_behind, parted-stretch}
 
 -- the column of a byte further on
-pub column_of-add : (line : List ℕ) (n k : ℕ) → fold column_after (column_of line n) (take k (drop n line)) ≡ column_of line (n + k)
+pub column_of-add : (line : List ℕ) (n k : ℕ) → fold column_after (column_of_byte line n) (take k (drop n line)) ≡ column_of_byte line (n + k)
 column_of-add line n k = sym (fold-append column_after 1 (take n line) (take k (drop n line))) ∙ ap (fold column_after 1) (sym (take-add n k line))
 
 -- the words of a line from a byte on, at which a field begins
@@ -45,7 +45,7 @@ last_end-push column (w ∷ words) word = last_end-push w.end words word
 -- What was found of a line before a byte at which a field begins.
 pub record WordsSoFar (number : ℕ) (line : List ℕ) (words : List Word) (start column : ℕ) : Type 0 where
   pub within : start ≤ length line
-  pub column_is : column ≡ column_of line start
+  pub column_is : column ≡ column_of_byte line start
   pub room : column ≤ 8 * start + 1
   pub words_are : words ++ words_from number line start ≡ words_of number line
   pub spaced : AreSpacedFrom 0 words
@@ -68,13 +68,13 @@ module _ (number : ℕ) (line : List ℕ) (words : List Word) (start column : �
   stretch_within = omega (arith, long, so_far.within, stretch_bytes-le is_blank (drop start line), length-drop start line)
 
   -- the column after the field
-  end_column : end ≡ column_of line (start + length text)
+  end_column : end ≡ column_of_byte line (start + length text)
   end_column =
       next.end_is ∙ ap (fold column_after column) (next.text_is ∙ ap (λ n. take n (drop start line)) (sym long)) ∙ ap (λ c. fold column_after c (take (length text) (drop start line))) so_far.column_is ∙ column_of-add line start (length text)
 
   -- the word of the field
   word_here : word_of record { line = number; column = column } end text ≡ word_at number line start text
-  word_here = ap (λ c. word_of record { line = number; column = c } end text) so_far.column_is ∙ ap (λ e. word_of record { line = number; column = column_of line start } e text) end_column
+  word_here = ap (λ c. word_of record { line = number; column = c } end text) so_far.column_is ∙ ap (λ e. word_of record { line = number; column = column_of_byte line start } e text) end_column
 
   -- what follows the field
   rest_is : drop (length_from line start) (drop start line) ≡ drop (start + length text) line

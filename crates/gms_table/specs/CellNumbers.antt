@@ -2,7 +2,7 @@
 -- "Language Items", numbers).
 use Rattle.std.specs.Prelude.{◌≡◌, ℕ, ◌==◌, if◌then◌else◌, List, drop}
 use Rattle.gms_lines.specs.Lines.{begins}
-use Rattle.gms_lexemes.specs.Numbers.{is_sign}
+use Rattle.gms_lines.specs.Numbers.{is_sign}
 use Rattle.gq_number.specs.Number.{Number, neg_ℚ}
 use Rattle.gq_text.specs.Decimal.{MeansNumber}
 use Rattle.gq_text.specs.Literal.{FitsLiteral}
@@ -12,16 +12,16 @@ abbrev pub unsigned : List ℕ → List ℕ
 unsigned text = if begins is_sign text then drop 1 text else text
 
 -- a number with the sign that a text begins with
-abbrev pub signed : List ℕ → Number → Number
-signed text x = if begins (λ b. b == 45) text then neg_ℚ x else x
+abbrev pub signed_number : List ℕ → Number → Number
+signed_number text x = if begins (λ b. b == 45) text then neg_ℚ x else x
 
 -- the text is a number, of any size, with or without a sign
-abbrev pub IsNumber : List ℕ → Type 0
-IsNumber text = (x : Number) × MeansNumber (unsigned text) x
+abbrev pub IsNumberText : List ℕ → Type 0
+IsNumberText text = (x : Number) × MeansNumber (unsigned text) x
 
 -- the text is this number, which is within the limit by the rule for literals
 pub record IsValue (limit : ℕ) (text : List ℕ) (y : Number) : Type 0 where
   pub magnitude : Number
   pub means : MeansNumber (unsigned text) magnitude
   pub fits : FitsLiteral limit magnitude
-  pub value : y ≡ signed text magnitude
+  pub value : y ≡ signed_number text magnitude

@@ -4,19 +4,19 @@ use Rattle.gms_table.specs.declared.fault.TableError.{TableError}
 use Rattle.gms_table.specs.declared.fault.TableError.TheVariants.{NoColumn, TwoColumns, RepeatedEntry, BadRow, NoHeading, Labels}
 
 -- the number of an error
-abbrev pub error_code : TableError → ℕ
-error_code NoColumn = 21
-error_code TwoColumns = 22
-error_code RepeatedEntry = 23
-error_code BadRow = 24
-error_code NoHeading = 25
-error_code Labels = 26
+abbrev pub table_error_code : TableError → ℕ
+table_error_code NoColumn = 21
+table_error_code TwoColumns = 22
+table_error_code RepeatedEntry = 23
+table_error_code BadRow = 24
+table_error_code NoHeading = 25
+table_error_code Labels = 26
 
 -- the name of an error
-abbrev pub error_name : TableError → List ℕ
-error_name NoColumn = codes "NoColumn"
-error_name TwoColumns = codes "TwoColumns"
-error_name RepeatedEntry = codes "RepeatedEntry"
-error_name BadRow = codes "BadRow"
-error_name NoHeading = codes "NoHeading"
-error_name Labels = codes "Labels"
+abbrev pub table_error_name : TableError → List ℕ
+table_error_name NoColumn = codes "NoColumn"
+table_error_name TwoColumns = codes "TwoColumns"
+table_error_name RepeatedEntry = codes "RepeatedEntry"
+table_error_name BadRow = codes "BadRow"
+table_error_name NoHeading = codes "NoHeading"
+table_error_name Labels = codes "Labels"

@@ -3,9 +3,9 @@ pub mod WordLabels
 pub mod CellNumbers
 pub mod Faults
 pub mod TableEntries
-pub mod Shown
-pub mod Names
-pub mod ReadNumbers
-pub mod Given
-pub mod Cells
-pub mod Progress
+pub mod InnerShown
+pub mod InnerNames
+pub mod InnerNumbers
+pub mod InnerGiven
+pub mod InnerCells
+pub mod InnerProgress

@@ -3,7 +3,7 @@
 -- Tables"). Which faults there are, and which comes first, is this project's rule.
 use Rattle.std.specs.Prelude.{◌≡◌, ◌⊎◌, ℕ, ◌≤◌, ◌<◌, Bool, ◌&&◌, ◌==◌, nat_lt, if◌then◌else◌, List, [], ◌∷◌, ◌++◌, length, map, filter, Contains, None, string_bytes}
 use Rattle.gms_labels.specs.declared.place.Place.{Place}
-use Rattle.gms_labels.specs.Labels.{folded, most_labels}
+use Rattle.gms_labels.specs.Labels.{lower_case, most_labels}
 use Rattle.gms_lines.specs.Lines.{begins}
 use Rattle.gq_number.specs.Number.{Number}
 use Rattle.gms_table.specs.declared.entry.TableLine.{TableLine}
@@ -14,51 +14,51 @@ use Rattle.gms_table.specs.declared.fault.TableFault.{TableFault}
 use Rattle.gms_table.specs.declared.fault.TableFaultOrMemory.{TableFaultOrMemory}
 use Rattle.gms_table.specs.declared.fault.TableFaultOrMemory.TheVariants.{Memory, Fault}
 use Rattle.gms_table.specs.Words.{Word, words_of}
-use Rattle.gms_table.specs.WordLabels.{labels_of, names_of, all_entered, AreNumbers}
-use Rattle.gms_table.specs.CellNumbers.{IsNumber, IsValue}
-use Rattle.gms_table.specs.Faults.{error_code}
+use Rattle.gms_table.specs.WordLabels.{labels_of_text, labels_of_word, all_entered, AreLabelNumbers}
+use Rattle.gms_table.specs.CellNumbers.{IsNumberText, IsValue}
+use Rattle.gms_table.specs.Faults.{table_error_code}
 
 -- ---- what the words of a table are
 
 -- A word of a table.
-pub data Part : Type 0 where
+pub data TablePart : Type 0 where
   -- a heading or a row label
-  name : Word → Part
+  name : Word → TablePart
   -- a later word of a row, where a number is expected: with the row's label and the headings that
   -- apply to it
-  cell : Word → List Word → Word → Part
+  cell : Word → List Word → Word → TablePart
 
 -- the word `+`
 abbrev pub is_plus : Word → Bool
 is_plus word = begins (λ b. b == 43) word.text && length word.text == 1
 
 -- the words of lines under these headings: new headings follow a `+`, and any other line is a row
-abbrev pub under : List Word → List (List Word) → List Part
+abbrev pub under : List Word → List (List Word) → List TablePart
 under headings [] = []
 under headings ([] ∷ lines) = under headings lines
 under headings ((first ∷ words) ∷ lines) =
     if is_plus first then map name words ++ under words lines else name first ∷ (map (cell first headings) words ++ under headings lines)
 
 -- the words of a table, whose first line with words has the headings
-abbrev pub table_of : List (List Word) → List Part
+abbrev pub table_of : List (List Word) → List TablePart
 table_of [] = []
 table_of ([] ∷ lines) = table_of lines
 table_of ((first ∷ words) ∷ lines) = map name (first ∷ words) ++ under (first ∷ words) lines
 
 -- the words of the lines of a table
-abbrev pub parts_of : List TableLine → List Part
-parts_of lines = table_of (map (λ line. words_of line.line (string_bytes line.text)) lines)
+abbrev pub table_parts : List TableLine → List TablePart
+table_parts lines = table_of (map (λ line. words_of line.line (string_bytes line.text)) lines)
 
 -- the place of a word of a table
-abbrev pub place_of_part : Part → Place
+abbrev pub place_of_part : TablePart → Place
 place_of_part (name word) = word.at
 place_of_part (cell row headings word) = word.at
 
 -- the labels of headings and row labels, in order
-abbrev pub texts_of : List Part → List (List ℕ)
-texts_of [] = []
-texts_of (name word ∷ parts) = names_of word ++ texts_of parts
-texts_of (cell row headings word ∷ parts) = texts_of parts
+abbrev pub label_texts : List TablePart → List (List ℕ)
+label_texts [] = []
+label_texts (name word ∷ parts) = labels_of_word word ++ label_texts parts
+label_texts (cell row headings word ∷ parts) = label_texts parts
 
 -- ---- which heading a number is under
 
@@ -76,10 +76,10 @@ Key = List (List ℕ) × List (List ℕ)
 
 -- the labels of a row and of a heading
 abbrev pub key_of : Word → Word → Key
-key_of row heading = (map folded (names_of row), map folded (names_of heading))
+key_of row heading = (map lower_case (labels_of_word row), map lower_case (labels_of_word heading))
 
 -- the rows and headings of the numbers
-abbrev pub keys_of : List Part → List Key
+abbrev pub keys_of : List TablePart → List Key
 keys_of [] = []
 keys_of (name word ∷ parts) = keys_of parts
 keys_of (cell row headings word ∷ parts) = map (key_of row) (met headings word) ++ keys_of parts
@@ -93,12 +93,12 @@ module _ {F : Type 0} (limit : ℕ) (value : F → Number) (labels : List (List 
     pub heading : Word
     pub under_one : met headings word ≡ heading ∷ []
     pub at : entry.at ≡ word.at
-    pub row_is : AreNumbers labels entry.row (names_of row)
-    pub column_is : AreNumbers labels entry.column (names_of heading)
+    pub row_is : AreLabelNumbers labels entry.row (labels_of_word row)
+    pub column_is : AreLabelNumbers labels entry.column (labels_of_word heading)
     pub value_is : IsValue limit word.text (value entry.value)
 
   -- the entries of a table: one for each number, in order
-  abbrev pub AreEntries : List Part → List (Entry F) → Type 0
+  abbrev pub AreEntries : List TablePart → List (Entry F) → Type 0
   AreEntries [] entries = entries ≡ []
   AreEntries (name word ∷ parts) entries = AreEntries parts entries
   AreEntries (cell row headings word ∷ parts) [] = ⊥
@@ -111,37 +111,37 @@ module _ (limit : ℕ) (labels : List (List ℕ)) where
   -- labels, or one of its labels exceeds the limit of the table of labels. Where a number is
   -- expected, a number meets no heading, meets two or more, or is the second one of its row and
   -- heading; or there is no number within the limit.
-  abbrev pub Stands : List Part → Part → TableError → Type 0
-  Stands before (name word) BadRow = labels_of word.text ≡ None
-  Stands before (name word) Labels = most_labels < length (all_entered labels (texts_of before ++ names_of word))
-  Stands before (name word) NoColumn = ⊥
-  Stands before (name word) TwoColumns = ⊥
-  Stands before (name word) RepeatedEntry = ⊥
-  Stands before (name word) NoHeading = ⊥
-  Stands before (cell row headings word) NoColumn = IsNumber word.text × (met headings word ≡ [])
-  Stands before (cell row headings word) TwoColumns = IsNumber word.text × (1 < length (met headings word))
-  Stands before (cell row headings word) RepeatedEntry =
-      IsNumber word.text × ((heading : Word) × (met headings word ≡ heading ∷ []) × Contains (keys_of before) (key_of row heading))
-  Stands before (cell row headings word) BadRow = (x : Number) → ¬ IsValue limit word.text x
-  Stands before (cell row headings word) NoHeading = ⊥
-  Stands before (cell row headings word) Labels = ⊥
+  abbrev pub IsPartFault : List TablePart → TablePart → TableError → Type 0
+  IsPartFault before (name word) BadRow = labels_of_text word.text ≡ None
+  IsPartFault before (name word) Labels = most_labels < length (all_entered labels (label_texts before ++ labels_of_word word))
+  IsPartFault before (name word) NoColumn = ⊥
+  IsPartFault before (name word) TwoColumns = ⊥
+  IsPartFault before (name word) RepeatedEntry = ⊥
+  IsPartFault before (name word) NoHeading = ⊥
+  IsPartFault before (cell row headings word) NoColumn = IsNumberText word.text × (met headings word ≡ [])
+  IsPartFault before (cell row headings word) TwoColumns = IsNumberText word.text × (1 < length (met headings word))
+  IsPartFault before (cell row headings word) RepeatedEntry =
+      IsNumberText word.text × ((heading : Word) × (met headings word ≡ heading ∷ []) × Contains (keys_of before) (key_of row heading))
+  IsPartFault before (cell row headings word) BadRow = (x : Number) → ¬ IsValue limit word.text x
+  IsPartFault before (cell row headings word) NoHeading = ⊥
+  IsPartFault before (cell row headings word) Labels = ⊥
 
   -- none of these parts, which follow others, has an error
-  abbrev pub AreSound : List Part → List Part → Type 0
-  AreSound before [] = Unit {0}
-  AreSound before (part ∷ parts) = ((error : TableError) → ¬ Stands before part error) × AreSound (before ++ part ∷ []) parts
+  abbrev pub ArePartsFaultless : List TablePart → List TablePart → Type 0
+  ArePartsFaultless before [] = Unit {0}
+  ArePartsFaultless before (part ∷ parts) = ((error : TableError) → ¬ IsPartFault before part error) × ArePartsFaultless (before ++ part ∷ []) parts
 
   -- The first fault of a table: no part before its part has an error, and it is the least error
   -- there.
-  pub record IsFirstFault (parts : List Part) (fault : TableFault) : Type 0 where
-    pub before : List Part
-    pub part : Part
-    pub behind : List Part
+  pub record IsFirstPartFault (parts : List TablePart) (fault : TableFault) : Type 0 where
+    pub before : List TablePart
+    pub part : TablePart
+    pub behind : List TablePart
     pub parts_are : parts ≡ before ++ part ∷ behind
-    pub sound : AreSound [] before
+    pub sound : ArePartsFaultless [] before
     pub at : fault.at ≡ place_of_part part
-    pub stands : Stands before part fault.error
-    pub least : (other : TableError) → Stands before part other → error_code fault.error ≤ error_code other
+    pub stands : IsPartFault before part fault.error
+    pub least : (other : TableError) → IsPartFault before part other → table_error_code fault.error ≤ table_error_code other
 
 -- ---- the whole
 
@@ -152,17 +152,17 @@ nowhere = record { line = 0; column = 0 }
 -- These are the entries of a table with headings and without faults; `before` and `after` are the
 -- labels before and after it.
 pub record IsTable {F : Type 0} (limit : ℕ) (value : F → Number) (lines : List TableLine) (before after : List (List ℕ)) (entries : List (Entry F)) : Type 0 where
-  pub headed : ¬ (parts_of lines ≡ [])
-  pub sound : AreSound limit before [] (parts_of lines)
-  pub labels_are : after ≡ all_entered before (texts_of (parts_of lines))
-  pub entries_are : AreEntries limit value after (parts_of lines) entries
+  pub headed : ¬ (table_parts lines ≡ [])
+  pub sound : ArePartsFaultless limit before [] (table_parts lines)
+  pub labels_are : after ≡ all_entered before (label_texts (table_parts lines))
+  pub entries_are : AreEntries limit value after (table_parts lines) entries
 
 -- the fault of a table: no line has a heading, or the first fault in its lines
-abbrev pub IsFault : ℕ → List TableLine → List (List ℕ) → TableFault → Type 0
-IsFault limit lines labels fault =
-    ((parts_of lines ≡ []) × (fault ≡ record { error = NoHeading; at = nowhere })) ⊎ IsFirstFault limit labels (parts_of lines) fault
+abbrev pub IsTableFault : ℕ → List TableLine → List (List ℕ) → TableFault → Type 0
+IsTableFault limit lines labels fault =
+    ((table_parts lines ≡ []) × (fault ≡ record { error = NoHeading; at = nowhere })) ⊎ IsFirstPartFault limit labels (table_parts lines) fault
 
 -- an answer in place of entries: the first fault of the table, or out of memory
-abbrev pub IsRefusal : ℕ → List TableLine → List (List ℕ) → TableFaultOrMemory → Type 0
-IsRefusal limit lines labels (Fault fault) = IsFault limit lines labels fault
-IsRefusal limit lines labels Memory = Unit {0}
+abbrev pub IsTableRefusal : ℕ → List TableLine → List (List ℕ) → TableFaultOrMemory → Type 0
+IsTableRefusal limit lines labels (Fault fault) = IsTableFault limit lines labels fault
+IsTableRefusal limit lines labels Memory = Unit {0}

@@ -5,9 +5,9 @@ use Rattle.std.specs.List.{list_all, prefix_len}
 use Rattle.std.specs.Char.{is_ascii_alphanumeric}
 use Rattle.gms_lines.specs.Lines.{begins}
 use Rattle.gms_labels.specs.Labels.{entered, place_of}
-use Rattle.gms_lexemes.specs.Bytes.{is_label_byte, is_quote, is_plain}
-use Rattle.gms_lexemes.specs.Shapes.{longest_label}
-use Rattle.gms_lexemes.specs.Stretches.{is_dot}
+use Rattle.gms_lines.specs.Bytes.{is_label_byte, is_quote, is_ascii}
+use Rattle.gms_lines.specs.Shapes.{longest_label}
+use Rattle.gms_lines.specs.Stretches.{is_dot}
 use Rattle.gms_table.specs.Words.{Word, parted}
 
 -- the label after its first mark: the text before the closing mark, which nothing follows; it is
@@ -15,7 +15,7 @@ use Rattle.gms_table.specs.Words.{Word, parted}
 abbrev pub quoted_label : ℕ → List ℕ → Option (List ℕ)
 quoted_label mark rest =
     let inner = prefix_len (λ b. not (b == mark)) rest in
-    if inner + 1 == length rest && (nat_le inner longest_label && list_all is_plain (take inner rest)) then Some (take inner rest) else None
+    if inner + 1 == length rest && (nat_le inner longest_label && list_all is_ascii (take inner rest)) then Some (take inner rest) else None
 
 -- the label that is written without marks: a letter or a digit, and then letters, digits, `+`, `-`
 -- and `_`
@@ -24,9 +24,9 @@ plain_label text =
     if begins is_ascii_alphanumeric text && (prefix_len is_label_byte text == length text && nat_le (length text) longest_label) then Some text else None
 
 -- the label that a text writes
-abbrev pub label_of : List ℕ → Option (List ℕ)
-label_of [] = None
-label_of (b ∷ rest) = if is_quote b then quoted_label b rest else plain_label (b ∷ rest)
+abbrev pub label_of_text : List ℕ → Option (List ℕ)
+label_of_text [] = None
+label_of_text (b ∷ rest) = if is_quote b then quoted_label b rest else plain_label (b ∷ rest)
 
 -- a label before others, if all are labels
 abbrev pub with_label : Option (List ℕ) → Option (List (List ℕ)) → Option (List (List ℕ))
@@ -37,24 +37,24 @@ with_label None others = None
 -- the labels that texts write, if each writes one
 abbrev pub labels_among : List (List ℕ) → Option (List (List ℕ))
 labels_among [] = Some []
-labels_among (text ∷ others) = with_label (label_of text) (labels_among others)
+labels_among (text ∷ others) = with_label (label_of_text text) (labels_among others)
 
 -- the labels that a text joins by dots, if it is made of labels
-abbrev pub labels_of : List ℕ → Option (List (List ℕ))
-labels_of text = labels_among (parted is_dot text)
+abbrev pub labels_of_text : List ℕ → Option (List (List ℕ))
+labels_of_text text = labels_among (parted is_dot text)
 
 -- the labels of a word, and none if it is not made of labels
-abbrev pub names_of : Word → List (List ℕ)
-names_of word = unwrap_or (labels_of word.text) []
+abbrev pub labels_of_word : Word → List (List ℕ)
+labels_of_word word = unwrap_or (labels_of_text word.text) []
 
 -- a table of labels after these were entered in order
 abbrev pub all_entered : List (List ℕ) → List (List ℕ) → List (List ℕ)
 all_entered labels texts = fold entered labels texts
 
 -- these are the numbers of these labels in a table of labels
-abbrev pub AreNumbers : List (List ℕ) → List ℕ → List (List ℕ) → Type 0
-AreNumbers labels numbers texts = map Some numbers ≡ map (place_of labels) texts
+abbrev pub AreLabelNumbers : List (List ℕ) → List ℕ → List (List ℕ) → Type 0
+AreLabelNumbers labels numbers texts = map Some numbers ≡ map (place_of labels) texts
 
 -- a list begins with another
-abbrev pub GoesOn : List (List ℕ) → List (List ℕ) → Type 0
-GoesOn before after = (more : List (List ℕ)) × (after ≡ before ++ more)
+abbrev pub IsPrefix : List (List ℕ) → List (List ℕ) → Type 0
+IsPrefix before after = (more : List (List ℕ)) × (after ≡ before ++ more)

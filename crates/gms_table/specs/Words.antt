@@ -3,8 +3,8 @@
 use Rattle.std.specs.Prelude.{ℕ, zero, suc, ◌+◌, Bool, List, [], ◌∷◌, ◌++◌, length, take, drop, fold}
 use Rattle.gms_labels.specs.declared.place.Place.{Place}
 use Rattle.gms_lines.specs.Lines.{is_blank}
-use Rattle.gms_lexemes.specs.Columns.{column_after}
-use Rattle.gms_lexemes.specs.Stretches.{stretch_bytes}
+use Rattle.gms_lines.specs.Columns.{column_after}
+use Rattle.gms_lines.specs.Stretches.{stretch_bytes}
 
 -- A word: its place, the column after it, and its bytes.
 pub record Word : Type 0 where
@@ -29,8 +29,8 @@ abbrev pub parted : (ℕ → Bool) → List ℕ → List (List ℕ)
 parted test text = first_stretches test (suc (length text)) text
 
 -- the column of a byte of a line, or of its end
-abbrev pub column_of : List ℕ → ℕ → ℕ
-column_of line n = fold column_after 1 (take n line)
+abbrev pub column_of_byte : List ℕ → ℕ → ℕ
+column_of_byte line n = fold column_after 1 (take n line)
 
 -- the word of these bytes, which has this place and ends before this column; none without bytes
 abbrev pub word_of : Place → ℕ → List ℕ → List Word
@@ -39,7 +39,7 @@ word_of at end (b ∷ text) = record { at = at; end = end; text = b ∷ text } �
 
 -- the word of these bytes of a line, which begin at byte `start`
 abbrev pub word_at : ℕ → List ℕ → ℕ → List ℕ → List Word
-word_at number line start text = word_of record { line = number; column = column_of line start } (column_of line (start + length text)) text
+word_at number line start text = word_of record { line = number; column = column_of_byte line start } (column_of_byte line (start + length text)) text
 
 -- the words among the fields between the blanks of a line, of which the first begins at this byte
 abbrev pub words_among : ℕ → List ℕ → ℕ → List (List ℕ) → List Word

@@ -1,6 +1,6 @@
 //! Why a table has no entries, and where.
 ghost use Rattle.std.specs.Prelude.{◌≡◌};
-ghost use Rattle.gms_table.specs.Faults.{error_code, error_name};
+ghost use Rattle.gms_table.specs.Faults.{table_error_code, table_error_name};
 ghost use Rattle.gms_table.specs.declared.fault.TableFaultOrMemory.TheVariants.{Memory};
 
 use gms_labels::Place;
@@ -34,7 +34,7 @@ pub enum TableError {
 impl TableError {
     /// The number of the error.
     pub fn code(self) -> u8
-        ensures { result ≡ error_code self }
+        ensures { result ≡ table_error_code self }
     {
         match self {
             TableError::NoColumn => 21,
@@ -48,7 +48,7 @@ impl TableError {
 
     /// The name of the error.
     pub fn name(self) -> &'static str
-        ensures { result.now ≡ error_name self }
+        ensures { result.now ≡ table_error_name self }
     {
         match self {
             TableError::NoColumn => "NoColumn",

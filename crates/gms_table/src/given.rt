@@ -1,6 +1,6 @@
 //! The entries of a table as they are found, and the rows and headings that they have.
 ghost use Rattle.std.specs.Prelude.{◌≡◌, ◌++◌, ◌∷◌, [], IfOk, OnOk};
-ghost use Rattle.gms_table.specs.Given.{is_given};
+ghost use Rattle.gms_table.specs.InnerGiven.{is_given};
 
 use crate::entry::Entry;
 use std::alloc::{AllocError, Global};
@@ -37,7 +37,7 @@ pub(crate) struct Entries<F> {
 impl<F> Model for Entries<F> {
     ghost use Rattle.std.specs.Prelude.{List};
     ghost use Rattle.gms_table.specs.declared.entry.Entry.{Entry};
-    ghost use Rattle.gms_table.specs.Cells.{AreCellsOf};
+    ghost use Rattle.gms_table.specs.InnerCells.{AreCellsOf};
 
     ghost Value = { List (Entry F) };
 

@@ -1,10 +1,10 @@
 //! The headings of a table, and the one above a number.
 ghost use Rattle.std.specs.Prelude.{◌≡◌, ℕ, List};
 ghost use Rattle.gms_table.specs.Words as words;
-ghost use Rattle.gms_table.specs.WordLabels.{GoesOn};
-ghost use Rattle.gms_table.specs.Shown.{seen, seen_all, AreSpaced, AreHeadings, begin_before};
-ghost use Rattle.gms_table.specs.TableEntries.{Part};
-ghost use Rattle.gms_table.specs.Progress.{Progress, ReadsHeadings, AreLeft, Finds};
+ghost use Rattle.gms_table.specs.WordLabels.{IsPrefix};
+ghost use Rattle.gms_table.specs.InnerShown.{seen, seen_all, AreSpaced, AreHeadings, begin_before};
+ghost use Rattle.gms_table.specs.TableEntries.{TablePart};
+ghost use Rattle.gms_table.specs.InnerProgress.{Progress, ReadsHeadings, AreLeft, Finds};
 
 use crate::fault::{TableError, TableFaultOrMemory};
 use crate::label::enter;
@@ -29,9 +29,9 @@ pub(crate) fn read_headings(
     table: &mut Labels,
     words: &[Word<'_>],
 ) -> Result<Vec<Heading>, TableFaultOrMemory>
-    ensures read { (limit : ℕ) (labels : List (List ℕ)) (before : List Part) → Progress limit labels before table.old
+    ensures read { (limit : ℕ) (labels : List (List ℕ)) (before : List TablePart) → Progress limit labels before table.old
         → ReadsHeadings limit labels before (seen_all words.now) table.new result }
-    ensures goes_on { GoesOn table.old table.new }
+    ensures goes_on { IsPrefix table.old table.new }
 {
     let mut headings = Vec::with_capacity(alloc, words.len())?;
     for word in words {

@@ -4,27 +4,27 @@ ghost use Rattle.std.specs.List.{list_all, prefix_len};
 ghost use Rattle.std.specs.Char.{is_ascii_alphanumeric};
 ghost use Rattle.std.specs.Option.{option_copied};
 ghost use Rattle.gms_lines.specs.Lines.{begins};
-ghost use Rattle.gms_lexemes.specs.Bytes.{is_plain};
-ghost use Rattle.gms_table.specs.WordLabels.{quoted_label, plain_label, label_of, labels_of, GoesOn};
-ghost use Rattle.gms_table.specs.Names.{Enters, IsEntering, read, read_all};
-ghost use Rattle.gms_table.specs.Shown.{seen};
+ghost use Rattle.gms_lines.specs.Bytes.{is_ascii};
+ghost use Rattle.gms_table.specs.WordLabels.{quoted_label, plain_label, label_of_text, labels_of_text, IsPrefix};
+ghost use Rattle.gms_table.specs.InnerNames.{Enters, IsEntering, read, read_all};
+ghost use Rattle.gms_table.specs.InnerShown.{seen};
 
 use crate::fault::{TableError, TableFaultOrMemory};
 use crate::word::Word;
 use gms_labels::{LabelFault, Labels, MOST_BYTES};
-use gms_lexemes::{Separator, label_length, stretch_length};
+use gms_lines::{Separator, label_length, stretch_length};
 use std::alloc::{AllocError, Global};
 
 /// Whether all bytes are of ASCII.
 fn are_plain(bytes: &[u8]) -> bool
-    ensures { result ≡ list_all is_plain bytes.now }
+    ensures { result ≡ list_all is_ascii bytes.now }
 {
     bytes.iter().all(|byte| *byte <= 127)
 }
 
 /// The text of bytes that are all of ASCII.
 fn plain_text(bytes: &[u8]) -> Option<&str>
-    requires { list_all is_plain bytes.now ≡ true }
+    requires { list_all is_ascii bytes.now ≡ true }
     ensures { option_copied result ≡ Some bytes.now }
 {
     str::from_utf8(bytes).ok()
@@ -74,7 +74,7 @@ fn plain_label(text: &[u8]) -> Option<&str>
 
 /// The label that a text writes, if it does.
 fn label_of(text: &[u8]) -> Option<&str>
-    ensures label { option_copied result ≡ label_of text.now }
+    ensures label { option_copied result ≡ label_of_text text.now }
     ensures short { IfSome result (λ label. length label.now ≤ 63) }
 {
     match text {
@@ -85,7 +85,7 @@ fn label_of(text: &[u8]) -> Option<&str>
 
 /// The labels that a text joins by dots, if it is made of labels.
 fn labels_of(alloc: Global, text: &[u8]) -> Result<Option<Vec<&str>>, AllocError>
-    ensures labels { IfOk result (λ labels. read labels ≡ labels_of text.now) }
+    ensures labels { IfOk result (λ labels. read labels ≡ labels_of_text text.now) }
     ensures short { IfOk result (λ labels. IfSome labels (λ labels. All (λ label. length label.now ≤ 63) labels.items)) }
     ensures some { IfOk result (λ labels. IfSome labels (λ labels. 0 < vec_len labels)) }
 {
@@ -108,7 +108,7 @@ fn labels_of(alloc: Global, text: &[u8]) -> Result<Option<Vec<&str>>, AllocError
 fn enter_all(alloc: Global, table: &mut Labels, labels: &[&str]) -> Result<Vec<u32>, LabelFault>
     requires { All (λ label. length label.now ≤ 63) labels.now }
     ensures entered { IsEntering table.old table.new (read_all labels.now) result }
-    ensures goes_on { GoesOn table.old table.new }
+    ensures goes_on { IsPrefix table.old table.new }
 {
     let mut numbers = Vec::with_capacity(alloc, labels.len())?;
     for label in labels {
@@ -128,7 +128,7 @@ pub(crate) fn enter(
     word: Word<'_>,
 ) -> Result<Vec<u32>, TableFaultOrMemory>
     ensures entered { Enters table.old table.new (seen word.entry) result }
-    ensures goes_on { GoesOn table.old table.new }
+    ensures goes_on { IsPrefix table.old table.new }
 {
     let Some(labels) = labels_of(alloc, word.text)? else {
         return Err(word.fault(TableError::BadRow));

@@ -2,7 +2,7 @@
 ghost use Rattle.std.specs.Prelude.{◌≡◌, ◌==◌};
 ghost use Rattle.gms_lines.specs.Lines.{begins};
 ghost use Rattle.gms_table.specs.CellNumbers.{unsigned};
-ghost use Rattle.gms_table.specs.ReadNumbers.{ReadsCell};
+ghost use Rattle.gms_table.specs.InnerNumbers.{ReadsCell};
 
 use gq_field::{ExactField, Limit};
 use gq_text::{NumberFault, read_decimal};

@@ -2,10 +2,10 @@
 ghost use Rattle.std.specs.Prelude.{◌≡◌, ◌≤◌, ◌++◌, ◌∷◌, [], ℕ, List, All, IfOk, IfNone, IfSome, MatchResult, string_len};
 ghost use Rattle.gms_lines.specs.LineFaults.{longest_line};
 ghost use Rattle.gms_table.specs.Words as seen_words;
-ghost use Rattle.gms_table.specs.WordLabels.{GoesOn};
-ghost use Rattle.gms_table.specs.Shown.{seen, seen_all, AreSpaced, AreHeadings};
-ghost use Rattle.gms_table.specs.TableEntries.{Part, cell, is_plus, under, table_of, parts_of, IsTable, IsRefusal};
-ghost use Rattle.gms_table.specs.Progress.{words_in, lines_of, row_parts, Refuses, IsRow, Keeps, LinesSoFar, IsFirstLine};
+ghost use Rattle.gms_table.specs.WordLabels.{IsPrefix};
+ghost use Rattle.gms_table.specs.InnerShown.{seen, seen_all, AreSpaced, AreHeadings};
+ghost use Rattle.gms_table.specs.TableEntries.{TablePart, cell, is_plus, under, table_of, table_parts, IsTable, IsTableRefusal};
+ghost use Rattle.gms_table.specs.InnerProgress.{words_in, lines_of, row_parts, Refuses, IsRow, Keeps, LinesSoFar, IsFirstLine};
 
 use crate::entry::{Entry, TableLine};
 use crate::fault::{TableError, TableFault, TableFaultOrMemory};
@@ -25,7 +25,7 @@ fn first_line(
     lines: &[TableLine],
 ) -> Result<Option<(Vec<Word<'_>>, &[TableLine])>, AllocError>
     requires { All (λ line. string_len line.text ≤ longest_line) lines.now }
-    ensures none { IfOk result (λ found. IfNone found (parts_of lines.now ≡ [])) }
+    ensures none { IfOk result (λ found. IfNone found (table_parts lines.now ≡ [])) }
     ensures some { IfOk result (λ found. IfSome found (λ found. IsFirstLine (lines_of lines.now) (seen_all found.0.items) (lines_of found.1.now))) }
     ensures short { IfOk result (λ found. IfSome found (λ found. All (λ line. string_len line.text ≤ longest_line) found.1.now)) }
 {
@@ -51,7 +51,7 @@ fn read_cell<F: ExactField>(
     headings: &[Heading],
     word: Word<'_>,
 ) -> Result<(), TableFaultOrMemory>
-    ensures { (labels : List (List ℕ)) (before : List Part) (table : List (List ℕ)) (label : seen_words.Word) (names : List seen_words.Word) →
+    ensures { (labels : List (List ℕ)) (before : List TablePart) (table : List (List ℕ)) (label : seen_words.Word) (names : List seen_words.Word) →
         Keeps F.limit F.value labels before table entries.old → IsRow table label names row.now headings.now →
         MatchResult result
         (λ _. Keeps F.limit F.value labels (before ++ cell label names (seen word.entry) ∷ []) table entries.new)
@@ -92,12 +92,12 @@ fn read_row<F: ExactField>(
     label: Word<'_>,
     words: &[Word<'_>],
 ) -> Result<(), TableFaultOrMemory>
-    ensures row { (labels : List (List ℕ)) (before : List Part) (names : List seen_words.Word) →
+    ensures row { (labels : List (List ℕ)) (before : List TablePart) (names : List seen_words.Word) →
         Keeps F.limit F.value labels before table.old entries.old → AreHeadings table.old names headings.now → AreSpaced names →
         MatchResult result
         (λ _. Keeps F.limit F.value labels (before ++ row_parts (seen label.entry) names (seen_all words.now)) table.new entries.new)
         (Refuses F.limit labels (before ++ row_parts (seen label.entry) names (seen_all words.now))) }
-    ensures goes_on { GoesOn table.old table.new }
+    ensures goes_on { IsPrefix table.old table.new }
 {
     let row = enter(alloc, table, label)?;
     for word in words {
@@ -122,12 +122,12 @@ fn read_line<F: ExactField>(
     line: &TableLine,
 ) -> Result<(), TableFaultOrMemory>
     requires { string_len line.now.text ≤ longest_line }
-    ensures line { (labels : List (List ℕ)) (before : List Part) (begun : List seen_words.Word) (all rest : List (List seen_words.Word)) →
+    ensures line { (labels : List (List ℕ)) (before : List TablePart) (begun : List seen_words.Word) (all rest : List (List seen_words.Word)) →
         LinesSoFar F.limit F.value labels before begun all (words_in line.now ∷ rest) table.old entries.old headings.old.items →
         MatchResult result
         (λ _. LinesSoFar F.limit F.value labels before begun all rest table.new entries.new headings.new.items)
         (Refuses F.limit labels (before ++ under begun all)) }
-    ensures goes_on { GoesOn table.old table.new }
+    ensures goes_on { IsPrefix table.old table.new }
 {
     let words = words_of(alloc, line.line, line.text.as_bytes())?;
     let Some((first, others)) = words.as_slice().split_first() else {
@@ -149,12 +149,12 @@ fn read_rows<F: ExactField>(
     lines: &[TableLine],
 ) -> Result<(), TableFaultOrMemory>
     requires { All (λ line. string_len line.text ≤ longest_line) lines.now }
-    ensures rows { (labels : List (List ℕ)) (before : List Part) (names : List seen_words.Word) →
+    ensures rows { (labels : List (List ℕ)) (before : List TablePart) (names : List seen_words.Word) →
         Keeps F.limit F.value labels before table.old entries.old → AreHeadings table.old names headings.items → AreSpaced names →
         MatchResult result
         (λ _. Keeps F.limit F.value labels (before ++ under names (lines_of lines.now)) table.new entries.new)
         (Refuses F.limit labels (before ++ under names (lines_of lines.now))) }
-    ensures goes_on { GoesOn table.old table.new }
+    ensures goes_on { IsPrefix table.old table.new }
 {
     for line in lines {
         read_line(alloc, entries, table, &mut headings, line)?;
@@ -187,8 +187,8 @@ pub fn table<F: ExactField>(
     requires { All (λ line. string_len line.text ≤ longest_line) lines.now }
     ensures table { MatchResult result
         (λ entries. IsTable F.limit F.value lines.now labels.old labels.new entries.items)
-        (λ error. IsRefusal F.limit lines.now labels.old error) }
-    ensures goes_on { GoesOn labels.old labels.new }
+        (λ error. IsTableRefusal F.limit lines.now labels.old error) }
+    ensures goes_on { IsPrefix labels.old labels.new }
 {
     let Some((words, rows)) = first_line(alloc, lines)? else {
         return Err(TableFaultOrMemory::Fault(TableFault {

@@ -11,7 +11,7 @@ use Rattle.lp_core.specs.declared.program.Column.{Column}
 use Rattle.lp_core.specs.declared.program.Row.{Row}
 use Rattle.lp_core.specs.declared.program.Lp.{Lp}
 use Rattle.lp_core.specs.DualBound.{by_sign, used, total, both}
-use Rattle.lp_check.specs.BoundSteps.{bound_of}
+use Rattle.lp_check.specs.BoundSteps.{objective_bound}
 
 -- 2 is above 0
 two_above : number_cmp (ratio (pos 2) 1) (whole (pos 0)) ≡ Greater
@@ -37,7 +37,7 @@ module _ {F : Type 0} (value : F → Number) (k r : Key) (zero one hundred two :
   cost = whole (pos 1) -ℚ (value two *ℚ (value hundred +ℚ whole (pos 0)) +ℚ whole (pos 0))
 
   -- the bound exists, by the signs of the dual and of the reduced cost
-  by_signs : number_cmp (value two) (whole (pos 0)) ≡ Greater → number_cmp cost (whole (pos 0)) ≡ Less → bound_of value true (the_program (the_column ∷ []) (the_row ((0, hundred) ∷ []) ∷ [])) (value two ∷ []) ≢ None
+  by_signs : number_cmp (value two) (whole (pos 0)) ≡ Greater → number_cmp cost (whole (pos 0)) ≡ Less → objective_bound value true (the_program (the_column ∷ []) (the_row ((0, hundred) ∷ []) ∷ [])) (value two ∷ []) ≢ None
   unfolding sum_by_ℚ
   by_signs above below none =
       let a : used (value two) (Some (value one)) None ≡ Some (value two *ℚ value one) = ap (λ o. by_sign o (value two) (Some (value one)) None) above in
@@ -47,9 +47,9 @@ module _ {F : Type 0} (value : F → Number) (k r : Key) (zero one hundred two :
       some_there : (o : Option Number) (n : Number) → o ≡ Some n → o ≡ None → ⊥
       some_there o n is none = absurd (cc)
 
-  pub bound_there : value hundred ≡ ratio (pos 100) 1 → value two ≡ ratio (pos 2) 1 → (entries : List (ℕ × F)) (columns : List (Column F)) (rows : List (Row F)) → entries ≡ (0, hundred) ∷ [] → columns ≡ the_column ∷ [] → rows ≡ the_row entries ∷ [] → bound_of value true (the_program columns rows) (value two ∷ []) ≢ None
+  pub bound_there : value hundred ≡ ratio (pos 100) 1 → value two ≡ ratio (pos 2) 1 → (entries : List (ℕ × F)) (columns : List (Column F)) (rows : List (Row F)) → entries ≡ (0, hundred) ∷ [] → columns ≡ the_column ∷ [] → rows ≡ the_row entries ∷ [] → objective_bound value true (the_program columns rows) (value two ∷ []) ≢ None
   bound_there h t entries columns rows e c w =
       let above = ap (λ x. number_cmp x (whole (pos 0))) t ∙ two_above in
       let below = ap₂ (λ x y. number_cmp (whole (pos 1) -ℚ (x *ℚ (y +ℚ whole (pos 0)) +ℚ whole (pos 0))) (whole (pos 0))) t h ∙ cost_below in
-      subst (λ cs. bound_of value true (the_program cs rows) (value two ∷ []) ≢ None) (sym c)
-      (subst (λ rs. bound_of value true (the_program (the_column ∷ []) rs) (value two ∷ []) ≢ None) (sym (w ∙ ap (λ es. the_row es ∷ []) e)) (by_signs above below))
+      subst (λ cs. objective_bound value true (the_program cs rows) (value two ∷ []) ≢ None) (sym c)
+      (subst (λ rs. objective_bound value true (the_program (the_column ∷ []) rs) (value two ∷ []) ≢ None) (sym (w ∙ ap (λ es. the_row es ∷ []) e)) (by_signs above below))

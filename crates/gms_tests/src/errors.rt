@@ -8,7 +8,7 @@ use gms_lex::{LexFault, LexFaultOrMemory};
 use gms_lines::{ByteFault, LexError};
 use gms_parse::{SourceError, SourceFault, SourceFaultOrMemory};
 use gms_save::{SaveFault, SaveFaultOrMemory};
-use gms_saved::ReadFault;
+use gms_save_text::ReadFault;
 use gms_set::{SetError, SetFault, SetFaultOrMemory};
 use gms_table::{TableError, TableFault, TableFaultOrMemory};
 use gq_extended::{Ext, ExtendedFault};

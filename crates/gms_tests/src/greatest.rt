@@ -8,8 +8,8 @@ use gq_field::ExactField;
 use gq_frac::Frac;
 use lp_core::{Answer, Lp, Pivot, Sequence};
 use lp_dict::Dict;
+use lp_simplex::{Choosing, solve_by};
 use lp_slot::{LpSolver, SolverRule};
-use lp_walk::{Choosing, solve_by};
 use std::alloc::{AllocError, Global};
 use std::marker::Model;
 

@@ -11,15 +11,15 @@ use Rattle.gms_tuple.specs.declared.merge.Operation.{Operation}
 use Rattle.gms_tuple.specs.declared.merge.Operation.TheVariants.{Union, Difference, Intersection}
 use Rattle.gms_tuple.specs.TupleOrder.{tuple_cmp, same_tuple, IsOrdered}
 use Rattle.gms_tuple.specs.OrderLaws.{tuple_cmp-total}
-use Rattle.gms_tuple.specs.TupleSet.{has, difference, intersection}
-use Rattle.gms_tuple.specs.Operations.{takes, turn}
+use Rattle.gms_tuple.specs.TupleSet.{has, set_difference, intersection}
+use Rattle.gms_tuple.specs.InnerOperations.{takes, turn}
 use Rattle.gms_tuple.proofs.Ordered.{same_tuple-Decides, same_tuple_refl, tuple_cmp-Equal, tuple_cmp-flip, first-before, rest-ordered, ordered-cons, ordered-nil}
 use Rattle.gms_tuple.proofs.Members.{joined, has-joined, has-difference, has-intersection, IsOrdered-joined, IsOrdered-filter, same_from_members, not-after, after-first}
 
 -- the result of an operation on two lists
 abbrev pub combine : Operation → List (List ℕ) → List (List ℕ) → List (List ℕ)
 combine Union xs ys = joined xs ys
-combine Difference xs ys = difference xs ys
+combine Difference xs ys = set_difference xs ys
 combine Intersection xs ys = intersection xs ys
 
 pub has-combine : (op : Operation) (xs ys : List (List ℕ)) (t : List ℕ) → has (combine op xs ys) t ≡ takes op (has xs t) (has ys t)

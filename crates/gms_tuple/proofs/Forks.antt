@@ -12,7 +12,7 @@ use Rattle.std.proofs.lemmas.List.Sums.{length-filter}
 use Rattle.std.proofs.lemmas.Option.{slice_get_within, get_or_from_slice_get, slice_get-get_or}
 use Rattle.std.proofs.lemmas.Bool.{both_ways, false_from_ne_true, lt-ltb}
 use Rattle.gms_tuple.specs.TupleOrder.{tuple_cmp, is_before, same_tuple, begins_with, IsOrdered}
-use Rattle.gms_tuple.specs.TupleSet.{has, place_of, count_before, count_with, is_within}
+use Rattle.gms_tuple.specs.TupleSet.{has, place_of_tuple, count_before, count_with, is_within}
 use Rattle.gms_tuple.proofs.Ordered.{same_tuple-Decides, same_tuple-Less, same_tuple-Greater, tuple_cmp-Equal, first-before, rest-ordered, ordered-cons, ordered-nil, filter_all, filter_none}
 use Rattle.gms_tuple.proofs.Members.{not-after}
 use Rattle.gms_tuple.proofs.Spans.{begins-not-before, begins-between, before-closed}
@@ -231,7 +231,7 @@ first-same (x ∷ xs) t ordered within same = by (first-same xs t (rest-ordered 
         let n = none-before x xs t ordered (ap is_lt e) in
         absurd (both_ways (same_tuple x t) (same_tuple-Greater x t e) (rw n at same))
 
-pub place_of-counted : (xs : List (List ℕ)) (t : List ℕ) → IsOrdered xs → count_before xs t < length xs → same_tuple (get_or xs (count_before xs t) []) t ≡ true → place_of xs t ≡ Some (count_before xs t)
+pub place_of-counted : (xs : List (List ℕ)) (t : List ℕ) → IsOrdered xs → count_before xs t < length xs → same_tuple (get_or xs (count_before xs t) []) t ≡ true → place_of_tuple xs t ≡ Some (count_before xs t)
 place_of-counted xs t ordered within same =
     let e = first-same xs t ordered within same in
     rw (e, lt-ltb (count_before xs t) (length xs) within) refl
@@ -252,7 +252,7 @@ has-not (x ∷ xs) t ordered other = by (has-not xs t (rest-ordered x xs ordered
     by rest Greater e = rw (same_tuple-Greater x t e) (not-after x xs t (first-before x xs ordered) Greater e refl)
 
 -- the tuple that is found at its place, or is not
-pub found-at : (xs : List (List ℕ)) (t member : List ℕ) (n : ℕ) → IsOrdered xs → n ≡ count_by (is_within false t) xs → slice_get xs n ≡ Some member → same_tuple member t ≡ true → place_of xs t ≡ Some n
+pub found-at : (xs : List (List ℕ)) (t member : List ℕ) (n : ℕ) → IsOrdered xs → n ≡ count_by (is_within false t) xs → slice_get xs n ≡ Some member → same_tuple member t ≡ true → place_of_tuple xs t ≡ Some n
 found-at xs t member n ordered is at same =
     let e : n ≡ count_before xs t = is ∙ count-within xs t in
     let within : count_before xs t < length xs = subst (λ n. n < length xs) e (slice_get_within xs n member at) in

@@ -15,7 +15,7 @@ use Rattle.std.proofs.lemmas.Cmp.{nat_list_eq_equiv, tied_itself}
 use Rattle.std.proofs.lemmas.List.Kept.{IsStrictlySortedBy-filter}
 use Rattle.gms_tuple.specs.TupleOrder.{tuple_cmp, is_before, same_tuple, IsOrdered}
 use Rattle.gms_tuple.specs.OrderLaws.{tuple_cmp-total}
-use Rattle.gms_tuple.specs.TupleSet.{has, place_of, inserted, removed, difference, intersection, count_before}
+use Rattle.gms_tuple.specs.TupleSet.{has, place_of_tuple, inserted, removed, set_difference, intersection, count_before}
 use Rattle.gms_tuple.proofs.Ordered.{same_tuple-Decides, same_tuple_refl, same_tuple-Greater, tuple_cmp-Equal, tuple_cmp-flip, first-before, rest-ordered, ordered-join, filter_agree_on, filter_all, cut-by}
 
 -- a list that lacks a tuple has none that is the same
@@ -86,7 +86,7 @@ pub has-removed : (xs : List (List ℕ)) (t other : List ℕ) → has (removed x
 has-removed xs t other = has-filter (λ member. not (same_tuple member t)) xs other ∙ ap (λ b. has xs other && not b) (nat_list_eq_equiv.symm other t)
 
 -- what two sets have: the members of the first, by whether the other has them
-pub has-difference : (xs ys : List (List ℕ)) (t : List ℕ) → has (difference xs ys) t ≡ (has xs t && not (has ys t))
+pub has-difference : (xs ys : List (List ℕ)) (t : List ℕ) → has (set_difference xs ys) t ≡ (has xs t && not (has ys t))
 has-difference xs ys t = has-filter (λ member. not (has ys member)) xs t
 
 pub has-intersection : (xs ys : List (List ℕ)) (t : List ℕ) → has (intersection xs ys) t ≡ (has xs t && has ys t)
@@ -199,7 +199,7 @@ same_from_members (x ∷ xs) (y ∷ ys) ordered others same =
     λ i. first i ∷ same_from_members xs ys (rest-ordered x xs ordered) (rest-ordered y ys others) (same-rest x xs ys ordered others' same') i
 
 -- the members of an ordered set that another has, or lacks, are in order
-pub IsOrdered-chosen : (there : Bool) (xs ys made : List (List ℕ)) → IsOrdered xs → made ≡ cond there (intersection xs ys) (difference xs ys) → IsOrdered made
+pub IsOrdered-chosen : (there : Bool) (xs ys made : List (List ℕ)) → IsOrdered xs → made ≡ cond there (intersection xs ys) (set_difference xs ys) → IsOrdered made
 IsOrdered-chosen true xs ys made ordered e = rw e (IsOrdered-filter (λ member. has ys member) xs ordered)
 IsOrdered-chosen false xs ys made ordered e = rw e (IsOrdered-filter (λ member. not (has ys member)) xs ordered)
 
@@ -221,7 +221,7 @@ removed-first (x ∷ xs) t n ordered at l =
     ] refl at
 
 -- the place that is answered is the first at which the tuple stands
-place_of-Some : (xs : List (List ℕ)) (t : List ℕ) (n : ℕ) → place_of xs t ≡ Some n → (n < length xs) × (position_or_len (λ member. same_tuple member t) xs ≡ n)
+place_of-Some : (xs : List (List ℕ)) (t : List ℕ) (n : ℕ) → place_of_tuple xs t ≡ Some n → (n < length xs) × (position_or_len (λ member. same_tuple member t) xs ≡ n)
 place_of-Some xs t n found =
     let m = position_or_len (λ member. same_tuple member t) xs in
     elim (ltb m (length xs)) as (λ b. ltb m (length xs) ≡ b → cond b (Some m) None ≡ Some n → (n < length xs) × (m ≡ n)) [
@@ -230,18 +230,18 @@ place_of-Some xs t n found =
     ] refl found
 
 -- removing the tuple at its place leaves the other members
-pub remove-at : (xs : List (List ℕ)) (t : List ℕ) (n : ℕ) → IsOrdered xs → place_of xs t ≡ Some n → remove xs n ≡ removed xs t
+pub remove-at : (xs : List (List ℕ)) (t : List ℕ) (n : ℕ) → IsOrdered xs → place_of_tuple xs t ≡ Some n → remove xs n ≡ removed xs t
 remove-at xs t n ordered found =
     let at = place_of-Some xs t n found in removed-first xs t n ordered at.1 at.0
 
 -- a tuple that has a place is a member
-pub has-place : (xs : List (List ℕ)) (t : List ℕ) (n : ℕ) → place_of xs t ≡ Some n → has xs t ≡ true
+pub has-place : (xs : List (List ℕ)) (t : List ℕ) (n : ℕ) → place_of_tuple xs t ≡ Some n → has xs t ≡ true
 has-place xs t n found =
     let at = position-Some (λ member. same_tuple member t) xs n [] found in
     list_any_at (λ member. same_tuple member t) xs n [] at.0 at.1
 
 -- a tuple that has none is no member
-pub has-no_place : (xs : List (List ℕ)) (t : List ℕ) → place_of xs t ≡ None → has xs t ≡ false
+pub has-no_place : (xs : List (List ℕ)) (t : List ℕ) → place_of_tuple xs t ≡ None → has xs t ≡ false
 has-no_place xs t none =
     let m = position_or_len (λ member. same_tuple member t) xs in
     let whole : length xs ≤ m = elim (ltb m (length xs)) as (λ b. ltb m (length xs) ≡ b → cond b (Some m) None ≡ None → length xs ≤ m) [
@@ -259,7 +259,7 @@ pub inserted-known : (xs : List (List ℕ)) (t : List ℕ) → has xs t ≡ true
 inserted-known xs t there = rw there refl
 
 -- whether a search has found a place tells whether the tuple is a member
-pub has-searched : (xs : List (List ℕ)) (t : List ℕ) (r : Result ℕ ℕ) → IfOk r (λ n. place_of xs t ≡ Some n) → IfErr r (λ n. (has xs t ≡ false) × (n ≡ count_before xs t)) → is_ok r ≡ has xs t
+pub has-searched : (xs : List (List ℕ)) (t : List ℕ) (r : Result ℕ ℕ) → IfOk r (λ n. place_of_tuple xs t ≡ Some n) → IfErr r (λ n. (has xs t ≡ false) × (n ≡ count_before xs t)) → is_ok r ≡ has xs t
 has-searched xs t (Ok n) found absent = sym (has-place xs t n found)
 has-searched xs t (Err n) found absent = sym absent.0
 

@@ -1,6 +1,6 @@
-pub mod Operations
+pub mod InnerOperations
 pub mod OrderLaws
 pub mod Products
-pub mod Trees
+pub mod InnerTrees
 pub mod TupleOrder
 pub mod TupleSet

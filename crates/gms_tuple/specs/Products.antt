@@ -3,6 +3,6 @@ use Rattle.std.specs.Prelude.{ℕ, List, [], ◌∷◌, map}
 use Rattle.std.specs.List.{flat_map}
 
 -- the tuples that have at each position one of the labels there, the last position fastest
-abbrev pub product : List (List ℕ) → List (List ℕ)
-product [] = [] ∷ []
-product (labels ∷ rest) = flat_map (λ label. map (λ tuple. label ∷ tuple) (product rest)) labels
+abbrev pub tuple_product : List (List ℕ) → List (List ℕ)
+tuple_product [] = [] ∷ []
+tuple_product (labels ∷ rest) = flat_map (λ label. map (λ tuple. label ∷ tuple) (tuple_product rest)) labels

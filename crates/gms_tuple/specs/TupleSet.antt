@@ -8,8 +8,8 @@ abbrev pub has : List (List ℕ) → List ℕ → Bool
 has members tuple = list_any (λ member. same_tuple member tuple) members
 
 -- the place of a tuple among the members
-abbrev pub place_of : List (List ℕ) → List ℕ → Option ℕ
-place_of members tuple = position (λ member. same_tuple member tuple) members
+abbrev pub place_of_tuple : List (List ℕ) → List ℕ → Option ℕ
+place_of_tuple members tuple = position (λ member. same_tuple member tuple) members
 
 -- the members, and the tuple at its place in the order
 abbrev pub inserted : List (List ℕ) → List ℕ → List (List ℕ)
@@ -21,8 +21,8 @@ abbrev pub removed : List (List ℕ) → List ℕ → List (List ℕ)
 removed members tuple = filter (λ member. not (same_tuple member tuple)) members
 
 -- the members that the other set lacks
-abbrev pub difference : List (List ℕ) → List (List ℕ) → List (List ℕ)
-difference members others = filter (λ member. not (has others member)) members
+abbrev pub set_difference : List (List ℕ) → List (List ℕ) → List (List ℕ)
+set_difference members others = filter (λ member. not (has others member)) members
 
 -- the members that the other set has
 abbrev pub intersection : List (List ℕ) → List (List ℕ) → List (List ℕ)

@@ -2,7 +2,7 @@
 ghost use Rattle.std.specs.Prelude.{◌≡◌, ◌<◌, ◌+◌, ℕ, List, [], length, IfOk};
 ghost use Rattle.gms_tuple.specs.TupleOrder.{IsOrdered};
 ghost use Rattle.gms_tuple.specs.TupleSet.{has};
-ghost use Rattle.gms_tuple.specs.Operations.{takes, turn};
+ghost use Rattle.gms_tuple.specs.InnerOperations.{takes, turn};
 
 use crate::tuple::Tuple;
 use std::alloc::{AllocError, Global};

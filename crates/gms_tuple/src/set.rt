@@ -1,8 +1,8 @@
 //! A set of tuples, stored in order in a balanced tree.
 ghost use Rattle.std.specs.Prelude.{◌≡◌, ◌<◌, ◌≤◌, ◌+◌, ◌^◌, ◌↔◌, ◌||◌, ◌&&◌, ℕ, List, [], length, not, slice_get, slice_range, Contains, IsTrue, IsOk, IfOk, IfErr, OnOk, OnErr, Some, false};
 ghost use Rattle.gms_tuple.specs.TupleOrder.{same_tuple, IsOrdered};
-ghost use Rattle.gms_tuple.specs.TupleSet.{has, place_of, inserted, removed, difference, intersection, count_before, count_with, those_with};
-ghost use Rattle.gms_tuple.specs.Operations.{takes};
+ghost use Rattle.gms_tuple.specs.TupleSet.{has, place_of_tuple, inserted, removed, set_difference, intersection, count_before, count_with, those_with};
+ghost use Rattle.gms_tuple.specs.InnerOperations.{takes};
 
 use crate::line::Line;
 use crate::merge::{Operation, combined};
@@ -134,7 +134,7 @@ impl TupleSet {
 
     /// The place of a member, counted from 0; if the tuple is none, the place at which it would be.
     pub fn place(&self, t: &Tuple) -> Result<usize, usize>
-        ensures member { IfOk result (λ place. place_of self.now t.now ≡ Some place) }
+        ensures member { IfOk result (λ place. place_of_tuple self.now t.now ≡ Some place) }
         ensures absent { IfErr result (λ place. (has self.now t.now ≡ false) × (place ≡ count_before self.now t.now)) }
         ensures ordered { IsOrdered self.now }
     {
@@ -161,7 +161,7 @@ impl TupleSet {
 
     /// The members that the other set lacks.
     pub fn difference(&self, alloc: Global, o: &TupleSet) -> Result<TupleSet, AllocError>
-        ensures value { IfOk result (λ set. set ≡ difference self.now o.now) }
+        ensures value { IfOk result (λ set. set ≡ set_difference self.now o.now) }
         ensures members { IfOk result (λ set.
             (t : List ℕ) → has set t ≡ (has self.now t && not (has o.now t))) }
         ensures ordered { IfOk result IsOrdered }

@@ -4,7 +4,7 @@ ghost use Rattle.std.specs.declared.cmp.Ordering.TheVariants.{Less, Equal, Great
 ghost use Rattle.std.specs.List.{insert, remove};
 ghost use Rattle.gms_tuple.specs.TupleOrder.{IsOrdered};
 ghost use Rattle.gms_tuple.specs.TupleSet.{is_within};
-ghost use Rattle.gms_tuple.specs.Trees.{tuples, listed, IsFork, IsCounted, IsSingle};
+ghost use Rattle.gms_tuple.specs.InnerTrees.{tuples, listed, IsFork, IsCounted, IsSingle};
 
 use crate::tuple::Tuple;
 use std::alloc::{AllocError, Global};
@@ -46,7 +46,7 @@ impl Model for Tree {
 
     ghost Value = { List (List ℕ) };
 
-    ghost use Rattle.gms_tuple.specs.Trees.{tuples, IsCounted};
+    ghost use Rattle.gms_tuple.specs.InnerTrees.{tuples, IsCounted};
 
     ghost view = { λ t. tuples t.node };
 

@@ -5,7 +5,7 @@ use Rattle.gq_number.specs.Number.{Number, whole, ◌*ℚ◌, inv_ℚ}
 use Rattle.gq_number.proofs.Field.{*ℚ_assoc, *ℚ_comm, *ℚ-one}
 use Rattle.gq_number.proofs.Ring.{zero-*ℚ, one-*ℚ}
 use Rattle.gq_number.proofs.Quotients.{*ℚ-inv, inv-*ℚ_self}
-use Rattle.gq_extended.specs.Powers.{product_of, power_ℚ}
+use Rattle.gq_extended.specs.Powers.{repeated_product, power_ℚ}
 use Rattle.gq_extended.proofs.PowerParts.{product_of-zero, product_of-suc}
 
 pub power-zero : (x : Number) → power_ℚ x (pos 0) ≡ whole (pos 1)
@@ -31,7 +31,7 @@ power_up x (pos n) some = ap (power_ℚ x) (let e : pos n +ℤ pos 1 ≡ pos (su
 power_up x (negsuc zero) some =
     product_of-zero x ∙ cancel x (whole (pos 1)) some ∙ ap (λ w. x *ℚ w) (sym (product_of-suc 0 (inv_ℚ x) ∙ ap (λ w. inv_ℚ x *ℚ w) (product_of-zero (inv_ℚ x))))
 power_up x (negsuc (suc n)) some =
-    ap (power_ℚ x) (let e : negsuc (suc n) +ℤ pos 1 ≡ negsuc n = omega (arith, ints) in e) ∙ cancel x (product_of (suc n) (inv_ℚ x)) some ∙ ap (λ w. x *ℚ w) (sym (product_of-suc (suc n) (inv_ℚ x)))
+    ap (power_ℚ x) (let e : negsuc (suc n) +ℤ pos 1 ≡ negsuc n = omega (arith, ints) in e) ∙ cancel x (repeated_product (suc n) (inv_ℚ x)) some ∙ ap (λ w. x *ℚ w) (sym (product_of-suc (suc n) (inv_ℚ x)))
 
 -- one factor less
 power_down : (x : Number) (n : ℤ) → x ≢ whole (pos 0) → power_ℚ x (n +ℤ negsuc 0) ≡ inv_ℚ x *ℚ power_ℚ x n

@@ -13,16 +13,16 @@ use Rattle.gq_number.proofs.Field.{*ℚ_assoc, *ℚ_comm}
 use Rattle.gq_number.proofs.Ring.{one-*ℚ}
 use Rattle.gq_field.specs.Fits.{fits, Answers}
 use Rattle.gq_field.specs.declared.field.Limit.{Limit}
-use Rattle.gq_extended.specs.Powers.{product_of}
+use Rattle.gq_extended.specs.Powers.{repeated_product}
 
 -- ---- the parts
 
-pub product_of-zero : (x : Number) → product_of 0 x ≡ whole (pos 1)
-unfolding product_of
+pub product_of-zero : (x : Number) → repeated_product 0 x ≡ whole (pos 1)
+unfolding repeated_product
 product_of-zero x = refl
 
-pub product_of-suc : (n : ℕ) (x : Number) → product_of (suc n) x ≡ x *ℚ product_of n x
-unfolding product_of
+pub product_of-suc : (n : ℕ) (x : Number) → repeated_product (suc n) x ≡ x *ℚ repeated_product n x
+unfolding repeated_product
 product_of-suc n x = refl
 
 coprime-one : (b : ℕ) → gcd 1 b ≡ 1
@@ -34,8 +34,8 @@ coprime-pow (suc n) a b e = rw (pow-succ' a n) (coprime-mul a (a ^ n) b e (copri
 
 -- x to the power n has these parts
 record PowerParts (n : ℕ) (x : Number) : Type 0 where
-  above : nat_abs (product_of n x).numerator ≡ nat_abs x.numerator ^ n
-  below : (product_of n x).denominator ≡ x.denominator ^ n
+  above : nat_abs (repeated_product n x).numerator ≡ nat_abs x.numerator ^ n
+  below : (repeated_product n x).denominator ≡ x.denominator ^ n
 
 -- the product of two fractions that have no common divisor crosswise is reduced
 cross_reduced : (x y : Number) → gcd (nat_abs x.numerator) y.denominator ≡ 1 → gcd (nat_abs y.numerator) x.denominator ≡ 1 → IsReduced (x.numerator *ℤ y.numerator) (x.denominator * y.denominator)
@@ -53,15 +53,15 @@ product_parts x y left right =
     (ap nat_abs kept.0 ∙ nat_abs-*ℤ x.numerator y.numerator, kept.1)
 
 power_parts : (n : ℕ) (x : Number) → PowerParts n x
-unfolding product_of whole
+unfolding repeated_product whole
 power_parts zero x = record { above = sym (pow-zero _); below = sym (pow-zero _) }
 power_parts (suc n) x =
     let rest = power_parts n x in
     let a = nat_abs x.numerator in
     let d = x.denominator in
-    let left : gcd a (product_of n x).denominator ≡ 1 = rw rest.below (gcd_comm a (d ^ n) ∙ coprime-pow n d a (gcd_comm d a ∙ x.reduced.coprime)) in
-    let right : gcd (nat_abs (product_of n x).numerator) d ≡ 1 = rw rest.above (coprime-pow n a d x.reduced.coprime) in
-    let parts = product_parts x (product_of n x) left right in
+    let left : gcd a (repeated_product n x).denominator ≡ 1 = rw rest.below (gcd_comm a (d ^ n) ∙ coprime-pow n d a (gcd_comm d a ∙ x.reduced.coprime)) in
+    let right : gcd (nat_abs (repeated_product n x).numerator) d ≡ 1 = rw rest.above (coprime-pow n a d x.reduced.coprime) in
+    let parts = product_parts x (repeated_product n x) left right in
     record {
       above = parts.0 ∙ ap (λ m. a * m) rest.above ∙ sym (pow-succ' a n);
       below = parts.1 ∙ ap (λ m. d * m) rest.below ∙ sym (pow-succ' d n);
@@ -82,15 +82,15 @@ lower_pow (suc a) k n limit h some top =
     let rises : suc a ^ k ≤ suc a ^ n = pow-le-pow_right {n = suc a} (omega arith) {i = k} {j = n} h in omega arith
 
 -- where a power fits, so does each lower one
-pub lower_power_fits : (limit k n : ℕ) (x : Number) → k ≤ n → 1 ≤ limit → fits limit (product_of n x) ≡ true → fits limit (product_of k x) ≡ true
+pub lower_power_fits : (limit k n : ℕ) (x : Number) → k ≤ n → 1 ≤ limit → fits limit (repeated_product n x) ≡ true → fits limit (repeated_product k x) ≡ true
 lower_power_fits limit k n x h some top =
     let high = power_parts n x in
     let low = power_parts k x in
-    let both = parts_fit limit (product_of n x) top in
-    fit_parts limit (product_of k x) (rw low.above (lower_pow _ k n limit h some (subst (λ m. m ≤ limit) high.above both.0))) (rw low.below (lower_pow _ k n limit h some (subst (λ m. m ≤ limit) high.below both.1)))
+    let both = parts_fit limit (repeated_product n x) top in
+    fit_parts limit (repeated_product k x) (rw low.above (lower_pow _ k n limit h some (subst (λ m. m ≤ limit) high.above both.0))) (rw low.below (lower_pow _ k n limit h some (subst (λ m. m ≤ limit) high.below both.1)))
 
 -- and where a lower one does not, neither does the power
-pub no_power_fits : (limit k n : ℕ) (x : Number) → k ≤ n → 1 ≤ limit → fits limit (product_of k x) ≡ false → fits limit (product_of n x) ≡ false
+pub no_power_fits : (limit k n : ℕ) (x : Number) → k ≤ n → 1 ≤ limit → fits limit (repeated_product k x) ≡ false → fits limit (repeated_product n x) ≡ false
 no_power_fits limit k n x h some low =
     unless _ (λ top. let f : true ≡ false = sym (lower_power_fits limit k n x h some top) ∙ low in cc)
   where
@@ -100,29 +100,29 @@ no_power_fits limit k n x h some low =
 
 -- ---- sums of exponents
 
-pub product_of-+ : (n m : ℕ) (x : Number) → product_of (n + m) x ≡ product_of n x *ℚ product_of m x
-product_of-+ zero m x = ap (λ k. product_of k x) (let e : 0 + m ≡ m = omega arith in e) ∙ sym (ap (λ w. w *ℚ product_of m x) (product_of-zero x) ∙ one-*ℚ _)
+pub product_of-+ : (n m : ℕ) (x : Number) → repeated_product (n + m) x ≡ repeated_product n x *ℚ repeated_product m x
+product_of-+ zero m x = ap (λ k. repeated_product k x) (let e : 0 + m ≡ m = omega arith in e) ∙ sym (ap (λ w. w *ℚ repeated_product m x) (product_of-zero x) ∙ one-*ℚ _)
 product_of-+ (suc n) m x =
-    ap (λ k. product_of k x) (let e : suc n + m ≡ suc (n + m) = omega arith in e) ∙ product_of-suc (n + m) x ∙ ap (λ w. x *ℚ w) (product_of-+ n m x) ∙ sym (ap (λ w. w *ℚ product_of m x) (product_of-suc n x) ∙ *ℚ_assoc x (product_of n x) (product_of m x))
+    ap (λ k. repeated_product k x) (let e : suc n + m ≡ suc (n + m) = omega arith in e) ∙ product_of-suc (n + m) x ∙ ap (λ w. x *ℚ w) (product_of-+ n m x) ∙ sym (ap (λ w. w *ℚ repeated_product m x) (product_of-suc n x) ∙ *ℚ_assoc x (repeated_product n x) (repeated_product m x))
 
 -- ---- a power by the square of its root
 
-pub one_where_none : (limit n : ℕ) (x one : Number) → n ≡ 0 → 1 ≤ limit → one ≡ whole (pos 1) → (fits limit (product_of n x) ≡ true) × (one ≡ product_of n x)
-unfolding product_of whole
+pub one_where_none : (limit n : ℕ) (x one : Number) → n ≡ 0 → 1 ≤ limit → one ≡ whole (pos 1) → (fits limit (repeated_product n x) ≡ true) × (one ≡ repeated_product n x)
+unfolding repeated_product whole
 one_where_none limit n x one none some e = rw none (fit_parts limit (whole (pos 1)) some some, e)
 
-pub square_is : (n : ℕ) (x root : Number) → root ≡ product_of (n / 2) x → root *ℚ root ≡ product_of (n / 2 + n / 2) x
+pub square_is : (n : ℕ) (x root : Number) → root ≡ repeated_product (n / 2) x → root *ℚ root ≡ repeated_product (n / 2 + n / 2) x
 square_is n x root e = rw e (sym (product_of-+ (n / 2) (n / 2) x))
 
-pub even_power : (n : ℕ) (x root : Number) → n % 2 ≡ 0 → root ≡ product_of (n / 2) x → root *ℚ root ≡ product_of n x
-even_power n x root even e = square_is n x root e ∙ ap (λ k. product_of k x) (let f : n / 2 + n / 2 ≡ n = omega arith in f)
+pub even_power : (n : ℕ) (x root : Number) → n % 2 ≡ 0 → root ≡ repeated_product (n / 2) x → root *ℚ root ≡ repeated_product n x
+even_power n x root even e = square_is n x root e ∙ ap (λ k. repeated_product k x) (let f : n / 2 + n / 2 ≡ n = omega arith in f)
 
-pub odd_power : (n : ℕ) (x root square : Number) → n % 2 ≢ 0 → root ≡ product_of (n / 2) x → square ≡ root *ℚ root → square *ℚ x ≡ product_of n x
+pub odd_power : (n : ℕ) (x root square : Number) → n % 2 ≢ 0 → root ≡ repeated_product (n / 2) x → square ≡ root *ℚ root → square *ℚ x ≡ repeated_product n x
 odd_power n x root square odd e f =
-    ap (λ w. w *ℚ x) (f ∙ square_is n x root e) ∙ *ℚ_comm _ x ∙ sym (product_of-suc (n / 2 + n / 2) x) ∙ ap (λ k. product_of k x) (let h : suc (n / 2 + n / 2) ≡ n = omega arith in h)
+    ap (λ w. w *ℚ x) (f ∙ square_is n x root e) ∙ *ℚ_comm _ x ∙ sym (product_of-suc (n / 2 + n / 2) x) ∙ ap (λ k. repeated_product k x) (let h : suc (n / 2 + n / 2) ≡ n = omega arith in h)
 
 -- what was not found for a lower power is not found for this one
-pub err_answers : {F : Type 0} (value : F → Number) (limit k n : ℕ) (x : Number) (r : Result F Limit) → IsErr r → k ≤ n → 1 ≤ limit → fits limit (product_of k x) ≡ false → Answers value r (fits limit (product_of n x)) (product_of n x)
+pub err_answers : {F : Type 0} (value : F → Number) (limit k n : ℕ) (x : Number) (r : Result F Limit) → IsErr r → k ≤ n → 1 ≤ limit → fits limit (repeated_product k x) ≡ false → Answers value r (fits limit (repeated_product n x)) (repeated_product n x)
 err_answers value limit k n x (Ok y) gave_up h some low = absurd (let f : false ≡ true = gave_up in cc)
 err_answers value limit k n x (Err e) gave_up h some low = no_power_fits limit k n x h some low
 

@@ -6,7 +6,7 @@ use Rattle.gq_number.specs.Number.{Number, whole, ◌/ℚ◌, inv_ℚ}
 use Rattle.gq_number.proofs.Field.{/ℚ_is}
 use Rattle.gq_number.proofs.Ring.{one-*ℚ}
 use Rattle.gq_field.specs.Fits.{fits}
-use Rattle.gq_extended.specs.Powers.{product_of, power_ℚ}
+use Rattle.gq_extended.specs.Powers.{repeated_product, power_ℚ}
 use Rattle.gq_extended.specs.declared.fault.ExtendedFault.TheVariants.{Divide}
 use Rattle.gq_extended.specs.Extended.{number, raised, number_if, is_zero, power, quotient}
 use Rattle.gq_extended.proofs.PowerParts.{one_where_none, reciprocal_fits}
@@ -22,14 +22,14 @@ read_sign n b fit e = ap (int_le (pos 0)) (sym (to_z-of_z w32 n fit)) ∙ e
 at_least_zero : (n : ℕ) → nat_le 0 n ≡ true
 at_least_zero n = grind (arith, nat_tests)
 
-at_or_above : (limit : ℕ) (x : Number) (n : ℤ) → 1 ≤ limit → int_le (pos 0) n ≡ true → raised limit (number x) n ≡ number_if (fits limit (product_of (nat_abs n) x)) (product_of (nat_abs n) x)
+at_or_above : (limit : ℕ) (x : Number) (n : ℤ) → 1 ≤ limit → int_le (pos 0) n ≡ true → raised limit (number x) n ≡ number_if (fits limit (repeated_product (nat_abs n) x)) (repeated_product (nat_abs n) x)
 unfolding power_ℚ
 at_or_above limit x (pos zero) some e =
     let one = one_where_none limit 0 x (whole (pos 1)) refl some refl in number_told _ _ _ one.0 one.1
 at_or_above limit x (pos (suc n)) some e = refl
 at_or_above limit x (negsuc n) some e = absurd (let f : false ≡ true = e in cc)
 
-below : (limit : ℕ) (x : Number) (n : ℤ) → int_le (pos 0) n ≡ false → is_zero x ≡ false → raised limit (number x) n ≡ number_if (fits limit (product_of (nat_abs n) (inv_ℚ x))) (product_of (nat_abs n) (inv_ℚ x))
+below : (limit : ℕ) (x : Number) (n : ℤ) → int_le (pos 0) n ≡ false → is_zero x ≡ false → raised limit (number x) n ≡ number_if (fits limit (repeated_product (nat_abs n) (inv_ℚ x))) (repeated_product (nat_abs n) (inv_ℚ x))
 unfolding power_ℚ
 below limit x (pos n) e some = absurd (let f : true ≡ false = sym (at_least_zero n) ∙ e in cc)
 below limit x (negsuc n) e some = rw some refl
@@ -40,9 +40,9 @@ zero_below limit x (negsuc n) e none = rw none refl
 
 -- ---- the same of what the code has read
 
-pub raised_up : (limit : ℕ) (x : Number) (n : ℤ) (k : ℕ) → 1 ≤ limit → SFits w32 n → int_le (pos 0) (to_z w32 (of_z w32 n)) ≡ true → k ≡ nat_abs (to_z w32 (of_z w32 n)) → number_if (fits limit (product_of k x)) (product_of k x) ≡ raised limit (number x) n
+pub raised_up : (limit : ℕ) (x : Number) (n : ℤ) (k : ℕ) → 1 ≤ limit → SFits w32 n → int_le (pos 0) (to_z w32 (of_z w32 n)) ≡ true → k ≡ nat_abs (to_z w32 (of_z w32 n)) → number_if (fits limit (repeated_product k x)) (repeated_product k x) ≡ raised limit (number x) n
 raised_up limit x n k some fit above e =
-    sym (at_or_above limit x n some (read_sign n true fit above) ∙ ap (λ m. number_if (fits limit (product_of m x)) (product_of m x)) (sym (read_magnitude n k fit e)))
+    sym (at_or_above limit x n some (read_sign n true fit above) ∙ ap (λ m. number_if (fits limit (repeated_product m x)) (repeated_product m x)) (sym (read_magnitude n k fit e)))
 
 pub zero_down : (limit : ℕ) (x : Number) (n : ℤ) (b : Bool) → SFits w32 n → int_le (pos 0) (to_z w32 (of_z w32 n)) ≡ false → IsTrue b ↔ (x ≡ whole (pos 0)) → b ≡ true → Err Divide ≡ raised limit (number x) n
 zero_down limit x n b fit low told e = sym (zero_below limit x n (read_sign n false fit low) (zero_told b x told ∙ e))
@@ -50,7 +50,7 @@ zero_down limit x n b fit low told e = sym (zero_below limit x n (read_sign n fa
 one_over : (x one : Number) → one ≡ whole (pos 1) → one /ℚ x ≡ inv_ℚ x
 one_over x one e = rw e (/ℚ_is (whole (pos 1)) x ∙ one-*ℚ (inv_ℚ x))
 
-pub raised_down : (limit : ℕ) (x one r : Number) (n : ℤ) (k : ℕ) (b : Bool) → SFits w32 n → int_le (pos 0) (to_z w32 (of_z w32 n)) ≡ false → IsTrue b ↔ (x ≡ whole (pos 0)) → b ≡ false → one ≡ whole (pos 1) → r ≡ one /ℚ x → k ≡ nat_abs (to_z w32 (of_z w32 n)) → number_if (fits limit (product_of k r)) (product_of k r) ≡ raised limit (number x) n
+pub raised_down : (limit : ℕ) (x one r : Number) (n : ℤ) (k : ℕ) (b : Bool) → SFits w32 n → int_le (pos 0) (to_z w32 (of_z w32 n)) ≡ false → IsTrue b ↔ (x ≡ whole (pos 0)) → b ≡ false → one ≡ whole (pos 1) → r ≡ one /ℚ x → k ≡ nat_abs (to_z w32 (of_z w32 n)) → number_if (fits limit (repeated_product k r)) (repeated_product k r) ≡ raised limit (number x) n
 raised_down limit x one r n k b fit low told some e f g =
     rw (f, one_over x one e, read_magnitude n k fit g) (sym (below limit x n (read_sign n false fit low) (zero_told b x told ∙ some)))
 

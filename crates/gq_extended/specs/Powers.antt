@@ -4,11 +4,11 @@ use Rattle.std.specs.Prelude.{ℕ, zero, suc, ℤ, pos, negsuc}
 use Rattle.gq_number.specs.Number.{Number, whole, ◌*ℚ◌, inv_ℚ}
 
 -- the product of n factors x; 1 for n = 0
-unfoldable pub product_of : ℕ → Number → Number
-product_of zero x = whole (pos 1)
-product_of (suc n) x = x *ℚ product_of n x
+unfoldable pub repeated_product : ℕ → Number → Number
+repeated_product zero x = whole (pos 1)
+repeated_product (suc n) x = x *ℚ repeated_product n x
 
 -- x to the power n; for n below 0 that is the power of the reciprocal with the exponent's magnitude
 unfoldable pub power_ℚ : Number → ℤ → Number
-power_ℚ x (pos n) = product_of n x
-power_ℚ x (negsuc n) = product_of (suc n) (inv_ℚ x)
+power_ℚ x (pos n) = repeated_product n x
+power_ℚ x (negsuc n) = repeated_product (suc n) (inv_ℚ x)

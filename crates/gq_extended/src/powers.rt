@@ -1,7 +1,7 @@
 //! Powers.
 ghost use Rattle.std.specs.Prelude.{◌≡◌, ◌≤◌, pos, negsuc, nat_abs};
 ghost use Rattle.gq_field.specs.Fits.{fits, Answers};
-ghost use Rattle.gq_extended.specs.Powers.{product_of, power_ℚ};
+ghost use Rattle.gq_extended.specs.Powers.{repeated_product, power_ℚ};
 ghost use Rattle.gq_extended.specs.Extended.{exponent_of, raised, number, power};
 ghost use Rattle.gq_extended.specs.Meaning.{extended, outcome};
 
@@ -31,8 +31,8 @@ fn whole_exponent<F: ExactField>(exponent: Ext<F>) -> Option<i32>
 /// intermediate number is a lower power, whose numerator and denominator are at most those of the
 /// result.
 fn times_itself<F: ExactField>(base: F, exponent: u32) -> Result<F, Limit>
-    ensures { Answers F.value result (fits F.limit (product_of exponent (F.value base)))
-        (product_of exponent (F.value base)) }
+    ensures { Answers F.value result (fits F.limit (repeated_product exponent (F.value base)))
+        (repeated_product exponent (F.value base)) }
 {
     if exponent == 0 {
         return Ok(F::one());

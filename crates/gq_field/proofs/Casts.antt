@@ -12,7 +12,7 @@ use Rattle.gq_number.specs.Number.{Number}
 use Rattle.gq_field.specs.declared.fraction.Fraction.{Fraction}
 use Rattle.gq_field.specs.Fits.{fits}
 use Rattle.gq_number.proofs.Means.{number_from_parts}
-use Rattle.gq_field.specs.Parts.{IsFraction, number_of}
+use Rattle.gq_field.specs.Parts.{IsFraction, number_of_parts}
 use Rattle.gq_field.specs.Values.{fraction_value}
 use Rattle.gq_field.proofs.Fractions.{nat_abs-signed}
 
@@ -51,10 +51,10 @@ fitting_parts bits f n e fit =
 -- number
 pub record Fitting (bits : ℕ) (f : Fraction) (n : ℤ) : Type 0 where
   pub parts : IsFraction bits n f.denominator
-  pub same : (p : IsFraction bits n f.denominator) → number_of n f.denominator p ≡ fraction_value f
+  pub same : (p : IsFraction bits n f.denominator) → number_of_parts n f.denominator p ≡ fraction_value f
 
 pub fitting : (bits : ℕ) (f : Fraction) (n : ℤ) → n ≡ (fraction_value f).numerator → fits (2 ^ bits - 1) (fraction_value f) ≡ true → Fitting bits f n
-unfolding number_of
+unfolding number_of_parts
 fitting bits f n e fit =
     record { parts = fitting_parts bits f n e fit; same = λ p. number_from_parts _ _ e (sym (fraction_denominator f)) }
 

@@ -4,7 +4,7 @@ use Rattle.std.specs.Prelude.{pos, neg_ℤ, nat_abs}
 use Rattle.gq_number.specs.Number.{whole, neg_ℚ}
 use Rattle.gq_number.specs.Reduced.{whole_reduced, neg_reduced, nat_abs-neg}
 use Rattle.gq_field.specs.declared.half.Half.{Half}
-use Rattle.gq_field.specs.Parts.{number_of}
+use Rattle.gq_field.specs.Parts.{number_of_parts}
 use Rattle.gq_field.specs.Values.{half_value}
 
 -- the value 0
@@ -12,7 +12,7 @@ pub zero_half : Half
 zero_half = record { numerator = pos 0; denominator = 1; parts = record { reduced = whole_reduced (pos 0); numerator_small = omega arith; denominator_small = omega arith } }
 
 pub zero_means : half_value zero_half ≡ whole (pos 0)
-unfolding half_value number_of zero_half whole
+unfolding half_value number_of_parts zero_half whole
 zero_means = refl
 
 -- the value of the other sign
@@ -22,5 +22,5 @@ negated h =
     record { numerator = neg_ℤ h.numerator; denominator = h.denominator; parts = record { reduced = neg_reduced h.numerator h.denominator h.parts.reduced; numerator_small = small; denominator_small = h.parts.denominator_small } }
 
 pub negated_means : (h : Half) → half_value (negated h) ≡ neg_ℚ (half_value h)
-unfolding half_value number_of negated neg_ℚ
+unfolding half_value number_of_parts negated neg_ℚ
 negated_means h = refl

@@ -8,7 +8,7 @@ use Rattle.gq_number.specs.Number.{Number}
 use Rattle.gq_field.specs.declared.half.Half.{Half}
 use Rattle.gq_field.specs.declared.tiny.Tiny.{Tiny}
 use Rattle.gq_field.specs.Fits.{fits}
-use Rattle.gq_field.specs.Parts.{IsFraction, number_of}
+use Rattle.gq_field.specs.Parts.{IsFraction, number_of_parts}
 use Rattle.gq_field.specs.Values.{half_value, tiny_value}
 
 -- seven bits at least, and 127 at most
@@ -19,16 +19,16 @@ range_of_bits bits least most =
     (omega arith, omega arith)
 
 -- a number with such parts fits
-pub parts_within : (bits : ℕ) (n : ℤ) (d : ℕ) (parts : IsFraction bits n d) → fits (2 ^ bits - 1) (number_of n d parts) ≡ true
-unfolding number_of
+pub parts_within : (bits : ℕ) (n : ℤ) (d : ℕ) (parts : IsFraction bits n d) → fits (2 ^ bits - 1) (number_of_parts n d parts) ≡ true
+unfolding number_of_parts
 parts_within bits n d parts = grind (arith, nat_tests)
 
 IsFraction-prop : (bits : ℕ) (n : ℤ) (d : ℕ) → IsProp (IsFraction bits n d)
 IsFraction-prop bits n d = hlevel props
 
 -- values made of the same parts are the same
-pub same_parts : {F : Type 0} (bits : ℕ) (make : (n : ℤ) (d : ℕ) → IsFraction bits n d → F) (n m : ℤ) (c d : ℕ) (p : IsFraction bits n c) (q : IsFraction bits m d) → number_of n c p ≡ number_of m d q → make n c p ≡ make m d q
-unfolding number_of
+pub same_parts : {F : Type 0} (bits : ℕ) (make : (n : ℤ) (d : ℕ) → IsFraction bits n d → F) (n m : ℤ) (c d : ℕ) (p : IsFraction bits n c) (q : IsFraction bits m d) → number_of_parts n c p ≡ number_of_parts m d q → make n c p ≡ make m d q
+unfolding number_of_parts
 same_parts {F} bits make n m c d p q e =
     let at_numerator : (q : IsFraction bits m c) → make n c p ≡ make m c q =
     subst (λ (k : ℤ). (q : IsFraction bits k c) → make n c p ≡ make k c q) (ap (λ (v : Number). v.numerator) e) (λ q. ap (make n c) (IsFraction-prop bits n c p q)) in
@@ -57,7 +57,7 @@ half_same_value x y e =
     same_parts 63 (λ n d p. record { numerator = n; denominator = d; parts = p }) x.numerator y.numerator x.denominator y.denominator x.parts y.parts e
 
 pub half_each_number : (x : Number) → fits (2 ^ 63 - 1) x ≡ true → (y : Half) × (half_value y ≡ x)
-unfolding half_value number_of
+unfolding half_value number_of_parts
 half_each_number x within =
     let below = parts_below 63 x (omega arith) within in
     (record { numerator = x.numerator; denominator = x.denominator; parts = record { reduced = x.reduced; numerator_small = below.0; denominator_small = below.1 } }, refl)
@@ -77,7 +77,7 @@ tiny_same_value x y e =
     same_parts 7 (λ n d p. record { numerator = n; denominator = d; parts = p }) x.numerator y.numerator x.denominator y.denominator x.parts y.parts e
 
 pub tiny_each_number : (x : Number) → fits (2 ^ 7 - 1) x ≡ true → (y : Tiny) × (tiny_value y ≡ x)
-unfolding tiny_value number_of
+unfolding tiny_value number_of_parts
 tiny_each_number x within =
     let below = parts_below 7 x (omega arith) within in
     (record { numerator = x.numerator; denominator = x.denominator; parts = record { reduced = x.reduced; numerator_small = below.0; denominator_small = below.1 } }, refl)

@@ -10,5 +10,5 @@ pub record IsFraction (bits : ℕ) (numerator : ℤ) (denominator : ℕ) : Type 
   pub denominator_small : denominator < 2 ^ bits
 
 -- the number with these parts
-unfoldable pub number_of : {bits : ℕ} (numerator : ℤ) (denominator : ℕ) → IsFraction bits numerator denominator → Number
-number_of numerator denominator parts = record { numerator = numerator; denominator = denominator; reduced = parts.reduced }
+unfoldable pub number_of_parts : {bits : ℕ} (numerator : ℤ) (denominator : ℕ) → IsFraction bits numerator denominator → Number
+number_of_parts numerator denominator parts = record { numerator = numerator; denominator = denominator; reduced = parts.reduced }

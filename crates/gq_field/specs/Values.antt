@@ -5,7 +5,7 @@ use Rattle.gq_number.specs.Reduced.{IsReduced, neg_reduced}
 use Rattle.gq_field.specs.declared.fraction.Fraction.{Fraction}
 use Rattle.gq_field.specs.declared.half.Half.{Half}
 use Rattle.gq_field.specs.declared.tiny.Tiny.{Tiny}
-use Rattle.gq_field.specs.Parts.{number_of}
+use Rattle.gq_field.specs.Parts.{number_of_parts}
 
 -- the whole number of this magnitude, negated or not
 abbrev pub signed : Bool → ℕ → ℤ
@@ -23,8 +23,8 @@ fraction_value f =
 
 -- the number that a value of the field with the limit 2^63 - 1 means
 unfoldable pub half_value : Half → Number
-half_value h = number_of h.numerator h.denominator h.parts
+half_value h = number_of_parts h.numerator h.denominator h.parts
 
 -- the number that a value of the field with the limit 127 means
 unfoldable pub tiny_value : Tiny → Number
-tiny_value t = number_of t.numerator t.denominator t.parts
+tiny_value t = number_of_parts t.numerator t.denominator t.parts

@@ -9,10 +9,10 @@ use Rattle.gq_number.proofs.Field.{means-*ℚ, means-whole}
 use Rattle.gq_number.proofs.Quotients.{≡-/ℚ}
 use Rattle.gq_number.proofs.Naming.{decimal_parts, ratio-one, whole-≢-zero}
 use Rattle.gq_text.specs.Numeral.{spelled}
-use Rattle.gq_text.specs.Decimal.{scaled, number_of}
+use Rattle.gq_text.specs.Decimal.{scaled_by_ten, number_of}
 use Rattle.gq_text.specs.Literal.{HasNoZeroBehind, FitsLiteral}
-use Rattle.gq_text.specs.Parts.{exponent_of}
-use Rattle.gq_text.specs.Shortest.{Shortens, added}
+use Rattle.gq_text.specs.InnerParts.{exponent_of}
+use Rattle.gq_text.specs.InnerShortest.{Shortens, added}
 use Rattle.gq_text.proofs.Numerals.{spelled-append}
 use Rattle.gq_text.proofs.Literals.{tens_above, cross_nat, whole_fits, fraction_fits}
 
@@ -27,11 +27,11 @@ over_tens a b k some =
     (same_by_means (means-*ℚ (ratio_means (pos a) (b * 10 ^ k) some_below) (means-whole (pos (10 ^ k)))) (ratio_means (pos a) b some) (ap pos (omega arith))))
 
 -- times ten to an exponent by its sign
-scaled_is : (a b e : ℕ) (negative : Bool) (digits : List ℕ) → 0 < b → e ≡ spelled digits → scaled (ratio (pos a) b) (exponent_of negative digits) ≡ ratio (pos (a * 10 ^ added (not negative) e)) (b * 10 ^ added negative e)
+scaled_is : (a b e : ℕ) (negative : Bool) (digits : List ℕ) → 0 < b → e ≡ spelled digits → scaled_by_ten (ratio (pos a) b) (exponent_of negative digits) ≡ ratio (pos (a * 10 ^ added (not negative) e)) (b * 10 ^ added negative e)
 scaled_is a b e false digits some f = ap (λ k. ratio (pos a) b *ℚ whole (pos (10 ^ k))) (sym f) ∙ times_tens a b e some ∙ ap (ratio (pos (a * 10 ^ e))) (omega arith)
-scaled_is a b e true digits some f = ap (λ k. scaled (ratio (pos a) b) (neg_ℤ (pos k))) (sym f) ∙ down e
+scaled_is a b e true digits some f = ap (λ k. scaled_by_ten (ratio (pos a) b) (neg_ℤ (pos k))) (sym f) ∙ down e
   where
-    down : (e : ℕ) → scaled (ratio (pos a) b) (neg_ℤ (pos e)) ≡ ratio (pos (a * 10 ^ 0)) (b * 10 ^ e)
+    down : (e : ℕ) → scaled_by_ten (ratio (pos a) b) (neg_ℤ (pos e)) ≡ ratio (pos (a * 10 ^ 0)) (b * 10 ^ e)
     down zero = times_tens a b 0 some ∙ ap (ratio (pos (a * 10 ^ 0))) (omega arith)
     down (suc k) = over_tens a b (suc k) some ∙ ap (λ n. ratio (pos n) (b * 10 ^ suc k)) (omega arith)
 
@@ -52,7 +52,7 @@ number_is before behind whole' fraction digits negative s =
     let shorter = s.fraction_shorter in
     let pair : whole (pos (spelled before)) +ℚ ratio (pos (spelled behind)) (10 ^ places) ≡ ratio (pos n) (10 ^ places) =
     sym (decimal_parts (spelled before) (spelled behind) places) ∙ ap (λ m. ratio (pos m) (10 ^ places)) (sym (spelled-append before behind)) in
-    ap (λ x. scaled x (exponent_of negative digits)) pair ∙ scaled_is n (10 ^ places) (spelled digits) negative digits (tens_above places) refl
+    ap (λ x. scaled_by_ten x (exponent_of negative digits)) pair ∙ scaled_is n (10 ^ places) (spelled digits) negative digits (tens_above places) refl
     ∙ moved n (spelled (whole' ++ fraction)) (length before - length whole') (length behind - length fraction) (added (not negative) (spelled digits)) (added negative (spelled digits)) (length fraction) places s.spells (omega arith)
 
 -- digits that are 0

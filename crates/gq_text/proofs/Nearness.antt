@@ -10,7 +10,7 @@ use Rattle.gq_number.proofs.Signs.{≤ℚ-/ℚ, <ℚ-/ℚ}
 use Rattle.gq_number.proofs.Compares.{abs_within, abs-≤ℚ, ≤ℚ-abs, neg-≤ℚ-abs}
 use Rattle.gq_number.proofs.Rounding.{rounded_near, rounded_above, rounded_below, floor_unique, ceiling_unique, half_twice}
 use Rattle.gq_number.proofs.Order
-use Rattle.gq_text.specs.Decimal.{scaled, MeansSigned}
+use Rattle.gq_text.specs.Decimal.{scaled_by_ten, MeansSigned}
 use Rattle.gq_text.specs.Shown.{IsFixedSigned, IsRoundedText}
 use Rattle.gq_text.proofs.Literals.{tens_above, nat_cross, same_shortest, ends_in_zero}
 use Rattle.gq_text.proofs.Combined.{times_tens, over_tens}
@@ -76,13 +76,13 @@ rounded_only d x y n text f m h =
 -- ---- shortest digits
 
 -- digits times ten to a power, as a fraction
-scaled_up : (m k : ℕ) → scaled (whole (pos m)) (pos k) ≡ ratio (pos (m * 10 ^ k)) 1
+scaled_up : (m k : ℕ) → scaled_by_ten (whole (pos m)) (pos k) ≡ ratio (pos (m * 10 ^ k)) 1
 scaled_up m k = ap (λ x. x *ℚ whole (pos (10 ^ k))) (sym (ratio-one (pos m))) ∙ times_tens m 1 k (omega arith)
 
-scaled_down : (m k : ℕ) → scaled (whole (pos m)) (negsuc k) ≡ ratio (pos m) (10 ^ suc k)
+scaled_down : (m k : ℕ) → scaled_by_ten (whole (pos m)) (negsuc k) ≡ ratio (pos m) (10 ^ suc k)
 scaled_down m k = sym (ratio_is (pos m) (10 ^ suc k))
 
-pub one_power : (m n : ℕ) (e f : ℤ) → m % 10 ≢ 0 → n % 10 ≢ 0 → scaled (whole (pos m)) e ≡ scaled (whole (pos n)) f → (m ≡ n) × (e ≡ f)
+pub one_power : (m n : ℕ) (e f : ℤ) → m % 10 ≢ 0 → n % 10 ≢ 0 → scaled_by_ten (whole (pos m)) e ≡ scaled_by_ten (whole (pos n)) f → (m ≡ n) × (e ≡ f)
 one_power m n (pos i) (pos j) h k e =
     let cross = nat_cross (m * 10 ^ i) 1 (n * 10 ^ j) 1 (omega arith) (omega arith) (sym (scaled_up m i) ∙ e ∙ scaled_up n j) in
     let same = same_shortest m n i j h k (omega arith) in (same.0, ap pos same.1)

@@ -2,7 +2,7 @@
 use Rattle.std.proofs.Common.{◌≡◌, ℕ, zero, suc, ◌+◌, ◌-◌, ◌*◌, ◌/◌, ◌%◌, ◌^◌, ◌<◌, ◌≤◌, List, [], ◌∷◌, ◌++◌, length, refl, sym, ap, ◌∙◌, subst, arith, append_assoc, length-append, div-add-mod', mod-lt, div-lt_iff_lt-mul}
 use Rattle.std.proofs.Math.Nat.{pow-succ', one-le-pow}
 use Rattle.gq_text.specs.Numeral.{AreDigits, spelled, IsNumeral}
-use Rattle.gq_text.specs.Appends.{AppendsDigits, AppendsNumeral}
+use Rattle.gq_text.specs.InnerAppends.{AppendsDigits, AppendsNumeral}
 use Rattle.gq_text.proofs.Numerals.{spelled_push, spelled-lt, AreDigits-append}
 
 -- of n with `places` digits all but the last `left` are appended, and this rest remains

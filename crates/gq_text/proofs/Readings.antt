@@ -4,16 +4,16 @@ use Rattle.gq_number.specs.Number.{Number}
 use Rattle.gq_text.specs.declared.fault.NumberFault.{NumberFault}
 use Rattle.gq_text.specs.declared.fault.NumberFault.TheVariants.{Shape, Limit}
 use Rattle.gq_text.specs.Decimal.{Decimal, number_of, IsExponent, Spells, MeansNumber}
-use Rattle.gq_text.specs.Literal.{FitsLiteral, AnswersLiteral, Reads}
-use Rattle.gq_text.specs.Parts.{Divides}
+use Rattle.gq_text.specs.Literal.{FitsLiteral, AnswersLiteral, ReadsLiteral}
+use Rattle.gq_text.specs.InnerParts.{Divides}
 use Rattle.gq_text.proofs.Splits.{Divides-from, Spells-from, one_division}
 
-read_as : {F : Type 0} (limit : ℕ) (value : F → Number) (text : List ℕ) (d : Decimal) (r : Result F NumberFault) → Spells text d → AnswersLiteral limit value (number_of d) r → Reads limit value text r
+read_as : {F : Type 0} (limit : ℕ) (value : F → Number) (text : List ℕ) (d : Decimal) (r : Result F NumberFault) → Spells text d → AnswersLiteral limit value (number_of d) r → ReadsLiteral limit value text r
 read_as limit value text d (Ok v) s a = ((d, s, a.1), subst (FitsLiteral limit) (sym a.1) a.0)
 read_as limit value text d (Err Limit) s a = (number_of d, (d, s, refl), a)
 read_as limit value text d (Err Shape) s a = absurd a
 
-pub read_literal : {F : Type 0} (limit : ℕ) (value : F → Number) (text rest : List ℕ) (d : Decimal) (r : Result F NumberFault) → Divides text d.before d.behind rest → 0 < length d.before + length d.behind → IsExponent rest d.exponent → AnswersLiteral limit value (number_of d) r → Reads limit value text r
+pub read_literal : {F : Type 0} (limit : ℕ) (value : F → Number) (text rest : List ℕ) (d : Decimal) (r : Result F NumberFault) → Divides text d.before d.behind rest → 0 < length d.before + length d.behind → IsExponent rest d.exponent → AnswersLiteral limit value (number_of d) r → ReadsLiteral limit value text r
 read_literal limit value text rest d r p some power a = read_as limit value text d r (Spells-from text rest d p some power) a
 
 -- without a digit

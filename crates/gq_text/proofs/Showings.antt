@@ -12,9 +12,9 @@ use Rattle.gq_number.proofs.Whole.{less_pos, less_negsuc, less-*ℤ, less-neg, l
 use Rattle.gq_number.proofs.Means.{means_itself}
 use Rattle.gq_number.proofs.Field.{means-*ℚ, means-whole}
 use Rattle.gq_text.specs.Numeral.{AreDigits, spelled, IsNumeral, WithSign}
-use Rattle.gq_text.specs.Shown.{with_point, IsFixed, IsExactText}
+use Rattle.gq_text.specs.Shown.{with_decimal_point, IsFixed, IsExactText}
 use Rattle.gq_text.proofs.Literals.{tens_above}
-use Rattle.gq_text.specs.Appends.{AppendsDenominator, sign_text}
+use Rattle.gq_text.specs.InnerAppends.{AppendsDenominator, sign_text}
 
 -- ---- units of the last place
 
@@ -71,7 +71,7 @@ parts_back whole' fraction t k some e small =
     let split = div-add-mod' k t in
     (quotient, let product : k / t * t ≡ whole' * t = ap (λ n. n * t) quotient in omega arith)
 
-pub IsFixed_from : (before now decimals' : List ℕ) (d whole' fraction k : ℕ) → IsNumeral whole' before → AreDigits decimals' → length decimals' ≡ d → spelled decimals' ≡ fraction → fraction < 10 ^ d → whole' * 10 ^ d + fraction ≡ k → now ≡ before ++ with_point decimals' → IsFixed d k now
+pub IsFixed_from : (before now decimals' : List ℕ) (d whole' fraction k : ℕ) → IsNumeral whole' before → AreDigits decimals' → length decimals' ≡ d → spelled decimals' ≡ fraction → fraction < 10 ^ d → whole' * 10 ^ d + fraction ≡ k → now ≡ before ++ with_decimal_point decimals' → IsFixed d k now
 IsFixed_from before now decimals' d whole' fraction k n h l s small e layout =
     let parts = parts_back whole' fraction (10 ^ d) k (tens_above d) e small in
     record {

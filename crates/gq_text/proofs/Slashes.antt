@@ -4,7 +4,7 @@ use Rattle.std.proofs.Common.{◌≡◌, ◌≢◌, ℕ, ◌+◌, ◌<◌, List,
 use Rattle.gq_number.specs.Number.{Number, ◌/ℚ◌, neg_ℚ}
 use Rattle.gq_text.specs.Numeral.{AreDigits}
 use Rattle.gq_text.specs.Decimal.{Decimal, IsSigned, IsExponent, Spells, MeansNumber, MeansSigned}
-use Rattle.gq_text.specs.Parts.{BeginsOther, Divides}
+use Rattle.gq_text.specs.InnerParts.{BeginsOther, Divides}
 use Rattle.gq_text.specs.Shown.{MeansQuotient}
 use Rattle.gq_text.proofs.Splits.{one_number, Divides-from}
 

@@ -7,7 +7,7 @@ use Rattle.std.proofs.lemmas.Bool.Decides.{nat_tests}
 use Rattle.gq_number.specs.Number.{Number}
 use Rattle.gq_text.specs.Numeral.{AreDigits, spelled}
 use Rattle.gq_text.specs.Decimal.{Decimal, number_of, IsSomeDigits, IsSigned, IsExponent, Spells, MeansNumber}
-use Rattle.gq_text.specs.Parts.{BeginsNoDigit, BeginsOther, SplitsDigits, IsTail, Divides, SplitsSign, exponent_of}
+use Rattle.gq_text.specs.InnerParts.{BeginsNoDigit, BeginsOther, SplitsDigits, IsTail, Divides, SplitsSign, exponent_of}
 
 append_nil : (xs : List ℕ) → xs ++ [] ≡ xs
 append_nil [] = refl

@@ -6,7 +6,7 @@ use Rattle.gq_number.proofs.Field.{means-neg_ℚ}
 use Rattle.gq_number.proofs.Naming.{decimal_parts, ratio-one, ratio_is}
 use Rattle.gq_text.specs.Numeral.{AreDigits, spelled, IsNumeral, WithSign}
 use Rattle.gq_text.specs.Decimal.{number_of, Spells, MeansNumber, MeansSigned}
-use Rattle.gq_text.specs.Shown.{with_point, IsFixed, IsFixedSigned, IsRoundedText, IsExactText, MeansQuotient}
+use Rattle.gq_text.specs.Shown.{with_decimal_point, IsFixed, IsFixedSigned, IsRoundedText, IsExactText, MeansQuotient}
 use Rattle.gq_text.proofs.Numerals.{spelled-append, one_numeral, same_digits}
 use Rattle.gq_text.proofs.Literals.{tens_above}
 use Rattle.gq_text.proofs.Combined.{times_tens}
@@ -30,7 +30,7 @@ numeral_means n text m = (
   ap (λ k. ratio (pos k) 1) (sym m.spells ∙ ap spelled (sym (append_nil text))) ∙ sym (plain_number text []),
 )
 
-fixed_text : (text before behind : List ℕ) → AreDigits before → AreDigits behind → 0 < length before → text ≡ before ++ with_point behind → Spells text (record { before = before; behind = behind; exponent = pos 0 })
+fixed_text : (text before behind : List ℕ) → AreDigits before → AreDigits behind → 0 < length before → text ≡ before ++ with_decimal_point behind → Spells text (record { before = before; behind = behind; exponent = pos 0 })
 fixed_text text before [] h k some layout =
     record { pointed = before; power = []; text_is = layout; before_digits = h; behind_digits = tt; some = omega arith; pointed_is = inr (refl, refl); power_is = refl }
 fixed_text text before (b ∷ bs) h k some layout =
@@ -84,7 +84,7 @@ pub one_fixed : (d n : ℕ) (s t : List ℕ) → IsFixed d n s → IsFixed d n t
 one_fixed d n s t f g =
     let before = one_numeral (n / 10 ^ d) f.before g.before f.before_is g.before_is in
     let behind = same_digits f.behind g.behind f.behind_digits g.behind_digits (f.behind_places ∙ sym g.behind_places) (f.behind_spells ∙ sym g.behind_spells) in
-    f.text_is ∙ ap₂ (λ (a b : List ℕ). a ++ with_point b) before behind ∙ sym g.text_is
+    f.text_is ∙ ap₂ (λ (a b : List ℕ). a ++ with_decimal_point b) before behind ∙ sym g.text_is
 
 pub one_rounded : (d : ℕ) (x : Number) (s t : List ℕ) → IsRoundedText d x s → IsRoundedText d x t → s ≡ t
 one_rounded d x s t h k = one_with_sign (IsFixed d) _ s t (one_fixed d) h k

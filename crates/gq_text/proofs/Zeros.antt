@@ -5,7 +5,7 @@ use Rattle.std.proofs.Math.Pow.{pow-add}
 use Rattle.std.proofs.lemmas.List.{take-append-drop, take_more, length-drop, length-replicate}
 use Rattle.gq_text.specs.Numeral.{AreDigits, spelled}
 use Rattle.gq_text.specs.Literal.{HasNoZeroBehind}
-use Rattle.gq_text.specs.Shortest.{Shortens}
+use Rattle.gq_text.specs.InnerShortest.{Shortens}
 use Rattle.gq_text.proofs.Numerals.{spelled-append, spelled_push, AreDigits_front}
 use Rattle.gq_text.proofs.Literals.{tens_above}
 

@@ -10,15 +10,15 @@ pub record Decimal : Type 0 where
   pub exponent : ℤ
 
 -- a number times ten to a power
-abbrev pub scaled : Number → ℤ → Number
-scaled x (pos k) = x *ℚ whole (pos (10 ^ k))
-scaled x (negsuc k) = x /ℚ whole (pos (10 ^ suc k))
+abbrev pub scaled_by_ten : Number → ℤ → Number
+scaled_by_ten x (pos k) = x *ℚ whole (pos (10 ^ k))
+scaled_by_ten x (negsuc k) = x /ℚ whole (pos (10 ^ suc k))
 
 -- the number that a decimal means: the digits before the point, plus those after it over ten to the
 -- power of their count, all times ten to its exponent
 abbrev pub number_of : Decimal → Number
 number_of d =
-    scaled (whole (pos (spelled d.before)) +ℚ ratio (pos (spelled d.behind)) (10 ^ length d.behind)) d.exponent
+    scaled_by_ten (whole (pos (spelled d.before)) +ℚ ratio (pos (spelled d.behind)) (10 ^ length d.behind)) d.exponent
 
 -- digits, at least one
 abbrev pub IsSomeDigits : List ℕ → Type 0

@@ -12,6 +12,6 @@ abbrev pub exact_text : Number → List ℕ
 exact_text x = whole_text x.numerator ++ (if x.denominator == 1 then [] else codes "/" ++ decimal x.denominator)
 
 -- a magnitude with a sign
-abbrev pub signed : Bool → ℕ → ℤ
-signed true n = neg_ℤ (pos n)
-signed false n = pos n
+abbrev pub signed_whole : Bool → ℕ → ℤ
+signed_whole true n = neg_ℤ (pos n)
+signed_whole false n = pos n

@@ -3,7 +3,7 @@ pub mod Decimal
 pub mod Literal
 pub mod Shown
 pub mod Faults
-pub mod Appends
-pub mod Parts
-pub mod Shortest
+pub mod InnerAppends
+pub mod InnerParts
+pub mod InnerShortest
 pub mod ExactText

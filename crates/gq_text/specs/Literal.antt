@@ -26,7 +26,7 @@ AnswersLiteral limit value x (Err Limit) = ¬ FitsLiteral limit x
 
 -- the result of reading a text: the value of the number that it means, which fits; Limit if it
 -- means one that does not; Shape if it means none
-abbrev pub Reads : {F : Type 0} → ℕ → (F → Number) → List ℕ → Result F NumberFault → Type 0
-Reads limit value text (Ok v) = MeansNumber text (value v) × FitsLiteral limit (value v)
-Reads limit value text (Err Limit) = (x : Number) × MeansNumber text x × ¬ FitsLiteral limit x
-Reads limit value text (Err Shape) = (x : Number) → ¬ MeansNumber text x
+abbrev pub ReadsLiteral : {F : Type 0} → ℕ → (F → Number) → List ℕ → Result F NumberFault → Type 0
+ReadsLiteral limit value text (Ok v) = MeansNumber text (value v) × FitsLiteral limit (value v)
+ReadsLiteral limit value text (Err Limit) = (x : Number) × MeansNumber text x × ¬ FitsLiteral limit x
+ReadsLiteral limit value text (Err Shape) = (x : Number) → ¬ MeansNumber text x

@@ -9,9 +9,9 @@ abbrev pub most_decimals : ℕ
 most_decimals = 8
 
 -- a point and the decimals after it, or nothing without decimals
-abbrev pub with_point : List ℕ → List ℕ
-with_point [] = []
-with_point (b ∷ bs) = codes "." ++ (b ∷ bs)
+abbrev pub with_decimal_point : List ℕ → List ℕ
+with_decimal_point [] = []
+with_decimal_point (b ∷ bs) = codes "." ++ (b ∷ bs)
 
 -- the text of n units of the last decimal: the numeral of the whole part, a point, and the decimals
 pub record IsFixed (decimals n : ℕ) (text : List ℕ) : Type 0 where
@@ -21,7 +21,7 @@ pub record IsFixed (decimals n : ℕ) (text : List ℕ) : Type 0 where
   pub behind_digits : AreDigits behind
   pub behind_places : length behind ≡ decimals
   pub behind_spells : spelled behind ≡ n % 10 ^ decimals
-  pub text_is : text ≡ before ++ with_point behind
+  pub text_is : text ≡ before ++ with_decimal_point behind
 
 -- such a text with a sign, which occurs only if n is not 0
 abbrev pub IsFixedSigned : ℕ → ℤ → List ℕ → Type 0

@@ -1,6 +1,6 @@
 //! The text of a number, in a buffer that needs no memory.
 ghost use Rattle.std.specs.Prelude.{◌≡◌, ◌<◌, ◌≤◌, ◌+◌, ◌^◌, ◌++◌, ◌∷◌, [], length};
-ghost use Rattle.gq_text.specs.Appends.{AppendsDigits, AppendsNumeral, AppendsDecimals, AppendsDenominator, sign_text};
+ghost use Rattle.gq_text.specs.InnerAppends.{AppendsDigits, AppendsNumeral, AppendsDecimals, AppendsDenominator, sign_text};
 
 use std::marker::Model;
 use std::str::from_utf8;

@@ -3,7 +3,7 @@ ghost use Rattle.std.specs.Prelude.{◌≡◌, ◌≢◌, ℕ, ◌*◌, ◌%◌,
 ghost use Rattle.gq_number.specs.Number.{Number, whole, ratio, ◌-ℚ◌};
 ghost use Rattle.gq_number.specs.Order.{◌≤ℚ◌, ◌<ℚ◌, abs_ℚ};
 ghost use Rattle.gq_text.specs.Numeral.{IsNumeral};
-ghost use Rattle.gq_text.specs.Decimal.{MeansNumber, MeansSigned, scaled};
+ghost use Rattle.gq_text.specs.Decimal.{MeansNumber, MeansSigned, scaled_by_ten};
 ghost use Rattle.gq_text.specs.Shown.{most_decimals, IsFixedSigned, IsRoundedText, IsExactText, MeansQuotient};
 
 use crate::show::MOST_DECIMALS;
@@ -19,7 +19,7 @@ pub fn reading_laws()
     ensures one_quotient { (text : List ℕ) (x y : Number) →
         MeansQuotient text x → MeansQuotient text y → x ≡ y }
     ensures one_power { (m n : ℕ) (e f : ℤ) → m % 10 ≢ 0 → n % 10 ≢ 0 →
-        scaled (whole (pos m)) e ≡ scaled (whole (pos n)) f → (m ≡ n) × (e ≡ f) }
+        scaled_by_ten (whole (pos m)) e ≡ scaled_by_ten (whole (pos n)) f → (m ≡ n) × (e ≡ f) }
 {}
 
 /// A number has at most one numeral, one exact text and one text for each number of decimals. A

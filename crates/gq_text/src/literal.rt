@@ -5,8 +5,8 @@ ghost use Rattle.gq_number.specs.Number.{ratio};
 ghost use Rattle.gq_text.specs.Numeral.{AreDigits, spelled};
 ghost use Rattle.gq_text.specs.Decimal.{number_of};
 ghost use Rattle.gq_text.specs.Literal.{HasNoZeroBehind, AnswersLiteral};
-ghost use Rattle.gq_text.specs.Parts.{exponent_of};
-ghost use Rattle.gq_text.specs.Shortest.{Shortens, added};
+ghost use Rattle.gq_text.specs.InnerParts.{exponent_of};
+ghost use Rattle.gq_text.specs.InnerShortest.{Shortens, added};
 
 use crate::fault::NumberFault;
 use crate::parts::Exponent;

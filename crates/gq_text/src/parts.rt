@@ -4,7 +4,7 @@ ghost use Rattle.std.specs.List.{prefix_len};
 ghost use Rattle.std.specs.Char.{is_ascii_digit};
 ghost use Rattle.gq_text.specs.Numeral.{AreDigits};
 ghost use Rattle.gq_text.specs.Decimal.{IsExponent};
-ghost use Rattle.gq_text.specs.Parts.{SplitsDigits, SplitsSign, Divides, exponent_of};
+ghost use Rattle.gq_text.specs.InnerParts.{SplitsDigits, SplitsSign, Divides, exponent_of};
 
 /// The digits before a decimal's point and after it, and what follows these.
 #[derive(Clone, Copy)]

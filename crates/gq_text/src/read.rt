@@ -1,5 +1,5 @@
 //! How a decimal's text is read.
-ghost use Rattle.gq_text.specs.Literal.{Reads};
+ghost use Rattle.gq_text.specs.Literal.{ReadsLiteral};
 
 use crate::fault::NumberFault;
 use crate::literal::literal;
@@ -15,7 +15,7 @@ use gq_field::ExactField;
 /// from 0 on the product, for e below 0 both m and 10^-e. `Limit` exactly if it is not. The number
 /// 0 always fits, and how the number is written makes no difference.
 pub fn read_decimal<F: ExactField>(text: &[u8]) -> Result<F, NumberFault>
-    ensures { Reads F.limit F.value text.now result }
+    ensures { ReadsLiteral F.limit F.value text.now result }
 {
     let pointed = split_pointed(text);
     if pointed.before.is_empty() && pointed.behind.is_empty() {

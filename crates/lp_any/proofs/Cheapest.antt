@@ -3,7 +3,7 @@ use Rattle.std.proofs.Common.{◌≡◌, inl, inr, ℕ, ◌+◌, ◌<◌, ◌≤
 use Rattle.std.proofs.lemmas.Bool.{cases_lt}
 use Rattle.lp_core.specs.Dictionary.{Dictionary, Improves}
 use Rattle.lp_any.specs.declared.costs.Candidate.{Candidate}
-use Rattle.lp_any.specs.Costs.{IsBetter, IsCheapest, IsTried}
+use Rattle.lp_any.specs.Costs.{IsCheaper, IsCheapest, IsTried}
 
 module _ (Costs : Dictionary → ℕ → ℕ → Type 0) (d : Dictionary) where
   -- A candidate is the cheapest of those that improve below a number.
@@ -80,7 +80,7 @@ module _ (Costs : Dictionary → ℕ → ℕ → Type 0) (d : Dictionary) where
           ];
         }
 
-    of_better : (best : Option Candidate) (better : Candidate) → CheapestTo i best → IsBetter best other better → IsBest (i + 1) better
+    of_better : (best : Option Candidate) (better : Candidate) → CheapestTo i best → IsCheaper best other better → IsBest (i + 1) better
     of_better None better h is = subst (IsBest (i + 1)) (sym is) (alone h)
     of_better (Some b) better h (inl old) = subst (IsBest (i + 1)) (sym old.1) (dearer b h.is old.0)
     of_better (Some b) better h (inr new) = subst (IsBest (i + 1)) (sym new.1) (cheaper b h.is new.0)

@@ -9,7 +9,7 @@ use Rattle.lp_core.specs.declared.answer.Rule.TheVariants.{Bland, Legal}
 use Rattle.lp_core.specs.declared.program.Lp.{Lp}
 use Rattle.lp_core.specs.Answers.{IsAnswer}
 use Rattle.lp_core.proofs.Rules.{bland_is_legal}
-use Rattle.lp_bland.specs.Ends.{IsRefused}
+use Rattle.lp_bland.specs.Ends.{IsRefusedEnd}
 use Rattle.lp_any.specs.declared.members.Member.{Member}
 use Rattle.lp_any.specs.declared.members.Member.TheVariants as member
 use Rattle.lp_any.specs.Members.{IsAnswerOf, IsRefusedBy}
@@ -28,7 +28,7 @@ module _ {F : Type 0} (value : F → Number) (limit : ℕ) (lp : Lp F) (iterlim 
   each steepest shortest gain in_row in_both largest bland member.Bland = bland
 
   pub each_refused : (result : Result (Answer F) AllocError) → By member.Steepest → By member.Shortest → By member.GainForBits → By member.ShortInRow → By member.ShortInBoth → By member.Largest
-      → IfOk result (IsAnswerOf value limit member.Bland lp iterlim) → IfOk result (λ answer. IsRefused answer.end → (rule : Member) → By rule)
+      → IfOk result (IsAnswerOf value limit member.Bland lp iterlim) → IfOk result (λ answer. IsRefusedEnd answer.end → (rule : Member) → By rule)
   each_refused (Ok answer) steepest shortest gain in_row in_both largest bland = λ refused. each steepest shortest gain in_row in_both largest (answer, bland, refused)
   each_refused (Err e) steepest shortest gain in_row in_both largest bland = bland
 
@@ -37,7 +37,7 @@ module _ {F : Type 0} (value : F → Number) (limit : ℕ) (lp : Lp F) (iterlim 
   bland_if_ok (Err e) bland = bland
 
   -- a rule whose end is found to be Refused has a refused answer
-  pub refused_by : (rule : Member) (answer : Answer F) (found : Bool) → IsAnswerOf value limit rule lp iterlim answer → IsTrue found ↔ IsRefused answer.end → found ≡ true → By rule
+  pub refused_by : (rule : Member) (answer : Answer F) (found : Bool) → IsAnswerOf value limit rule lp iterlim answer → IsTrue found ↔ IsRefusedEnd answer.end → found ≡ true → By rule
   refused_by rule answer found is tells so = (answer, is, tells.0 so)
 
   pub legal_if_ok : (result : Result (Answer F) AllocError) → IfOk result (IsAnswer value limit lp iterlim Bland) → IfOk result (IsAnswer value limit lp iterlim Legal)

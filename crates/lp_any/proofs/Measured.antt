@@ -6,7 +6,7 @@ use Rattle.lp_core.specs.Dictionary.{Dictionary}
 use Rattle.lp_core.specs.Steps.{ratio_steps}
 use Rattle.lp_std.specs.declared.stop.Stop.{Stop}
 use Rattle.lp_std.specs.declared.stop.Stop.TheVariants as stop
-use Rattle.lp_exact.specs.Pivots.{IsLeaving, IsLimit}
+use Rattle.lp_fraction_dict.specs.Pivots.{IsLeaving, IsLimit}
 use Rattle.lp_any.specs.Measures.{IsCostBy, cost_of_gain, cost_in_row, cost_in_both}
 
 module _ (limit : ℕ) (d : Dictionary) (v : ℕ) (AtRow : Dictionary → ℕ → ℕ → ℕ → Type 0) where

@@ -15,12 +15,12 @@ pub cheapest_improves : (Costs : Dictionary → ℕ → ℕ → Type 0) (d : Dic
 cheapest_improves Costs d q cheapest = cheapest.improves
 
 -- the better of two: the one that costs less, and of equal ones the first
-abbrev pub IsBetter : Option Candidate → Candidate → Candidate → Type 0
-IsBetter None other better = better ≡ other
-IsBetter (Some best) other better = ((best.cost ≤ other.cost) × (better ≡ best)) ⊎ ((other.cost < best.cost) × (better ≡ other))
+abbrev pub IsCheaper : Option Candidate → Candidate → Candidate → Type 0
+IsCheaper None other better = better ≡ other
+IsCheaper (Some best) other better = ((best.cost ≤ other.cost) × (better ≡ best)) ⊎ ((other.cost < best.cost) × (better ≡ other))
 
 -- a variable is tried: if it does not improve the best stays, else the better of the two is taken
 abbrev pub IsTried : (Dictionary → ℕ → ℕ → Type 0) → Dictionary → ℕ → Option Candidate → Option Candidate → Type 0
 IsTried Costs d v best after =
     (¬ (Improves d v) × (after ≡ best))
-    ⊎ ((other better : Candidate) × (other.variable ≡ v) × Improves d v × Costs d v other.cost × IsBetter best other better × (after ≡ Some better))
+    ⊎ ((other better : Candidate) × (other.variable ≡ v) × Improves d v × Costs d v other.cost × IsCheaper best other better × (after ≡ Some better))

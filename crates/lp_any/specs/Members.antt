@@ -8,8 +8,8 @@ use Rattle.lp_core.specs.declared.program.Lp.{Lp}
 use Rattle.lp_core.specs.Dictionary.{Improves}
 use Rattle.lp_core.specs.Answers.{IsAnswer}
 use Rattle.lp_core.specs.LargestCoefficient.{IsLargestAnswer}
-use Rattle.lp_turn.specs.Turn.{IsTurningAnswer}
-use Rattle.lp_bland.specs.Ends.{IsRefused}
+use Rattle.lp_simplex.specs.Turn.{IsTurningAnswer}
+use Rattle.lp_bland.specs.Ends.{IsRefusedEnd}
 use Rattle.lp_any.specs.Costs.{IsCheapest}
 use Rattle.lp_any.specs.Measures.{IsCostBy, LengthAt, GainAt, RowAt, BothAt}
 use Rattle.lp_any.specs.declared.members.Member.{Member}
@@ -29,4 +29,4 @@ module _ {F : Type 0} (value : F → Number) (limit : ℕ) where
 
   -- a rule has an answer that is Refused
   abbrev pub IsRefusedBy : Member → Lp F → ℕ → Type 0
-  IsRefusedBy rule lp iterlim = (answer : Answer F) × IsAnswerOf rule lp iterlim answer × IsRefused answer.end
+  IsRefusedBy rule lp iterlim = (answer : Answer F) × IsAnswerOf rule lp iterlim answer × IsRefusedEnd answer.end

@@ -4,7 +4,7 @@ ghost use Rattle.lp_core.specs.declared.answer.Rule.TheVariants as by;
 ghost use Rattle.lp_core.specs.Answers.{IsAnswer};
 ghost use Rattle.lp_core.specs.WellFormed.{IsWellFormed};
 ghost use Rattle.lp_nocycle.specs.Turns.{HasFewPivotsByTurn, ComesToEndByTurn};
-ghost use Rattle.lp_bland.specs.Ends.{IsRefused};
+ghost use Rattle.lp_bland.specs.Ends.{IsRefusedEnd};
 ghost use Rattle.lp_any.specs.declared.members.Member.{Member as MemberName};
 ghost use Rattle.lp_any.specs.Members.{IsAnswerOf, IsRefusedBy};
 
@@ -15,7 +15,7 @@ use std::alloc::{AllocError, Global};
 
 /// Whether an end is Refused.
 fn is_refused<F: ExactField>(end: &End<F>) -> bool
-    ensures { IsTrue result ↔ IsRefused end.now }
+    ensures { IsTrue result ↔ IsRefusedEnd end.now }
 {
     match end {
         End::Refused { .. } => true,
@@ -38,7 +38,7 @@ pub fn solve_in<F: ExactField>(
 ) -> Result<Answer<F>, AllocError>
     requires { IsWellFormed F.value lp.now }
     ensures member { IfOk result (λ answer. (member : MemberName) × IsAnswerOf F.value F.limit member lp.now iterlim answer) }
-    ensures refused { IfOk result (λ answer. IsRefused answer.end → (member : MemberName) → IsRefusedBy F.value F.limit member lp.now iterlim) }
+    ensures refused { IfOk result (λ answer. IsRefusedEnd answer.end → (member : MemberName) → IsRefusedBy F.value F.limit member lp.now iterlim) }
     ensures answers { IfOk result (IsAnswer F.value F.limit lp.now iterlim by.Legal) }
     ensures few { IfOk result (HasFewPivotsByTurn F.value lp.now) }
     ensures to_the_end { IfOk result (ComesToEndByTurn F.value lp.now iterlim) }

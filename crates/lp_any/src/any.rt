@@ -7,7 +7,7 @@ ghost use Rattle.lp_slot.specs.declared.solver.SolverRule.TheVariants as slot;
 ghost use Rattle.lp_core.specs.WellFormed.{IsWellFormed};
 ghost use Rattle.lp_nocycle.specs.Turns.{HasFewPivotsByTurn, ComesToEndByTurn};
 ghost use Rattle.lp_any.specs.Name.{any_is_name};
-ghost use Rattle.lp_bland.specs.Ends.{IsRefused};
+ghost use Rattle.lp_bland.specs.Ends.{IsRefusedEnd};
 ghost use Rattle.lp_any.specs.declared.members.Member.{Member as MemberName};
 ghost use Rattle.lp_any.specs.Members.{IsAnswerOf, IsRefusedBy};
 
@@ -76,7 +76,7 @@ impl LpSolver for Any {
         requires { IsWellFormed frac_value lp.now }
         ensures answers { IfOk result (IsAnswer frac_value frac_limit lp.now iterlim by.Legal) }
         ensures member { IfOk result (λ answer. (member : MemberName) × IsAnswerOf frac_value frac_limit member lp.now iterlim answer) }
-        ensures refused { IfOk result (λ answer. IsRefused answer.end → (member : MemberName) → IsRefusedBy frac_value frac_limit member lp.now iterlim) }
+        ensures refused { IfOk result (λ answer. IsRefusedEnd answer.end → (member : MemberName) → IsRefusedBy frac_value frac_limit member lp.now iterlim) }
         ensures few { IfOk result (HasFewPivotsByTurn frac_value lp.now) }
         ensures to_the_end { IfOk result (ComesToEndByTurn frac_value lp.now iterlim) }
         ensures paths { IfOk result (λ answer. self.new ≡ self.old ++ answer.pivots ∷ []) }

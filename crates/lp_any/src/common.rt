@@ -5,7 +5,7 @@ ghost use Rattle.lp_any.specs.Denominators as common;
 
 use gq_field::ExactField;
 use lp_dict::Dict;
-use lp_numbers::gcd;
+use lp_integers::gcd;
 
 /// The least common multiple of two numbers, capped at 2^128 - 1.
 fn multiple_of(first: u128, second: u128) -> u128

@@ -2,7 +2,7 @@
 ghost use Rattle.std.specs.Prelude.{ℕ, MatchOption};
 ghost use Rattle.lp_core.specs.Dictionary.{Dictionary, OpeningIsDue, Improves};
 ghost use Rattle.lp_dict.specs.Tableau.{dictionary};
-ghost use Rattle.lp_any.specs.Costs.{IsBetter, IsCheapest, IsTried};
+ghost use Rattle.lp_any.specs.Costs.{IsCheaper, IsCheapest, IsTried};
 
 use gq_field::ExactField;
 use lp_dict::Dict;
@@ -27,7 +27,7 @@ pub(crate) struct Candidate {
 
 /// The better of two: the one that costs less, and of equal ones the first.
 fn better(best: Option<Candidate>, other: Candidate) -> Candidate
-    ensures { IsBetter best other result }
+    ensures { IsCheaper best other result }
 {
     let Some(best) = best else {
         return other;

@@ -7,7 +7,7 @@ use crate::common::{denominator_of_column, denominator_of_row};
 use crate::costs::{Costing, cheapest};
 use gq_field::ExactField;
 use lp_dict::Dict;
-use lp_turn::Picking;
+use lp_simplex::Picking;
 
 /// The cost of a variable if a step of its ratio test does not fit: above that of any other.
 const STOPS: u32 = 10_000;

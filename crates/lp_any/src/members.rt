@@ -9,7 +9,7 @@ ghost use Rattle.lp_any.specs.Members.{IsAnswerOf};
 use crate::measures::{GainForBits, ShortInBoth, ShortInRow, Shortest};
 use gq_field::ExactField;
 use lp_core::{Answer, Lp};
-use lp_turn::solve_with;
+use lp_simplex::solve_with;
 use std::alloc::{AllocError, Global};
 
 /// A rule that is tried.

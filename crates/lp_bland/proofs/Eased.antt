@@ -14,10 +14,10 @@ use Rattle.lp_core.specs.declared.answer.StepName.TheVariants.{Standard as Stand
 use Rattle.lp_core.specs.declared.program.Column.{Column}
 use Rattle.lp_core.specs.declared.program.Row.{Row}
 use Rattle.lp_core.specs.declared.program.Lp.{Lp}
-use Rattle.lp_core.specs.Sums.{number_of}
+use Rattle.lp_core.specs.Sums.{value_of_column}
 use Rattle.lp_core.specs.Feasible.{bound_value}
 use Rattle.lp_core.specs.StandardForm.{Shift, from_lower, from_upper, free, base, column_at, columns_of, variables_of, rows_of_sense, rows_of_bounds, multiplier, Last, levels_back}
-use Rattle.lp_core.specs.Dictionary.{Dictionary, constant_at, entry_at, divided}
+use Rattle.lp_core.specs.Dictionary.{Dictionary, constant_at, entry_at, divided_entry}
 use Rattle.lp_core.specs.Steps.{Due, AllFit, product_fits, quotient_fits, difference_fits, shifting, row_steps, rows_steps, bound_step, bounds_steps, count_of_rows, standard_steps, ratio_steps, pivot_row_steps, other_row_steps, exchange_steps, level_step, row_level_steps, dual_steps, reduced_steps, ray_step, levels_steps, row_levels_steps, duals_steps, reduced_costs_steps, ray_steps, optimal_steps, infeasible_steps, unbounded_steps, interrupted_steps, steps_back}
 use Rattle.lp_std.proofs.Sums.{All-append_left, All-append_right}
 
@@ -70,14 +70,14 @@ module _ (low high : ℕ) (less : low ≤ high) where
 
   abbrev two_steps : ℕ → ℕ → Dictionary → ℕ → ℕ → ℕ → ℕ → List Due
   two_steps limit n d q k i c =
-      (Exchange n (i + 1) c 0, product_fits limit (entry_at d i q) (divided d q k c)) ∷ (Exchange n (i + 1) c 1, difference_fits limit (d.numbers i c) (entry_at d i q *ℚ divided d q k c)) ∷ []
+      (Exchange n (i + 1) c 0, product_fits limit (entry_at d i q) (divided_entry d q k c)) ∷ (Exchange n (i + 1) c 1, difference_fits limit (d.numbers i c) (entry_at d i q *ℚ divided_entry d q k c)) ∷ []
 
   other_row_eased : (n : ℕ) (d : Dictionary) (q k i : ℕ) → Eases (other_row_steps low n d q k i) (other_row_steps high n d q k i)
   other_row_eased n d q k i =
       eases_joined (two_steps low n d q k i) (two_steps high n d q k i) (range_with_len 0 (d.variables + 2))
-      (λ c. eases_cons (Exchange n (i + 1) c 0, product_fits low (entry_at d i q) (divided d q k c)) (Exchange n (i + 1) c 0, product_fits high (entry_at d i q) (divided d q k c)) ((Exchange n (i + 1) c 1, difference_fits low (d.numbers i c) (entry_at d i q *ℚ divided d q k c)) ∷ []) ((Exchange n (i + 1) c 1, difference_fits high (d.numbers i c) (entry_at d i q *ℚ divided d q k c)) ∷ [])
-      (fits_more low high (entry_at d i q *ℚ divided d q k c) less)
-      (eases_one (Exchange n (i + 1) c 1, difference_fits low (d.numbers i c) (entry_at d i q *ℚ divided d q k c)) (Exchange n (i + 1) c 1, difference_fits high (d.numbers i c) (entry_at d i q *ℚ divided d q k c)) (sum_fits_more low high (d.numbers i c) (neg_ℚ (entry_at d i q *ℚ divided d q k c)) less)))
+      (λ c. eases_cons (Exchange n (i + 1) c 0, product_fits low (entry_at d i q) (divided_entry d q k c)) (Exchange n (i + 1) c 0, product_fits high (entry_at d i q) (divided_entry d q k c)) ((Exchange n (i + 1) c 1, difference_fits low (d.numbers i c) (entry_at d i q *ℚ divided_entry d q k c)) ∷ []) ((Exchange n (i + 1) c 1, difference_fits high (d.numbers i c) (entry_at d i q *ℚ divided_entry d q k c)) ∷ [])
+      (fits_more low high (entry_at d i q *ℚ divided_entry d q k c) less)
+      (eases_one (Exchange n (i + 1) c 1, difference_fits low (d.numbers i c) (entry_at d i q *ℚ divided_entry d q k c)) (Exchange n (i + 1) c 1, difference_fits high (d.numbers i c) (entry_at d i q *ℚ divided_entry d q k c)) (sum_fits_more low high (d.numbers i c) (neg_ℚ (entry_at d i q *ℚ divided_entry d q k c)) less)))
 
   pub exchange_eased : (n : ℕ) (d : Dictionary) (q k : ℕ) → Eases (exchange_steps low n d q k) (exchange_steps high n d q k)
   exchange_eased n d q k =
@@ -133,9 +133,9 @@ module _ (low high : ℕ) (less : low ≤ high) where
     -- ---- the recovery
 
     level_eased : (j : ℕ) (c : ℕ × Shift) (y : List Number) → (level_step low j c y).1 ≡ true → (level_step high j c y).1 ≡ true
-    level_eased j (v, from_lower b) y = sum_fits_more low high b (number_of y v) less
-    level_eased j (v, from_upper b) y = sum_fits_more low high b (neg_ℚ (number_of y v)) less
-    level_eased j (v, free) y = sum_fits_more low high (number_of y v) (neg_ℚ (number_of y (v + 1))) less
+    level_eased j (v, from_lower b) y = sum_fits_more low high b (value_of_column y v) less
+    level_eased j (v, from_upper b) y = sum_fits_more low high b (neg_ℚ (value_of_column y v)) less
+    level_eased j (v, free) y = sum_fits_more low high (value_of_column y v) (neg_ℚ (value_of_column y (v + 1))) less
 
     levels_eased : (lp : Lp F) (last : Last) → Eases (levels_steps value low lp last) (levels_steps value high lp last)
     levels_eased lp last =
@@ -144,8 +144,8 @@ module _ (low high : ℕ) (less : low ≤ high) where
     row_level_eased : (i e : ℕ) (s : Number) (entries : List (ℕ × F)) (x : List Number) → Eases (row_level_steps value low i e s entries x) (row_level_steps value high i e s entries x)
     row_level_eased i e s [] x = λ fit. fit
     row_level_eased i e s (p ∷ entries) x =
-        let term : Number = value p.1 *ℚ number_of x p.0 in
-        eases_cons (Recover 1 i e 0, product_fits low (value p.1) (number_of x p.0)) (Recover 1 i e 0, product_fits high (value p.1) (number_of x p.0))
+        let term : Number = value p.1 *ℚ value_of_column x p.0 in
+        eases_cons (Recover 1 i e 0, product_fits low (value p.1) (value_of_column x p.0)) (Recover 1 i e 0, product_fits high (value p.1) (value_of_column x p.0))
         ((Recover 1 i e 1, sum_fits low s term) ∷ row_level_steps value low i (e + 1) (s +ℚ term) entries x) ((Recover 1 i e 1, sum_fits high s term) ∷ row_level_steps value high i (e + 1) (s +ℚ term) entries x)
         (fits_more low high term less)
         (eases_cons (Recover 1 i e 1, sum_fits low s term) (Recover 1 i e 1, sum_fits high s term) (row_level_steps value low i (e + 1) (s +ℚ term) entries x) (row_level_steps value high i (e + 1) (s +ℚ term) entries x)
@@ -172,10 +172,10 @@ module _ (low high : ℕ) (less : low ≤ high) where
     reduced_eased costs p j r [] columns = λ fit. fit
     reduced_eased costs p j r (s ∷ shifts) [] = λ fit. fit
     reduced_eased costs p j r (s ∷ shifts) (c ∷ columns) =
-        eases_append (cond (rows_of_bounds c.lower c.upper == 1) ((Recover 3 j 0 1, sum_fits low (number_of costs s.0) (p r)) ∷ []) []) (reduced_steps low costs p (j + 1) (r + rows_of_bounds c.lower c.upper) shifts columns)
-        (cond (rows_of_bounds c.lower c.upper == 1) ((Recover 3 j 0 1, sum_fits high (number_of costs s.0) (p r)) ∷ []) []) (reduced_steps high costs p (j + 1) (r + rows_of_bounds c.lower c.upper) shifts columns)
-        (eases_if (rows_of_bounds c.lower c.upper == 1) ((Recover 3 j 0 1, sum_fits low (number_of costs s.0) (p r)) ∷ []) ((Recover 3 j 0 1, sum_fits high (number_of costs s.0) (p r)) ∷ [])
-        (eases_one (Recover 3 j 0 1, sum_fits low (number_of costs s.0) (p r)) (Recover 3 j 0 1, sum_fits high (number_of costs s.0) (p r)) (sum_fits_more low high (number_of costs s.0) (p r) less)))
+        eases_append (cond (rows_of_bounds c.lower c.upper == 1) ((Recover 3 j 0 1, sum_fits low (value_of_column costs s.0) (p r)) ∷ []) []) (reduced_steps low costs p (j + 1) (r + rows_of_bounds c.lower c.upper) shifts columns)
+        (cond (rows_of_bounds c.lower c.upper == 1) ((Recover 3 j 0 1, sum_fits high (value_of_column costs s.0) (p r)) ∷ []) []) (reduced_steps high costs p (j + 1) (r + rows_of_bounds c.lower c.upper) shifts columns)
+        (eases_if (rows_of_bounds c.lower c.upper == 1) ((Recover 3 j 0 1, sum_fits low (value_of_column costs s.0) (p r)) ∷ []) ((Recover 3 j 0 1, sum_fits high (value_of_column costs s.0) (p r)) ∷ [])
+        (eases_one (Recover 3 j 0 1, sum_fits low (value_of_column costs s.0) (p r)) (Recover 3 j 0 1, sum_fits high (value_of_column costs s.0) (p r)) (sum_fits_more low high (value_of_column costs s.0) (p r) less)))
         (reduced_eased costs p (j + 1) (r + rows_of_bounds c.lower c.upper) shifts columns)
 
     reduced_costs_eased : (lp : Lp F) (last : Last) → Eases (reduced_costs_steps value low lp last) (reduced_costs_steps value high lp last)
@@ -185,7 +185,7 @@ module _ (low high : ℕ) (less : low ≤ high) where
     ray_eased j (v, from_lower b) changes = λ fit. fit
     ray_eased j (v, from_upper b) changes = λ fit. fit
     ray_eased j (v, free) changes =
-        eases_one (Recover 4 j 0 1, difference_fits low (number_of changes v) (number_of changes (v + 1))) (Recover 4 j 0 1, difference_fits high (number_of changes v) (number_of changes (v + 1))) (sum_fits_more low high (number_of changes v) (neg_ℚ (number_of changes (v + 1))) less)
+        eases_one (Recover 4 j 0 1, difference_fits low (value_of_column changes v) (value_of_column changes (v + 1))) (Recover 4 j 0 1, difference_fits high (value_of_column changes v) (value_of_column changes (v + 1))) (sum_fits_more low high (value_of_column changes v) (neg_ℚ (value_of_column changes (v + 1))) less)
 
     rays_eased : (lp : Lp F) (last : Last) → Eases (ray_steps value low lp last) (ray_steps value high lp last)
     rays_eased lp last =

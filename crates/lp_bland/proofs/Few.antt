@@ -13,11 +13,11 @@ use Rattle.lp_core.specs.WellFormed.{IsWellFormed}
 use Rattle.lp_nocycle.specs.PivotCount.{HasFewPivots, ComesToEnd}
 use Rattle.lp_nocycle.proofs.Answering.{has_few, comes_to_end}
 use Rattle.lp_core.proofs.Rules.{bland_choice, bland_answer, answer_bland}
-use Rattle.lp_walk.proofs.Unique.{one_answer_by}
-use Rattle.lp_exists.specs.Choices.{AlwaysChooses}
-use Rattle.lp_exists.specs.Only.{IsOnly}
-use Rattle.lp_exists.proofs.Deciding.{least_or_none}
-use Rattle.lp_exists.proofs.Existing.{proper_there}
+use Rattle.lp_simplex.proofs.Unique.{one_answer_by}
+use Rattle.lp_simplex.specs.Choices.{AlwaysChooses}
+use Rattle.lp_simplex.specs.Only.{IsOnly}
+use Rattle.lp_simplex.proofs.Deciding.{least_or_none}
+use Rattle.lp_simplex.proofs.Existing.{proper_there}
 
 module _ {F : Type 0} (value : F → Number) (limit : ℕ) (lp : Lp F) (iterlim : ℕ) (formed : IsWellFormed value lp) {E : Type 0} where
   pub bland_if_ok : (r : Result (Answer F) E) → IfOk r (IsAnswerByChoice value limit lp iterlim bland_choice) → IfOk r (IsAnswer value limit lp iterlim Bland)

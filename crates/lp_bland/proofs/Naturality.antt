@@ -6,7 +6,7 @@ use Rattle.gq_number.proofs.Sums.{sum_by_ℚ-map}
 use Rattle.lp_core.specs.declared.program.Column.{Column}
 use Rattle.lp_core.specs.declared.program.Row.{Row}
 use Rattle.lp_core.specs.declared.program.Lp.{Lp}
-use Rattle.lp_core.specs.Sums.{number_of, row_sum}
+use Rattle.lp_core.specs.Sums.{value_of_column, row_sum}
 use Rattle.lp_core.specs.Feasible.{bound_value}
 use Rattle.lp_core.specs.Proofs.{row_sums}
 use Rattle.lp_core.specs.StandardForm.{Shift, Standard, point_of, dual_by_sense, changed_back, variables_of, width, columns_of, rows_of_bounds, rows_of_sense, count_of_rows, reduced_by_bounds, duals_from, reduced_from, multiplier, directed, Last, levels_back, duals_back, reduced_back, farkas_back, ray_back}
@@ -21,7 +21,7 @@ module _ {F : Type 0} (value : F → Number) where
 
   row_sums_of : (rows : List (Row F)) (x : List Number) → map (λ (row : Row Number). row_sum itself row.entries x) (map (row_numbers value) rows) ≡ map (λ (row : Row F). row_sum value row.entries x) rows
   row_sums_of [] x = refl
-  row_sums_of (row ∷ rows) x = ap₂ (λ s l. s ∷ l) (sum_by_ℚ-map (λ (e : ℕ × Number). e.1 *ℚ number_of x e.0) (λ (e : ℕ × F). (e.0, value e.1)) row.entries) (row_sums_of rows x)
+  row_sums_of (row ∷ rows) x = ap₂ (λ s l. s ∷ l) (sum_by_ℚ-map (λ (e : ℕ × Number). e.1 *ℚ value_of_column x e.0) (λ (e : ℕ × F). (e.0, value e.1)) row.entries) (row_sums_of rows x)
 
   pub row_sums_same : (lp : Lp F) (x : List Number) → row_sums itself (lp_numbers value lp) x ≡ row_sums value lp x
   row_sums_same lp x = row_sums_of lp.rows x

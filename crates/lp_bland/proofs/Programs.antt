@@ -11,7 +11,7 @@ use Rattle.lp_core.specs.declared.program.Column.{Column}
 use Rattle.lp_core.specs.declared.program.Row.{Row}
 use Rattle.lp_core.specs.declared.program.Lp.{Lp}
 use Rattle.lp_core.specs.Feasible.{bound_value}
-use Rattle.lp_core.specs.WellFormed.{IsWellFormed, AreEntries, rows_of_sense, rows_of_bounds, variables_of_bounds}
+use Rattle.lp_core.specs.WellFormed.{IsWellFormed, AreRowEntries, rows_of_sense, rows_of_bounds, variables_of_bounds}
 use Rattle.lp_core.specs.Proofs.{Crosses, FirstCrossed, ProvesCrossed}
 use Rattle.lp_core.specs.Numbers.{entries_numbers, column_numbers, row_numbers, lp_numbers}
 use Rattle.lp_nocycle.proofs.SameForm.{itself, sum_by_map}
@@ -114,7 +114,7 @@ module _ {F G : Type 0} (value : F → Number) (other : G → Number) (lp : Lp F
         duals_zero = is ∙ h.duals_zero ∙ ap (λ n. replicate n (whole (pos 0))) (same_length (row_numbers value) (row_numbers other) lp.rows wide.rows rows_are);
       }
 
-  entries_same : (a : Row F) (b : Row G) → row_numbers value a ≡ row_numbers other b → AreEntries value (length lp.columns) a.entries → AreEntries other (length wide.columns) b.entries
+  entries_same : (a : Row F) (b : Row G) → row_numbers value a ≡ row_numbers other b → AreRowEntries value (length lp.columns) a.entries → AreRowEntries other (length wide.columns) b.entries
   entries_same a b e h =
       let entries_are : entries_numbers value a.entries ≡ entries_numbers other b.entries = ap (λ (r : Row Number). r.entries) e in
       let columns : length lp.columns ≡ length wide.columns = same_length (column_numbers value) (column_numbers other) lp.columns wide.columns columns_are in
@@ -179,7 +179,7 @@ module _ {F G : Type 0} (value : F → Number) (other : G → Number) (lp : Lp F
             pairs_same (row_numbers value) (row_numbers other) lp.rows wide.rows rows (λ (a b : Row F). a.key ≢ b.key) (λ (a b : Row G). a.key ≢ b.key)
             (λ a b c d ac bd differ is. differ (ap (λ (x : Row Number). x.key) ac ∙ is ∙ sym (ap (λ (x : Row Number). x.key) bd))) h.rows_differ;
         entries =
-            all_same (row_numbers value) (row_numbers other) lp.rows wide.rows rows (λ (row : Row F). AreEntries value (length lp.columns) row.entries) (λ (row : Row G). AreEntries other (length wide.columns) row.entries)
+            all_same (row_numbers value) (row_numbers other) lp.rows wide.rows rows (λ (row : Row F). AreRowEntries value (length lp.columns) row.entries) (λ (row : Row G). AreRowEntries other (length wide.columns) row.entries)
             (λ a b e. entries_same value other lp wide same a b e) h.entries;
         rows_few = omega arith;
         columns_few = omega arith;

@@ -9,7 +9,7 @@ use Rattle.lp_core.specs.declared.answer.StepName.TheVariants.{Recover}
 use Rattle.lp_core.specs.declared.program.Column.{Column}
 use Rattle.lp_core.specs.declared.program.Row.{Row}
 use Rattle.lp_core.specs.declared.program.Lp.{Lp}
-use Rattle.lp_core.specs.Sums.{number_of}
+use Rattle.lp_core.specs.Sums.{value_of_column}
 use Rattle.gq_field.specs.Fits.{sum_fits}
 use Rattle.lp_core.specs.Feasible.{bound_value}
 use Rattle.lp_core.specs.StandardForm.{Shift, width, base, column_at, columns_of, variables_of, rows_of_sense, rows_of_bounds, multiplier, Last, levels_back}
@@ -53,8 +53,8 @@ module _ {F : Type 0} (value : F → Number) (limit : ℕ) where
   row_level_steps_same : (i e : ℕ) (s : Number) (entries : List (ℕ × F)) (x : List Number) → row_level_steps itself limit i e s (entries_numbers value entries) x ≡ row_level_steps value limit i e s entries x
   row_level_steps_same i e s [] x = refl
   row_level_steps_same i e s (p ∷ entries) x =
-      ap (λ l. (Recover 1 i e 0, product_fits limit (value p.1) (number_of x p.0)) ∷ (Recover 1 i e 1, sum_fits limit s (value p.1 *ℚ number_of x p.0)) ∷ l)
-      (row_level_steps_same i (e + 1) (s +ℚ value p.1 *ℚ number_of x p.0) entries x)
+      ap (λ l. (Recover 1 i e 0, product_fits limit (value p.1) (value_of_column x p.0)) ∷ (Recover 1 i e 1, sum_fits limit s (value p.1 *ℚ value_of_column x p.0)) ∷ l)
+      (row_level_steps_same i (e + 1) (s +ℚ value p.1 *ℚ value_of_column x p.0) entries x)
 
   row_levels_steps_same : (lp : Lp F) (last : Last) → row_levels_steps itself limit (lp_numbers value lp) last ≡ row_levels_steps value limit lp last
   row_levels_steps_same lp last =
@@ -75,8 +75,8 @@ module _ {F : Type 0} (value : F → Number) (limit : ℕ) where
   reduced_steps_same costs p j r [] columns = refl
   reduced_steps_same costs p j r (s ∷ shifts) [] = refl
   reduced_steps_same costs p j r (s ∷ shifts) (c ∷ columns) =
-      ap (λ n. cond (n == 1) ((Recover 3 j 0 1, sum_fits limit (number_of costs s.0) (p r)) ∷ []) [] ++ reduced_steps limit costs p (j + 1) (r + n) shifts (map (column_numbers value) columns)) (count_bounds_same value c.lower c.upper)
-      ∙ ap (λ l. cond (rows_of_bounds c.lower c.upper == 1) ((Recover 3 j 0 1, sum_fits limit (number_of costs s.0) (p r)) ∷ []) [] ++ l) (reduced_steps_same costs p (j + 1) (r + rows_of_bounds c.lower c.upper) shifts columns)
+      ap (λ n. cond (n == 1) ((Recover 3 j 0 1, sum_fits limit (value_of_column costs s.0) (p r)) ∷ []) [] ++ reduced_steps limit costs p (j + 1) (r + n) shifts (map (column_numbers value) columns)) (count_bounds_same value c.lower c.upper)
+      ∙ ap (λ l. cond (rows_of_bounds c.lower c.upper == 1) ((Recover 3 j 0 1, sum_fits limit (value_of_column costs s.0) (p r)) ∷ []) [] ++ l) (reduced_steps_same costs p (j + 1) (r + rows_of_bounds c.lower c.upper) shifts columns)
 
   reduced_costs_steps_same : (lp : Lp F) (last : Last) → reduced_costs_steps itself limit (lp_numbers value lp) last ≡ reduced_costs_steps value limit lp last
   reduced_costs_steps_same lp last =

@@ -20,13 +20,13 @@ use Rattle.lp_core.specs.Answers.{EndsCrossed, IsAnswer, bounds_cross, form_stop
 use Rattle.lp_std.specs.Last.{IsDictionaryOf, IsReadAt}
 use Rattle.lp_std.proofs.Ends.{proved_at}
 use Rattle.lp_core.specs.Numbers.{lp_numbers, end_numbers, answer_numbers}
-use Rattle.lp_bland.specs.Ends.{IsRefused}
+use Rattle.lp_bland.specs.Ends.{IsRefusedEnd}
 use Rattle.lp_nocycle.proofs.SameForm.{itself, form_same}
 use Rattle.lp_bland.proofs.Naturality.{levels_same, row_sums_same, duals_same, farkas_same, reduced_same, ray_same}
 use Rattle.lp_bland.proofs.SameSteps.{standard_steps_same, steps_back_same}
 use Rattle.lp_bland.proofs.Eased.{ratio_eased, exchange_eased, standard_eased, steps_back_eased}
 use Rattle.lp_core.proofs.Rules.{improves_of, legal_of}
-use Rattle.lp_walk.proofs.Standing.{first_stands, stands_last}
+use Rattle.lp_simplex.proofs.Standing.{first_stands, stands_last}
 use Rattle.lp_bland.proofs.Programs.{none_cross, crossed_same}
 
 -- pivots that fit under the lesser limit fit under the greater
@@ -118,13 +118,13 @@ module _ {F G : Type 0} (value : F → Number) (other : G → Number) (lp : Lp F
           ap (λ n. Interrupted n xs sums) a ∙ ap₂ (Interrupted 1) (nothing_mapped xs b) (nothing_mapped sums c)
       interrupted_is made e = absurd (cc)
 
-      end_so : (end : End F) (made : End G) → end_numbers other made ≡ end_numbers value end → ¬ (IsRefused end) → EndsSoBy value low lp iterlim Allowed Chosen pivots d end → EndsSoBy other high wide iterlim Allowed Chosen pivots d made
+      end_so : (end : End F) (made : End G) → end_numbers other made ≡ end_numbers value end → ¬ (IsRefusedEnd end) → EndsSoBy value low lp iterlim Allowed Chosen pivots d end → EndsSoBy other high wide iterlim Allowed Chosen pivots d made
       end_so end made e fine (ends_by_kind how last at (inl told)) =
           let tells = told_same how last end made e told.0 in
           ends_by_kind how last at (inl (tells, back_fit how last told.1, proved_at other wide formed none d of_form how last (read_of how last at) made tells))
-      end_so end made e fine (ends_by_kind how last at (inr refused)) = absurd (fine (subst IsRefused (sym refused.1) tt))
+      end_so end made e fine (ends_by_kind how last at (inr refused)) = absurd (fine (subst IsRefusedEnd (sym refused.1) tt))
       end_so end made e fine (limit_is_met most one goes is) = limit_is_met most one goes (interrupted_is made (e ∙ ap (end_numbers value) is))
-      end_so end made e fine (step_stops few step is stops) = absurd (fine (subst IsRefused (sym is) tt))
+      end_so end made e fine (step_stops few step is stops) = absurd (fine (subst IsRefusedEnd (sym is) tt))
 
 -- An answer that is not refused is one over a greater limit, for a program of the same numbers.
 module _ {F G : Type 0} (value : F → Number) (other : G → Number) (low high : ℕ) (less : low ≤ high) (lp : Lp F) (wide : Lp G) (same : lp_numbers value lp ≡ lp_numbers other wide) (formed : IsWellFormed other wide) (iterlim : ℕ) (rule : Rule) where
@@ -146,9 +146,9 @@ module _ {F G : Type 0} (value : F → Number) (other : G → Number) (low high 
   end_same : (answer : Answer F) (made : Answer G) → answer_numbers other made ≡ answer_numbers value answer → end_numbers other made.end ≡ end_numbers value answer.end
   end_same answer made e = ap (λ (a : Answer Number). a.end) e
 
-  pub widened : (answer : Answer F) (made : Answer G) → answer_numbers other made ≡ answer_numbers value answer → ¬ (IsRefused answer.end) → IsAnswer value low lp iterlim rule answer → IsAnswer other high wide iterlim rule made
+  pub widened : (answer : Answer F) (made : Answer G) → answer_numbers other made ≡ answer_numbers value answer → ¬ (IsRefusedEnd answer.end) → IsAnswer value low lp iterlim rule answer → IsAnswer other high wide iterlim rule made
   widened answer made e fine (bounds_cross nothing crossed) = bounds_cross (sym (pivots_same answer made e) ∙ nothing) (crossed_so answer.end made.end (end_same answer made e) crossed)
-  widened answer made e fine (form_stops nothing stopped) = absurd (fine (subst IsRefused (sym stopped.1.1) tt))
+  widened answer made e fine (form_stops nothing stopped) = absurd (fine (subst IsRefusedEnd (sym stopped.1.1) tt))
   widened answer made e fine (search_ends ordered fit few last way ends) =
       let pivots = pivots_same answer made e in
       let none = none_cross value other lp wide same ordered in

@@ -3,6 +3,6 @@ use Rattle.lp_core.specs.declared.answer.End.{End}
 use Rattle.lp_core.specs.declared.answer.End.TheVariants.{Refused}
 
 -- an end is a step that does not fit
-abbrev pub IsRefused : {F : Type 0} → End F → Type 0
-IsRefused (Refused step) = Unit {0}
-IsRefused other = ⊥
+abbrev pub IsRefusedEnd : {F : Type 0} → End F → Type 0
+IsRefusedEnd (Refused step) = Unit {0}
+IsRefusedEnd other = ⊥

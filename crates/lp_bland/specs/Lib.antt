@@ -1,4 +1,4 @@
 pub mod Ends
 pub mod Least
 pub mod Name
-pub mod Narrowing
+pub mod InnerNarrowing

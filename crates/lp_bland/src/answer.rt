@@ -4,14 +4,14 @@ ghost use Rattle.lp_core.specs.declared.answer.Rule.TheVariants as by;
 ghost use Rattle.lp_core.specs.Answers.{IsAnswer};
 ghost use Rattle.lp_core.specs.Pivots.{IsChosen};
 ghost use Rattle.lp_core.specs.WellFormed.{IsWellFormed};
-ghost use Rattle.lp_exists.specs.Only.{IsOnly};
+ghost use Rattle.lp_simplex.specs.Only.{IsOnly};
 ghost use Rattle.lp_nocycle.specs.PivotCount.{HasFewPivots, ComesToEnd};
 ghost use Rattle.lp_bland.specs.Least.{least_improves};
 
 use gq_field::ExactField;
 use lp_core::{Answer, Lp, Pivot};
 use lp_dict::Dict;
-use lp_walk::{Choosing, solve_by};
+use lp_simplex::{Choosing, solve_by};
 use std::alloc::{AllocError, Global};
 
 /// Bland's choice: the least variable that improves enters. It remembers nothing.

@@ -3,7 +3,7 @@ ghost use Rattle.std.specs.Prelude.{◌≡◌, ◌∷◌, ◌++◌, [], codes, I
 ghost use Rattle.gq_frac.specs.Frac.{frac_limit, frac_value};
 ghost use Rattle.lp_core.specs.declared.answer.Rule.TheVariants as by;
 ghost use Rattle.lp_core.specs.Answers.{IsAnswer};
-ghost use Rattle.lp_exists.specs.Only.{IsOnly};
+ghost use Rattle.lp_simplex.specs.Only.{IsOnly};
 ghost use Rattle.lp_nocycle.specs.PivotCount.{HasFewPivots, ComesToEnd};
 ghost use Rattle.lp_bland.specs.Name.{bland_is_name};
 ghost use Rattle.lp_slot.specs.declared.solver.SolverRule.TheVariants as slot;

@@ -13,7 +13,7 @@ ghost use Rattle.lp_core.specs.declared.program.Lp.{Lp};
 ghost use Rattle.lp_core.specs.Answers.{IsAnswer};
 ghost use Rattle.lp_core.specs.Numbers.{lp_numbers, answer_numbers};
 ghost use Rattle.lp_core.specs.WellFormed.{IsWellFormed};
-ghost use Rattle.lp_bland.specs.Ends.{IsRefused};
+ghost use Rattle.lp_bland.specs.Ends.{IsRefusedEnd};
 
 use gq_field::ExactField;
 
@@ -35,7 +35,7 @@ pub fn an_answer<F: ExactField>()
 /// bits, unless a step of it did not fit.
 pub fn wide_answers()
     ensures { (narrow : Lp Half) (wide : Lp Frac) (iterlim : ℕ) (a : Answer Half) (b : Answer Frac) → lp_numbers half_value narrow ≡ lp_numbers frac_value wide →
-        IsWellFormed frac_value wide → answer_numbers frac_value b ≡ answer_numbers half_value a → ¬ (IsRefused a.end) →
+        IsWellFormed frac_value wide → answer_numbers frac_value b ≡ answer_numbers half_value a → ¬ (IsRefusedEnd a.end) →
         IsAnswer half_value (2 ^ 63 - 1) narrow iterlim Bland a → IsAnswer frac_value frac_limit wide iterlim Bland b }
 {}
 

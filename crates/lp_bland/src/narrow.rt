@@ -8,7 +8,7 @@ ghost use Rattle.lp_core.specs.Feasible.{bound_value};
 ghost use Rattle.lp_bland.specs.declared.narrow.Wide.TheVariants as kinds;
 ghost use Rattle.lp_core.specs.WellFormed.{IsWellFormed};
 ghost use Rattle.lp_core.specs.Numbers.{entries_numbers, column_numbers, row_numbers, lp_numbers, ColumnIsWithin, RowIsWithin, IsWithin};
-ghost use Rattle.lp_bland.specs.Narrowing.{Narrows};
+ghost use Rattle.lp_bland.specs.InnerNarrowing.{Narrows};
 
 use gq_field::Half;
 use gq_frac::{Frac, narrow};

@@ -6,7 +6,7 @@ use Rattle.gq_number.specs.Number.{Number}
 use Rattle.lp_core.specs.declared.answer.StepName.{StepName}
 use Rattle.lp_core.specs.declared.answer.StepName.TheVariants.{Check, Standard as StandardStep, Ratio, Exchange, Recover}
 use Rattle.lp_check.specs.declared.partial.Partial.{Partial}
-use Rattle.lp_check.specs.Partials.{first_unfit, StopsAt, Took, Reaches, Takes}
+use Rattle.lp_check.specs.Partials.{first_unfit, StopsAfterSteps, Took, Reaches, TakesSteps}
 
 -- all of both fit
 pub none_both : (a b : List Bool) → first_unfit a ≡ None → first_unfit b ≡ None → first_unfit (a ++ b) ≡ None
@@ -41,14 +41,14 @@ some_before (true ∷ a) b n e =
     ap (option_map (λ m. m + 1)) (some_before a b m.0 m.1 ∙ sym m.1) ∙ e
 some_before (false ∷ a) b n e = e
 
-pub stops_before : (taken : ℕ) (a b : List Bool) (step : StepName) → StopsAt taken a step → StopsAt taken (a ++ b) step
+pub stops_before : (taken : ℕ) (a b : List Bool) (step : StepName) → StopsAfterSteps taken a step → StopsAfterSteps taken (a ++ b) step
 stops_before taken a b (Check part) h = (h.0, some_before a b h.0 h.1, h.2)
 stops_before taken a b (StandardStep row column part) h = h
 stops_before taken a b (Ratio pivot row) h = h
 stops_before taken a b (Exchange pivot row column part) h = h
 stops_before taken a b (Recover what index entry part) h = h
 
-pub stops_behind : (before between : ℕ) (a b : List Bool) (step : StepName) → Took before a between → StopsAt between b step → StopsAt before (a ++ b) step
+pub stops_behind : (before between : ℕ) (a b : List Bool) (step : StepName) → Took before a between → StopsAfterSteps between b step → StopsAfterSteps before (a ++ b) step
 stops_behind before between a b (Check part) took h =
     (length a + h.0, some_behind a b h.0 took.0 h.1, h.2 ∙ ap (λ n. n + h.0) took.1 ∙ omega arith)
 stops_behind before between a b (StandardStep row column part) took h = h
@@ -65,7 +65,7 @@ module _ {F : Type 0} (value : F → Number) where
   reaches_behind before between a b number (Ok p) took h = (took_both before between p.taken a b took h.0, h.1)
   reaches_behind before between a b number (Err step) took h = stops_behind before between a b step took h
 
-pub takes_behind : (before between : ℕ) (a b : List Bool) (result : Result ℕ StepName) → Took before a between → Takes between b result → Takes before (a ++ b) result
+pub takes_behind : (before between : ℕ) (a b : List Bool) (result : Result ℕ StepName) → Took before a between → TakesSteps between b result → TakesSteps before (a ++ b) result
 takes_behind before between a b (Ok after) took h = took_both before between after a b took h
 takes_behind before between a b (Err step) took h = stops_behind before between a b step took h
 
@@ -86,8 +86,8 @@ module _ {F : Type 0} (value : F → Number) (before now : ℕ) (whole rest : Li
         so_far = λ result h. going.so_far result (rw (split, same) (reaches_behind value now after a behind next result took h));
       }
 
-  pub stops : (step : StepName) → StopsAt now a step → Reaches value before whole number (Err step)
-  stops step h = going.so_far (Err step) (subst (λ fits. StopsAt now fits step) (sym split) (stops_before now a behind step h))
+  pub stops : (step : StepName) → StopsAfterSteps now a step → Reaches value before whole number (Err step)
+  stops step h = going.so_far (Err step) (subst (λ fits. StopsAfterSteps now fits step) (sym split) (stops_before now a behind step h))
 
 pub ends : {F : Type 0} (value : F → Number) (before now : ℕ) (whole rest : List Bool) (number last : Number) → Going value before now whole rest number last → rest ≡ [] → (p : Partial F) → p.taken ≡ now → value p.sum ≡ last → Reaches value before whole number (Ok p)
 ends value before now whole rest number last going none p taken sum =
@@ -96,7 +96,7 @@ ends value before now whole rest number last going none p taken sum =
 -- The same where steps alone are counted.
 pub record Counting (before now : ℕ) (whole rest : List Bool) : Type 0 where
   pub room : now + length rest < 18446744073709551616
-  pub so_far : (result : Result ℕ StepName) → Takes now rest result → Takes before whole result
+  pub so_far : (result : Result ℕ StepName) → TakesSteps now rest result → TakesSteps before whole result
 
 module _ (before now : ℕ) (whole rest : List Bool) (counting : Counting before now whole rest) (a behind : List Bool) (split : rest ≡ a ++ behind) where
   pub room_for_count : now + length a < 18446744073709551616
@@ -109,10 +109,10 @@ module _ (before now : ℕ) (whole rest : List Bool) (counting : Counting before
         so_far = λ result h. counting.so_far result (rw split (takes_behind now after a behind result took h));
       }
 
-  pub count_stops : (step : StepName) → StopsAt now a step → Takes before whole (Err step)
-  count_stops step h = counting.so_far (Err step) (subst (λ fits. StopsAt now fits step) (sym split) (stops_before now a behind step h))
+  pub count_stops : (step : StepName) → StopsAfterSteps now a step → TakesSteps before whole (Err step)
+  count_stops step h = counting.so_far (Err step) (subst (λ fits. StopsAfterSteps now fits step) (sym split) (stops_before now a behind step h))
 
-pub count_ends : (before now : ℕ) (whole rest : List Bool) → Counting before now whole rest → rest ≡ [] → Takes before whole (Ok now)
+pub count_ends : (before now : ℕ) (whole rest : List Bool) → Counting before now whole rest → rest ≡ [] → TakesSteps before whole (Ok now)
 count_ends before now whole rest counting none = counting.so_far (Ok now) (rw none (refl, omega arith))
 
 -- the first of two lists fits where both do, and the second
@@ -131,7 +131,7 @@ second_fits a b e = fits_by a b (first_unfit b) refl (first_fits a b e) e
     fits_by a b (Some n) is fit e = absurd (cc (some_behind a b n fit is))
 
 -- steps that all fit stop nowhere
-pub fit_no_stop : (taken : ℕ) (a : List Bool) (step : StepName) → first_unfit a ≡ None → StopsAt taken a step → ⊥
+pub fit_no_stop : (taken : ℕ) (a : List Bool) (step : StepName) → first_unfit a ≡ None → StopsAfterSteps taken a step → ⊥
 fit_no_stop taken a (Check part) e h = cc (h.1)
 fit_no_stop taken a (StandardStep row column part) e h = h
 fit_no_stop taken a (Ratio pivot row) e h = h

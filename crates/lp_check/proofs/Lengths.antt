@@ -15,7 +15,7 @@ use Rattle.lp_core.specs.declared.program.Lp.{Lp}
 use Rattle.lp_core.specs.DualBound.{row_lower, row_upper}
 use Rattle.lp_core.specs.Steps.{asks_nothing}
 use Rattle.lp_core.specs.WellFormed.{rows_of_sense, variables_of_bounds, IsWellFormed}
-use Rattle.lp_check.specs.BoundSteps.{plus_steps, plus_product, less_steps, less_product, bound_by_sign, bound_used, entry_of, entry_in, row_bound, column_bound, reduced_steps, all_reduced_steps, rows_steps, columns_steps}
+use Rattle.lp_check.specs.BoundSteps.{plus_steps, plus_product, less_steps, less_product, bound_by_sign, bound_used, entry_of, entry_in, row_bound, column_bound, reduced_cost_bound_steps, all_reduced_steps, row_bound_steps, columns_steps}
 
 few_plus : (limit : ℕ) (s f : Number) (bound : Option Number) → length (plus_steps limit s f bound) ≤ 2
 few_plus limit s f None = omega arith
@@ -56,23 +56,23 @@ module _ {F : Type 0} (value : F → Number) (limit : ℕ) where
   row_few true s y row = above_by_sense limit s y (value row.right) row.sense
   row_few false s y row = below_by_sense limit s y (value row.right) row.sense
 
-  reduced_few : (j : ℕ) (s : Number) (rows : List (Row F)) (ys : List Number) → length (reduced_steps value limit j s rows ys) ≤ 2 * standing rows
+  reduced_few : (j : ℕ) (s : Number) (rows : List (Row F)) (ys : List Number) → length (reduced_cost_bound_steps value limit j s rows ys) ≤ 2 * standing rows
   reduced_few j s [] ys = omega arith
   reduced_few j s (row ∷ rows) [] = omega arith
   reduced_few j s (row ∷ rows) (y ∷ ys) =
       let a = less_steps limit s y (entry_in value j row) in
-      let b = reduced_steps value limit j (less_product s y (entry_in value j row)) rows ys in
+      let b = reduced_cost_bound_steps value limit j (less_product s y (entry_in value j row)) rows ys in
       let first = less_by_sense limit s y row.sense (entry_of value row.entries j) in
       let rest = reduced_few j (less_product s y (entry_in value j row)) rows ys in
       let split = sum_by-cons (λ (row : Row F). rows_of_sense row.sense) row rows in
       omega (arith, length-append a b)
 
-  rows_few : (above : Bool) (s : Number) (rows : List (Row F)) (ys : List Number) → length (rows_steps value limit above s rows ys) ≤ 2 * standing rows
+  rows_few : (above : Bool) (s : Number) (rows : List (Row F)) (ys : List Number) → length (row_bound_steps value limit above s rows ys) ≤ 2 * standing rows
   rows_few above s [] ys = omega arith
   rows_few above s (row ∷ rows) [] = omega arith
   rows_few above s (row ∷ rows) (y ∷ ys) =
       let a = plus_steps limit s y (row_bound value above row y) in
-      let b = rows_steps value limit above (plus_product s y (row_bound value above row y)) rows ys in
+      let b = row_bound_steps value limit above (plus_product s y (row_bound value above row y)) rows ys in
       let first = row_few above s y row in
       let rest = rows_few above (plus_product s y (row_bound value above row y)) rows ys in
       let split = sum_by-cons (λ (row : Row F). rows_of_sense row.sense) row rows in
@@ -81,7 +81,7 @@ module _ {F : Type 0} (value : F → Number) (limit : ℕ) where
   all_reduced_few : (costs : ℕ → Number) (rows : List (Row F)) (ys : List Number) (j : ℕ) (columns : List (Column F)) → 2 * standing rows ≤ 3000 → length (all_reduced_steps value limit costs rows ys j columns) ≤ 3000 * length columns
   all_reduced_few costs rows ys j [] h = omega arith
   all_reduced_few costs rows ys j (column ∷ columns) h =
-      let a = reduced_steps value limit j (costs j) rows ys in
+      let a = reduced_cost_bound_steps value limit j (costs j) rows ys in
       let b = all_reduced_steps value limit costs rows ys (j + 1) columns in
       let first = reduced_few j (costs j) rows ys in
       let rest = all_reduced_few costs rows ys (j + 1) columns h in
@@ -120,7 +120,7 @@ module _ {F : Type 0} (value : F → Number) (limit : ℕ) (lp : Lp F) (formed :
   pub few_reduced : (costs : ℕ → Number) (ys : List Number) → length (all_reduced_steps value limit costs lp.rows ys 0 lp.columns) ≤ 9000000
   few_reduced costs ys = omega (arith, all_reduced_few value limit costs lp.rows ys 0 lp.columns few_rows, few_columns)
 
-  pub few_by_rows : (above : Bool) (s : Number) (ys : List Number) → length (rows_steps value limit above s lp.rows ys) ≤ 3000
+  pub few_by_rows : (above : Bool) (s : Number) (ys : List Number) → length (row_bound_steps value limit above s lp.rows ys) ≤ 3000
   few_by_rows above s ys = omega (arith, rows_few value limit above s lp.rows ys, few_rows)
 
   pub few_by_columns : (above : Bool) (d : ℕ → Number) (s : Number) → length (columns_steps value limit above d s 0 lp.columns) ≤ 6000

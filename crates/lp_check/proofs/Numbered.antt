@@ -6,7 +6,7 @@ use Rattle.std.proofs.lemmas.List.Elements.{All-nil, All-cons}
 use Rattle.lp_core.specs.declared.answer.StepName.{StepName}
 use Rattle.lp_core.specs.declared.answer.StepName.TheVariants.{Check, Standard as StandardStep, Ratio, Exchange, Recover}
 use Rattle.lp_core.specs.Steps.{Due, AllFit, FirstStop}
-use Rattle.lp_check.specs.Partials.{first_unfit, StopsAt}
+use Rattle.lp_check.specs.Partials.{first_unfit, StopsAfterSteps}
 
 abbrev pub numbered : ℕ → List Bool → List Due
 numbered n fits = map (λ (p : ℕ × Bool). (Check p.0, p.1)) (enumerate_from n fits)
@@ -45,7 +45,7 @@ first_stop n k (false ∷ fits) e =
       fit = All-nil (λ (s : Due). s.1 ≡ true);
     }
 
-pub stops_first : (fits : List Bool) (step : StepName) → StopsAt 0 fits step → FirstStop (numbered 0 fits) step
+pub stops_first : (fits : List Bool) (step : StepName) → StopsAfterSteps 0 fits step → FirstStop (numbered 0 fits) step
 stops_first fits (Check part) h = subst (λ m. FirstStop (numbered 0 fits) (Check m)) (sym h.2) (first_stop 0 h.0 fits h.1)
 stops_first fits (StandardStep row column part) h = absurd h
 stops_first fits (Ratio pivot row) h = absurd h

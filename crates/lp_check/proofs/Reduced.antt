@@ -9,8 +9,8 @@ use Rattle.std.proofs.Math.Seq.{take-suc}
 use Rattle.gq_number.specs.Number.{Number, whole}
 use Rattle.lp_core.specs.declared.program.Row.{Row}
 use Rattle.lp_core.specs.declared.program.Column.{Column}
-use Rattle.lp_core.specs.Sums.{number_of}
-use Rattle.lp_check.specs.BoundSteps.{less_steps, less_product, entry_of, entry_in, reduced_steps, all_reduced_steps, rows_steps, rows_sum, columns_steps, columns_sum}
+use Rattle.lp_core.specs.Sums.{value_of_column}
+use Rattle.lp_check.specs.BoundSteps.{less_steps, less_product, entry_of, entry_in, reduced_cost_bound_steps, all_reduced_steps, row_bound_steps, rows_sum, columns_steps, columns_sum}
 use Rattle.lp_check.specs.Partials.{first_unfit, Lessened, reduced_sum, reduced_costs, costs_of, steps_over, sum_over}
 use Rattle.lp_check.proofs.Fits.{none_both}
 use Rattle.lp_check.proofs.Found.{passed_over, taken_here, not_there}
@@ -24,15 +24,15 @@ module _ {F : Type 0} (value : F → Number) where
   map-put (y ∷ xs) zero x = refl
   map-put (y ∷ xs) (suc k) x = ap (λ l. value y ∷ l) (map-put xs k x)
 
-  pub put_number : (xs : List F) (k : ℕ) (x : F) → k < length xs → number_of (map value (slice_set xs k x)) k ≡ value x
+  pub put_number : (xs : List F) (k : ℕ) (x : F) → k < length xs → value_of_column (map value (slice_set xs k x)) k ≡ value x
   put_number xs k x less =
       let size = length-map xs value in
-      ap (λ l. number_of l k) (map-put xs k x) ∙ get_or-set_same (map value xs) k (value x) (whole (pos 0)) (omega arith)
+      ap (λ l. value_of_column l k) (map-put xs k x) ∙ get_or-set_same (map value xs) k (value x) (whole (pos 0)) (omega arith)
 
-  pub other_number : (xs : List F) (k v : ℕ) (x : F) → v ≢ k → number_of (map value (slice_set xs k x)) v ≡ number_of (map value xs) v
-  other_number xs k v x other = ap (λ l. number_of l v) (map-put xs k x) ∙ get_or-set_other (map value xs) k v (value x) (whole (pos 0)) other
+  pub other_number : (xs : List F) (k v : ℕ) (x : F) → v ≢ k → value_of_column (map value (slice_set xs k x)) v ≡ value_of_column (map value xs) v
+  other_number xs k v x other = ap (λ l. value_of_column l v) (map-put xs k x) ∙ get_or-set_other (map value xs) k v (value x) (whole (pos 0)) other
 
-  zero_pushed : (xs : List F) (x : F) (v : ℕ) → value x ≡ whole (pos 0) → ((w : ℕ) → number_of (map value xs) w ≡ whole (pos 0)) → number_of (map value (xs ++ x ∷ [])) v ≡ whole (pos 0)
+  zero_pushed : (xs : List F) (x : F) (v : ℕ) → value x ≡ whole (pos 0) → ((w : ℕ) → value_of_column (map value xs) w ≡ whole (pos 0)) → value_of_column (map value (xs ++ x ∷ [])) v ≡ whole (pos 0)
   zero_pushed [] x zero none h = none
   zero_pushed [] x (suc v) none h = refl
   zero_pushed (y ∷ xs) x zero none h = h 0
@@ -40,17 +40,17 @@ module _ {F : Type 0} (value : F → Number) where
 
   -- all of these numbers are 0
   abbrev pub AreZeros : List F → Type 0
-  AreZeros list = (w : ℕ) → number_of (map value list) w ≡ whole (pos 0)
+  AreZeros list = (w : ℕ) → value_of_column (map value list) w ≡ whole (pos 0)
 
   pub one_more_zero : (list made : List F) (x : F) → AreZeros list → value x ≡ whole (pos 0) → made ≡ list ++ x ∷ [] → AreZeros made
-  one_more_zero list made x h none is = λ w. ap (λ l. number_of (map value l) w) is ∙ zero_pushed list x w none h
+  one_more_zero list made x h none is = λ w. ap (λ l. value_of_column (map value l) w) is ∙ zero_pushed list x w none h
 
   -- 1 is put at the objective
-  pub objective_put : (list : List F) (column : ℕ) (x : F) → AreZeros list → column < length list → value x ≡ whole (pos 1) → (j : ℕ) → number_of (map value (slice_set list column x)) j ≡ costs_of (Some column) j
+  pub objective_put : (list : List F) (column : ℕ) (x : F) → AreZeros list → column < length list → value x ≡ whole (pos 1) → (j : ℕ) → value_of_column (map value (slice_set list column x)) j ≡ costs_of (Some column) j
   objective_put list column x none less is = λ j. elim (cases_eq column j) [
     | inl same ↦
         let test : (column == j) ≡ true = grind (arith, nat_tests) in
-        ap (λ i. number_of (map value (slice_set list column x)) i) (sym same) ∙ put_number list column x less ∙ is ∙ ap (λ b. if b then whole (pos 1) else whole (pos 0)) (sym test)
+        ap (λ i. value_of_column (map value (slice_set list column x)) i) (sym same) ∙ put_number list column x less ∙ is ∙ ap (λ b. if b then whole (pos 1) else whole (pos 0)) (sym test)
     | inr other ↦
         let test : (column == j) ≡ false = grind (arith, nat_tests) in
         other_number list column j x (λ same. other (sym same)) ∙ none j ∙ ap (λ b. if b then whole (pos 1) else whole (pos 0)) (sym test)
@@ -86,18 +86,18 @@ module _ {F : Type 0} (value : F → Number) where
         omega (arith, up, column, own))
 
     -- an entry more is taken away
-    pub less_more : (limit : ℕ) (y : Number) (before : ℕ → Number) (numbers : List F) (x : F) → e.0 < length numbers → Lessened limit y (entry_of value (take k entries)) before (number_of (map value numbers)) → first_unfit (less_steps limit (number_of (map value numbers) e.0) y (Some (value e.1))) ≡ None → value x ≡ less_product (number_of (map value numbers) e.0) y (Some (value e.1)) → Lessened limit y (entry_of value (take (k + 1) entries)) before (number_of (map value (slice_set numbers e.0 x)))
+    pub less_more : (limit : ℕ) (y : Number) (before : ℕ → Number) (numbers : List F) (x : F) → e.0 < length numbers → Lessened limit y (entry_of value (take k entries)) before (value_of_column (map value numbers)) → first_unfit (less_steps limit (value_of_column (map value numbers) e.0) y (Some (value e.1))) ≡ None → value x ≡ less_product (value_of_column (map value numbers) e.0) y (Some (value e.1)) → Lessened limit y (entry_of value (take (k + 1) entries)) before (value_of_column (map value (slice_set numbers e.0 x)))
     less_more limit y before numbers x there h fit made = λ j. elim (cases_eq e.0 j) [
-      | inl same ↦ subst (λ i. (first_unfit (less_steps limit (before i) y (entry_of value (take (k + 1) entries) i)) ≡ None) × (number_of (map value (slice_set numbers e.0 x)) i ≡ less_product (before i) y (entry_of value (take (k + 1) entries) i))) same (at_own limit y before numbers x there h fit made)
+      | inl same ↦ subst (λ i. (first_unfit (less_steps limit (before i) y (entry_of value (take (k + 1) entries) i)) ≡ None) × (value_of_column (map value (slice_set numbers e.0 x)) i ≡ less_product (before i) y (entry_of value (take (k + 1) entries) i))) same (at_own limit y before numbers x there h fit made)
       | inr other ↦
           let entry : entry_of value (take (k + 1) entries) j ≡ entry_of value (take k entries) j = ap (λ l. entry_of value l j) one_more ∙ behind_other j (take k entries) e other in
           (ap (λ o. first_unfit (less_steps limit (before j) y o)) entry ∙ (h j).0, other_number numbers e.0 j x (λ same. other (sym same)) ∙ (h j).1 ∙ ap (less_product (before j) y) (sym entry))
     ]
       where
-        at_own : (limit : ℕ) (y : Number) (before : ℕ → Number) (numbers : List F) (x : F) → e.0 < length numbers → Lessened limit y (entry_of value (take k entries)) before (number_of (map value numbers)) → first_unfit (less_steps limit (number_of (map value numbers) e.0) y (Some (value e.1))) ≡ None → value x ≡ less_product (number_of (map value numbers) e.0) y (Some (value e.1)) → (first_unfit (less_steps limit (before e.0) y (entry_of value (take (k + 1) entries) e.0)) ≡ None) × (number_of (map value (slice_set numbers e.0 x)) e.0 ≡ less_product (before e.0) y (entry_of value (take (k + 1) entries) e.0))
+        at_own : (limit : ℕ) (y : Number) (before : ℕ → Number) (numbers : List F) (x : F) → e.0 < length numbers → Lessened limit y (entry_of value (take k entries)) before (value_of_column (map value numbers)) → first_unfit (less_steps limit (value_of_column (map value numbers) e.0) y (Some (value e.1))) ≡ None → value x ≡ less_product (value_of_column (map value numbers) e.0) y (Some (value e.1)) → (first_unfit (less_steps limit (before e.0) y (entry_of value (take (k + 1) entries) e.0)) ≡ None) × (value_of_column (map value (slice_set numbers e.0 x)) e.0 ≡ less_product (before e.0) y (entry_of value (take (k + 1) entries) e.0))
         at_own limit y before numbers x there h fit made =
             let entry : entry_of value (take (k + 1) entries) e.0 ≡ Some (value e.1) = ap (λ l. entry_of value l e.0) one_more ∙ behind_here (take k entries) e none_before in
-            let kept : number_of (map value numbers) e.0 ≡ before e.0 = (h e.0).1 ∙ ap (less_product (before e.0) y) none_before in
+            let kept : value_of_column (map value numbers) e.0 ≡ before e.0 = (h e.0).1 ∙ ap (less_product (before e.0) y) none_before in
             (ap₂ (λ s o. first_unfit (less_steps limit s y o)) (sym kept) entry ∙ fit, put_number numbers e.0 x there ∙ made ∙ ap₂ (λ s o. less_product s y o) kept (sym entry))
 
   -- ---- rows
@@ -105,13 +105,13 @@ module _ {F : Type 0} (value : F → Number) where
   -- what the rows before one left of the reduced costs, and that their steps fit
   pub record Lessening (limit : ℕ) (costs : ℕ → Number) (rows : List (Row F)) (duals : List Number) (i : ℕ) (now : ℕ → Number) : Type 0 where
     pub sums : (j : ℕ) → reduced_sum value j (costs j) rows duals ≡ reduced_sum value j (now j) (drop i rows) (drop i duals)
-    pub fits : (j : ℕ) → first_unfit (reduced_steps value limit j (now j) (drop i rows) (drop i duals)) ≡ None → first_unfit (reduced_steps value limit j (costs j) rows duals) ≡ None
+    pub fits : (j : ℕ) → first_unfit (reduced_cost_bound_steps value limit j (now j) (drop i rows) (drop i duals)) ≡ None → first_unfit (reduced_cost_bound_steps value limit j (costs j) rows duals) ≡ None
 
   pub lessening_begins : (limit : ℕ) (costs now : ℕ → Number) (rows : List (Row F)) (duals : List Number) → ((j : ℕ) → now j ≡ costs j) → Lessening limit costs rows duals 0 now
   lessening_begins limit costs now rows duals same =
       record {
         sums = λ j. ap (λ s. reduced_sum value j s rows duals) (sym (same j));
-        fits = λ j h. ap (λ s. first_unfit (reduced_steps value limit j s rows duals)) (sym (same j)) ∙ h;
+        fits = λ j h. ap (λ s. first_unfit (reduced_cost_bound_steps value limit j s rows duals)) (sym (same j)) ∙ h;
       }
 
   module _ (limit : ℕ) (costs : ℕ → Number) (rows : List (Row F)) (duals : List F) where
@@ -119,21 +119,21 @@ module _ {F : Type 0} (value : F → Number) where
     lessening_on i row y here row_is there y_is now next h less =
         record {
           sums = λ j. h.sums j ∙ reduced_sum_from value limit rows duals i row y here row_is there y_is j (now j) (next j) (entry_in value j row) refl (less j).1;
-          fits = λ j rest. h.fits j (ap first_unfit (reduced_from value limit rows duals i row y here row_is there y_is j (now j) (next j) (entry_in value j row) refl (less j).1) ∙ none_both (less_steps limit (now j) (value y) (entry_in value j row)) (reduced_steps value limit j (next j) (drop (i + 1) rows) (drop (i + 1) (map value duals))) (less j).0 rest);
+          fits = λ j rest. h.fits j (ap first_unfit (reduced_from value limit rows duals i row y here row_is there y_is j (now j) (next j) (entry_in value j row) refl (less j).1) ∙ none_both (less_steps limit (now j) (value y) (entry_in value j row)) (reduced_cost_bound_steps value limit j (next j) (drop (i + 1) rows) (drop (i + 1) (map value duals))) (less j).0 rest);
         }
 
     module _ (i : ℕ) (now : ℕ → Number) (end : length rows ≤ i) (h : Lessening limit costs rows (map value duals) i now) where
       pub lessened_all : (j : ℕ) → now j ≡ reduced_sum value j (costs j) rows (map value duals)
       lessened_all j = sym (h.sums j ∙ ap (λ l. reduced_sum value j (now j) l (drop i (map value duals))) (drop_all i rows end))
 
-      pub fitted_all : (j : ℕ) → first_unfit (reduced_steps value limit j (costs j) rows (map value duals)) ≡ None
-      fitted_all j = h.fits j (ap (λ l. first_unfit (reduced_steps value limit j (now j) l (drop i (map value duals)))) (drop_all i rows end))
+      pub fitted_all : (j : ℕ) → first_unfit (reduced_cost_bound_steps value limit j (costs j) rows (map value duals)) ≡ None
+      fitted_all j = h.fits j (ap (λ l. first_unfit (reduced_cost_bound_steps value limit j (now j) l (drop i (map value duals)))) (drop_all i rows end))
 
   -- the steps of all columns fit where those of each do
-  pub all_fit : (limit : ℕ) (costs : ℕ → Number) (rows : List (Row F)) (ys : List Number) (j : ℕ) (columns : List (Column F)) → ((k : ℕ) → first_unfit (reduced_steps value limit k (costs k) rows ys) ≡ None) → first_unfit (all_reduced_steps value limit costs rows ys j columns) ≡ None
+  pub all_fit : (limit : ℕ) (costs : ℕ → Number) (rows : List (Row F)) (ys : List Number) (j : ℕ) (columns : List (Column F)) → ((k : ℕ) → first_unfit (reduced_cost_bound_steps value limit k (costs k) rows ys) ≡ None) → first_unfit (all_reduced_steps value limit costs rows ys j columns) ≡ None
   all_fit limit costs rows ys j [] fits = refl
   all_fit limit costs rows ys j (column ∷ columns) fits =
-      none_both (reduced_steps value limit j (costs j) rows ys) (all_reduced_steps value limit costs rows ys (j + 1) columns) (fits j) (all_fit limit costs rows ys (j + 1) columns fits)
+      none_both (reduced_cost_bound_steps value limit j (costs j) rows ys) (all_reduced_steps value limit costs rows ys (j + 1) columns) (fits j) (all_fit limit costs rows ys (j + 1) columns fits)
 
 -- ---- all steps of the bound, in three parts
 
@@ -142,7 +142,7 @@ module _ {F : Type 0} (value : F → Number) (limit : ℕ) (above : Bool) (costs
   by_reduced = all_reduced_steps value limit costs rows ys 0 columns
 
   abbrev by_rows : List Bool
-  by_rows = rows_steps value limit above (whole (pos 0)) rows ys
+  by_rows = row_bound_steps value limit above (whole (pos 0)) rows ys
 
   abbrev by_columns : (ℕ → Number) → Number → List Bool
   by_columns reduced s = columns_steps value limit above reduced s 0 columns

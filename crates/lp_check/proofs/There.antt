@@ -12,7 +12,7 @@ use Rattle.lp_core.specs.declared.program.Row.{Row}
 use Rattle.lp_core.specs.declared.program.Lp.{Lp}
 use Rattle.lp_core.specs.Feasible.{bound_value}
 use Rattle.lp_core.specs.DualBound.{by_sign, used, total, both, reduced_cost, objective_costs, row_lower, row_upper, rows_low, columns_low, low, high}
-use Rattle.lp_check.specs.BoundSteps.{bound_of}
+use Rattle.lp_check.specs.BoundSteps.{objective_bound}
 
 sign_there : (o : Ordering) (f a b : Number) → by_sign o f (Some a) (Some b) ≢ None
 sign_there Greater f a b e = cc
@@ -43,7 +43,7 @@ module _ {F : Type 0} (value : F → Number) (row : Row F) (column : Column F) (
   columns_there : (d : ℕ → Number) → total (map (λ (p : ℕ × Column F). used (d p.0) (bound_value value p.1.lower) (bound_value value p.1.upper)) (enumerate_from 0 (column ∷ []))) ≢ None
   columns_there d = both_there (used (d 0) (bound_value value column.lower) (bound_value value column.upper)) (total []) (column_there (d 0)) zero_there
 
-  pub there : (lp : Lp F) → lp.rows ≡ row ∷ [] → lp.columns ≡ column ∷ [] → lp.maximize ≡ false → (duals : List Number) → bound_of value true lp duals ≢ None
+  pub there : (lp : Lp F) → lp.rows ≡ row ∷ [] → lp.columns ≡ column ∷ [] → lp.maximize ≡ false → (duals : List Number) → objective_bound value true lp duals ≢ None
   there lp rows columns least duals =
       subst (λ b. (if b then high value lp (objective_costs lp) duals else low value lp (objective_costs lp) duals) ≢ None) (sym least)
       (both_there (rows_low value lp duals) (columns_low value lp (objective_costs lp) duals)

@@ -18,7 +18,7 @@ use Rattle.lp_core.specs.declared.program.Sense.{Sense}
 use Rattle.lp_core.specs.declared.program.Sense.TheVariants as sense
 use Rattle.lp_core.specs.declared.program.Column.{Column}
 use Rattle.lp_core.specs.declared.program.Row.{Row}
-use Rattle.lp_core.specs.Sums.{coefficient}
+use Rattle.lp_core.specs.Sums.{column_coefficient}
 use Rattle.lp_core.specs.Feasible.{bound_value}
 use Rattle.lp_core.specs.DualBound.{row_lower, row_upper, by_sign, used, total}
 use Rattle.lp_core.specs.Steps.{asks_nothing}
@@ -137,7 +137,7 @@ module _ {F : Type 0} (value : F → Number) where
   or_zero None = whole (pos 0)
   or_zero (Some a) = a
 
-  none_from : (j : ℕ) (entries : List (ℕ × F)) → ((k : ℕ) (d : ℕ × F) → k < length entries → j < (get_or entries k d).0) → coefficient value entries j ≡ whole (pos 0)
+  none_from : (j : ℕ) (entries : List (ℕ × F)) → ((k : ℕ) (d : ℕ × F) → k < length entries → j < (get_or entries k d).0) → column_coefficient value entries j ≡ whole (pos 0)
   none_from j [] later = sum_by_ℚ-nil _
   none_from j (e ∷ entries) later =
       let behind : j < e.0 = later 0 e (omega arith) in
@@ -145,7 +145,7 @@ module _ {F : Type 0} (value : F → Number) where
       sum_by_ℚ-cons _ e entries ∙ ap₂ (λ b n. (if b then value e.1 else whole (pos 0)) +ℚ n) other (none_from j entries (λ k d h. later (suc k) d (omega (arith, h)))) ∙ sym (plus_nothing (whole (pos 0)))
 
   -- what the entries for a column add up to is the one entry
-  pub coefficient_is : (j : ℕ) (entries : List (ℕ × F)) → AllPairs (λ (a b : ℕ × F). a.0 < b.0) entries → coefficient value entries j ≡ or_zero (entry_of value entries j)
+  pub coefficient_is : (j : ℕ) (entries : List (ℕ × F)) → AllPairs (λ (a b : ℕ × F). a.0 < b.0) entries → column_coefficient value entries j ≡ or_zero (entry_of value entries j)
   coefficient_is j [] ascending = sum_by_ℚ-nil _
   coefficient_is j (e ∷ entries) ascending = elim (cases_eq e.0 j) [
     | inl same ↦
@@ -164,16 +164,16 @@ module _ {F : Type 0} (value : F → Number) where
   less_entry s y None = simp ring_ℚ
   less_entry s y (Some a) = refl
 
-  entry_taken : (j : ℕ) (s y : Number) (row : Row F) (asks : Bool) → asks_nothing row.sense ≡ asks → (asks_nothing row.sense ≡ true → y ≡ whole (pos 0)) → AllPairs (λ (a b : ℕ × F). a.0 < b.0) row.entries → less_product s y (if asks then None else entry_of value row.entries j) ≡ s -ℚ y *ℚ coefficient value row.entries j
-  entry_taken j s y row true is zero ascending = less_zero_times s (coefficient value row.entries j) ∙ ap (λ n. s -ℚ n *ℚ coefficient value row.entries j) (sym (zero is))
+  entry_taken : (j : ℕ) (s y : Number) (row : Row F) (asks : Bool) → asks_nothing row.sense ≡ asks → (asks_nothing row.sense ≡ true → y ≡ whole (pos 0)) → AllPairs (λ (a b : ℕ × F). a.0 < b.0) row.entries → less_product s y (if asks then None else entry_of value row.entries j) ≡ s -ℚ y *ℚ column_coefficient value row.entries j
+  entry_taken j s y row true is zero ascending = less_zero_times s (column_coefficient value row.entries j) ∙ ap (λ n. s -ℚ n *ℚ column_coefficient value row.entries j) (sym (zero is))
   entry_taken j s y row false is zero ascending = less_entry s y (entry_of value row.entries j) ∙ ap (λ n. s -ℚ y *ℚ n) (sym (coefficient_is j row.entries ascending))
 
   -- a reduced cost taken row by row is the one of the definition
-  pub reduced_is : (j : ℕ) (s : Number) (rows : List (Row F)) (ys : List Number) → AreQuiet rows ys → All (λ (row : Row F). AllPairs (λ (a b : ℕ × F). a.0 < b.0) row.entries) rows → reduced_sum value j s rows ys ≡ s -ℚ sum_by_ℚ (λ (p : Row F × Number). p.1 *ℚ coefficient value p.0.entries j) (zip rows ys)
+  pub reduced_is : (j : ℕ) (s : Number) (rows : List (Row F)) (ys : List Number) → AreQuiet rows ys → All (λ (row : Row F). AllPairs (λ (a b : ℕ × F). a.0 < b.0) row.entries) rows → reduced_sum value j s rows ys ≡ s -ℚ sum_by_ℚ (λ (p : Row F × Number). p.1 *ℚ column_coefficient value p.0.entries j) (zip rows ys)
   reduced_is j s [] ys silent ordered = less_nothing s ∙ ap (λ n. s -ℚ n) (sym (sum_by_ℚ-nil _))
   reduced_is j s (row ∷ rows) [] silent ordered = less_nothing s ∙ ap (λ n. s -ℚ n) (sym (sum_by_ℚ-nil _))
   reduced_is j s (row ∷ rows) (y ∷ ys) silent ordered =
       ap (λ n. reduced_sum value j n rows ys) (entry_taken j s y row (asks_nothing row.sense) refl silent.0 (All-head (λ (row : Row F). AllPairs (λ (a b : ℕ × F). a.0 < b.0) row.entries) row rows ordered))
-      ∙ reduced_is j (s -ℚ y *ℚ coefficient value row.entries j) rows ys silent.1 (All-tail (λ (row : Row F). AllPairs (λ (a b : ℕ × F). a.0 < b.0) row.entries) row rows ordered)
-      ∙ less_both s (y *ℚ coefficient value row.entries j) (sum_by_ℚ (λ (p : Row F × Number). p.1 *ℚ coefficient value p.0.entries j) (zip rows ys))
+      ∙ reduced_is j (s -ℚ y *ℚ column_coefficient value row.entries j) rows ys silent.1 (All-tail (λ (row : Row F). AllPairs (λ (a b : ℕ × F). a.0 < b.0) row.entries) row rows ordered)
+      ∙ less_both s (y *ℚ column_coefficient value row.entries j) (sum_by_ℚ (λ (p : Row F × Number). p.1 *ℚ column_coefficient value p.0.entries j) (zip rows ys))
       ∙ ap (λ n. s -ℚ n) (sym (sum_by_ℚ-cons _ (row, y) (zip rows ys)))

@@ -6,7 +6,7 @@ use Rattle.gq_number.specs.Number.{Number}
 use Rattle.lp_core.specs.declared.program.Row.{Row}
 use Rattle.lp_core.specs.declared.program.Column.{Column}
 use Rattle.lp_form.proofs.Walks.{drop_item}
-use Rattle.lp_check.specs.BoundSteps.{less_steps, less_product, plus_steps, plus_product, entry_in, row_bound, column_bound, reduced_steps, all_reduced_steps, rows_steps, rows_sum, columns_steps, columns_sum}
+use Rattle.lp_check.specs.BoundSteps.{less_steps, less_product, plus_steps, plus_product, entry_in, row_bound, column_bound, reduced_cost_bound_steps, all_reduced_steps, row_bound_steps, rows_sum, columns_steps, columns_sum}
 use Rattle.lp_check.specs.Partials.{reduced_sum}
 
 module _ {F : Type 0} (value : F → Number) (limit : ℕ) where
@@ -16,22 +16,22 @@ module _ {F : Type 0} (value : F → Number) (limit : ℕ) where
       drop_item (map value duals) i (value y) (simp length-map h) (ap value is ∙ sym (get_or-map value duals i y (value y) h))
 
   module _ (rows : List (Row F)) (duals : List F) (i : ℕ) (row : Row F) (y : F) (here : i < length rows) (row_is : row ≡ get_or rows i row) (there : i < length duals) (y_is : y ≡ get_or duals i y) where
-    pub reduced_from : (j : ℕ) (s t : Number) (entry : Option Number) → entry ≡ entry_in value j row → t ≡ less_product s (value y) entry → reduced_steps value limit j s (drop i rows) (drop i (map value duals)) ≡ less_steps limit s (value y) entry ++ reduced_steps value limit j t (drop (i + 1) rows) (drop (i + 1) (map value duals))
+    pub reduced_from : (j : ℕ) (s t : Number) (entry : Option Number) → entry ≡ entry_in value j row → t ≡ less_product s (value y) entry → reduced_cost_bound_steps value limit j s (drop i rows) (drop i (map value duals)) ≡ less_steps limit s (value y) entry ++ reduced_cost_bound_steps value limit j t (drop (i + 1) rows) (drop (i + 1) (map value duals))
     reduced_from j s t entry is made =
-        ap₂ (reduced_steps value limit j s) (drop_item rows i row here row_is) (numbers_from duals i y there y_is)
-        ∙ ap (λ e. less_steps limit s (value y) e ++ reduced_steps value limit j (less_product s (value y) e) (drop (i + 1) rows) (drop (i + 1) (map value duals))) (sym is)
-        ∙ ap (λ u. less_steps limit s (value y) entry ++ reduced_steps value limit j u (drop (i + 1) rows) (drop (i + 1) (map value duals))) (sym made)
+        ap₂ (reduced_cost_bound_steps value limit j s) (drop_item rows i row here row_is) (numbers_from duals i y there y_is)
+        ∙ ap (λ e. less_steps limit s (value y) e ++ reduced_cost_bound_steps value limit j (less_product s (value y) e) (drop (i + 1) rows) (drop (i + 1) (map value duals))) (sym is)
+        ∙ ap (λ u. less_steps limit s (value y) entry ++ reduced_cost_bound_steps value limit j u (drop (i + 1) rows) (drop (i + 1) (map value duals))) (sym made)
 
     pub reduced_sum_from : (j : ℕ) (s t : Number) (entry : Option Number) → entry ≡ entry_in value j row → t ≡ less_product s (value y) entry → reduced_sum value j s (drop i rows) (drop i (map value duals)) ≡ reduced_sum value j t (drop (i + 1) rows) (drop (i + 1) (map value duals))
     reduced_sum_from j s t entry is made =
         ap₂ (reduced_sum value j s) (drop_item rows i row here row_is) (numbers_from duals i y there y_is)
         ∙ ap (λ u. reduced_sum value j u (drop (i + 1) rows) (drop (i + 1) (map value duals))) (ap (less_product s (value y)) (sym is) ∙ sym made)
 
-    pub rows_from : (above : Bool) (s t : Number) (bound : Option Number) → bound ≡ row_bound value above row (value y) → t ≡ plus_product s (value y) bound → rows_steps value limit above s (drop i rows) (drop i (map value duals)) ≡ plus_steps limit s (value y) bound ++ rows_steps value limit above t (drop (i + 1) rows) (drop (i + 1) (map value duals))
+    pub rows_from : (above : Bool) (s t : Number) (bound : Option Number) → bound ≡ row_bound value above row (value y) → t ≡ plus_product s (value y) bound → row_bound_steps value limit above s (drop i rows) (drop i (map value duals)) ≡ plus_steps limit s (value y) bound ++ row_bound_steps value limit above t (drop (i + 1) rows) (drop (i + 1) (map value duals))
     rows_from above s t bound is made =
-        ap₂ (rows_steps value limit above s) (drop_item rows i row here row_is) (numbers_from duals i y there y_is)
-        ∙ ap (λ b. plus_steps limit s (value y) b ++ rows_steps value limit above (plus_product s (value y) b) (drop (i + 1) rows) (drop (i + 1) (map value duals))) (sym is)
-        ∙ ap (λ u. plus_steps limit s (value y) bound ++ rows_steps value limit above u (drop (i + 1) rows) (drop (i + 1) (map value duals))) (sym made)
+        ap₂ (row_bound_steps value limit above s) (drop_item rows i row here row_is) (numbers_from duals i y there y_is)
+        ∙ ap (λ b. plus_steps limit s (value y) b ++ row_bound_steps value limit above (plus_product s (value y) b) (drop (i + 1) rows) (drop (i + 1) (map value duals))) (sym is)
+        ∙ ap (λ u. plus_steps limit s (value y) bound ++ row_bound_steps value limit above u (drop (i + 1) rows) (drop (i + 1) (map value duals))) (sym made)
 
     pub rows_sum_from : (above : Bool) (s t : Number) (bound : Option Number) → bound ≡ row_bound value above row (value y) → t ≡ plus_product s (value y) bound → rows_sum value above s (drop i rows) (drop i (map value duals)) ≡ rows_sum value above t (drop (i + 1) rows) (drop (i + 1) (map value duals))
     rows_sum_from above s t bound is made =
@@ -41,7 +41,7 @@ module _ {F : Type 0} (value : F → Number) (limit : ℕ) where
   -- ---- columns; the first remaining one has place j
 
   module _ (columns : List (Column F)) (i : ℕ) (column : Column F) (here : i < length columns) (is : column ≡ get_or columns i column) where
-    pub all_reduced_from : (costs : ℕ → Number) (rows : List (Row F)) (duals : List Number) → all_reduced_steps value limit costs rows duals i (drop i columns) ≡ reduced_steps value limit i (costs i) rows duals ++ all_reduced_steps value limit costs rows duals (i + 1) (drop (i + 1) columns)
+    pub all_reduced_from : (costs : ℕ → Number) (rows : List (Row F)) (duals : List Number) → all_reduced_steps value limit costs rows duals i (drop i columns) ≡ reduced_cost_bound_steps value limit i (costs i) rows duals ++ all_reduced_steps value limit costs rows duals (i + 1) (drop (i + 1) columns)
     all_reduced_from costs rows duals = ap (all_reduced_steps value limit costs rows duals i) (drop_item columns i column here is)
 
     pub columns_from : (above : Bool) (reduced : ℕ → Number) (s t d : Number) (bound : Option Number) → d ≡ reduced i → bound ≡ column_bound value above column d → t ≡ plus_product s d bound → columns_steps value limit above reduced s i (drop i columns) ≡ plus_steps limit s d bound ++ columns_steps value limit above reduced t (i + 1) (drop (i + 1) columns)

@@ -83,24 +83,24 @@ columns_sum value above reduced s j (column ∷ columns) =
 module _ {F : Type 0} (value : F → Number) (limit : ℕ) where
   -- the steps of a column's reduced cost over these rows, each with its dual, where s is the value
   -- so far
-  abbrev pub reduced_steps : ℕ → Number → List (Row F) → List Number → List Bool
-  reduced_steps j s [] duals = []
-  reduced_steps j s (row ∷ rows) [] = []
-  reduced_steps j s (row ∷ rows) (y ∷ duals) =
-      less_steps limit s y (entry_in value j row) ++ reduced_steps j (less_product s y (entry_in value j row)) rows duals
+  abbrev pub reduced_cost_bound_steps : ℕ → Number → List (Row F) → List Number → List Bool
+  reduced_cost_bound_steps j s [] duals = []
+  reduced_cost_bound_steps j s (row ∷ rows) [] = []
+  reduced_cost_bound_steps j s (row ∷ rows) (y ∷ duals) =
+      less_steps limit s y (entry_in value j row) ++ reduced_cost_bound_steps j (less_product s y (entry_in value j row)) rows duals
 
   -- the steps of the reduced costs of all columns, of which the first has place j
   abbrev pub all_reduced_steps : (ℕ → Number) → List (Row F) → List Number → ℕ → List (Column F) → List Bool
   all_reduced_steps costs rows duals j [] = []
   all_reduced_steps costs rows duals j (column ∷ columns) =
-      reduced_steps j (costs j) rows duals ++ all_reduced_steps costs rows duals (j + 1) columns
+      reduced_cost_bound_steps j (costs j) rows duals ++ all_reduced_steps costs rows duals (j + 1) columns
 
   -- the steps of the rows' parts, where s is the sum so far
-  abbrev pub rows_steps : Bool → Number → List (Row F) → List Number → List Bool
-  rows_steps above s [] duals = []
-  rows_steps above s (row ∷ rows) [] = []
-  rows_steps above s (row ∷ rows) (y ∷ duals) =
-      plus_steps limit s y (row_bound value above row y) ++ rows_steps above (plus_product s y (row_bound value above row y)) rows duals
+  abbrev pub row_bound_steps : Bool → Number → List (Row F) → List Number → List Bool
+  row_bound_steps above s [] duals = []
+  row_bound_steps above s (row ∷ rows) [] = []
+  row_bound_steps above s (row ∷ rows) (y ∷ duals) =
+      plus_steps limit s y (row_bound value above row y) ++ row_bound_steps above (plus_product s y (row_bound value above row y)) rows duals
 
   -- the steps of the columns' parts, by the columns' reduced costs; the first column has place j
   abbrev pub columns_steps : Bool → (ℕ → Number) → Number → ℕ → List (Column F) → List Bool
@@ -113,7 +113,7 @@ module _ {F : Type 0} (value : F → Number) (limit : ℕ) where
   abbrev pub steps_of_bound : Bool → (ℕ → Number) → Lp F → List Number → List Bool
   steps_of_bound above costs lp duals =
       all_reduced_steps costs lp.rows duals 0 lp.columns
-      ++ rows_steps above (whole (pos 0)) lp.rows duals
+      ++ row_bound_steps above (whole (pos 0)) lp.rows duals
       ++ columns_steps above (reduced_cost value lp costs duals) (rows_sum value above (whole (pos 0)) lp.rows duals) 0 lp.columns
 
   -- the steps of the bound of the objective, or of 0, numbered from 0
@@ -122,9 +122,9 @@ module _ {F : Type 0} (value : F → Number) (limit : ℕ) where
   bound_steps false lp duals = map (λ (p : ℕ × Bool). (Check p.0, p.1)) (enumerate_from 0 (steps_of_bound false no_costs lp duals))
 
 -- the bound of the objective, or of 0, if each bound that it uses exists
-abbrev pub bound_of : {F : Type 0} → (F → Number) → Bool → Lp F → List Number → Option Number
-bound_of value true lp duals = dual.dual_bound value lp duals
-bound_of value false lp duals = dual.low value lp no_costs duals
+abbrev pub objective_bound : {F : Type 0} → (F → Number) → Bool → Lp F → List Number → Option Number
+objective_bound value true lp duals = dual.dual_bound value lp duals
+objective_bound value false lp duals = dual.low value lp no_costs duals
 
 -- the answer is this number if all these steps fit, and else the first step that does not
 abbrev pub Bounds : {F : Type 0} → (F → Number) → List Due → Option Number → Result F StepName → Type 0

@@ -6,7 +6,7 @@ use Rattle.lp_core.specs.declared.answer.StepName.TheVariants.{Check, Standard a
 use Rattle.lp_core.specs.declared.program.Row.{Row}
 use Rattle.lp_core.specs.declared.program.Column.{Column}
 use Rattle.lp_core.specs.declared.program.Lp.{Lp}
-use Rattle.lp_check.specs.BoundSteps.{less_steps, less_product, entry_in, all_reduced_steps, rows_steps, rows_sum, columns_steps, columns_sum}
+use Rattle.lp_check.specs.BoundSteps.{less_steps, less_product, entry_in, all_reduced_steps, row_bound_steps, rows_sum, columns_steps, columns_sum}
 use Rattle.lp_check.specs.declared.partial.Partial.{Partial}
 
 -- how many steps fit before the first that does not, if there is one
@@ -16,12 +16,12 @@ first_unfit (true ∷ fits) = option_map (λ n. n + 1) (first_unfit fits)
 first_unfit (false ∷ fits) = Some 0
 
 -- the step is the first of these that does not fit, after `taken` steps before them
-abbrev pub StopsAt : ℕ → List Bool → StepName → Type 0
-StopsAt taken fits (Check part) = (n : ℕ) × (first_unfit fits ≡ Some n) × (part ≡ taken + n)
-StopsAt taken fits (StandardStep row column part) = ⊥
-StopsAt taken fits (Ratio pivot row) = ⊥
-StopsAt taken fits (Exchange pivot row column part) = ⊥
-StopsAt taken fits (Recover what index entry part) = ⊥
+abbrev pub StopsAfterSteps : ℕ → List Bool → StepName → Type 0
+StopsAfterSteps taken fits (Check part) = (n : ℕ) × (first_unfit fits ≡ Some n) × (part ≡ taken + n)
+StopsAfterSteps taken fits (StandardStep row column part) = ⊥
+StopsAfterSteps taken fits (Ratio pivot row) = ⊥
+StopsAfterSteps taken fits (Exchange pivot row column part) = ⊥
+StopsAfterSteps taken fits (Recover what index entry part) = ⊥
 
 -- all these steps fit, and `after` counts them and those before
 abbrev pub Took : ℕ → List Bool → ℕ → Type 0
@@ -31,12 +31,12 @@ Took before fits after = (first_unfit fits ≡ None) × (after ≡ before + leng
 -- fit
 abbrev pub Reaches : {F : Type 0} → (F → Number) → ℕ → List Bool → Number → Result (Partial F) StepName → Type 0
 Reaches value taken fits number (Ok p) = Took taken fits p.taken × (value p.sum ≡ number)
-Reaches value taken fits number (Err step) = StopsAt taken fits step
+Reaches value taken fits number (Err step) = StopsAfterSteps taken fits step
 
 -- all these steps fit, or the answer is the first that does not
-abbrev pub Takes : ℕ → List Bool → Result ℕ StepName → Type 0
-Takes taken fits (Ok after) = Took taken fits after
-Takes taken fits (Err step) = StopsAt taken fits step
+abbrev pub TakesSteps : ℕ → List Bool → Result ℕ StepName → Type 0
+TakesSteps taken fits (Ok after) = Took taken fits after
+TakesSteps taken fits (Err step) = StopsAfterSteps taken fits step
 
 -- a reduced cost less the parts of these rows, each with its dual
 abbrev pub reduced_sum : {F : Type 0} → (F → Number) → ℕ → Number → List (Row F) → List Number → Number
@@ -68,7 +68,7 @@ module _ {F : Type 0} (value : F → Number) (above : Bool) (costs : ℕ → Num
   abbrev pub steps_over : ℕ → List Bool
   steps_over limit =
       all_reduced_steps value limit costs rows duals 0 columns
-      ++ rows_steps value limit above (whole (pos 0)) rows duals
+      ++ row_bound_steps value limit above (whole (pos 0)) rows duals
       ++ columns_steps value limit above (reduced_costs value costs rows duals) (rows_sum value above (whole (pos 0)) rows duals) 0 columns
 
   -- the sum that they compute

@@ -5,8 +5,8 @@ ghost use Rattle.gq_number.specs.Number.{Number, whole};
 ghost use Rattle.gq_number.specs.Order.{◌≤ℚ◌};
 ghost use Rattle.lp_core.specs.WellFormed.{IsWellFormed};
 ghost use Rattle.lp_core.specs.Feasible.{Feasible};
-ghost use Rattle.lp_core.specs.Sums.{number_of};
-ghost use Rattle.lp_check.specs.BoundSteps.{bound_steps, bound_of, Bounds};
+ghost use Rattle.lp_core.specs.Sums.{value_of_column};
+ghost use Rattle.lp_check.specs.BoundSteps.{bound_steps, objective_bound, Bounds};
 ghost use Rattle.lp_check.specs.Partials.{Reaches, costs_of, is_above, first_unfit, steps_over, sum_over};
 
 use crate::columns::{columns_part, columns_part_by, reduced_costs_fit};
@@ -98,13 +98,13 @@ pub fn dual_bound<F: ExactField>(
 ) -> Result<F, StepName>
     requires formed { IsWellFormed F.value lp.now }
     requires sized { length duals.now ≡ length lp.now.rows }
-    requires there { bound_of F.value with_objective lp.now (map F.value duals.now) ≢ None }
+    requires there { objective_bound F.value with_objective lp.now (map F.value duals.now) ≢ None }
     ensures value { Bounds F.value (bound_steps F.value F.limit with_objective lp.now (map F.value duals.now))
-        (bound_of F.value with_objective lp.now (map F.value duals.now)) result }
+        (objective_bound F.value with_objective lp.now (map F.value duals.now)) result }
     ensures least { IfOk result (λ bound. (x : List Number) → Feasible F.value lp.now x → with_objective ≡ true → lp.now.maximize ≡ false →
-        F.value bound ≤ℚ number_of x lp.now.objective) }
+        F.value bound ≤ℚ value_of_column x lp.now.objective) }
     ensures greatest { IfOk result (λ bound. (x : List Number) → Feasible F.value lp.now x → with_objective ≡ true → lp.now.maximize ≡ true →
-        number_of x lp.now.objective ≤ℚ F.value bound) }
+        value_of_column x lp.now.objective ≤ℚ F.value bound) }
     ensures none { IfOk result (λ bound. (x : List Number) → Feasible F.value lp.now x → with_objective ≡ false →
         F.value bound ≤ℚ whole (pos 0)) }
 {

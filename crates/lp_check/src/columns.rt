@@ -2,9 +2,9 @@
 ghost use Rattle.std.specs.Prelude.{◌≡◌, ◌+◌, ◌<◌, ◌≤◌, ◌^◌, length, map, None};
 ghost use Rattle.std.specs.List.{All, AllPairs};
 ghost use Rattle.lp_core.specs.Feasible.{bound_value};
-ghost use Rattle.lp_core.specs.Sums.{number_of};
+ghost use Rattle.lp_core.specs.Sums.{value_of_column};
 ghost use Rattle.lp_check.specs.BoundSteps.{column_bound, all_reduced_steps, columns_steps, columns_sum};
-ghost use Rattle.lp_check.specs.Partials.{Reaches, Takes, costs_of, reduced_costs, first_unfit};
+ghost use Rattle.lp_check.specs.Partials.{Reaches, TakesSteps, costs_of, reduced_costs, first_unfit};
 
 use crate::partial::{Partial, bound_used};
 use crate::rows::reduced_cost;
@@ -34,7 +34,7 @@ pub(crate) fn reduced_costs_fit<F: ExactField>(
     requires ordered { All (λ row. AllPairs (λ a b. a.0 < b.0) row.entries) rows.now }
     requires few { length columns.now ≤ 3000 }
     requires room { length (all_reduced_steps F.value F.limit (costs_of objective) rows.now (map F.value duals.now) 0 columns.now) < 2 ^ 64 }
-    ensures { Takes 0 (all_reduced_steps F.value F.limit (costs_of objective) rows.now (map F.value duals.now) 0 columns.now) result }
+    ensures { TakesSteps 0 (all_reduced_steps F.value F.limit (costs_of objective) rows.now (map F.value duals.now) 0 columns.now) result }
 {
     let mut taken = 0;
     for (j, _column) in columns.iter().enumerate() {
@@ -100,10 +100,10 @@ pub(crate) fn columns_part_by<F: ExactField>(
     start: Partial<F>,
 ) -> Result<Partial<F>, StepName>
     requires sized { length costs.now ≡ length columns.now }
-    requires room { start.taken + length (columns_steps F.value F.limit above (number_of (map F.value costs.now)) (F.value start.sum) 0 columns.now) < 2 ^ 64 }
+    requires room { start.taken + length (columns_steps F.value F.limit above (value_of_column (map F.value costs.now)) (F.value start.sum) 0 columns.now) < 2 ^ 64 }
     ensures { Reaches F.value start.taken
-        (columns_steps F.value F.limit above (number_of (map F.value costs.now)) (F.value start.sum) 0 columns.now)
-        (columns_sum F.value above (number_of (map F.value costs.now)) (F.value start.sum) 0 columns.now) result }
+        (columns_steps F.value F.limit above (value_of_column (map F.value costs.now)) (F.value start.sum) 0 columns.now)
+        (columns_sum F.value above (value_of_column (map F.value costs.now)) (F.value start.sum) 0 columns.now) result }
 {
     let mut partial = start;
     for (j, column) in columns.iter().enumerate() {

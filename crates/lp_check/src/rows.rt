@@ -3,7 +3,7 @@ ghost use Rattle.std.specs.Prelude.{◌≡◌, ◌+◌, ◌<◌, ◌^◌, length
 ghost use Rattle.std.specs.List.{All, AllPairs};
 ghost use Rattle.lp_core.specs.Feasible.{bound_value};
 ghost use Rattle.lp_core.specs.DualBound.{row_lower, row_upper};
-ghost use Rattle.lp_check.specs.BoundSteps.{entry_of, entry_in, row_bound, reduced_steps, rows_steps, rows_sum};
+ghost use Rattle.lp_check.specs.BoundSteps.{entry_of, entry_in, row_bound, reduced_cost_bound_steps, row_bound_steps, rows_sum};
 ghost use Rattle.lp_check.specs.Partials.{Reaches, reduced_sum};
 
 use crate::partial::{Partial, bound_used};
@@ -42,9 +42,9 @@ pub(crate) fn reduced_cost<F: ExactField>(
 ) -> Result<Partial<F>, StepName>
     requires sized { length duals.now ≡ length rows.now }
     requires ordered { All (λ row. AllPairs (λ a b. a.0 < b.0) row.entries) rows.now }
-    requires room { cost.taken + length (reduced_steps F.value F.limit column (F.value cost.sum) rows.now (map F.value duals.now)) < 2 ^ 64 }
+    requires room { cost.taken + length (reduced_cost_bound_steps F.value F.limit column (F.value cost.sum) rows.now (map F.value duals.now)) < 2 ^ 64 }
     ensures { Reaches F.value cost.taken
-        (reduced_steps F.value F.limit column (F.value cost.sum) rows.now (map F.value duals.now))
+        (reduced_cost_bound_steps F.value F.limit column (F.value cost.sum) rows.now (map F.value duals.now))
         (reduced_sum F.value column (F.value cost.sum) rows.now (map F.value duals.now)) result }
 {
     let mut partial = cost;
@@ -90,9 +90,9 @@ pub(crate) fn rows_part<F: ExactField>(
     start: Partial<F>,
 ) -> Result<Partial<F>, StepName>
     requires sized { length duals.now ≡ length rows.now }
-    requires room { start.taken + length (rows_steps F.value F.limit above (F.value start.sum) rows.now (map F.value duals.now)) < 2 ^ 64 }
+    requires room { start.taken + length (row_bound_steps F.value F.limit above (F.value start.sum) rows.now (map F.value duals.now)) < 2 ^ 64 }
     ensures { Reaches F.value start.taken
-        (rows_steps F.value F.limit above (F.value start.sum) rows.now (map F.value duals.now))
+        (row_bound_steps F.value F.limit above (F.value start.sum) rows.now (map F.value duals.now))
         (rows_sum F.value above (F.value start.sum) rows.now (map F.value duals.now)) result }
 {
     let mut partial = start;

@@ -23,9 +23,9 @@ use Rattle.lp_core.specs.declared.program.Sense.TheVariants as sense
 use Rattle.lp_core.specs.declared.program.Column.{Column}
 use Rattle.lp_core.specs.declared.program.Row.{Row}
 use Rattle.lp_core.specs.declared.program.Lp.{Lp}
-use Rattle.lp_core.specs.Sums.{number_of, row_sum}
+use Rattle.lp_core.specs.Sums.{value_of_column, row_sum}
 use Rattle.lp_core.specs.Feasible.{KeepsLower, KeepsUpper, KeepsBounds, KeepsSense, KeepsRow, bound_value, Feasible}
-use Rattle.lp_core.specs.WellFormed.{AreEntries, IsWellFormed, rows_of_sense, variables_of_bounds}
+use Rattle.lp_core.specs.WellFormed.{AreRowEntries, IsWellFormed, rows_of_sense, variables_of_bounds}
 use Rattle.lp_core.specs.Steps.{checked_sum, at_most, keeps_lower, keeps_upper, bounds_hold, keeps_sense, asks_nothing, checked_rows, steps_of_rows, checked_point, compared}
 
 -- ---- tests and what they tell
@@ -62,19 +62,19 @@ keeps_sense-tells sense.N sum right = (λ _. tt, λ _. refl)
 
 module _ {F : Type 0} (value : F → Number) (limit : ℕ) (x : List Number) where
   -- the bounds hold where each column's value keeps its own
-  bounds_hold-tells : (j : ℕ) (columns : List (Column F)) → (bounds_hold value x j columns ≡ true) ↔ All (λ (p : ℕ × Column F). KeepsBounds value p.1 (number_of x p.0)) (enumerate_from j columns)
-  bounds_hold-tells j [] = (λ _. All-nil (λ (p : ℕ × Column F). KeepsBounds value p.1 (number_of x p.0)), λ _. refl)
+  bounds_hold-tells : (j : ℕ) (columns : List (Column F)) → (bounds_hold value x j columns ≡ true) ↔ All (λ (p : ℕ × Column F). KeepsBounds value p.1 (value_of_column x p.0)) (enumerate_from j columns)
+  bounds_hold-tells j [] = (λ _. All-nil (λ (p : ℕ × Column F). KeepsBounds value p.1 (value_of_column x p.0)), λ _. refl)
   bounds_hold-tells j (column ∷ columns) =
-      let l = keeps_lower (bound_value value column.lower) (number_of x j) in
-      let u = keeps_upper (bound_value value column.upper) (number_of x j) in
+      let l = keeps_lower (bound_value value column.lower) (value_of_column x j) in
+      let u = keeps_upper (bound_value value column.upper) (value_of_column x j) in
       let rest = bounds_hold-tells (j + 1) columns in (
         λ e.
             let parts = both_true (l && u) (bounds_hold value x (j + 1) columns) e in
             let first = both_true l u parts.0 in
-            All-cons (λ (p : ℕ × Column F). KeepsBounds value p.1 (number_of x p.0)) (j, column) (enumerate_from (j + 1) columns) ((keeps_lower-tells (bound_value value column.lower) (number_of x j)).0 first.0, (keeps_upper-tells (bound_value value column.upper) (number_of x j)).0 first.1) (rest.0 parts.1),
+            All-cons (λ (p : ℕ × Column F). KeepsBounds value p.1 (value_of_column x p.0)) (j, column) (enumerate_from (j + 1) columns) ((keeps_lower-tells (bound_value value column.lower) (value_of_column x j)).0 first.0, (keeps_upper-tells (bound_value value column.upper) (value_of_column x j)).0 first.1) (rest.0 parts.1),
         λ all.
-            let here = All-head (λ (p : ℕ × Column F). KeepsBounds value p.1 (number_of x p.0)) (j, column) (enumerate_from (j + 1) columns) all in
-            rw ((keeps_lower-tells (bound_value value column.lower) (number_of x j)).1 here.0, (keeps_upper-tells (bound_value value column.upper) (number_of x j)).1 here.1, rest.1 (All-tail (λ (p : ℕ × Column F). KeepsBounds value p.1 (number_of x p.0)) (j, column) (enumerate_from (j + 1) columns) all)) refl,
+            let here = All-head (λ (p : ℕ × Column F). KeepsBounds value p.1 (value_of_column x p.0)) (j, column) (enumerate_from (j + 1) columns) all in
+            rw ((keeps_lower-tells (bound_value value column.lower) (value_of_column x j)).1 here.0, (keeps_upper-tells (bound_value value column.upper) (value_of_column x j)).1 here.1, rest.1 (All-tail (λ (p : ℕ × Column F). KeepsBounds value p.1 (value_of_column x p.0)) (j, column) (enumerate_from (j + 1) columns) all)) refl,
       )
 
   -- a sum that is there is that of the entries, on top of what stood
@@ -82,11 +82,11 @@ module _ {F : Type 0} (value : F → Number) (limit : ℕ) (x : List Number) whe
   checked_sum-is n s t [] e =
       let is : s ≡ t = cc in
       sym is ∙ sym (+ℚ-zero s) ∙ ap (λ u. s +ℚ u) (sym (sum_by_ℚ-nil _))
-  checked_sum-is n s t (p ∷ entries) e = by (λ h. checked_sum-is (n + 2) (s +ℚ value p.1 *ℚ number_of x p.0) t entries h) (fits limit (value p.1 *ℚ number_of x p.0)) (sum_fits limit s (value p.1 *ℚ number_of x p.0)) e
+  checked_sum-is n s t (p ∷ entries) e = by (λ h. checked_sum-is (n + 2) (s +ℚ value p.1 *ℚ value_of_column x p.0) t entries h) (fits limit (value p.1 *ℚ value_of_column x p.0)) (sum_fits limit s (value p.1 *ℚ value_of_column x p.0)) e
     where
-      by : (checked_sum value limit x (n + 2) (s +ℚ value p.1 *ℚ number_of x p.0) entries ≡ Ok t → t ≡ s +ℚ value p.1 *ℚ number_of x p.0 +ℚ row_sum value entries x) → (a b : Bool) → cond a (cond b (checked_sum value limit x (n + 2) (s +ℚ value p.1 *ℚ number_of x p.0) entries) (Err (Check (n + 1)))) (Err (Check n)) ≡ Ok t → t ≡ s +ℚ row_sum value (p ∷ entries) x
+      by : (checked_sum value limit x (n + 2) (s +ℚ value p.1 *ℚ value_of_column x p.0) entries ≡ Ok t → t ≡ s +ℚ value p.1 *ℚ value_of_column x p.0 +ℚ row_sum value entries x) → (a b : Bool) → cond a (cond b (checked_sum value limit x (n + 2) (s +ℚ value p.1 *ℚ value_of_column x p.0) entries) (Err (Check (n + 1)))) (Err (Check n)) ≡ Ok t → t ≡ s +ℚ row_sum value (p ∷ entries) x
       by rest true true e =
-          rest e ∙ +ℚ_assoc s (value p.1 *ℚ number_of x p.0) (row_sum value entries x) ∙ ap (λ u. s +ℚ u) (sym (sum_by_ℚ-cons _ p entries))
+          rest e ∙ +ℚ_assoc s (value p.1 *ℚ value_of_column x p.0) (row_sum value entries x) ∙ ap (λ u. s +ℚ u) (sym (sum_by_ℚ-cons _ p entries))
       by rest true false e = absurd (cc)
       by rest false b e = absurd (cc)
 
@@ -173,11 +173,11 @@ columns_counted {F} (column ∷ columns) =
     let one = at_least_one column.lower column.upper in
     omega (arith, rest, one, sum_by-cons (λ (column : Column F). variables_of_bounds column.lower column.upper) column columns)
 
-rows_counted : {F : Type 0} (value : F → Number) (n : ℕ) (rows : List (Row F)) → All (λ (row : Row F). AreEntries value n row.entries) rows → n ≤ 3000 → steps_of_rows rows ≤ 6000 * sum_by (λ (row : Row F). rows_of_sense row.sense) rows
+rows_counted : {F : Type 0} (value : F → Number) (n : ℕ) (rows : List (Row F)) → All (λ (row : Row F). AreRowEntries value n row.entries) rows → n ≤ 3000 → steps_of_rows rows ≤ 6000 * sum_by (λ (row : Row F). rows_of_sense row.sense) rows
 rows_counted value n [] entries few = omega arith
 rows_counted {F} value n (row ∷ rows) entries few =
-    let rest = rows_counted value n rows (All-tail (λ (row : Row F). AreEntries value n row.entries) row rows entries) few in
-    let here = All-head (λ (row : Row F). AreEntries value n row.entries) row rows entries in
+    let rest = rows_counted value n rows (All-tail (λ (row : Row F). AreRowEntries value n row.entries) row rows entries) few in
+    let here = All-head (λ (row : Row F). AreRowEntries value n row.entries) row rows entries in
     let short = ascending_few 0 n row.entries here.ascending here.there (λ k d h. omega arith) (omega arith) in
     let steps = steps_by_sense row.sense (length row.entries) (omega (arith, short)) in
     omega (arith, rest, steps, sum_by-cons (λ (row : Row F). rows_of_sense row.sense) row rows)
@@ -191,4 +191,4 @@ steps_few {F} value lp formed =
 -- the entries of a well-formed program name values of a point that has one for each column
 pub entries_within : {F : Type 0} (value : F → Number) (lp : Lp F) (n : ℕ) → IsWellFormed value lp → n ≡ length lp.columns → All (λ (row : Row F). All (λ (e : ℕ × F). e.0 < n) row.entries) lp.rows
 entries_within {F} value lp n formed e =
-    All-weaker (λ (row : Row F). AreEntries value (length lp.columns) row.entries) (λ (row : Row F). All (λ (e : ℕ × F). e.0 < n) row.entries) (λ row entries. rw e entries.there) lp.rows formed.entries
+    All-weaker (λ (row : Row F). AreRowEntries value (length lp.columns) row.entries) (λ (row : Row F). All (λ (e : ℕ × F). e.0 < n) row.entries) (λ row entries. rw e entries.there) lp.rows formed.entries

@@ -14,10 +14,10 @@ use Rattle.gq_number.proofs.Sums.{sum_by_ℚ-+ℚ, sum_by_ℚ-*ℚ, scaled-nil, 
 use Rattle.lp_core.specs.declared.program.Sense.{Sense}
 use Rattle.lp_core.specs.declared.program.Sense.TheVariants as sense
 use Rattle.lp_core.specs.declared.program.Lp.{Lp}
-use Rattle.lp_core.specs.Sums.{number_of, row_sum}
+use Rattle.lp_core.specs.Sums.{value_of_column, row_sum}
 use Rattle.lp_core.specs.Feasible.{KeepsLower, KeepsUpper, KeepsSense, KeepsBounds, bound_value, Feasible}
 use Rattle.lp_core.specs.WellFormed.{IsWellFormed}
-use Rattle.lp_core.specs.Proofs.{KeepsSenseAlong, KeepsLowerAlong, KeepsUpperAlong, Improves, IsRay, Crosses, ProvesCrossed, further}
+use Rattle.lp_core.specs.Proofs.{KeepsSenseAlong, KeepsLowerAlong, KeepsUpperAlong, ImprovesObjective, IsRay, Crosses, ProvesCrossed, further}
 use Rattle.lp_core.proofs.RowSums.{sum_by_same}
 
 -- ---- points along a ray
@@ -30,14 +30,14 @@ length-further (l ∷ levels) (r ∷ ray) t e =
     ap length (ap (added (l ∷ levels)) (scaled-cons t r ray) ∙ added-cons l levels (t *ℚ r) (scaled t ray)) ∙ ap suc (length-further levels ray t (omega arith))
 
 -- the value of a column there
-pub number_of-further : (levels ray : List Number) (t : Number) (j : ℕ) → length ray ≡ length levels → number_of (further levels t ray) j ≡ number_of levels j +ℚ t *ℚ number_of ray j
+pub number_of-further : (levels ray : List Number) (t : Number) (j : ℕ) → length ray ≡ length levels → value_of_column (further levels t ray) j ≡ value_of_column levels j +ℚ t *ℚ value_of_column ray j
 number_of-further [] [] t j e =
-    ap (λ xs. number_of xs j) (added-nil (scaled t []) ∙ scaled-nil t) ∙ sym (ap (λ u. whole (pos 0) +ℚ u) (*ℚ-zero t) ∙ +ℚ-zero (whole (pos 0)))
+    ap (λ xs. value_of_column xs j) (added-nil (scaled t []) ∙ scaled-nil t) ∙ sym (ap (λ u. whole (pos 0) +ℚ u) (*ℚ-zero t) ∙ +ℚ-zero (whole (pos 0)))
 number_of-further [] (r ∷ ray) t j e = absurd (omega arith)
 number_of-further (l ∷ levels) [] t j e = absurd (omega arith)
-number_of-further (l ∷ levels) (r ∷ ray) t zero e = ap (λ xs. number_of xs 0) (ap (added (l ∷ levels)) (scaled-cons t r ray) ∙ added-cons l levels (t *ℚ r) (scaled t ray))
+number_of-further (l ∷ levels) (r ∷ ray) t zero e = ap (λ xs. value_of_column xs 0) (ap (added (l ∷ levels)) (scaled-cons t r ray) ∙ added-cons l levels (t *ℚ r) (scaled t ray))
 number_of-further (l ∷ levels) (r ∷ ray) t (suc j) e =
-    ap (λ xs. number_of xs (suc j)) (ap (added (l ∷ levels)) (scaled-cons t r ray) ∙ added-cons l levels (t *ℚ r) (scaled t ray)) ∙ number_of-further levels ray t j (omega arith)
+    ap (λ xs. value_of_column xs (suc j)) (ap (added (l ∷ levels)) (scaled-cons t r ray) ∙ added-cons l levels (t *ℚ r) (scaled t ray)) ∙ number_of-further levels ray t j (omega arith)
 
 apart_of : (a x t r : Number) → a *ℚ (x +ℚ t *ℚ r) ≡ a *ℚ x +ℚ t *ℚ (a *ℚ r)
 apart_of a x t r = simp ring_ℚ
@@ -45,10 +45,10 @@ apart_of a x t r = simp ring_ℚ
 -- the sum of a row there
 row_sum-further : {F : Type 0} (value : F → Number) (entries : List (ℕ × F)) (levels ray : List Number) (t : Number) → length ray ≡ length levels → row_sum value entries (further levels t ray) ≡ row_sum value entries levels +ℚ t *ℚ row_sum value entries ray
 row_sum-further {F} value entries levels ray t e =
-    sum_by_same (λ (p : ℕ × F). value p.1 *ℚ number_of (further levels t ray) p.0) (λ (p : ℕ × F). value p.1 *ℚ number_of levels p.0 +ℚ t *ℚ (value p.1 *ℚ number_of ray p.0)) entries
-    (λ p. ap (λ u. value p.1 *ℚ u) (number_of-further levels ray t p.0 e) ∙ apart_of (value p.1) (number_of levels p.0) t (number_of ray p.0))
-    ∙ sum_by_ℚ-+ℚ (λ (p : ℕ × F). value p.1 *ℚ number_of levels p.0) (λ (p : ℕ × F). t *ℚ (value p.1 *ℚ number_of ray p.0)) entries
-    ∙ ap (λ u. row_sum value entries levels +ℚ u) (sum_by_ℚ-*ℚ t (λ (p : ℕ × F). value p.1 *ℚ number_of ray p.0) entries)
+    sum_by_same (λ (p : ℕ × F). value p.1 *ℚ value_of_column (further levels t ray) p.0) (λ (p : ℕ × F). value p.1 *ℚ value_of_column levels p.0 +ℚ t *ℚ (value p.1 *ℚ value_of_column ray p.0)) entries
+    (λ p. ap (λ u. value p.1 *ℚ u) (number_of-further levels ray t p.0 e) ∙ apart_of (value p.1) (value_of_column levels p.0) t (value_of_column ray p.0))
+    ∙ sum_by_ℚ-+ℚ (λ (p : ℕ × F). value p.1 *ℚ value_of_column levels p.0) (λ (p : ℕ × F). t *ℚ (value p.1 *ℚ value_of_column ray p.0)) entries
+    ∙ ap (λ u. row_sum value entries levels +ℚ u) (sum_by_ℚ-*ℚ t (λ (p : ℕ × F). value p.1 *ℚ value_of_column ray p.0) entries)
 
 module _ (t : Number) (above : whole (pos 0) ≤ℚ t) where
   rises : (b x r : Number) → b ≤ℚ x → whole (pos 0) ≤ℚ r → b ≤ℚ x +ℚ t *ℚ r
@@ -82,7 +82,7 @@ module _ {F : Type 0} (value : F → Number) (lp : Lp F) (levels ray : List Numb
             let kept = feasible.bounds k d h in
             let p = get_or (enumerate_from 0 lp.columns) k d in
             let is = sym (number_of-further levels ray t p.0 same) in
-            (subst (KeepsLower (bound_value value p.1.lower)) is (lower_kept t above value p.1.lower (number_of levels p.0) (number_of ray p.0) kept.0 (along.lower k d h)), subst (KeepsUpper (bound_value value p.1.upper)) is (upper_kept t above value p.1.upper (number_of levels p.0) (number_of ray p.0) kept.1 (along.upper k d h)));
+            (subst (KeepsLower (bound_value value p.1.lower)) is (lower_kept t above value p.1.lower (value_of_column levels p.0) (value_of_column ray p.0) kept.0 (along.lower k d h)), subst (KeepsUpper (bound_value value p.1.upper)) is (upper_kept t above value p.1.upper (value_of_column levels p.0) (value_of_column ray p.0) kept.1 (along.upper k d h)));
         rows = λ k d h.
             let row = get_or lp.rows k d in
             subst (λ u. KeepsSense row.sense u (value row.right)) (sym (row_sum-further value row.entries levels ray t same)) (sense_kept t above row.sense (row_sum value row.entries levels) (value row.right) (row_sum value row.entries ray) (feasible.rows k d h) (along.rows k d h));
@@ -110,23 +110,23 @@ distance_down from change goal falling =
     let up = distance_up (neg_ℚ from) (neg_ℚ change) (neg_ℚ goal) (neg-zero-<ℚ change falling) in
     (up.0, up.1, ≤ℚ_from up.2 (simp ring_ℚ))
 
-improves_up : (b : Bool) (change : Number) → b ≡ true → Improves b change → whole (pos 0) <ℚ change
+improves_up : (b : Bool) (change : Number) → b ≡ true → ImprovesObjective b change → whole (pos 0) <ℚ change
 improves_up true change e h = h
 improves_up false change e h = absurd (cc)
 
-improves_down : (b : Bool) (change : Number) → b ≡ false → Improves b change → change <ℚ whole (pos 0)
+improves_down : (b : Bool) (change : Number) → b ≡ false → ImprovesObjective b change → change <ℚ whole (pos 0)
 improves_down true change e h = absurd (cc)
 improves_down false change e h = h
 
 module _ {F : Type 0} (value : F → Number) (lp : Lp F) (levels ray : List Number) (goal : Number) (same : length ray ≡ length levels) where
-  pub passes_above : IsRay value lp ray → lp.maximize ≡ true → (t : Number) × (whole (pos 0) ≤ℚ t) × (goal ≤ℚ number_of (further levels t ray) lp.objective)
+  pub passes_above : IsRay value lp ray → lp.maximize ≡ true → (t : Number) × (whole (pos 0) ≤ℚ t) × (goal ≤ℚ value_of_column (further levels t ray) lp.objective)
   passes_above along greatest =
-      let up = distance_up (number_of levels lp.objective) (number_of ray lp.objective) goal (improves_up lp.maximize (number_of ray lp.objective) greatest along.better) in
+      let up = distance_up (value_of_column levels lp.objective) (value_of_column ray lp.objective) goal (improves_up lp.maximize (value_of_column ray lp.objective) greatest along.better) in
       (up.0, up.1, subst (λ u. goal ≤ℚ u) (sym (number_of-further levels ray up.0 lp.objective same)) up.2)
 
-  pub passes_below : IsRay value lp ray → lp.maximize ≡ false → (t : Number) × (whole (pos 0) ≤ℚ t) × (number_of (further levels t ray) lp.objective ≤ℚ goal)
+  pub passes_below : IsRay value lp ray → lp.maximize ≡ false → (t : Number) × (whole (pos 0) ≤ℚ t) × (value_of_column (further levels t ray) lp.objective ≤ℚ goal)
   passes_below along least =
-      let down = distance_down (number_of levels lp.objective) (number_of ray lp.objective) goal (improves_down lp.maximize (number_of ray lp.objective) least along.better) in
+      let down = distance_down (value_of_column levels lp.objective) (value_of_column ray lp.objective) goal (improves_down lp.maximize (value_of_column ray lp.objective) least along.better) in
       (down.0, down.1, subst (λ u. u ≤ℚ goal) (sym (number_of-further levels ray down.0 lp.objective same)) down.2)
 
 -- ---- crossed bounds
@@ -151,5 +151,5 @@ pub none_between : {F : Type 0} (value : F → Number) (lp : Lp F) (j : ℕ) (du
 none_between value lp j duals x proof feasible =
     let column = proof.first.0.0 in
     let here = enumerate_at 0 lp.columns j column (0, column) proof.first.0.1 in
-    let kept = subst (λ p. KeepsBounds value p.1 (number_of x p.0)) here.1 (feasible.bounds j (0, column) here.0) in
-    none_kept value column.lower column.upper (number_of x (0 + j)) proof.first.0.2 kept.0 kept.1
+    let kept = subst (λ p. KeepsBounds value p.1 (value_of_column x p.0)) here.1 (feasible.bounds j (0, column) here.0) in
+    none_kept value column.lower column.upper (value_of_column x (0 + j)) proof.first.0.2 kept.0 kept.1

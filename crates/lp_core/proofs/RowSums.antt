@@ -9,7 +9,7 @@ use Rattle.gq_number.specs.Sums.{sum_by_ℚ}
 use Rattle.gq_number.proofs.Ring.{zero-*ℚ, zero-+ℚ, +ℚ-*ℚ}
 use Rattle.gq_number.proofs.Field.{+ℚ-zero}
 use Rattle.gq_number.proofs.Sums.{sum_by_ℚ-nil, sum_by_ℚ-cons, sum_by_ℚ-zero, sum_by_ℚ-+ℚ}
-use Rattle.lp_core.specs.Sums.{number_of, coefficient, row_sum}
+use Rattle.lp_core.specs.Sums.{value_of_column, column_coefficient, row_sum}
 
 -- sums of equal functions
 pub sum_by_same : {X : Type 0} (f g : X → Number) (xs : List X) → ((x : X) → f x ≡ g x) → sum_by_ℚ f xs ≡ sum_by_ℚ g xs
@@ -44,13 +44,13 @@ module _ {X : Type 0} (k : ℕ) (a : Number) (f : ℕ → Number) where
 
 module _ {F X : Type 0} (value : F → Number) (columns : List X) (x : List Number) where
   -- a row's sum, column by column
-  pub row_by_columns : (entries : List (ℕ × F)) → All (λ (e : ℕ × F). e.0 < length columns) entries → sum_by_ℚ (λ (q : ℕ × X). coefficient value entries q.0 *ℚ number_of x q.0) (enumerate_from 0 columns) ≡ row_sum value entries x
+  pub row_by_columns : (entries : List (ℕ × F)) → All (λ (e : ℕ × F). e.0 < length columns) entries → sum_by_ℚ (λ (q : ℕ × X). column_coefficient value entries q.0 *ℚ value_of_column x q.0) (enumerate_from 0 columns) ≡ row_sum value entries x
   row_by_columns [] there =
-      sum_by_same _ (λ (q : ℕ × X). whole (pos 0)) (enumerate_from 0 columns) (λ q. ap (λ u. u *ℚ number_of x q.0) (sum_by_ℚ-nil _) ∙ zero-*ℚ (number_of x q.0)) ∙ sum_by_ℚ-zero (enumerate_from 0 columns) ∙ sym (sum_by_ℚ-nil _)
+      sum_by_same _ (λ (q : ℕ × X). whole (pos 0)) (enumerate_from 0 columns) (λ q. ap (λ u. u *ℚ value_of_column x q.0) (sum_by_ℚ-nil _) ∙ zero-*ℚ (value_of_column x q.0)) ∙ sum_by_ℚ-zero (enumerate_from 0 columns) ∙ sym (sum_by_ℚ-nil _)
   row_by_columns (e ∷ entries) there =
-      let split = sum_by_same (λ (q : ℕ × X). coefficient value (e ∷ entries) q.0 *ℚ number_of x q.0) (λ (q : ℕ × X). unit_at e.0 (value e.1) q.0 *ℚ number_of x q.0 +ℚ coefficient value entries q.0 *ℚ number_of x q.0) (enumerate_from 0 columns)
-      (λ q. ap (λ u. u *ℚ number_of x q.0) (sum_by_ℚ-cons _ e entries) ∙ +ℚ-*ℚ (unit_at e.0 (value e.1) q.0) (coefficient value entries q.0) (number_of x q.0)) in
+      let split = sum_by_same (λ (q : ℕ × X). column_coefficient value (e ∷ entries) q.0 *ℚ value_of_column x q.0) (λ (q : ℕ × X). unit_at e.0 (value e.1) q.0 *ℚ value_of_column x q.0 +ℚ column_coefficient value entries q.0 *ℚ value_of_column x q.0) (enumerate_from 0 columns)
+      (λ q. ap (λ u. u *ℚ value_of_column x q.0) (sum_by_ℚ-cons _ e entries) ∙ +ℚ-*ℚ (unit_at e.0 (value e.1) q.0) (column_coefficient value entries q.0) (value_of_column x q.0)) in
       split
-      ∙ sum_by_ℚ-+ℚ (λ (q : ℕ × X). unit_at e.0 (value e.1) q.0 *ℚ number_of x q.0) (λ (q : ℕ × X). coefficient value entries q.0 *ℚ number_of x q.0) (enumerate_from 0 columns)
-      ∙ ap₂ (λ u v. u +ℚ v) (unit_sum e.0 (value e.1) (number_of x) 0 columns (omega arith) (omega (arith, All-head (λ (e : ℕ × F). e.0 < length columns) e entries there))) (row_by_columns entries (All-tail (λ (e : ℕ × F). e.0 < length columns) e entries there))
+      ∙ sum_by_ℚ-+ℚ (λ (q : ℕ × X). unit_at e.0 (value e.1) q.0 *ℚ value_of_column x q.0) (λ (q : ℕ × X). column_coefficient value entries q.0 *ℚ value_of_column x q.0) (enumerate_from 0 columns)
+      ∙ ap₂ (λ u v. u +ℚ v) (unit_sum e.0 (value e.1) (value_of_column x) 0 columns (omega arith) (omega (arith, All-head (λ (e : ℕ × F). e.0 < length columns) e entries there))) (row_by_columns entries (All-tail (λ (e : ℕ × F). e.0 < length columns) e entries there))
       ∙ sym (sum_by_ℚ-cons _ e entries)

@@ -9,9 +9,9 @@ use Rattle.std.proofs.lemmas.List.Sums.{sum_by_push}
 use Rattle.std.proofs.lemmas.Bool.{both_ways}
 use Rattle.std.proofs.lemmas.Bool.Decides.{nat_tests}
 use Rattle.gq_number.specs.Number.{Number, whole}
-use Rattle.lp_core.specs.WellFormed.{AreEntries}
+use Rattle.lp_core.specs.WellFormed.{AreRowEntries}
 use Rattle.gq_number.proofs.Quotients.{zero_from_numerator}
-use Rattle.lp_core.specs.Entries.{is_zero_number, are_in_order}
+use Rattle.lp_core.specs.InnerEntries.{is_zero_number, are_in_order}
 use Rattle.lp_core.proofs.Points.{both_true, AllPairs-first, AllPairs-rest}
 use Rattle.lp_form.proofs.Walks.{drop_item}
 
@@ -99,7 +99,7 @@ test_from_not_zero x some = by (is_zero_number x) refl
 
 module _ {F : Type 0} (value : F → Number) (n : ℕ) where
   -- what the loop over the entries decides
-  pub in_order-tells : (least : ℕ) (entries : List (ℕ × F)) → (are_in_order value n least entries ≡ true) ↔ (AreEntries value n entries × All (λ (e : ℕ × F). least ≤ e.0) entries)
+  pub in_order-tells : (least : ℕ) (entries : List (ℕ × F)) → (are_in_order value n least entries ≡ true) ↔ (AreRowEntries value n entries × All (λ (e : ℕ × F). least ≤ e.0) entries)
   in_order-tells least [] =
       (λ _. (record { ascending = λ i j d less h. absurd (omega arith); there = All-nil (λ (e : ℕ × F). e.0 < n); not_zero = All-nil (λ (e : ℕ × F). value e.1 ≢ whole (pos 0)) }, All-nil (λ (e : ℕ × F). least ≤ e.0)), λ _. refl)
   in_order-tells least (e ∷ entries) =
@@ -138,11 +138,11 @@ module _ {F : Type 0} (value : F → Number) (n : ℕ) where
       )
 
   -- the test of all entries, from what it says at the start
-  pub order_fails : (entries : List (ℕ × F)) → are_in_order value n 0 entries ≡ false → IsTrue false ↔ AreEntries value n entries
+  pub order_fails : (entries : List (ℕ × F)) → are_in_order value n 0 entries ≡ false → IsTrue false ↔ AreRowEntries value n entries
   order_fails entries e =
       (λ is. absurd (cc), λ kept. absurd (both_ways (are_in_order value n 0 entries) e ((in_order-tells 0 entries).1 (kept, λ k d h. omega arith))))
 
-  pub order_holds : (entries : List (ℕ × F)) → are_in_order value n 0 entries ≡ true → IsTrue true ↔ AreEntries value n entries
+  pub order_holds : (entries : List (ℕ × F)) → are_in_order value n 0 entries ≡ true → IsTrue true ↔ AreRowEntries value n entries
   order_holds entries e = (λ is. ((in_order-tells 0 entries).0 e).0, λ kept. refl)
 
   module _ (entries : List (ℕ × F)) (i least : ℕ) (e : ℕ × F) (here : i < length entries) (is : e ≡ get_or entries i e) where

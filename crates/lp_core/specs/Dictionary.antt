@@ -6,7 +6,7 @@ use Rattle.gq_number.specs.Order.{◌≤ℚ◌, ◌<ℚ◌, number_cmp}
 use Rattle.gq_number.specs.Sums.{sum_by_ℚ}
 use Rattle.std.specs.Ordering.{is_lt}
 use Rattle.lp_core.specs.declared.answer.Pivot.{Pivot}
-use Rattle.lp_core.specs.Sums.{number_of}
+use Rattle.lp_core.specs.Sums.{value_of_column}
 use Rattle.lp_core.specs.StandardForm.{Standard, StandardRow, of_bound}
 
 -- A dictionary: an equation for each basic variable, and the objective. Column 0 of `numbers` is
@@ -35,7 +35,7 @@ entry_at d k v = d.numbers k (v + 1)
 
 -- the residual of a row at values of all variables: the sum of the terms less the constant
 abbrev pub row_at : Dictionary → ℕ → List Number → Number
-row_at d k x = sum_by_ℚ (λ v. entry_at d k v *ℚ number_of x v) (range_with_len 0 (d.variables + 1)) -ℚ constant_at d k
+row_at d k x = sum_by_ℚ (λ v. entry_at d k v *ℚ value_of_column x v) (range_with_len 0 (d.variables + 1)) -ℚ constant_at d k
 
 -- A list of values, one for each variable, meets the equations, and the objective has this value.
 pub record Meets (d : Dictionary) (x : List Number) (objective : Number) : Type 0 where
@@ -67,7 +67,7 @@ first_row needed slack row (suc v) = first_entry needed slack row v
 abbrev pub first_objective : Standard → ℕ → Number
 first_objective s zero = neg_ℚ s.constant
 first_objective s (suc zero) = whole (pos 0)
-first_objective s (suc (suc v)) = number_of s.objective v
+first_objective s (suc (suc v)) = value_of_column s.objective v
 
 -- the default for a place past the end: a row without entries
 abbrev pub no_row : StandardRow
@@ -145,12 +145,12 @@ IsLegal d p k = IsOpening d p k ⊎ IsStep d p k
 -- ---- the exchange
 
 -- a number of row k over the row's coefficient of the entering variable
-abbrev pub divided : Dictionary → ℕ → ℕ → ℕ → Number
-divided d q k c = d.numbers k c /ℚ entry_at d k q
+abbrev pub divided_entry : Dictionary → ℕ → ℕ → ℕ → Number
+divided_entry d q k c = d.numbers k c /ℚ entry_at d k q
 
 -- the numbers after an exchange: the row k is divided, and every other loses a multiple of it
 abbrev pub exchanged_numbers : Dictionary → ℕ → ℕ → ℕ → ℕ → Number
-exchanged_numbers d q k i c = if i == k then divided d q k c else d.numbers i c -ℚ entry_at d i q *ℚ divided d q k c
+exchanged_numbers d q k i c = if i == k then divided_entry d q k c else d.numbers i c -ℚ entry_at d i q *ℚ divided_entry d q k c
 
 -- the dictionary in which q has become basic in row k; variable 0 is dropped when it leaves
 abbrev pub exchanged : Dictionary → ℕ → ℕ → Dictionary

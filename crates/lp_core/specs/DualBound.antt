@@ -11,7 +11,7 @@ use Rattle.lp_core.specs.declared.program.Sense.TheVariants as sense
 use Rattle.lp_core.specs.declared.program.Column.{Column}
 use Rattle.lp_core.specs.declared.program.Row.{Row}
 use Rattle.lp_core.specs.declared.program.Lp.{Lp}
-use Rattle.lp_core.specs.Sums.{coefficient}
+use Rattle.lp_core.specs.Sums.{column_coefficient}
 use Rattle.lp_core.specs.Feasible.{bound_value}
 
 -- the lower bound of a row's sum
@@ -61,7 +61,7 @@ module _ {F : Type 0} (value : F → Number) (lp : Lp F) where
   -- `costs` is by column
   abbrev pub reduced_cost : (ℕ → Number) → List Number → ℕ → Number
   reduced_cost costs duals j =
-      costs j -ℚ sum_by_ℚ (λ (p : Row F × Number). p.1 *ℚ coefficient value p.0.entries j) (zip lp.rows duals)
+      costs j -ℚ sum_by_ℚ (λ (p : Row F × Number). p.1 *ℚ column_coefficient value p.0.entries j) (zip lp.rows duals)
 
   -- the rows' part of the lower bound: each dual times the bound of its row that it uses
   abbrev pub rows_low : List Number → Option Number

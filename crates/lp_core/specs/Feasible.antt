@@ -8,7 +8,7 @@ use Rattle.lp_core.specs.declared.program.Sense.TheVariants as sense
 use Rattle.lp_core.specs.declared.program.Column.{Column}
 use Rattle.lp_core.specs.declared.program.Row.{Row}
 use Rattle.lp_core.specs.declared.program.Lp.{Lp}
-use Rattle.lp_core.specs.Sums.{number_of, row_sum}
+use Rattle.lp_core.specs.Sums.{value_of_column, row_sum}
 
 -- a number is at least a lower bound, if there is one
 abbrev pub KeepsLower : Option Number → Number → Type 0
@@ -44,5 +44,5 @@ KeepsRow value row x = KeepsSense row.sense (row_sum value row.entries x) (value
 -- row.
 pub record Feasible {F : Type 0} (value : F → Number) (lp : Lp F) (x : List Number) : Type 0 where
   pub sized : length x ≡ length lp.columns
-  pub bounds : All (λ (p : ℕ × Column F). KeepsBounds value p.1 (number_of x p.0)) (enumerate_from 0 lp.columns)
+  pub bounds : All (λ (p : ℕ × Column F). KeepsBounds value p.1 (value_of_column x p.0)) (enumerate_from 0 lp.columns)
   pub rows : All (λ (row : Row F). KeepsRow value row x) lp.rows

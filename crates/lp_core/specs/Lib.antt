@@ -1,5 +1,5 @@
 pub mod Sums
-pub mod Entries
+pub mod InnerEntries
 pub mod Counts
 pub mod Feasible
 pub mod WellFormed

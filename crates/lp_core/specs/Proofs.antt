@@ -12,7 +12,7 @@ use Rattle.lp_core.specs.declared.program.Sense.TheVariants as sense
 use Rattle.lp_core.specs.declared.program.Column.{Column}
 use Rattle.lp_core.specs.declared.program.Row.{Row}
 use Rattle.lp_core.specs.declared.program.Lp.{Lp}
-use Rattle.lp_core.specs.Sums.{number_of, row_sum}
+use Rattle.lp_core.specs.Sums.{value_of_column, row_sum}
 use Rattle.lp_core.specs.Feasible.{Feasible}
 use Rattle.lp_core.specs.DualBound.{reduced_cost, objective_costs, no_costs, dual_bound, low}
 
@@ -46,9 +46,9 @@ KeepsUpperAlong None change = Unit {0}
 KeepsUpperAlong (Some bound) change = change ≤ℚ whole (pos 0)
 
 -- the objective becomes better along a direction
-abbrev pub Improves : Bool → Number → Type 0
-Improves true change = whole (pos 0) <ℚ change
-Improves false change = change <ℚ whole (pos 0)
+abbrev pub ImprovesObjective : Bool → Number → Type 0
+ImprovesObjective true change = whole (pos 0) <ℚ change
+ImprovesObjective false change = change <ℚ whole (pos 0)
 
 module _ {F : Type 0} (value : F → Number) (lp : Lp F) where
   -- the sum of each row at a point
@@ -61,7 +61,7 @@ module _ {F : Type 0} (value : F → Number) (lp : Lp F) where
     pub rows : row_levels ≡ row_sums levels
     pub sized : length duals ≡ length lp.rows
     pub reduced_costs : reduced ≡ map (λ j. reduced_cost value lp (objective_costs lp) duals j) (range_with_len 0 (length lp.columns))
-    pub bound : dual_bound value lp duals ≡ Some (number_of levels lp.objective)
+    pub bound : dual_bound value lp duals ≡ Some (value_of_column levels lp.objective)
 
   -- Infeasible by a Farkas combination of rows and bounds: it is 0 at each point, yet its lower
   -- bound is above 0.
@@ -77,10 +77,10 @@ module _ {F : Type 0} (value : F → Number) (lp : Lp F) where
   -- A ray: a direction along which bounds and rows stay satisfied and the objective improves.
   pub record IsRay (ray : List Number) : Type 0 where
     pub sized : length ray ≡ length lp.columns
-    pub lower : All (λ (p : ℕ × Column F). KeepsLowerAlong p.1.lower (number_of ray p.0)) (enumerate_from 0 lp.columns)
-    pub upper : All (λ (p : ℕ × Column F). KeepsUpperAlong p.1.upper (number_of ray p.0)) (enumerate_from 0 lp.columns)
+    pub lower : All (λ (p : ℕ × Column F). KeepsLowerAlong p.1.lower (value_of_column ray p.0)) (enumerate_from 0 lp.columns)
+    pub upper : All (λ (p : ℕ × Column F). KeepsUpperAlong p.1.upper (value_of_column ray p.0)) (enumerate_from 0 lp.columns)
     pub rows : All (λ (row : Row F). KeepsSenseAlong row.sense (row_sum value row.entries ray)) lp.rows
-    pub better : Improves lp.maximize (number_of ray lp.objective)
+    pub better : ImprovesObjective lp.maximize (value_of_column ray lp.objective)
 
   -- Unbounded: a feasible point and a ray.
   pub record ProvesUnbounded (levels row_levels ray : List Number) : Type 0 where

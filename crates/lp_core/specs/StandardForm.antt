@@ -10,7 +10,7 @@ use Rattle.lp_core.specs.declared.program.Sense.TheVariants as sense
 use Rattle.lp_core.specs.declared.program.Column.{Column}
 use Rattle.lp_core.specs.declared.program.Row.{Row}
 use Rattle.lp_core.specs.declared.program.Lp.{Lp}
-use Rattle.lp_core.specs.Sums.{number_of}
+use Rattle.lp_core.specs.Sums.{value_of_column}
 use Rattle.lp_core.specs.Feasible.{bound_value}
 -- passed on: how many rows of the standard form a row, a column and rows have
 pub use Rattle.lp_core.specs.WellFormed.{rows_of_sense, rows_of_bounds, count_of_rows}
@@ -24,17 +24,17 @@ pub data Shift : Type 0 where
 
 -- the origin of a row of the standard form: a row of the program, its sign kept or changed, or a
 -- column with two bounds
-pub data Origin : Type 0 where
-  of_row : ℕ → Origin
-  of_negated : ℕ → Origin
-  of_bound : ℕ → Origin
+pub data RowOrigin : Type 0 where
+  of_row : ℕ → RowOrigin
+  of_negated : ℕ → RowOrigin
+  of_bound : ℕ → RowOrigin
 
 -- A row of the standard form: the sum of the coefficients, each times its variable, is at most the
 -- right side.
 pub record StandardRow : Type 0 where
   pub right : Number
   pub entries : List (ℕ × Number)
-  pub origin : Origin
+  pub origin : RowOrigin
 
 -- A program in standard form: each column with the number of its first variable and its shift; the
 -- rows; and the objective to maximize, a constant and a coefficient for each variable from 1.
@@ -75,9 +75,9 @@ spread v free a = (v, a) ∷ (v + 1, neg_ℚ a) ∷ []
 
 -- the value of a column, by the values of all variables from number 0
 abbrev pub shifted_back : ℕ × Shift → List Number → Number
-shifted_back (v, from_lower b) y = b +ℚ number_of y v
-shifted_back (v, from_upper b) y = b -ℚ number_of y v
-shifted_back (v, free) y = number_of y v -ℚ number_of y (v + 1)
+shifted_back (v, from_lower b) y = b +ℚ value_of_column y v
+shifted_back (v, from_upper b) y = b -ℚ value_of_column y v
+shifted_back (v, free) y = value_of_column y v -ℚ value_of_column y (v + 1)
 
 -- the point that values of all variables express
 abbrev pub point_of : Standard → List Number → List Number
@@ -163,7 +163,7 @@ pub record Last : Type 0 where
 -- the multiplier of row r of the standard form, from 0: the negated coefficient of its slack, which
 -- is variable `variables` + 1 + r
 abbrev pub multiplier : ℕ → List Number → ℕ → Number
-multiplier variables costs r = neg_ℚ (number_of costs (variables + 1 + r))
+multiplier variables costs r = neg_ℚ (value_of_column costs (variables + 1 + r))
 
 -- the dual of a row from the multipliers of its rows in the standard form, of which the first has
 -- place r
@@ -181,9 +181,9 @@ duals_from p r (row ∷ rows) = dual_by_sense row.sense p r ∷ duals_from p (r 
 -- the reduced cost of a column; v is its first variable, and r the place of its row in the standard
 -- form, if any
 abbrev pub reduced_by_bounds : {B : Type 0} → List Number → (ℕ → Number) → ℕ → ℕ → Option B → Option B → Number
-reduced_by_bounds costs p v r (Some lower) (Some upper) = number_of costs v +ℚ p r
-reduced_by_bounds costs p v r (Some lower) None = number_of costs v
-reduced_by_bounds costs p v r None (Some upper) = neg_ℚ (number_of costs v)
+reduced_by_bounds costs p v r (Some lower) (Some upper) = value_of_column costs v +ℚ p r
+reduced_by_bounds costs p v r (Some lower) None = value_of_column costs v
+reduced_by_bounds costs p v r None (Some upper) = neg_ℚ (value_of_column costs v)
 reduced_by_bounds costs p v r None None = whole (pos 0)
 
 -- the reduced costs of columns, given the numbers of their first variables; r is the place of the
@@ -196,9 +196,9 @@ reduced_from costs p r (s ∷ shifts) (column ∷ columns) =
 
 -- the change of a column along a ray
 abbrev pub changed_back : ℕ × Shift → List Number → Number
-changed_back (v, from_lower b) changes = number_of changes v
-changed_back (v, from_upper b) changes = neg_ℚ (number_of changes v)
-changed_back (v, free) changes = number_of changes v -ℚ number_of changes (v + 1)
+changed_back (v, from_lower b) changes = value_of_column changes v
+changed_back (v, from_upper b) changes = neg_ℚ (value_of_column changes v)
+changed_back (v, free) changes = value_of_column changes v -ℚ value_of_column changes (v + 1)
 
 module _ {F : Type 0} (value : F → Number) (lp : Lp F) (last : Last) where
   -- the value of each column

@@ -14,12 +14,12 @@ use Rattle.lp_core.specs.declared.program.Sense.TheVariants as sense
 use Rattle.lp_core.specs.declared.program.Column.{Column}
 use Rattle.lp_core.specs.declared.program.Row.{Row}
 use Rattle.lp_core.specs.declared.program.Lp.{Lp}
-use Rattle.lp_core.specs.Sums.{number_of}
+use Rattle.lp_core.specs.Sums.{value_of_column}
 use Rattle.lp_core.specs.Feasible.{bound_value}
 -- passed on: how many rows of the standard form rows have
 pub use Rattle.lp_core.specs.WellFormed.{count_of_rows}
 use Rattle.lp_core.specs.StandardForm.{Shift, from_lower, from_upper, free, base, column_at, columns_of, variables_of, rows_of_sense, rows_of_bounds, multiplier, Last, levels_back}
-use Rattle.lp_core.specs.Dictionary.{Dictionary, constant_at, entry_at, divided}
+use Rattle.lp_core.specs.Dictionary.{Dictionary, constant_at, entry_at, divided_entry}
 
 -- An expected step, and whether it fits. A step with a factor 0 and a sum with 0 always fit, so a
 -- list may contain or omit them.
@@ -109,7 +109,7 @@ pivot_row_steps limit pivot d q k =
 -- another row, or the objective: of each number the product and the difference
 abbrev pub other_row_steps : ℕ → ℕ → Dictionary → ℕ → ℕ → ℕ → List Due
 other_row_steps limit pivot d q k i =
-    flat_map (λ c. (Exchange pivot (i + 1) c 0, product_fits limit (entry_at d i q) (divided d q k c)) ∷ (Exchange pivot (i + 1) c 1, difference_fits limit (d.numbers i c) (entry_at d i q *ℚ divided d q k c)) ∷ [])
+    flat_map (λ c. (Exchange pivot (i + 1) c 0, product_fits limit (entry_at d i q) (divided_entry d q k c)) ∷ (Exchange pivot (i + 1) c 1, difference_fits limit (d.numbers i c) (entry_at d i q *ℚ divided_entry d q k c)) ∷ [])
     (range_with_len 0 (d.variables + 2))
 
 -- the steps of an exchange: the row of the leaving variable, the other rows, and the objective at
@@ -123,16 +123,16 @@ exchange_steps limit pivot d q k =
 
 -- the step on the level of a column, by its shift
 abbrev pub level_step : ℕ → ℕ → ℕ × Shift → List Number → Due
-level_step limit j (v, from_lower b) y = (Recover 0 j 0 1, sum_fits limit b (number_of y v))
-level_step limit j (v, from_upper b) y = (Recover 0 j 0 1, difference_fits limit b (number_of y v))
-level_step limit j (v, free) y = (Recover 0 j 0 1, difference_fits limit (number_of y v) (number_of y (v + 1)))
+level_step limit j (v, from_lower b) y = (Recover 0 j 0 1, sum_fits limit b (value_of_column y v))
+level_step limit j (v, from_upper b) y = (Recover 0 j 0 1, difference_fits limit b (value_of_column y v))
+level_step limit j (v, free) y = (Recover 0 j 0 1, difference_fits limit (value_of_column y v) (value_of_column y (v + 1)))
 
 -- the steps on the entries of row i from place e on, where s is the sum so far: product, then sum
 abbrev pub row_level_steps : {F : Type 0} → (F → Number) → ℕ → ℕ → ℕ → Number → List (ℕ × F) → List Number → List Due
 row_level_steps value limit i e s [] x = []
 row_level_steps value limit i e s (p ∷ entries) x =
-    (Recover 1 i e 0, product_fits limit (value p.1) (number_of x p.0))
-    ∷ (Recover 1 i e 1, sum_fits limit s (value p.1 *ℚ number_of x p.0)) ∷ row_level_steps value limit i (e + 1) (s +ℚ value p.1 *ℚ number_of x p.0) entries x
+    (Recover 1 i e 0, product_fits limit (value p.1) (value_of_column x p.0))
+    ∷ (Recover 1 i e 1, sum_fits limit s (value p.1 *ℚ value_of_column x p.0)) ∷ row_level_steps value limit i (e + 1) (s +ℚ value p.1 *ℚ value_of_column x p.0) entries x
 
 -- the steps on the duals of rows from row i on, whose first standard row is at place r: the
 -- difference for an equation
@@ -148,14 +148,14 @@ abbrev pub reduced_steps : {F : Type 0} → ℕ → List Number → (ℕ → Num
 reduced_steps limit costs p j r [] columns = []
 reduced_steps limit costs p j r (s ∷ shifts) [] = []
 reduced_steps limit costs p j r (s ∷ shifts) (column ∷ columns) =
-    (if rows_of_bounds column.lower column.upper == 1 then (Recover 3 j 0 1, sum_fits limit (number_of costs s.0) (p r)) ∷ [] else [])
+    (if rows_of_bounds column.lower column.upper == 1 then (Recover 3 j 0 1, sum_fits limit (value_of_column costs s.0) (p r)) ∷ [] else [])
     ++ reduced_steps limit costs p (j + 1) (r + rows_of_bounds column.lower column.upper) shifts columns
 
 -- the step on the change of a column along a ray: the difference for a free one
 abbrev pub ray_step : ℕ → ℕ → ℕ × Shift → List Number → List Due
 ray_step limit j (v, from_lower b) changes = []
 ray_step limit j (v, from_upper b) changes = []
-ray_step limit j (v, free) changes = (Recover 4 j 0 1, difference_fits limit (number_of changes v) (number_of changes (v + 1))) ∷ []
+ray_step limit j (v, free) changes = (Recover 4 j 0 1, difference_fits limit (value_of_column changes v) (value_of_column changes (v + 1))) ∷ []
 
 module _ {F : Type 0} (value : F → Number) (limit : ℕ) (lp : Lp F) (last : Last) where
   -- the steps on the levels, and those on the row levels
@@ -203,9 +203,9 @@ steps_back value limit lp kind.Interrupted last = interrupted_steps value limit 
 abbrev pub checked_sum : {F : Type 0} → (F → Number) → ℕ → List Number → ℕ → Number → List (ℕ × F) → Result Number StepName
 checked_sum value limit x n s [] = Ok s
 checked_sum value limit x n s (e ∷ entries) =
-    if product_fits limit (value e.1) (number_of x e.0) then
-    (if sum_fits limit s (value e.1 *ℚ number_of x e.0) then
-    checked_sum value limit x (n + 2) (s +ℚ value e.1 *ℚ number_of x e.0) entries else
+    if product_fits limit (value e.1) (value_of_column x e.0) then
+    (if sum_fits limit s (value e.1 *ℚ value_of_column x e.0) then
+    checked_sum value limit x (n + 2) (s +ℚ value e.1 *ℚ value_of_column x e.0) entries else
     Err (Check (n + 1))) else
     Err (Check n)
 
@@ -227,7 +227,7 @@ keeps_upper (Some bound) x = at_most x bound
 abbrev pub bounds_hold : {F : Type 0} → (F → Number) → List Number → ℕ → List (Column F) → Bool
 bounds_hold value x j [] = true
 bounds_hold value x j (column ∷ columns) =
-    keeps_lower (bound_value value column.lower) (number_of x j) && keeps_upper (bound_value value column.upper) (number_of x j)
+    keeps_lower (bound_value value column.lower) (value_of_column x j) && keeps_upper (bound_value value column.upper) (value_of_column x j)
     && bounds_hold value x (j + 1) columns
 
 -- whether a sum compares with a right side as the sense says

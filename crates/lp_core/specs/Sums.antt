@@ -7,13 +7,13 @@ use Rattle.gq_number.specs.Sums.{sum_by_ℚ}
 -- values. `value` gives the number that a field's value means.
 
 -- the value of a column at a point; 0 past the point's end
-abbrev pub number_of : List Number → ℕ → Number
-number_of x j = slice_index_or x j (whole (pos 0))
+abbrev pub value_of_column : List Number → ℕ → Number
+value_of_column x j = slice_index_or x j (whole (pos 0))
 
 -- the coefficient of a column: the sum of its entries, of which a row in order has at most one
-abbrev pub coefficient : {F : Type 0} → (F → Number) → List (ℕ × F) → ℕ → Number
-coefficient value entries j = sum_by_ℚ (λ e. if e.0 == j then value e.1 else whole (pos 0)) entries
+abbrev pub column_coefficient : {F : Type 0} → (F → Number) → List (ℕ × F) → ℕ → Number
+column_coefficient value entries j = sum_by_ℚ (λ e. if e.0 == j then value e.1 else whole (pos 0)) entries
 
 -- the sum of coefficient times value
 abbrev pub row_sum : {F : Type 0} → (F → Number) → List (ℕ × F) → List Number → Number
-row_sum value entries x = sum_by_ℚ (λ e. value e.1 *ℚ number_of x e.0) entries
+row_sum value entries x = sum_by_ℚ (λ e. value e.1 *ℚ value_of_column x e.0) entries

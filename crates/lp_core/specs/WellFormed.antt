@@ -38,7 +38,7 @@ abbrev pub standard_columns : {F : Type 0} → Lp F → ℕ
 standard_columns {F} lp = sum_by (λ (column : Column F). variables_of_bounds column.lower column.upper) lp.columns
 
 -- the entries of a row ascend by column, name columns of the program, and are not 0
-pub record AreEntries {F : Type 0} (value : F → Number) (columns : ℕ) (entries : List (ℕ × F)) : Type 0 where
+pub record AreRowEntries {F : Type 0} (value : F → Number) (columns : ℕ) (entries : List (ℕ × F)) : Type 0 where
   pub ascending : AllPairs (λ (a b : ℕ × F). a.0 < b.0) entries
   pub there : All (λ (e : ℕ × F). e.0 < columns) entries
   pub not_zero : All (λ (e : ℕ × F). value e.1 ≢ whole (pos 0)) entries
@@ -49,6 +49,6 @@ pub record IsWellFormed {F : Type 0} (value : F → Number) (lp : Lp F) : Type 0
   pub objective : lp.objective < length lp.columns
   pub columns_differ : AllPairs (λ (a b : Column F). a.key ≢ b.key) lp.columns
   pub rows_differ : AllPairs (λ (a b : Row F). a.key ≢ b.key) lp.rows
-  pub entries : All (λ (row : Row F). AreEntries value (length lp.columns) row.entries) lp.rows
+  pub entries : All (λ (row : Row F). AreRowEntries value (length lp.columns) row.entries) lp.rows
   pub rows_few : standard_rows lp ≤ 1500
   pub columns_few : standard_columns lp ≤ 3000

@@ -8,7 +8,7 @@ ghost use Rattle.lp_core.specs.declared.answer.End.TheVariants.{Optimal};
 ghost use Rattle.lp_core.specs.declared.answer.Rule.{Rule};
 ghost use Rattle.lp_core.specs.declared.answer.Rule.TheVariants.{Bland, Legal};
 ghost use Rattle.lp_core.specs.declared.program.Lp.{Lp};
-ghost use Rattle.lp_core.specs.Sums.{number_of};
+ghost use Rattle.lp_core.specs.Sums.{value_of_column};
 ghost use Rattle.lp_core.specs.Feasible.{Feasible};
 ghost use Rattle.lp_core.specs.WellFormed.{IsWellFormed};
 ghost use Rattle.lp_core.specs.Answers.{IsAnswer};
@@ -22,18 +22,18 @@ use gq_field::ExactField;
 pub fn weak_duality<F: ExactField>()
     ensures least { (lp : Lp F) (duals x : List Number) (bound : Number) →
         IsWellFormed F.value lp → Feasible F.value lp x → lp.maximize ≡ false →
-        dual_bound F.value lp duals ≡ Some bound → bound ≤ℚ number_of x lp.objective }
+        dual_bound F.value lp duals ≡ Some bound → bound ≤ℚ value_of_column x lp.objective }
     ensures greatest { (lp : Lp F) (duals x : List Number) (bound : Number) →
         IsWellFormed F.value lp → Feasible F.value lp x → lp.maximize ≡ true →
-        dual_bound F.value lp duals ≡ Some bound → number_of x lp.objective ≤ℚ bound }
+        dual_bound F.value lp duals ≡ Some bound → value_of_column x lp.objective ≤ℚ bound }
     ensures optimum_is_least { (lp : Lp F) (levels row_levels duals reduced x : List Number) →
         IsWellFormed F.value lp → ProvesOptimal F.value lp levels row_levels duals reduced →
         lp.maximize ≡ false → Feasible F.value lp x →
-        number_of levels lp.objective ≤ℚ number_of x lp.objective }
+        value_of_column levels lp.objective ≤ℚ value_of_column x lp.objective }
     ensures optimum_is_greatest { (lp : Lp F) (levels row_levels duals reduced x : List Number) →
         IsWellFormed F.value lp → ProvesOptimal F.value lp levels row_levels duals reduced →
         lp.maximize ≡ true → Feasible F.value lp x →
-        number_of x lp.objective ≤ℚ number_of levels lp.objective }
+        value_of_column x lp.objective ≤ℚ value_of_column levels lp.objective }
 {}
 
 /// Farkas: a combination of rows and bounds is 0 at every point; if its lower bound is above 0, no
@@ -57,10 +57,10 @@ pub fn unbounded_ray<F: ExactField>()
         whole (pos 0) ≤ℚ t → Feasible F.value lp (further levels t ray) }
     ensures least { (lp : Lp F) (levels row_levels ray : List Number) (goal : Number) →
         IsWellFormed F.value lp → ProvesUnbounded F.value lp levels row_levels ray → lp.maximize ≡ false →
-        (t : Number) × (whole (pos 0) ≤ℚ t) × (number_of (further levels t ray) lp.objective ≤ℚ goal) }
+        (t : Number) × (whole (pos 0) ≤ℚ t) × (value_of_column (further levels t ray) lp.objective ≤ℚ goal) }
     ensures greatest { (lp : Lp F) (levels row_levels ray : List Number) (goal : Number) →
         IsWellFormed F.value lp → ProvesUnbounded F.value lp levels row_levels ray → lp.maximize ≡ true →
-        (t : Number) × (whole (pos 0) ≤ℚ t) × (goal ≤ℚ number_of (further levels t ray) lp.objective) }
+        (t : Number) × (whole (pos 0) ≤ℚ t) × (goal ≤ℚ value_of_column (further levels t ray) lp.objective) }
 {}
 
 /// Answers under other conditions. An answer under Bland's rule is one under the rule Legal, which

@@ -1,9 +1,9 @@
 //! Whether a program is well formed.
 ghost use Rattle.std.specs.Prelude.{◌≡◌, ◌≢◌, ◌≤◌, ◌+◌, ◌↔◌, ℕ, IsTrue, sum_by};
 ghost use Rattle.std.specs.List.{All, AllPairs};
-ghost use Rattle.lp_core.specs.WellFormed.{IsWellFormed, AreEntries, rows_of_sense, rows_of_bounds, variables_of_bounds, count_of_rows};
+ghost use Rattle.lp_core.specs.WellFormed.{IsWellFormed, AreRowEntries, rows_of_sense, rows_of_bounds, variables_of_bounds, count_of_rows};
 ghost use Rattle.lp_core.specs.Counts.{counted};
-ghost use Rattle.lp_core.specs.Entries.{are_in_order};
+ghost use Rattle.lp_core.specs.InnerEntries.{are_in_order};
 
 use crate::program::{Column, Lp, Row, Sense};
 use gq_field::ExactField;
@@ -76,7 +76,7 @@ fn rows_differ<F>(rows: &[Row<F>]) -> bool
 
 /// Whether entries ascend by column, name columns below `columns`, and are not 0.
 fn are_entries<F: ExactField>(entries: &[(u32, F)], columns: usize) -> bool
-    ensures { IsTrue result ↔ AreEntries F.value columns entries.now }
+    ensures { IsTrue result ↔ AreRowEntries F.value columns entries.now }
 {
     let mut least: usize = 0;
     for (column, coefficient) in entries {
@@ -97,7 +97,7 @@ fn are_entries<F: ExactField>(entries: &[(u32, F)], columns: usize) -> bool
 
 /// Whether the entries of each row are in order.
 fn have_entries<F: ExactField>(rows: &[Row<F>], columns: usize) -> bool
-    ensures { IsTrue result ↔ All (λ row. AreEntries F.value columns row.entries) rows.now }
+    ensures { IsTrue result ↔ All (λ row. AreRowEntries F.value columns row.entries) rows.now }
 {
     for row in rows {
         if !are_entries(row.entries.as_slice(), columns) {

@@ -6,10 +6,10 @@ use Rattle.gq_number.proofs.Order.{≤ℚ_from_≡, neg-≤ℚ}
 use Rattle.gq_number.proofs.Ring.{neg_neg}
 use Rattle.lp_core.specs.Dictionary.{Dictionary, entry_at, IsPriced, Improves}
 use Rattle.lp_core.specs.LargestCoefficient.{HasGreatest}
-use Rattle.lp_exact.specs.Pivots.{IsProper}
-use Rattle.lp_exact.proofs.Improving.{priced_there}
-use Rattle.lp_exists.proofs.Deciding.{IsFirst, first_below, improves_or_not, priced_once}
-use Rattle.lp_turn.specs.Turn.{AlwaysPicks}
+use Rattle.lp_fraction_dict.specs.Pivots.{IsProper}
+use Rattle.lp_fraction_dict.proofs.Improving.{priced_there}
+use Rattle.lp_simplex.proofs.Deciding.{IsFirst, first_below, improves_or_not, priced_once}
+use Rattle.lp_simplex.specs.Turn.{AlwaysPicks}
 
 unturned : (x y : Number) → neg_ℚ y ≤ℚ neg_ℚ x → x ≤ℚ y
 unturned x y most = subst₂ (λ a b. a ≤ℚ b) (neg_neg x) (neg_neg y) (neg-≤ℚ (neg_ℚ y) (neg_ℚ x) most)

@@ -4,7 +4,7 @@ use Rattle.gq_number.proofs.Order.{≤ℚ_antisymm}
 use Rattle.lp_core.specs.declared.answer.Pivot.{Pivot}
 use Rattle.lp_core.specs.Dictionary.{Dictionary, entry_at}
 use Rattle.lp_core.specs.LargestCoefficient.{HasGreatest, IsNext}
-use Rattle.lp_exact.proofs.Improving.{priced_there}
+use Rattle.lp_fraction_dict.proofs.Improving.{priced_there}
 
 both_least : (a b : ℕ) → a ≤ b → b ≤ a → a ≡ b
 both_least a b less more = omega arith

@@ -6,9 +6,9 @@ use Rattle.lp_core.specs.declared.answer.Answer.{Answer}
 use Rattle.lp_core.specs.declared.program.Lp.{Lp}
 use Rattle.lp_core.specs.LargestCoefficient.{IsNext, IsLargestAnswer}
 use Rattle.lp_core.specs.WellFormed.{IsWellFormed}
-use Rattle.lp_walk.proofs.Unique.{one_answer_by}
-use Rattle.lp_exists.specs.Only.{IsOnly}
-use Rattle.lp_dantzig.specs.Next.{next_improves}
+use Rattle.lp_simplex.proofs.Unique.{one_answer_by}
+use Rattle.lp_simplex.specs.Only.{IsOnly}
+use Rattle.lp_dantzig.specs.InnerNext.{next_improves}
 use Rattle.lp_dantzig.proofs.Nexts.{next_once}
 
 module _ {F : Type 0} (value : F → Number) (inj : (x y : F) → value x ≡ value y → x ≡ y) (limit : ℕ) (lp : Lp F) (iterlim : ℕ) (formed : IsWellFormed value lp) where

@@ -1,3 +1,3 @@
-pub mod Greatest
+pub mod InnerGreatest
 pub mod Name
-pub mod Next
+pub mod InnerNext

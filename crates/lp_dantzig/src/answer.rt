@@ -4,13 +4,13 @@ ghost use Rattle.lp_core.specs.declared.answer.Rule.TheVariants as by;
 ghost use Rattle.lp_core.specs.Answers.{IsAnswer};
 ghost use Rattle.lp_core.specs.LargestCoefficient.{IsLargestAnswer};
 ghost use Rattle.lp_core.specs.WellFormed.{IsWellFormed};
-ghost use Rattle.lp_exists.specs.Only.{IsOnly};
+ghost use Rattle.lp_simplex.specs.Only.{IsOnly};
 ghost use Rattle.lp_nocycle.specs.Turns.{HasFewPivotsByTurn, ComesToEndByTurn};
 
 use crate::largest::Largest;
 use gq_field::ExactField;
 use lp_core::{Answer, Lp};
-use lp_turn::solve_with;
+use lp_simplex::solve_with;
 use std::alloc::{AllocError, Global};
 
 /// The only answer of a program by the rule of the largest coefficient, found by at most `iterlim`

@@ -6,7 +6,7 @@ ghost use Rattle.lp_core.specs.Answers.{IsAnswer};
 ghost use Rattle.lp_core.specs.LargestCoefficient.{IsLargestAnswer};
 ghost use Rattle.lp_slot.specs.declared.solver.SolverRule.TheVariants as slot;
 ghost use Rattle.lp_core.specs.WellFormed.{IsWellFormed};
-ghost use Rattle.lp_exists.specs.Only.{IsOnly};
+ghost use Rattle.lp_simplex.specs.Only.{IsOnly};
 ghost use Rattle.lp_nocycle.specs.Turns.{HasFewPivotsByTurn, ComesToEndByTurn};
 ghost use Rattle.lp_dantzig.specs.Name.{dantzig_is_name};
 

@@ -1,10 +1,10 @@
 //! The rule of the largest coefficient.
 ghost use Rattle.lp_core.specs.LargestCoefficient.{HasGreatest};
-ghost use Rattle.lp_dantzig.specs.Greatest.{greatest_improves};
+ghost use Rattle.lp_dantzig.specs.InnerGreatest.{greatest_improves};
 
 use gq_field::ExactField;
 use lp_dict::Dict;
-use lp_turn::Picking;
+use lp_simplex::Picking;
 
 /// The rule of the largest coefficient: the variable that improves with the greatest coefficient
 /// enters, and of equal ones the least: Chvatal, Linear Programming, chapter 2. It remembers

@@ -6,17 +6,17 @@ use Rattle.std.proofs.lemmas.List.{length_push}
 use mathlib.Core.Path.{fun_ext}
 use Rattle.gq_number.specs.Number.{Number, whole}
 use Rattle.lp_core.specs.Dictionary.{Dictionary}
-use Rattle.lp_exact.specs.declared.row.Entry.{Entry}
-use Rattle.lp_exact.specs.Rows.{IsRow, number_in}
-use Rattle.lp_exact.specs.Lines.{line}
-use Rattle.lp_exact.specs.First.{IsFilled}
-use Rattle.lp_exact.specs.Pivots.{IsProper}
-use Rattle.lp_exact.specs.Tableau.{Tableau, dictionary, IsTableau}
-use Rattle.lp_exact.proofs.Kept.{index_default, index_past}
-use Rattle.lp_exact.proofs.Filling.{filled_all, push_here, push_other}
-use Rattle.lp_dict.specs.Turning.{AreFilled}
+use Rattle.lp_fraction_dict.specs.declared.row.Entry.{Entry}
+use Rattle.lp_fraction_dict.specs.Rows.{IsRow, number_in}
+use Rattle.lp_fraction_dict.specs.Lines.{line}
+use Rattle.lp_fraction_dict.specs.First.{IsFilled}
+use Rattle.lp_fraction_dict.specs.Pivots.{IsProper}
+use Rattle.lp_fraction_dict.specs.Tableau.{FractionTableau, fraction_dictionary, IsTableau}
+use Rattle.lp_fraction_dict.proofs.Kept.{index_default, index_past}
+use Rattle.lp_fraction_dict.proofs.Filling.{filled_all, push_here, push_other}
+use Rattle.lp_dict.specs.InnerConversions.{AreFilled}
 
-module _ {F : Type 0} (value : F → Number) (d : Dictionary) (past : (k c : ℕ) → length d.basic ≤ k → d.numbers k c ≡ d.numbers (length d.basic) c) (outside : (k c : ℕ) → d.variables + 2 ≤ c → d.numbers k c ≡ whole (pos 0)) (t : Tableau F) (variables_are : t.variables ≡ d.variables) (basic_is : t.basic ≡ d.basic) (rows_are : AreFilled value d t.rows (length d.basic)) (objective_is : IsFilled value (d.numbers (length d.basic)) (d.variables + 2) t.objective) where
+module _ {F : Type 0} (value : F → Number) (d : Dictionary) (past : (k c : ℕ) → length d.basic ≤ k → d.numbers k c ≡ d.numbers (length d.basic) c) (outside : (k c : ℕ) → d.variables + 2 ≤ c → d.numbers k c ≡ whole (pos 0)) (t : FractionTableau F) (variables_are : t.variables ≡ d.variables) (basic_is : t.basic ≡ d.basic) (rows_are : AreFilled value d t.rows (length d.basic)) (objective_is : IsFilled value (d.numbers (length d.basic)) (d.variables + 2) t.objective) where
   numbers_are : (k c : ℕ) → number_in value (line t.rows t.objective k) c ≡ d.numbers k c
   numbers_are k c =
       let size = rows_are.sized in
@@ -31,7 +31,7 @@ module _ {F : Type 0} (value : F → Number) (d : Dictionary) (past : (k c : ℕ
   abbrev made_of : ℕ → List ℕ → (ℕ → ℕ → Number) → Dictionary
   made_of variables basic numbers = record { variables = variables; basic = basic; numbers = numbers }
 
-  pub turned_is : dictionary value t ≡ d
+  pub turned_is : fraction_dictionary value t ≡ d
   turned_is =
       ap (λ v. made_of v t.basic (λ i c. number_in value (line t.rows t.objective i) c)) variables_are
       ∙ ap (λ b. made_of d.variables b (λ i c. number_in value (line t.rows t.objective i) c)) basic_is

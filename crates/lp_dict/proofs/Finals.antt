@@ -5,17 +5,17 @@ use Rattle.std.proofs.lemmas.Bool.{cases_eq, cases_lt, eq-eqb, ne_eqb}
 use Rattle.std.proofs.lemmas.List.{length-map, length_push, map_push}
 use Rattle.gq_number.specs.Number.{Number, whole, neg_ℚ}
 use Rattle.gq_number.proofs.Ring.{neg-zero}
-use Rattle.lp_core.specs.Sums.{number_of}
+use Rattle.lp_core.specs.Sums.{value_of_column}
 use Rattle.lp_core.specs.Dictionary.{Dictionary, entry_at, IsPriced}
 use Rattle.lp_core.specs.Pivots.{row_of_basic, value_by_row, change_by_row, cost_by_row, priced_row, last_of, last_along}
-use Rattle.lp_exact.specs.Pivots.{IsProper}
-use Rattle.lp_exact.specs.Reading.{AreNumbers, AreChanges}
-use Rattle.lp_exact.proofs.Kept.{get_within, contains_get}
-use Rattle.lp_exact.proofs.Improving.{found_or_not}
-use Rattle.lp_exact.proofs.Exchanging.{length-put}
-use Rattle.lp_exact.proofs.Filling.{push_here, push_other}
-use Rattle.lp_exact.proofs.Lists.{list_is, place_is, no_place, put_number, other_number}
-use Rattle.lp_dict.specs.Reading.{AreByVariable, AreOfRow}
+use Rattle.lp_fraction_dict.specs.Pivots.{IsProper}
+use Rattle.lp_fraction_dict.specs.Reading.{AreNumbers, AreChanges}
+use Rattle.lp_fraction_dict.proofs.Kept.{get_within, contains_get}
+use Rattle.lp_fraction_dict.proofs.Improving.{found_or_not}
+use Rattle.lp_fraction_dict.proofs.Exchanging.{length-put}
+use Rattle.lp_fraction_dict.proofs.Filling.{push_here, push_other}
+use Rattle.lp_fraction_dict.proofs.Lists.{list_is, place_is, no_place, put_number, other_number}
+use Rattle.lp_dict.specs.InnerReading.{AreByVariable, AreOfRow}
 
 some_is : (a b : ℕ) → Some a ≡ Some b → a ≡ b
 some_is a b e = cc
@@ -61,10 +61,10 @@ module _ (d : Dictionary) (proper : IsProper d) where
           here = λ k v to there. elim (cases_eq v w) [
             | inl same ↦
                 let row : k ≡ n = proper.distinct k n v there (at ∙ ap Some (sym same)) in
-                ap (λ l. number_of (map value l) v) made_is ∙ ap (number_of (map value (slice_set list w x))) same ∙ put_number value list w x (omega arith) ∙ is ∙ ap (λ i. d.numbers i column) (sym row)
-            | inr other ↦ ap (λ l. number_of (map value l) v) made_is ∙ other_number value list w v x other ∙ h.here k v (earlier k v to there other) there
+                ap (λ l. value_of_column (map value l) v) made_is ∙ ap (value_of_column (map value (slice_set list w x))) same ∙ put_number value list w x (omega arith) ∙ is ∙ ap (λ i. d.numbers i column) (sym row)
+            | inr other ↦ ap (λ l. value_of_column (map value l) v) made_is ∙ other_number value list w v x other ∙ h.here k v (earlier k v to there other) there
           ];
-          elsewhere = λ v none. ap (λ l. number_of (map value l) v) made_is ∙ other_number value list w v x (λ same. none n (omega arith) (at ∙ ap Some (sym same))) ∙ h.elsewhere v (λ k to. none k (omega arith));
+          elsewhere = λ v none. ap (λ l. value_of_column (map value l) v) made_is ∙ other_number value list w v x (λ same. none n (omega arith) (at ∙ ap Some (sym same))) ∙ h.elsewhere v (λ k to. none k (omega arith));
         }
       where
         earlier : (k v : ℕ) → k < n + 1 → slice_get d.basic k ≡ Some v → v ≢ w → k < n
@@ -83,10 +83,10 @@ module _ (d : Dictionary) (proper : IsProper d) where
         record {
           sized = ap length made_is ∙ length_push list x ∙ ap (λ m. m + 1) h.sized;
           each = λ v less. elim (cases_lt v n) [
-            | inl early ↦ ap (λ l. number_of l v) mapped ∙ push_other (map value list) (value x) (whole (pos 0)) v (omega arith) ∙ h.each v early
+            | inl early ↦ ap (λ l. value_of_column l v) mapped ∙ push_other (map value list) (value x) (whole (pos 0)) v (omega arith) ∙ h.each v early
             | inr late ↦
                 let same : n ≡ v = omega arith in
-                subst (λ i. number_of (map value made) i ≡ entry_at d row i) same (ap (λ l. number_of l n) mapped ∙ push_here (map value list) (value x) (whole (pos 0)) n (omega arith) ∙ is)
+                subst (λ i. value_of_column (map value made) i ≡ entry_at d row i) same (ap (λ l. value_of_column l n) mapped ∙ push_here (map value list) (value x) (whole (pos 0)) n (omega arith) ∙ is)
           ];
         }
 
@@ -109,7 +109,7 @@ module _ (d : Dictionary) (proper : IsProper d) where
     other_costs i v none = ap (cost_by_row d i v) (no_row v none)
 
     -- the numbers of the priced row, at variables that are not basic in it
-    numbers_of_costs : (list : List F) → AreOfRow value d (priced_row d) (d.variables + 1) list → (v : ℕ) → v < d.variables + 1 → ((k : ℕ) → slice_get d.basic k ≡ Some v → priced_row d ≢ k) → number_of (map value list) v ≡ cost (priced_row d) v
+    numbers_of_costs : (list : List F) → AreOfRow value d (priced_row d) (d.variables + 1) list → (v : ℕ) → v < d.variables + 1 → ((k : ℕ) → slice_get d.basic k ≡ Some v → priced_row d ≢ k) → value_of_column (map value list) v ≡ cost (priced_row d) v
     numbers_of_costs list h v less apart =
         h.each v less ∙ elim (found_or_not d.basic v) [
           | inl found ↦ proper.apart found.0 (priced_row d) v found.1 (apart found.0 found.1) ∙ sym (basic_costs found.0 (priced_row d) v found.1)
@@ -132,10 +132,10 @@ module _ (d : Dictionary) (proper : IsProper d) where
         let size = h.sized in
         list_is (map value made) (d.variables + 1) (cost (priced_row d)) (length-map made value ∙ ap length made_is ∙ length-put list 0 x ∙ h.sized) (λ v less. elim (cases_eq v 0) [
           | inl same ↦
-              ap (λ l. number_of (map value l) v) made_is ∙ ap (number_of (map value (slice_set list 0 x))) same ∙ put_number value list 0 x (omega arith) ∙ none
+              ap (λ l. value_of_column (map value l) v) made_is ∙ ap (value_of_column (map value (slice_set list 0 x))) same ∙ put_number value list 0 x (omega arith) ∙ none
               ∙ sym (basic_costs (priced_row d) (priced_row d) v (zero_there within ∙ ap Some (sym same)))
           | inr other ↦
-              ap (λ l. number_of (map value l) v) made_is ∙ other_number value list 0 v x other
+              ap (λ l. value_of_column (map value l) v) made_is ∙ other_number value list 0 v x other
               ∙ numbers_of_costs list h v less (λ k at same. other (some_is v 0 (sym at ∙ ap (slice_get d.basic) (sym same) ∙ zero_there within)))
         ])
 
@@ -152,7 +152,7 @@ module _ (d : Dictionary) (proper : IsProper d) where
               ∙ ap neg_ℚ (h.here found.0 v (get_within d.basic found.0 v found.1) found.1) ∙ sym (ap (change_by_row d q v) (place found.0 v found.1))
           | inr free ↦ elim (cases_eq v q) [
             | inl same ↦
-                ap (number_of (map value list)) same ∙ ch.enters ∙ sym (ap (change_by_row d q v) (no_row v free) ∙ ap (λ b. cond b (whole (pos 1)) (whole (pos 0))) (eq-eqb q v (sym same)))
+                ap (value_of_column (map value list)) same ∙ ch.enters ∙ sym (ap (change_by_row d q v) (no_row v free) ∙ ap (λ b. cond b (whole (pos 1)) (whole (pos 0))) (eq-eqb q v (sym same)))
             | inr other ↦
                 ch.others v other ∙ ap neg_ℚ (h.elsewhere v (λ k to at. free (contains_get d.basic k v at))) ∙ neg-zero
                 ∙ sym (ap (change_by_row d q v) (no_row v free) ∙ ap (λ b. cond b (whole (pos 1)) (whole (pos 0))) (ne_eqb q v (λ same. other (sym same))))

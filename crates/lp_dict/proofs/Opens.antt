@@ -2,8 +2,8 @@
 use Rattle.std.proofs.Common.{◌+◌, length, arith}
 use Rattle.lp_core.specs.StandardForm.{Standard}
 use Rattle.lp_core.specs.Dictionary.{InPhaseOne, first_dictionary}
-use Rattle.lp_exact.proofs.Begins.{range_at}
-use Rattle.lp_exact.proofs.Kept.{index_get}
+use Rattle.lp_fraction_dict.proofs.Begins.{range_at}
+use Rattle.lp_fraction_dict.proofs.Kept.{index_get}
 
 -- variable 0 is not basic in the first dictionary
 pub none_in_first : (s : Standard) → ¬ (InPhaseOne (first_dictionary s))

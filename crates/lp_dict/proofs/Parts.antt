@@ -8,22 +8,22 @@ use Rattle.std.proofs.lemmas.List.{length_push, take_more, get_or-map}
 use Rattle.gq_number.specs.Number.{Number, whole, ratio}
 use Rattle.gq_number.proofs.Means.{ratio_itself}
 use Rattle.lp_core.specs.Dictionary.{Dictionary}
-use Rattle.lp_exact.specs.declared.row.Entry.{Entry}
-use Rattle.lp_exact.specs.Rows.{IsRow, number_in}
-use Rattle.lp_exact.specs.Lines.{line, rows_of}
-use Rattle.lp_exact.specs.Tableau.{Tableau, dictionary, IsTableau}
-use Rattle.lp_exact.proofs.Rows.{number_first, number_later}
-use Rattle.lp_exact.proofs.Kept.{index_default, index_past, length-rows}
-use Rattle.lp_exact.proofs.Filling.{push_here, push_other}
-use Rattle.lp_lines.specs.declared.line.Line.{Line}
-use Rattle.lp_lines.specs.declared.parts.Part.{Part}
-use Rattle.lp_lines.specs.Form.{wholes, line_number, lines_number, IsLine, AreLines}
-use Rattle.lp_lines.specs.Parts.{AreThere, AreApart, AreParts}
-use Rattle.lp_whole.specs.Whole.{WholeTableau, row_of, whole_dictionary, dictionary as dictionary_of}
-use Rattle.lp_lines.proofs.Plans.{some_at}
-use Rattle.lp_whole.proofs.Reading.{at_line}
-use Rattle.lp_whole.proofs.Wholes.{row_within, row_past}
-use Rattle.lp_dict.specs.Turning.{part_of, all_rows, IsLineOf, AreLinesOf}
+use Rattle.lp_fraction_dict.specs.declared.row.Entry.{Entry}
+use Rattle.lp_fraction_dict.specs.Rows.{IsRow, number_in}
+use Rattle.lp_fraction_dict.specs.Lines.{line, entries_of_rows}
+use Rattle.lp_fraction_dict.specs.Tableau.{FractionTableau, fraction_dictionary, IsTableau}
+use Rattle.lp_fraction_dict.proofs.Rows.{number_first, number_later}
+use Rattle.lp_fraction_dict.proofs.Kept.{index_default, index_past, length-rows}
+use Rattle.lp_fraction_dict.proofs.Filling.{push_here, push_other}
+use Rattle.lp_integer_rows.specs.declared.line.Line.{Line}
+use Rattle.lp_integer_rows.specs.declared.parts.Part.{Part}
+use Rattle.lp_integer_rows.specs.Form.{wholes, line_number, lines_number, IsLine, AreLines}
+use Rattle.lp_integer_rows.specs.Parts.{AreWithinColumns, HaveDistinctColumns, AreParts}
+use Rattle.lp_integer_dict.specs.Whole.{WholeTableau, row_of, whole_dictionary, integer_dictionary as dictionary_of}
+use Rattle.lp_integer_rows.proofs.Plans.{some_at}
+use Rattle.lp_integer_dict.proofs.Reading.{at_line}
+use Rattle.lp_integer_dict.proofs.Wholes.{row_within, row_past}
+use Rattle.lp_dict.specs.InnerConversions.{part_of, all_rows, IsLineOf, AreLinesOf}
 
 some_is : {X : Type 0} (x y : X) → Some x ≡ Some y → x ≡ y
 some_is x y e = cc
@@ -109,11 +109,11 @@ module _ {F : Type 0} (value : F → Number) where
       record { here = λ i p at. parts_here row 0 high i p ordered at; elsewhere = λ c none. parts_elsewhere row c none }
 
   -- what a row's parts keep
-  pub are_there : (row : List (Entry F)) (width : ℕ) (parts : List Part) → IsRow value 0 width row → parts ≡ map (part_of value) row → AreThere width parts
-  are_there row width parts ordered is = subst (AreThere width) (sym is) (λ i p at. part_there row 0 width i p ordered at)
+  pub are_there : (row : List (Entry F)) (width : ℕ) (parts : List Part) → IsRow value 0 width row → parts ≡ map (part_of value) row → AreWithinColumns width parts
+  are_there row width parts ordered is = subst (AreWithinColumns width) (sym is) (λ i p at. part_there row 0 width i p ordered at)
 
-  pub are_apart : (row : List (Entry F)) (width : ℕ) (parts : List Part) → IsRow value 0 width row → parts ≡ map (part_of value) row → AreApart parts
-  are_apart row width parts ordered is = subst AreApart (sym is) (λ i j p q at_i at_j same. parts_apart row 0 width i j p q ordered at_i at_j same)
+  pub are_apart : (row : List (Entry F)) (width : ℕ) (parts : List Part) → IsRow value 0 width row → parts ≡ map (part_of value) row → HaveDistinctColumns parts
+  are_apart row width parts ordered is = subst HaveDistinctColumns (sym is) (λ i j p q at_i at_j same. parts_apart row 0 width i j p q ordered at_i at_j same)
 
   -- the line of a row
   is_line_of : (row : List (Entry F)) (width : ℕ) (parts : List Part) (l : Line) → IsRow value 0 width row → parts ≡ map (part_of value) row → IsLine l × (length (wholes l) ≡ width) → AreParts parts (line_number l) → IsLineOf value width row l
@@ -147,24 +147,24 @@ module _ {F : Type 0} (value : F → Number) where
         ];
       }))
 
-  pub rows_go : (rows : List (Vec (Entry F) Global)) (i : ℕ) (row : Vec (Entry F) Global) → i < length rows → row ≡ get_or rows i row → take (i + 1) (rows_of rows) ≡ take i (rows_of rows) ++ row.items ∷ []
+  pub rows_go : (rows : List (Vec (Entry F) Global)) (i : ℕ) (row : Vec (Entry F) Global) → i < length rows → row ≡ get_or rows i row → take (i + 1) (entries_of_rows rows) ≡ take i (entries_of_rows rows) ++ row.items ∷ []
   rows_go rows i row less is =
       let count = length-rows rows in
-      take_more (rows_of rows) i row.items (omega arith)
-      ∙ ap (λ l. take i (rows_of rows) ++ l ∷ []) (get_or-map (λ (r : Vec (Entry F) Global). r.items) rows i row row.items less ∙ ap (λ (r : Vec (Entry F) Global). r.items) (sym is))
+      take_more (entries_of_rows rows) i row.items (omega arith)
+      ∙ ap (λ l. take i (entries_of_rows rows) ++ l ∷ []) (get_or-map (λ (r : Vec (Entry F) Global). r.items) rows i row row.items less ∙ ap (λ (r : Vec (Entry F) Global). r.items) (sym is))
 
   -- a row of those that there are
-  pub row_ordered : (t : Tableau F) → IsTableau value t → (rows : List (Vec (Entry F) Global)) (i : ℕ) (row : Vec (Entry F) Global) → rows_of rows ≡ t.rows → i < length rows → row ≡ get_or rows i row → IsRow value 0 (t.variables + 2) row.items
+  pub row_ordered : (t : FractionTableau F) → IsTableau value t → (rows : List (Vec (Entry F) Global)) (i : ℕ) (row : Vec (Entry F) Global) → entries_of_rows rows ≡ t.rows → i < length rows → row ≡ get_or rows i row → IsRow value 0 (t.variables + 2) row.items
   row_ordered t inv rows i row rows_are less is =
       let count = length-rows rows in
       let here : slice_index_or t.rows i [] ≡ row.items =
-      ap (λ rs. slice_index_or rs i []) (sym rows_are) ∙ index_default (rows_of rows) i [] row.items (omega arith)
+      ap (λ rs. slice_index_or rs i []) (sym rows_are) ∙ index_default (entries_of_rows rows) i [] row.items (omega arith)
       ∙ get_or-map (λ (r : Vec (Entry F) Global). r.items) rows i row row.items less ∙ ap (λ (r : Vec (Entry F) Global). r.items) (sym is) in
       subst (IsRow value 0 (t.variables + 2)) here (inv.rows i)
 
   -- ---- the dictionary of the lines
 
-  module _ (t : Tableau F) (inv : IsTableau value t) (lines : List Line) (of_rows : AreLinesOf value (t.variables + 2) (all_rows t) lines) where
+  module _ (t : FractionTableau F) (inv : IsTableau value t) (lines : List Line) (of_rows : AreLinesOf value (t.variables + 2) (all_rows t) lines) where
     pub count_is : length lines ≡ length t.basic + 1
     count_is = of_rows.sized ∙ length_push t.rows t.objective ∙ ap (λ n. n + 1) inv.paired
 
@@ -198,7 +198,7 @@ module _ {F : Type 0} (value : F → Number) where
     abbrev made_of : (ℕ → ℕ → Number) → Dictionary
     made_of numbers = record { variables = t.variables; basic = t.basic; numbers = numbers }
 
-    pub same_dictionary : (variables : ℕ) (basic : List ℕ) → variables ≡ t.variables → basic ≡ t.basic → whole_dictionary variables basic lines None ≡ dictionary value t
+    pub same_dictionary : (variables : ℕ) (basic : List ℕ) → variables ≡ t.variables → basic ≡ t.basic → whole_dictionary variables basic lines None ≡ fraction_dictionary value t
     same_dictionary variables basic variables_are basic_are =
         ap₂ (λ n b. whole_dictionary n b lines None) variables_are basic_are ∙ ap made_of (fun_ext (λ i. fun_ext (λ c. numbers_are i c)))
 

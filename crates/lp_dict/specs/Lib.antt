@@ -1,3 +1,3 @@
 pub mod Tableau
-pub mod Reading
-pub mod Turning
+pub mod InnerReading
+pub mod InnerConversions

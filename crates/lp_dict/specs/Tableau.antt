@@ -3,9 +3,9 @@
 use Rattle.std.specs.Prelude.{◌≢◌, ℕ, ◌≤◌, List, length}
 use Rattle.gq_number.specs.Number.{Number}
 use Rattle.lp_core.specs.Dictionary.{Dictionary, OpeningIsDue}
-use Rattle.lp_exact.specs.Pivots.{IsProper}
-use Rattle.lp_exact.specs.Tableau as exact
-use Rattle.lp_whole.specs.Whole.{dictionary as dictionary_of}
+use Rattle.lp_fraction_dict.specs.Pivots.{IsProper}
+use Rattle.lp_fraction_dict.specs.Tableau as exact
+use Rattle.lp_integer_dict.specs.Whole.{integer_dictionary as dictionary_of}
 use Rattle.lp_dict.specs.declared.body.Body.{Body}
 use Rattle.lp_dict.specs.declared.body.Body.TheVariants as body
 
@@ -26,7 +26,7 @@ upcoming_of (body.Exact t) = t.upcoming
 -- the dictionary that a body stores
 abbrev pub kept : {F : Type 0} → (F → Number) → Body F → Dictionary
 kept value (body.Whole w upcoming) = dictionary_of w
-kept value (body.Exact t) = exact.dictionary value t
+kept value (body.Exact t) = exact.fraction_dictionary value t
 
 -- the view of a stored dictionary that callers have
 abbrev pub tableau : {F : Type 0} → (F → Number) → Body F → Tableau F
@@ -38,14 +38,14 @@ abbrev pub dictionary : {F : Type 0} → (F → Number) → Tableau F → Dictio
 dictionary value t = record { variables = t.variables; basic = t.basic; numbers = (kept value t.body).numbers }
 
 -- no integer or denominator of integer rows exceeds the limit of the field
-abbrev pub IsBounded : {F : Type 0} → ℕ → Body F → Type 0
-IsBounded limit (body.Whole w upcoming) = w.bound ≤ limit
-IsBounded limit (body.Exact t) = Unit {0}
+abbrev pub IsWithinField : {F : Type 0} → ℕ → Body F → Type 0
+IsWithinField limit (body.Whole w upcoming) = w.bound ≤ limit
+IsWithinField limit (body.Exact t) = Unit {0}
 
 -- The invariant of a dictionary: it is one of a program, its integers are numbers of the field, and
 -- after a pivot the opening pivot is not required.
-pub record IsKept {F : Type 0} (value : F → Number) (limit : ℕ) (b : Body F) : Type 0 where
+pub record IsDictInvariant {F : Type 0} (value : F → Number) (limit : ℕ) (b : Body F) : Type 0 where
   pub proper : IsProper (kept value b)
   pub few : length (kept value b).basic ≤ (kept value b).variables
-  pub bounded : IsBounded limit b
+  pub bounded : IsWithinField limit b
   pub opened : upcoming_of b ≢ 1 → ¬ (OpeningIsDue (kept value b))

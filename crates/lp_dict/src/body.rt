@@ -1,7 +1,7 @@
 //! The two ways in which a dictionary is stored.
 use gq_field::ExactField;
-use lp_exact::ExactDict;
-use lp_whole::Whole;
+use lp_fraction_dict::ExactDict;
+use lp_integer_dict::Whole;
 
 /// How a dictionary is stored.
 #[derive(Drop)]

@@ -1,7 +1,7 @@
 //! The dictionary and what is read from it.
 ghost use Rattle.std.specs.Prelude.{◌≡◌, ◌<◌, ◌≤◌, ◌+◌, ◌^◌, ◌↔◌, ℕ, pos, List, map, slice_get, IsTrue, Some, Contains, MatchOption, IfOk, IfErr, length};
 ghost use Rattle.gq_number.specs.Number.{Number, ratio, whole};
-ghost use Rattle.lp_core.specs.Sums.{number_of};
+ghost use Rattle.lp_core.specs.Sums.{value_of_column};
 ghost use Rattle.lp_core.specs.Pivots.{last_of};
 ghost use Rattle.lp_core.specs.Dictionary.{basic_at, constant_at, entry_at, OpeningIsDue, IsPriced, Improves, IsLeast, IsOpening, IsLegal, Meets, first_dictionary, exchanged};
 ghost use Rattle.lp_core.specs.Counts.{counted};
@@ -13,9 +13,9 @@ ghost use Rattle.lp_core.specs.WellFormed.{IsWellFormed};
 ghost use Rattle.lp_core.specs.StandardForm.{Standard as StandardNumbers, standard_form};
 ghost use Rattle.lp_std.specs.Meaning.{standard_value};
 ghost use Rattle.lp_std.specs.Last.{IsDictionaryOf, IsReadAt, last_value};
-ghost use Rattle.lp_exact.specs.Reading.{IsDone, last_with};
-ghost use Rattle.lp_exact.specs.Pivots.{IsProper, IsLeaving, IsLimit, StopsAt};
-ghost use Rattle.lp_exact.specs.Tableau.{IsPlace};
+ghost use Rattle.lp_fraction_dict.specs.Reading.{IsDone, last_with};
+ghost use Rattle.lp_fraction_dict.specs.Pivots.{IsProper, IsLeaving, IsLimit, StopsAtStep};
+ghost use Rattle.lp_fraction_dict.specs.Tableau.{IsPlace};
 ghost use Rattle.lp_dict.specs.Tableau.{dictionary};
 
 use crate::body::Body;
@@ -25,7 +25,7 @@ use crate::turning::{begun, pivoted};
 use crate::{last, reading};
 use gq_field::ExactField;
 use lp_core::{EndKind, Pivot, Sequence};
-use lp_exact::{ExactDict, is_above_zero};
+use lp_fraction_dict::{ExactDict, is_above_zero};
 use lp_std::{Final, Standard, Stop};
 use std::alloc::{AllocError, Global};
 use std::marker::Model;
@@ -42,13 +42,13 @@ pub struct Dict<F: ExactField> {
 }
 
 impl<F: ExactField> Model for Dict<F> {
-    ghost use Rattle.lp_dict.specs.Tableau.{Tableau, tableau, IsKept};
+    ghost use Rattle.lp_dict.specs.Tableau.{Tableau, tableau, IsDictInvariant};
 
     ghost Value = { Tableau F };
 
     ghost view = { λ d. tableau F.value d.body };
 
-    ghost invariant = { λ d. IsKept F.value F.limit d.body };
+    ghost invariant = { λ d. IsDictInvariant F.value F.limit d.body };
 }
 
 impl<F: ExactField> Dict<F> {
@@ -286,14 +286,14 @@ impl<F: ExactField> Dict<F> {
         ensures fits { IfOk result (λ _. (k : ℕ) → slice_get self.basic k ≡ Some p.leave →
             AllFit (exchange_steps F.limit self.upcoming (dictionary F.value self) p.enter k)) }
         ensures same_points { IfOk result (λ after. (x : List Number) (objective : Number) →
-            (p.leave ≡ 0 → number_of x 0 ≡ whole (pos 0)) →
+            (p.leave ≡ 0 → value_of_column x 0 ≡ whole (pos 0)) →
             Meets (dictionary F.value self) x objective ↔ Meets (dictionary F.value after) x objective) }
         ensures of_form { IfOk result (λ after. (s : StandardNumbers) →
             IsDictionaryOf s (dictionary F.value self) → IsDictionaryOf s (dictionary F.value after)) }
         ensures not_due { IfOk result (λ after. ¬ (OpeningIsDue (dictionary F.value after))) }
         ensures upcoming { IfOk result (λ after. after.upcoming ≡ counted (self.upcoming + 1)) }
         ensures limit { IfErr result (λ stop. (k : ℕ) → slice_get self.basic k ≡ Some p.leave →
-            StopsAt (exchange_steps F.limit self.upcoming (dictionary F.value self) p.enter k) stop) }
+            StopsAtStep (exchange_steps F.limit self.upcoming (dictionary F.value self) p.enter k) stop) }
     {
         let Dict { body } = self;
         let body = pivoted(alloc, body, p)?;

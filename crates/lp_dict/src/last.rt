@@ -1,14 +1,14 @@
 //! What is read from a final dictionary with integer rows.
 ghost use Rattle.std.specs.Prelude.{◌≡◌, ◌+◌, ◌≤◌, ◌<◌, map, length, Some, Contains, IfOk};
 ghost use Rattle.lp_core.specs.Pivots.{last_of, last_along};
-ghost use Rattle.lp_whole.specs.Whole.{dictionary as dictionary_of};
-ghost use Rattle.lp_dict.specs.Reading.{AreByVariable, AreOfRow};
+ghost use Rattle.lp_integer_dict.specs.Whole.{integer_dictionary as dictionary_of};
+ghost use Rattle.lp_dict.specs.InnerReading.{AreByVariable, AreOfRow};
 
 use crate::number::number_at;
 use crate::reading::priced;
 use gq_field::ExactField;
-use lp_exact::{changes, zeros};
-use lp_whole::Whole;
+use lp_fraction_dict::{changes, zeros};
+use lp_integer_dict::Whole;
 use std::alloc::{AllocError, Global};
 
 /// For each variable the number of its row at a column; 0 if it is not basic.

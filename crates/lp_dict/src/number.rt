@@ -1,9 +1,9 @@
 //! Numbers of a field from integers.
 ghost use Rattle.std.specs.Prelude.{◌≡◌, ◌+◌, ◌≤◌, length};
-ghost use Rattle.lp_whole.specs.Whole.{dictionary as dictionary_of};
+ghost use Rattle.lp_integer_dict.specs.Whole.{integer_dictionary as dictionary_of};
 
 use gq_field::ExactField;
-use lp_whole::Whole;
+use lp_integer_dict::Whole;
 
 /// The number at a column of a row, or of the objective, which follows the rows.
 pub(crate) fn number_at<F: ExactField>(whole: &Whole, row: usize, column: usize) -> F

@@ -3,16 +3,16 @@ ghost use Rattle.std.specs.Prelude.{◌≡◌, ◌≢◌, ◌+◌, ◌≤◌, �
 ghost use Rattle.gq_number.specs.Number.{whole};
 ghost use Rattle.lp_core.specs.Dictionary.{constant_at, entry_at, basic_at, IsPriced, OpeningIsDue, IsOpening, IsLeast};
 ghost use Rattle.lp_core.specs.Pivots.{priced_row};
-ghost use Rattle.lp_exact.specs.Rows.{IsRow, number_in};
-ghost use Rattle.lp_exact.specs.Tableau as exact;
-ghost use Rattle.lp_exact.specs.Tableau.{IsPlace};
-ghost use Rattle.lp_whole.specs.Whole.{dictionary as dictionary_of};
+ghost use Rattle.lp_fraction_dict.specs.Rows.{IsRow, number_in};
+ghost use Rattle.lp_fraction_dict.specs.Tableau as exact;
+ghost use Rattle.lp_fraction_dict.specs.Tableau.{IsPlace};
+ghost use Rattle.lp_integer_dict.specs.Whole.{integer_dictionary as dictionary_of};
 
 use crate::number::number_at;
 use gq_field::ExactField;
 use lp_core::Pivot;
-use lp_exact::{Entry, ExactDict};
-use lp_whole::Whole;
+use lp_fraction_dict::{Entry, ExactDict};
+use lp_integer_dict::Whole;
 use std::cmp::Ordering;
 
 /// The opening pivot of integer rows. It can be required only at the first dictionary, before the
@@ -62,7 +62,7 @@ fn number_in_row<F: ExactField>(row: &[Entry<F>], column: usize) -> F
 
 /// The number at a column of a row of fractions, or of the objective, which follows the rows.
 pub(crate) fn number_of<F: ExactField>(dict: &ExactDict<F>, row: usize, column: usize) -> F
-    ensures { F.value result ≡ (exact.dictionary F.value dict.now).numbers row column }
+    ensures { F.value result ≡ (exact.fraction_dictionary F.value dict.now).numbers row column }
 {
     dict.keeps();
     let rows = dict.rows();

@@ -1,22 +1,22 @@
 //! From fractions to integers, from integers to fractions, and a pivot of either.
 ghost use Rattle.std.specs.Prelude.{◌≡◌, ◌+◌, ◌≤◌, ℕ, map, length, IfOk, IfErr, IfSome};
 ghost use Rattle.lp_core.specs.Dictionary.{InPhaseOne, IsLegal};
-ghost use Rattle.lp_exact.specs.First.{IsFilled};
-ghost use Rattle.lp_exact.specs.Rows.{IsRow};
-ghost use Rattle.lp_exact.specs.Lines.{rows_of};
-ghost use Rattle.lp_exact.specs.Tableau as exact;
-ghost use Rattle.lp_whole.specs.Whole.{dictionary as dictionary_of};
-ghost use Rattle.lp_dict.specs.Tableau.{kept, upcoming_of, IsKept};
-ghost use Rattle.lp_dict.specs.Turning.{part_of, all_rows, IsLineOf, AreLinesOf, AreFilled, Follows, StopsBy};
+ghost use Rattle.lp_fraction_dict.specs.First.{IsFilled};
+ghost use Rattle.lp_fraction_dict.specs.Rows.{IsRow};
+ghost use Rattle.lp_fraction_dict.specs.Lines.{entries_of_rows};
+ghost use Rattle.lp_fraction_dict.specs.Tableau as exact;
+ghost use Rattle.lp_integer_dict.specs.Whole.{integer_dictionary as dictionary_of};
+ghost use Rattle.lp_dict.specs.Tableau.{kept, upcoming_of, IsDictInvariant};
+ghost use Rattle.lp_dict.specs.InnerConversions.{part_of, all_rows, IsLineOf, AreLinesOf, AreFilled, Follows, StopsBy};
 
 use crate::body::Body;
 use crate::number::number_at;
 use gq_field::ExactField;
 use lp_core::Pivot;
-use lp_exact::{Entry, ExactDict, push_unless_zero};
-use lp_lines::{Line, Part, line_of_parts};
+use lp_fraction_dict::{Entry, ExactDict, push_unless_zero};
+use lp_integer_dict::Whole;
+use lp_integer_rows::{Line, Part, line_of_parts};
 use lp_std::Stop;
-use lp_whole::Whole;
 use std::alloc::{AllocError, Global};
 
 /// The entries of a row as numerators and denominators.
@@ -75,8 +75,8 @@ fn lines_of<F: ExactField>(
 
 /// The same dictionary by integers. None if they might exceed the bound.
 fn whole_of<F: ExactField>(alloc: Global, dict: &ExactDict<F>) -> Result<Option<Whole>, AllocError>
-    requires { ¬ (InPhaseOne (exact.dictionary F.value dict.now)) }
-    ensures same { IfOk result (λ found. IfSome found (λ rows. dictionary_of rows ≡ exact.dictionary F.value dict.now)) }
+    requires { ¬ (InPhaseOne (exact.fraction_dictionary F.value dict.now)) }
+    ensures same { IfOk result (λ found. IfSome found (λ rows. dictionary_of rows ≡ exact.fraction_dictionary F.value dict.now)) }
     ensures bounded { IfOk result (λ found. IfSome found (λ rows. rows.bound ≤ F.limit)) }
 {
     dict.keeps();
@@ -89,11 +89,11 @@ fn whole_of<F: ExactField>(alloc: Global, dict: &ExactDict<F>) -> Result<Option<
 
 /// The body of a first dictionary: integers if they are small, else the fractions.
 pub(crate) fn begun<F: ExactField>(alloc: Global, dict: ExactDict<F>) -> Result<Body<F>, AllocError>
-    requires phase { ¬ (InPhaseOne (exact.dictionary F.value dict)) }
+    requires phase { ¬ (InPhaseOne (exact.fraction_dictionary F.value dict)) }
     requires first { dict.upcoming ≡ 1 }
-    ensures same { IfOk result (λ body. kept F.value body ≡ exact.dictionary F.value dict) }
+    ensures same { IfOk result (λ body. kept F.value body ≡ exact.fraction_dictionary F.value dict) }
     ensures upcoming { IfOk result (λ body. upcoming_of body ≡ 1) }
-    ensures is_kept { IfOk result (IsKept F.value F.limit) }
+    ensures is_kept { IfOk result (IsDictInvariant F.value F.limit) }
 {
     dict.keeps();
     match whole_of(alloc, &dict)? {
@@ -124,7 +124,7 @@ fn exact_row<F: ExactField>(
 /// The rows by fractions.
 fn exact_rows<F: ExactField>(alloc: Global, rows: &Whole) -> Result<Vec<Vec<Entry<F>>>, AllocError>
     requires { rows.now.bound ≤ F.limit }
-    ensures { IfOk result (λ made. AreFilled F.value (dictionary_of rows.now) (rows_of made.items) (length (dictionary_of rows.now).basic)) }
+    ensures { IfOk result (λ made. AreFilled F.value (dictionary_of rows.now) (entries_of_rows made.items) (length (dictionary_of rows.now).basic)) }
 {
     let mut made = Vec::new(alloc);
     for row in 0..rows.basic().len() {
@@ -141,7 +141,7 @@ pub(crate) fn exact_of<F: ExactField>(
 ) -> Result<ExactDict<F>, AllocError>
     requires bounded { rows.now.bound ≤ F.limit }
     requires few { length (dictionary_of rows.now).basic ≤ (dictionary_of rows.now).variables }
-    ensures same { IfOk result (λ dict. exact.dictionary F.value dict ≡ dictionary_of rows.now) }
+    ensures same { IfOk result (λ dict. exact.fraction_dictionary F.value dict ≡ dictionary_of rows.now) }
     ensures upcoming { IfOk result (λ dict. dict.upcoming ≡ upcoming) }
 {
     rows.keeps();
@@ -154,9 +154,9 @@ pub(crate) fn exact_of<F: ExactField>(
 
 /// The dictionary after a legal pivot, by fractions.
 fn exact_pivot<F: ExactField>(alloc: Global, dict: ExactDict<F>, p: Pivot) -> Result<Body<F>, Stop>
-    requires { (k : ℕ) × IsLegal (exact.dictionary F.value dict) p k }
-    ensures follows { IfOk result (Follows F.value F.limit (exact.dictionary F.value dict) dict.upcoming p) }
-    ensures limit { IfErr result (StopsBy F.limit (exact.dictionary F.value dict) dict.upcoming p) }
+    requires { (k : ℕ) × IsLegal (exact.fraction_dictionary F.value dict) p k }
+    ensures follows { IfOk result (Follows F.value F.limit (exact.fraction_dictionary F.value dict) dict.upcoming p) }
+    ensures limit { IfErr result (StopsBy F.limit (exact.fraction_dictionary F.value dict) dict.upcoming p) }
 {
     let after = dict.pivot(alloc, p)?;
     Ok(Body::Exact(after))
@@ -191,7 +191,7 @@ pub(crate) fn pivoted<F: ExactField>(
     body: Body<F>,
     p: Pivot,
 ) -> Result<Body<F>, Stop>
-    requires is_kept { IsKept F.value F.limit body }
+    requires is_kept { IsDictInvariant F.value F.limit body }
     requires legal { (k : ℕ) × IsLegal (kept F.value body) p k }
     ensures follows { IfOk result (Follows F.value F.limit (kept F.value body) (upcoming_of body) p) }
     ensures limit { IfErr result (StopsBy F.limit (kept F.value body) (upcoming_of body) p) }

@@ -8,7 +8,7 @@ use Rattle.gq_number.specs.Number.{Number, whole}
 use Rattle.lp_form.specs.declared.key.Key.{Key}
 use Rattle.lp_form.specs.Keys.{key_cmp, same_key, AreOrdered}
 use Rattle.lp_form.specs.Forms.{number_at, Step}
-use Rattle.lp_form.specs.Merging.{Side, Outcome, in_front, Changes, no_more, kept, dropped, halted}
+use Rattle.lp_form.specs.InnerMerging.{Side, Outcome, in_front, Changes, no_more, kept, dropped, halted}
 use Rattle.lp_form.proofs.KeyOrder.{same_key-is, first-before, rest-ordered, ordered-nil, before-all}
 use Rattle.lp_form.proofs.Lookups.{number_at_first, number_at_before}
 use Rattle.lp_form.proofs.Merged.{IfMade, with_front, front, ordered_front}

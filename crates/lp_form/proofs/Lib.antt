@@ -5,3 +5,7 @@ pub mod Merged
 pub mod Changed
 pub mod Walks
 pub mod Results
+pub mod Updates
+pub mod Maps
+pub mod SumTerms
+pub mod Sums

@@ -11,7 +11,7 @@ use Rattle.gq_field.specs.Fits.{fits, sum_fits}
 use Rattle.lp_form.specs.declared.key.Key.{Key}
 use Rattle.lp_form.specs.Keys.{key_cmp, same_key, AreOrdered}
 use Rattle.lp_form.specs.Forms.{number_at}
-use Rattle.lp_form.specs.Merging.{IsBeforeFirst, Side, Outcome, in_front, Merges, done, left, right, both, gone, stopped}
+use Rattle.lp_form.specs.InnerMerging.{IsBeforeFirst, Side, Outcome, in_front, Merges, done, left, right, both, gone, stopped}
 use Rattle.lp_form.proofs.KeyOrder.{key_cmp-Equal, same_key-is, first-before, rest-ordered, ordered-cons, ordered-nil, before-all}
 use Rattle.lp_form.proofs.Lookups.{number_at_first, number_at_before}
 use Rattle.lp_form.proofs.Zeros.{sum_fits-zero, zero-sum_fits, fits-zero}

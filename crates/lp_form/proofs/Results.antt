@@ -18,9 +18,9 @@ use Rattle.lp_form.specs.declared.terms.Operation.{Operation}
 use Rattle.lp_form.specs.declared.terms.Operation.TheVariants.{Times, Over}
 use Rattle.lp_form.specs.Keys.{key_cmp, same_key, AreOrdered}
 use Rattle.lp_form.specs.Affine.{Affine, IsForm}
-use Rattle.lp_form.specs.Forms.{number_at, coefficient, sum_step, difference_step, of_two, changed_form, Gives, IsNegated}
-use Rattle.lp_form.specs.Operations.{step_by}
-use Rattle.lp_form.specs.Merging.{IsBeforeFirst, OnOutcome, Merges, done, left, right, Changes}
+use Rattle.lp_form.specs.Forms.{number_at, coefficient, sum_form_step, difference_step, of_two, changed_form, IsEntrywiseAnswer, IsNegated}
+use Rattle.lp_form.specs.InnerOperations.{step_by}
+use Rattle.lp_form.specs.InnerMerging.{IsBeforeFirst, OnOutcome, Merges, done, left, right, Changes}
 use Rattle.lp_form.proofs.KeyOrder.{key_cmp-total, key_cmp-Equal, same_key-Less, same_key-Greater, same_key_refl, first-before, rest-ordered, ordered-cons, ordered-nil}
 use Rattle.lp_form.proofs.Zeros.{fits-zero}
 use Rattle.lp_form.proofs.Merged.{IfMade, merged-ordered, merged-paired, merged-not_zero, Tells, merged-tells}
@@ -71,13 +71,13 @@ module _ {F : Type 0} (value : F → Number) (limit : ℕ) where
       }
 
 module _ {F : Type 0} (value : F → Number) (limit : ℕ) (within : (x : F) → fits limit (value x) ≡ true) (some : 1 ≤ limit) where
-  pub merged-Gives : (c : F) (a b : Affine F) (keys : List Key) (numbers : List F) → IsForm value a → IsForm value b → Merges value limit a.keys a.numbers b.keys b.numbers (Ok (record { keys = keys; numbers = numbers })) → sum_fits limit (value a.constant) (value b.constant) ≡ true → value c ≡ value a.constant +ℚ value b.constant → Gives value (of_two (sum_step limit) value a b) (Ok (record { constant = c; keys = keys; numbers = numbers }))
+  pub merged-Gives : (c : F) (a b : Affine F) (keys : List Key) (numbers : List F) → IsForm value a → IsForm value b → Merges value limit a.keys a.numbers b.keys b.numbers (Ok (record { keys = keys; numbers = numbers })) → sum_fits limit (value a.constant) (value b.constant) ≡ true → value c ≡ value a.constant +ℚ value b.constant → IsEntrywiseAnswer value (of_two (sum_form_step limit) value a b) (Ok (record { constant = c; keys = keys; numbers = numbers }))
   unfolding Tells
   merged-Gives c a b keys numbers form other m fits is =
       let told = merged-tells value limit within some m form.ordered other.ordered in
       (is, λ key. (told key).0, fits, λ key. (told key).1, merged-IsForm value limit c a b keys numbers form other m)
 
-  pub merged-Gives_fault : (a b : Affine F) (fault : FormFault) → IsForm value a → IsForm value b → OnOutcome (Merges value limit a.keys a.numbers b.keys b.numbers) (Err fault) → sum_fits limit (value a.constant) (value b.constant) ≡ true → Gives value (of_two (sum_step limit) value a b) (Err fault)
+  pub merged-Gives_fault : (a b : Affine F) (fault : FormFault) → IsForm value a → IsForm value b → OnOutcome (Merges value limit a.keys a.numbers b.keys b.numbers) (Err fault) → sum_fits limit (value a.constant) (value b.constant) ≡ true → IsEntrywiseAnswer value (of_two (sum_form_step limit) value a b) (Err fault)
   unfolding Tells
   merged-Gives_fault a b (fault.Limit None) form other m fits = absurd m
   merged-Gives_fault a b (fault.Limit (Some key)) form other m fits =
@@ -104,14 +104,14 @@ module _ {F : Type 0} (value : F → Number) (limit : ℕ) (operation : Operatio
         not_zero = changed-not_zero value (step_by value limit operation) m;
       }
 
-  pub changed-Gives : (some : 1 ≤ limit) (c : F) (a : Affine F) (keys : List Key) (numbers : List F) → IsForm value a → Changes value (step_by value limit operation) a.keys a.numbers (Ok (record { keys = keys; numbers = numbers })) → (step_by value limit operation (value a.constant)).fits ≡ true → value c ≡ (step_by value limit operation (value a.constant)).number → Gives value (changed_form value (step_by value limit operation) a) (Ok (record { constant = c; keys = keys; numbers = numbers }))
+  pub changed-Gives : (some : 1 ≤ limit) (c : F) (a : Affine F) (keys : List Key) (numbers : List F) → IsForm value a → Changes value (step_by value limit operation) a.keys a.numbers (Ok (record { keys = keys; numbers = numbers })) → (step_by value limit operation (value a.constant)).fits ≡ true → value c ≡ (step_by value limit operation (value a.constant)).number → IsEntrywiseAnswer value (changed_form value (step_by value limit operation) a) (Ok (record { constant = c; keys = keys; numbers = numbers }))
   unfolding TellsChanged
   changed-Gives some c a keys numbers form m fits is =
       let zero = zero_by value limit some operation in
       let told = changed-tells value (step_by value limit operation) zero.0 zero.1 m form.ordered in
       (is, λ key. (told key).0, fits, λ key. (told key).1, changed-IsForm c a keys numbers form m)
 
-  pub changed-Gives_fault : (some : 1 ≤ limit) (a : Affine F) (fault : FormFault) → IsForm value a → OnOutcome (Changes value (step_by value limit operation) a.keys a.numbers) (Err fault) → (step_by value limit operation (value a.constant)).fits ≡ true → Gives value (changed_form value (step_by value limit operation) a) (Err fault)
+  pub changed-Gives_fault : (some : 1 ≤ limit) (a : Affine F) (fault : FormFault) → IsForm value a → OnOutcome (Changes value (step_by value limit operation) a.keys a.numbers) (Err fault) → (step_by value limit operation (value a.constant)).fits ≡ true → IsEntrywiseAnswer value (changed_form value (step_by value limit operation) a) (Err fault)
   unfolding TellsChanged
   changed-Gives_fault some a (fault.Limit None) form m fits = absurd m
   changed-Gives_fault some a (fault.Limit (Some key)) form m fits =
@@ -152,16 +152,16 @@ module _ {F : Type 0} (value : F → Number) where
       let rest = not_zero-negated a.numbers numbers f form.not_zero in
       record { ordered = subst AreOrdered (sym e) form.ordered; paired = rest.0 ∙ form.paired ∙ ap length (sym e); not_zero = rest.1 }
 
-  step_with_negated : (limit : ℕ) (x y z : Number) → z ≡ neg_ℚ y → sum_step limit x z ≡ difference_step limit x y
+  step_with_negated : (limit : ℕ) (x y z : Number) → z ≡ neg_ℚ y → sum_form_step limit x z ≡ difference_step limit x y
   step_with_negated limit x y z e = rw e (λ i. record { number = sym (-ℚ_is x y) i; fits = sum_fits limit x (neg_ℚ y) })
 
   -- a sum with the negated form is a difference
-  pub negated-Gives : (limit : ℕ) (a b n : Affine F) (r : Result (Affine F) FormFault) → IsNegated value b n → Gives value (of_two (sum_step limit) value a n) r → Gives value (of_two (difference_step limit) value a b) r
+  pub negated-Gives : (limit : ℕ) (a b n : Affine F) (r : Result (Affine F) FormFault) → IsNegated value b n → IsEntrywiseAnswer value (of_two (sum_form_step limit) value a n) r → IsEntrywiseAnswer value (of_two (difference_step limit) value a b) r
   negated-Gives limit a b n r negated h =
       let constants = step_with_negated limit (value a.constant) (value b.constant) (value n.constant) negated.constant in
       let at_key : (key : Key) → coefficient value n key ≡ neg_ℚ (coefficient value b key) = λ key. ap (λ keys. number_at value keys n.numbers key) negated.keys ∙ number_at-negated b.keys b.numbers n.numbers key negated.numbers in
-      let same : of_two (sum_step limit) value a n ≡ of_two (difference_step limit) value a b = λ i. record { constant = constants i; at = λ key. step_with_negated limit (coefficient value a key) (coefficient value b key) (coefficient value n key) (at_key key) i } in
-      subst (λ e. Gives value e r) same h
+      let same : of_two (sum_form_step limit) value a n ≡ of_two (difference_step limit) value a b = λ i. record { constant = constants i; at = λ key. step_with_negated limit (coefficient value a key) (coefficient value b key) (coefficient value n key) (at_key key) i } in
+      subst (λ e. IsEntrywiseAnswer value e r) same h
 
 -- ---- a look-up
 

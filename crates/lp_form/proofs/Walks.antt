@@ -16,7 +16,7 @@ use Rattle.std.specs.declared.cmp.Ordering.{Ordering}
 use Rattle.std.specs.Ordering.{is_lt}
 use Rattle.lp_form.specs.Keys.{key_cmp, AreOrdered}
 use Rattle.lp_form.specs.Forms.{Step}
-use Rattle.lp_form.specs.Merging.{IsBeforeFirst, Comes, Outcome, in_front, after, Merges, done, left, right, both, gone, stopped, Changes, no_more, kept, dropped, halted, PushesUnlessZero, IsFaultAt, OnOutcome}
+use Rattle.lp_form.specs.InnerMerging.{IsBeforeFirst, Comes, Outcome, in_front, after, Merges, done, left, right, both, gone, stopped, Changes, no_more, kept, dropped, halted, PushesUnlessZero, IsFaultAt, OnOutcome}
 use Rattle.lp_form.specs.declared.fault.FormFault.{FormFault}
 use Rattle.lp_form.specs.declared.fault.FormFault.TheVariants as fault
 use Rattle.lp_form.specs.declared.terms.Terms.{Terms}

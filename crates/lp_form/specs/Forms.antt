@@ -30,16 +30,16 @@ pub record Entrywise : Type 0 where
   pub at : Key → Step
 
 -- the sum of two numbers under a limit
-abbrev pub sum_step : ℕ → Number → Number → Step
-sum_step limit x y = record { number = x +ℚ y; fits = sum_fits limit x y }
+abbrev pub sum_form_step : ℕ → Number → Number → Step
+sum_form_step limit x y = record { number = x +ℚ y; fits = sum_fits limit x y }
 
 -- the difference of two numbers under a limit: the sum with the negated second
 abbrev pub difference_step : ℕ → Number → Number → Step
 difference_step limit x y = record { number = x -ℚ y; fits = sum_fits limit x (neg_ℚ y) }
 
 -- the product of two numbers under a limit
-abbrev pub product_step : ℕ → Number → Number → Step
-product_step limit x y = record { number = x *ℚ y; fits = fits limit (x *ℚ y) }
+abbrev pub product_form_step : ℕ → Number → Number → Step
+product_form_step limit x y = record { number = x *ℚ y; fits = fits limit (x *ℚ y) }
 
 -- the quotient of two numbers under a limit
 abbrev pub quotient_step : ℕ → Number → Number → Step
@@ -56,13 +56,13 @@ by_number step value a x = record { constant = step (value a.constant) x; at = �
 
 -- All steps fit and the form has their numbers; or the fault is the first step that does not fit,
 -- the constant's before those of the keys in order. Out of memory may occur at any step.
-abbrev pub Gives : {F : Type 0} → (F → Number) → Entrywise → Result (Affine F) FormFault → Type 0
-Gives value steps (Ok form) =
+abbrev pub IsEntrywiseAnswer : {F : Type 0} → (F → Number) → Entrywise → Result (Affine F) FormFault → Type 0
+IsEntrywiseAnswer value steps (Ok form) =
     (value form.constant ≡ steps.constant.number) × ((key : Key) → coefficient value form key ≡ (steps.at key).number) × (steps.constant.fits ≡ true) × ((key : Key) → (steps.at key).fits ≡ true) × IsForm value form
-Gives value steps (Err (fault.Limit None)) = steps.constant.fits ≡ false
-Gives value steps (Err (fault.Limit (Some key))) =
+IsEntrywiseAnswer value steps (Err (fault.Limit None)) = steps.constant.fits ≡ false
+IsEntrywiseAnswer value steps (Err (fault.Limit (Some key))) =
     (steps.constant.fits ≡ true) × ((before : Key) → key_cmp before key ≡ Less → (steps.at before).fits ≡ true) × ((steps.at key).fits ≡ false)
-Gives value steps (Err fault.Memory) = Unit {0}
+IsEntrywiseAnswer value steps (Err fault.Memory) = Unit {0}
 
 -- a step on the constant of a form and on its number at each key
 abbrev pub changed_form : {F : Type 0} → (F → Number) → (Number → Step) → Affine F → Entrywise

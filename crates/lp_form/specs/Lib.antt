@@ -1,5 +1,7 @@
 pub mod Affine
 pub mod Forms
 pub mod Keys
-pub mod Merging
-pub mod Operations
+pub mod InnerMerging
+pub mod InnerOperations
+pub mod Sums
+pub mod Shown

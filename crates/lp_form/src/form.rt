@@ -3,8 +3,8 @@ ghost use Rattle.std.specs.Prelude.{◌≡◌, ◌≢◌, ◌∷◌, [], pos, ma
 ghost use Rattle.std.specs.Result.{result_map_both};
 ghost use Rattle.gq_number.specs.Number.{whole};
 ghost use Rattle.lp_form.specs.Affine.{IsForm};
-ghost use Rattle.lp_form.specs.Forms.{coefficient, sum_step, difference_step, product_step, quotient_step, of_two, by_number, changed_form, Gives, IsNegated};
-ghost use Rattle.lp_form.specs.Operations.{step_by, CanDivide};
+ghost use Rattle.lp_form.specs.Forms.{coefficient, sum_form_step, difference_step, product_form_step, quotient_step, of_two, by_number, changed_form, IsEntrywiseAnswer, IsNegated};
+ghost use Rattle.lp_form.specs.InnerOperations.{step_by, CanDivide};
 
 use crate::fault::FormFault;
 use crate::key::Key;
@@ -125,7 +125,7 @@ impl<F: ExactField> Form<F> {
     /// If the other's keys all follow those of this form, the cost does not depend on how many
     /// these are. After a fault the form is as it was.
     pub fn add_assign(&mut self, alloc: Global, o: &Form<F>) -> Result<(), FormFault>
-        ensures value { Gives F.value (of_two (sum_step F.limit) F.value self.old o.now)
+        ensures value { IsEntrywiseAnswer F.value (of_two (sum_form_step F.limit) F.value self.old o.now)
             (result_map_both (λ _. self.new) (λ fault. fault) result) }
         ensures unchanged { OnErr result (self.new ≡ self.old) }
     {
@@ -145,7 +145,7 @@ impl<F: ExactField> Form<F> {
 
     /// The sum with the other form: of the constants, and of the numbers at each key.
     pub fn add(&self, alloc: Global, o: &Form<F>) -> Result<Form<F>, FormFault>
-        ensures { Gives F.value (of_two (sum_step F.limit) F.value self.now o.now) result }
+        ensures { IsEntrywiseAnswer F.value (of_two (sum_form_step F.limit) F.value self.now o.now) result }
     {
         let mut sum = self.copy(alloc)?;
         sum.add_assign(alloc, o)?;
@@ -155,7 +155,7 @@ impl<F: ExactField> Form<F> {
     /// The difference with the other form, which is the sum with the other one negated, with its
     /// faults.
     pub fn sub(&self, alloc: Global, o: &Form<F>) -> Result<Form<F>, FormFault>
-        ensures { Gives F.value (of_two (difference_step F.limit) F.value self.now o.now) result }
+        ensures { IsEntrywiseAnswer F.value (of_two (difference_step F.limit) F.value self.now o.now) result }
     {
         let negated = o.negated(alloc)?;
         self.add(alloc, &negated)
@@ -163,7 +163,7 @@ impl<F: ExactField> Form<F> {
 
     /// The form with each number times `v`.
     pub fn scale(&self, alloc: Global, v: F) -> Result<Form<F>, FormFault>
-        ensures { Gives F.value (by_number (product_step F.limit) F.value self.now (F.value v)) result }
+        ensures { IsEntrywiseAnswer F.value (by_number (product_form_step F.limit) F.value self.now (F.value v)) result }
     {
         self.after(alloc, Operation::Times(v))
     }
@@ -171,7 +171,7 @@ impl<F: ExactField> Form<F> {
     /// The form with each number over `v`, which is not 0.
     pub fn divide(&self, alloc: Global, v: F) -> Result<Form<F>, FormFault>
         requires { F.value v ≢ whole (pos 0) }
-        ensures { Gives F.value (by_number (quotient_step F.limit) F.value self.now (F.value v)) result }
+        ensures { IsEntrywiseAnswer F.value (by_number (quotient_step F.limit) F.value self.now (F.value v)) result }
     {
         self.after(alloc, Operation::Over(v))
     }
@@ -190,7 +190,7 @@ impl<F: ExactField> Form<F> {
     /// The form with each number after an operation.
     fn after(&self, alloc: Global, operation: Operation<F>) -> Result<Form<F>, FormFault>
         requires { CanDivide F.value operation }
-        ensures { Gives F.value (changed_form F.value (step_by F.value F.limit operation) self.now) result }
+        ensures { IsEntrywiseAnswer F.value (changed_form F.value (step_by F.value F.limit operation) self.now) result }
     {
         let Ok(constant) = operation.apply(self.constant) else {
             return Err(FormFault::Limit(None));

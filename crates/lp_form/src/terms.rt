@@ -4,9 +4,9 @@ ghost use Rattle.std.specs.Prelude.{◌≡◌, ◌++◌, ◌∷◌, [], length, 
 ghost use Rattle.std.specs.List.{All};
 ghost use Rattle.gq_number.specs.Number.{neg_ℚ};
 ghost use Rattle.gq_field.specs.Fits.{Answers};
-ghost use Rattle.lp_form.specs.Merging.{IsBeforeFirst, Comes, OnOutcome, Joins, PushesUnlessZero, IsFaultAt, Merges, Changes};
+ghost use Rattle.lp_form.specs.InnerMerging.{IsBeforeFirst, Comes, OnOutcome, Joins, PushesUnlessZero, IsFaultAt, Merges, Changes};
 ghost use Rattle.lp_form.specs.Keys.{AreOrdered};
-ghost use Rattle.lp_form.specs.Operations.{step_by, CanDivide};
+ghost use Rattle.lp_form.specs.InnerOperations.{step_by, CanDivide};
 
 use crate::fault::FormFault;
 use crate::key::Key;

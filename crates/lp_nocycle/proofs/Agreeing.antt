@@ -9,11 +9,11 @@ use Rattle.gq_number.proofs.Ring.{ring_ℚ}
 use Rattle.gq_number.proofs.Quotients.{zero-/ℚ}
 use Rattle.gq_number.proofs.Sums.{sums_ℚ, sum_by_ℚ--ℚ, sum_by_ℚ-*ℚ}
 use Rattle.lp_core.specs.declared.answer.Pivot.{Pivot}
-use Rattle.lp_core.specs.Dictionary.{Dictionary, basic_at, entry_at, divided, exchanged, IsLegal}
-use Rattle.lp_exact.specs.Pivots.{IsProper}
-use Rattle.lp_exact.proofs.Improving.{same_or_not}
-use Rattle.lp_exact.proofs.Equations.{less_nothing, no_quotient}
-use Rattle.lp_exact.proofs.Proper
+use Rattle.lp_core.specs.Dictionary.{Dictionary, basic_at, entry_at, divided_entry, exchanged, IsLegal}
+use Rattle.lp_fraction_dict.specs.Pivots.{IsProper}
+use Rattle.lp_fraction_dict.proofs.Improving.{same_or_not}
+use Rattle.lp_fraction_dict.proofs.Equations.{less_nothing, no_quotient}
+use Rattle.lp_fraction_dict.proofs.Proper
 use Rattle.lp_nocycle.proofs.Sparse.{same_sum}
 
 -- the value of a linear form at values of the columns, of which there are `columns`
@@ -80,8 +80,8 @@ module _ (d : Dictionary) (p : Pivot) (k : ℕ) (proper : IsProper d) (legal : I
 
   form_other : (i : ℕ) → i ≢ k → (x : ℕ → Number) → form (exchanged d p.enter k) i x ≡ form d i x -ℚ entry_at d i p.enter *ℚ (form d k x /ℚ entry_at d k p.enter)
   form_other i other x =
-      form_same ((exchanged d p.enter k).numbers i) (λ c. d.numbers i c -ℚ entry_at d i p.enter *ℚ divided d p.enter k c) (d.variables + 2) x (λ c. Proper.kept_column d p k proper legal i c (column_kept c) ∙ Proper.other_numbers d p k proper legal i c other)
-      ∙ form_lessened (d.numbers i) (divided d p.enter k) (d.variables + 2) x (entry_at d i p.enter)
+      form_same ((exchanged d p.enter k).numbers i) (λ c. d.numbers i c -ℚ entry_at d i p.enter *ℚ divided_entry d p.enter k c) (d.variables + 2) x (λ c. Proper.kept_column d p k proper legal i c (column_kept c) ∙ Proper.other_numbers d p k proper legal i c other)
+      ∙ form_lessened (d.numbers i) (divided_entry d p.enter k) (d.variables + 2) x (entry_at d i p.enter)
       ∙ ap (λ y. form d i x -ℚ entry_at d i p.enter *ℚ y) (form_divided (d.numbers k) (d.variables + 2) x (entry_at d k p.enter))
 
   form_kept : (i : ℕ) → i ≢ k → (x : ℕ → Number) → form d k x ≡ whole (pos 0) → form (exchanged d p.enter k) i x ≡ form d i x

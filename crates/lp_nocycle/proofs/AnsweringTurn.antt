@@ -13,9 +13,9 @@ use Rattle.lp_core.specs.Choices.{reached}
 use Rattle.lp_core.specs.LargestCoefficient.{HasTurned, IsNext}
 use Rattle.lp_core.specs.Answers.{bounds_cross, form_stops, search_ends, IsAnswerByChoice}
 use Rattle.lp_core.specs.WellFormed.{IsWellFormed}
-use Rattle.lp_exact.specs.Pivots.{IsProper}
-use Rattle.lp_exact.proofs.Begins.{first_proper}
-use Rattle.lp_exact.proofs.InForm.{form_in_order}
+use Rattle.lp_fraction_dict.specs.Pivots.{IsProper}
+use Rattle.lp_fraction_dict.proofs.Begins.{first_proper}
+use Rattle.lp_fraction_dict.proofs.InForm.{form_in_order}
 use Rattle.lp_nocycle.specs.PivotCount.{twice_sets, variable_count}
 use Rattle.lp_nocycle.specs.Turns.{TurnsToBland, pivots_by_turn, HasFewPivotsByTurn, ComesToEndByTurn}
 use Rattle.lp_nocycle.proofs.Places.{pivot_at, done_at, none_done, one_more_done, dictionary_at, row_at, first_at, allowed_at, variables_at, run_of}

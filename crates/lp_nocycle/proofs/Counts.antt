@@ -13,10 +13,10 @@ use Rattle.lp_core.specs.Pivots.{IsChosen, IsTaken}
 use Rattle.lp_core.specs.Ends.{IsPhase}
 use Rattle.lp_core.specs.Choices.{leaving_row, after_pivot, reached, AllAlong}
 use Rattle.lp_core.specs.LargestCoefficient.{IsOfPhase, StandsStill, HasTurned}
-use Rattle.lp_exact.specs.Pivots.{IsProper}
-use Rattle.lp_exact.proofs.Improving.{same_or_not, found_or_not}
-use Rattle.lp_exact.proofs.Kept.{contains_get}
-use Rattle.lp_exact.proofs.Lists.{place_is}
+use Rattle.lp_fraction_dict.specs.Pivots.{IsProper}
+use Rattle.lp_fraction_dict.proofs.Improving.{same_or_not, found_or_not}
+use Rattle.lp_fraction_dict.proofs.Kept.{contains_get}
+use Rattle.lp_fraction_dict.proofs.Lists.{place_is}
 use Rattle.lp_nocycle.specs.Cycling.{SameBasic}
 use Rattle.lp_nocycle.specs.PivotCount.{twice_sets}
 use Rattle.lp_nocycle.specs.Turns.{pivots_by_turn}

@@ -12,9 +12,9 @@ use Rattle.gq_number.proofs.Quotients.{zero-/ℚ}
 use Rattle.lp_core.specs.declared.answer.Pivot.{Pivot}
 use Rattle.lp_core.specs.Dictionary.{Dictionary, basic_at, constant_at, entry_at, ratio_at, InPhaseOne, IsPriced, IsStep, IsOpening, Improves, Limits}
 use Rattle.lp_core.specs.Ends.{IsPhase}
-use Rattle.lp_exact.specs.Pivots.{IsProper}
-use Rattle.lp_exact.proofs.Kept.{get_within, get_index, index_get, contains_get}
-use Rattle.lp_exact.proofs.Improving.{same_or_not, found_or_not}
+use Rattle.lp_fraction_dict.specs.Pivots.{IsProper}
+use Rattle.lp_fraction_dict.proofs.Kept.{get_within, get_index, index_get, contains_get}
+use Rattle.lp_fraction_dict.proofs.Improving.{same_or_not, found_or_not}
 use Rattle.lp_nocycle.specs.Cycling.{SameBasic}
 use Rattle.lp_nocycle.proofs.Sparse.{SomeAbove, some_above, some_above_for}
 use Rattle.lp_nocycle.proofs.Agreeing.{form, Solves, Agrees}

@@ -11,9 +11,9 @@ use Rattle.lp_core.specs.StandardForm.{standard_form}
 use Rattle.lp_core.specs.Dictionary.{Dictionary, IsLegal, first_dictionary}
 use Rattle.lp_core.specs.Ends.{IsPhase}
 use Rattle.lp_core.specs.WellFormed.{IsWellFormed}
-use Rattle.lp_exact.specs.Pivots.{IsProper}
-use Rattle.lp_exact.proofs.Begins.{first_proper}
-use Rattle.lp_exact.proofs.InForm.{form_in_order}
+use Rattle.lp_fraction_dict.specs.Pivots.{IsProper}
+use Rattle.lp_fraction_dict.proofs.Begins.{first_proper}
+use Rattle.lp_fraction_dict.proofs.InForm.{form_in_order}
 use Rattle.lp_nocycle.specs.Cycling.{SameBasic, NoneRepeats}
 use Rattle.lp_nocycle.specs.PivotCount.{twice_sets}
 use Rattle.lp_nocycle.proofs.Runs.{IsRun, AreBlands, proper_at}

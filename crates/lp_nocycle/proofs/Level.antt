@@ -10,10 +10,10 @@ use Rattle.gq_number.proofs.Signs.{*ℚ-zero-≤ℚ, ≢-zero_above}
 use Rattle.gq_number.proofs.Quotients.{no_zero_divisors}
 use Rattle.lp_core.specs.declared.answer.Pivot.{Pivot}
 use Rattle.lp_core.specs.Dictionary.{Dictionary, constant_at, entry_at, ratio_at, IsPriced, IsStep}
-use Rattle.lp_exact.proofs.Kept.{get_within}
-use Rattle.lp_exact.proofs.Improving.{same_or_not, found_or_not}
-use Rattle.lp_exact.proofs.Equations.{no_quotient}
-use Rattle.lp_exact.proofs.Proper
+use Rattle.lp_fraction_dict.proofs.Kept.{get_within}
+use Rattle.lp_fraction_dict.proofs.Improving.{same_or_not, found_or_not}
+use Rattle.lp_fraction_dict.proofs.Equations.{no_quotient}
+use Rattle.lp_fraction_dict.proofs.Proper
 use Rattle.lp_nocycle.specs.Cycling.{SameBasic}
 use Rattle.lp_nocycle.proofs.Units.{some_is, same_constant, same_objective}
 use Rattle.lp_nocycle.proofs.Runs.{IsRun, walk}

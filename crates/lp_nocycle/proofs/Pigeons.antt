@@ -8,9 +8,9 @@ use Rattle.gq_number.specs.Order.{◌<ℚ◌}
 use Rattle.gq_number.proofs.Order.{≤ℚ_or_above, not_above}
 use Rattle.lp_core.specs.Dictionary.{Dictionary, constant_at, OpeningIsDue, InPhaseOne}
 use Rattle.lp_core.specs.Ends.{IsPhase}
-use Rattle.lp_exact.specs.Pivots.{IsProper}
-use Rattle.lp_exact.proofs.Kept.{contains_get}
-use Rattle.lp_exact.proofs.Improving.{same_or_not, found_or_not}
+use Rattle.lp_fraction_dict.specs.Pivots.{IsProper}
+use Rattle.lp_fraction_dict.proofs.Kept.{contains_get}
+use Rattle.lp_fraction_dict.proofs.Improving.{same_or_not, found_or_not}
 use Rattle.lp_nocycle.specs.Cycling.{SameBasic}
 use Rattle.lp_nocycle.proofs.Units.{place_of}
 use Rattle.lp_nocycle.proofs.Runs.{some_below}

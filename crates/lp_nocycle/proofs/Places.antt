@@ -3,8 +3,8 @@ use Rattle.std.proofs.Common.{◌≡◌, ℕ, zero, suc, ◌<◌, List, [], ◌�
 use Rattle.lp_core.specs.declared.answer.Pivot.{Pivot}
 use Rattle.lp_core.specs.Pivots.{Leads}
 use Rattle.lp_core.specs.Dictionary.{Dictionary, IsLegal, exchanged}
-use Rattle.lp_exact.specs.Pivots.{IsProper}
-use Rattle.lp_exact.proofs.Proper.{proper_after}
+use Rattle.lp_fraction_dict.specs.Pivots.{IsProper}
+use Rattle.lp_fraction_dict.proofs.Proper.{proper_after}
 use Rattle.lp_nocycle.proofs.Runs.{IsRun}
 
 -- the j-th pivot

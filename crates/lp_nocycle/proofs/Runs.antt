@@ -6,10 +6,10 @@ use Rattle.lp_core.specs.declared.answer.Pivot.{Pivot}
 use Rattle.lp_core.specs.declared.answer.Rule.TheVariants.{Bland}
 use Rattle.lp_core.specs.Dictionary.{Dictionary, OpeningIsDue, IsLegal, exchanged}
 use Rattle.lp_core.specs.Pivots.{IsChosen, IsTaken}
-use Rattle.lp_exact.specs.Pivots.{IsProper}
-use Rattle.lp_exact.proofs.Kept.{contains_get}
-use Rattle.lp_exact.proofs.Improving.{same_or_not}
-use Rattle.lp_exact.proofs.Proper
+use Rattle.lp_fraction_dict.specs.Pivots.{IsProper}
+use Rattle.lp_fraction_dict.proofs.Kept.{contains_get}
+use Rattle.lp_fraction_dict.proofs.Improving.{same_or_not}
+use Rattle.lp_fraction_dict.proofs.Proper
 use Rattle.lp_nocycle.proofs.Agreeing.{Agrees, agrees_itself, agrees_on, agrees_back, agrees_after}
 use Rattle.lp_nocycle.proofs.Units.{some_is, place_of}
 

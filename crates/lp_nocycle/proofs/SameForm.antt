@@ -11,7 +11,7 @@ use Rattle.lp_core.specs.declared.program.Lp.{Lp}
 use Rattle.lp_core.specs.Feasible.{bound_value}
 use Rattle.lp_core.specs.StandardForm.{Shift, Standard, StandardRow, of_row, shift_of, numbered, spread, base, column_at, rows_by_sense, bound_rows, directed, objective_of, columns_of, variables_of, standard_form, width, rows_of_bounds}
 use Rattle.lp_core.specs.Dictionary.{first_dictionary}
-use Rattle.lp_std.specs.Pieces.{shifted_over, rows_over, bounds_over}
+use Rattle.lp_std.specs.InnerSteps.{shifted_over, rows_over, bounds_over}
 use Rattle.lp_core.specs.Numbers.{column_numbers, row_numbers, lp_numbers}
 use Rattle.lp_nocycle.specs.PivotCount.{variable_count}
 

@@ -9,7 +9,7 @@ use Rattle.gq_number.proofs.Ring.{ring_ℚ, zero-+ℚ}
 use Rattle.gq_number.proofs.Order.{≤ℚ_or_above, <ℚ_irrefl}
 use Rattle.gq_number.proofs.Linear.{≤ℚ_from, <ℚ_from, both, strict_and}
 use Rattle.gq_number.proofs.Sums.{sum_by_ℚ-nil, sum_by_ℚ-cons}
-use Rattle.lp_exact.proofs.Improving.{same_or_not}
+use Rattle.lp_fraction_dict.proofs.Improving.{same_or_not}
 
 -- equal terms have equal sums
 pub same_sum : (f g : ℕ → Number) → ((c : ℕ) → f c ≡ g c) → (xs : List ℕ) → sum_by_ℚ f xs ≡ sum_by_ℚ g xs

@@ -6,9 +6,9 @@ use Rattle.gq_number.specs.Number.{Number, whole, ◌+ℚ◌, ◌*ℚ◌, neg_�
 use Rattle.gq_number.proofs.Field.{*ℚ-one}
 use Rattle.gq_number.proofs.Ring.{ring_ℚ, zero-*ℚ, *ℚ-zero, one-*ℚ, neg_neg, neg_unique}
 use Rattle.lp_core.specs.Dictionary.{Dictionary, basic_at, constant_at}
-use Rattle.lp_exact.specs.Pivots.{IsProper}
-use Rattle.lp_exact.proofs.Kept.{get_within, index_get, contains_get}
-use Rattle.lp_exact.proofs.Improving.{same_or_not, found_or_not}
+use Rattle.lp_fraction_dict.specs.Pivots.{IsProper}
+use Rattle.lp_fraction_dict.proofs.Kept.{get_within, index_get, contains_get}
+use Rattle.lp_fraction_dict.proofs.Improving.{same_or_not, found_or_not}
 use Rattle.lp_nocycle.specs.Cycling.{SameBasic}
 use Rattle.lp_nocycle.proofs.Sparse.{sum_one, sum_two}
 use Rattle.lp_nocycle.proofs.Agreeing.{form, Solves, Agrees}

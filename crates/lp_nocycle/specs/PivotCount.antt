@@ -30,5 +30,5 @@ abbrev pub ComesToEnd : {F : Type 0} → (F → Number) → Lp F → ℕ → Ans
 ComesToEnd value lp iterlim answer = twice_sets (variable_count value lp) ≤ iterlim → ¬ (IsInterrupted answer.end)
 
 -- twice 2^n for n variables, if that is below 2^64
-abbrev pub bound_of : ℕ → Option ℕ
-bound_of variables = if nat_lt (twice_sets variables) (2 ^ 64) then Some (twice_sets variables) else None
+abbrev pub pivot_bound : ℕ → Option ℕ
+pivot_bound variables = if nat_lt (twice_sets variables) (2 ^ 64) then Some (twice_sets variables) else None

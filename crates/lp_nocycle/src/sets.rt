@@ -1,12 +1,12 @@
 //! How many pivots are enough.
 ghost use Rattle.std.specs.Prelude.{◌≡◌};
-ghost use Rattle.lp_nocycle.specs.PivotCount.{bound_of};
+ghost use Rattle.lp_nocycle.specs.PivotCount.{pivot_bound};
 
 /// Twice the number of sets of variables, variable 0 included, of which there are `variables`: a
 /// search by Bland's rule over them has fewer pivots (Chvatal, Linear Programming, chapter 3). None
 /// exactly if the number exceeds 64 bits. It uses no memory.
 pub fn bound(variables: u32) -> Option<u64>
-    ensures twice_sets { result ≡ bound_of variables }
+    ensures twice_sets { result ≡ pivot_bound variables }
 {
     if variables < 63 {
         return Some(2u64 << variables);

@@ -19,7 +19,7 @@ use Rattle.gq_number.proofs.Sums.{sum_by_ℚ-+ℚ}
 use Rattle.lp_core.specs.declared.program.Column.{Column}
 use Rattle.lp_core.specs.declared.program.Row.{Row}
 use Rattle.lp_core.specs.declared.program.Lp.{Lp}
-use Rattle.lp_core.specs.Sums.{number_of}
+use Rattle.lp_core.specs.Sums.{value_of_column}
 use Rattle.lp_core.specs.Feasible.{bound_value, Feasible}
 use Rattle.lp_core.specs.WellFormed.{IsWellFormed}
 use Rattle.lp_core.specs.DualBound.{row_lower, row_upper, used, total, both, reduced_cost, low, high, objective_costs}
@@ -40,11 +40,11 @@ use Rattle.lp_std.proofs.SamePoints.{base_and_change, number_of-map, columns_siz
 use Rattle.lp_std.proofs.Totals.{directed-+ℚ}
 use Rattle.lp_std.proofs.Proved.{directed_twice, bound_is}
 use Rattle.lp_std.proofs.Ends.{within_form, count_is, point_feasible}
-use Rattle.lp_exact.proofs.Equations.{eq_other, eq_same}
-use Rattle.lp_exact.proofs.Kept.{contains_get}
+use Rattle.lp_fraction_dict.proofs.Equations.{eq_other, eq_same}
+use Rattle.lp_fraction_dict.proofs.Kept.{contains_get}
 use Rattle.lp_range.specs.declared.interval.Interval.{Interval}
-use Rattle.lp_range.specs.Spans.{Gain, Span, IsWithin, Stay, span}
-use Rattle.lp_range.specs.Ranges.{interval_value, span_value, others, column_change, cost_gain, cost_gains, costs}
+use Rattle.lp_range.specs.Spans.{Gain, Span, IsInSpan, Stay, span}
+use Rattle.lp_range.specs.Ranges.{interval_value, span_value, nonbasic_variables, column_change, cost_gain, cost_gains, costs}
 use Rattle.lp_range.specs.Moved.{costs_with, cost_at, bound_of_costs, MeetsBoundWithCost}
 use Rattle.lp_range.proofs.Spans.{AreAbove, within_stays}
 use Rattle.lp_range.proofs.Raises.{column_entry, column_change_is, raised, raised_form, raised_count, raised_within, raised_of_form, nothing_raised, objective_raised, values_same}
@@ -88,7 +88,7 @@ module _ (limit : ℕ) (d : Dictionary) where
   variable_is k e less = get_or-range_with_len 1 d.variables k e less
 
   -- what holds of each variable that is not basic holds of those that are listed
-  all_others : (P : ℕ → Type 0) → ((q : ℕ) → 1 ≤ q → q ≤ d.variables → row_of_basic d q ≡ None → P q) → All P (others limit d)
+  all_others : (P : ℕ → Type 0) → ((q : ℕ) → 1 ≤ q → q ≤ d.variables → row_of_basic d q ≡ None → P q) → All P (nonbasic_variables limit d)
   all_others P each =
       all_filtered (λ v. not (is_some (row_of_basic d v))) P (range_with_len 1 d.variables)
       (λ k e less kept.
@@ -97,10 +97,10 @@ module _ (limit : ℕ) (d : Dictionary) where
       each (get_or (range_with_len 1 d.variables) k e) (omega (arith, is)) (omega (arith, is, within)) (no_row (row_of_basic d (get_or (range_with_len 1 d.variables) k e)) kept))
 
   -- they are variables
-  pub other_there : (os : List ℕ) → os ≡ others limit d → (k e : ℕ) → k < length os → get_or os k e ≤ d.variables
+  pub other_there : (os : List ℕ) → os ≡ nonbasic_variables limit d → (k e : ℕ) → k < length os → get_or os k e ≤ d.variables
   other_there os same k e less = subst (All (λ q. q ≤ d.variables)) (sym same) (all_others (λ q. q ≤ d.variables) (λ q from to none. to)) k e less
 
-  other_of_all : (P : ℕ → Type 0) → All P (others limit d) → (q : ℕ) → 1 ≤ q → q ≤ d.variables → row_of_basic d q ≡ None → P q
+  other_of_all : (P : ℕ → Type 0) → All P (nonbasic_variables limit d) → (q : ℕ) → 1 ≤ q → q ≤ d.variables → row_of_basic d q ≡ None → P q
   other_of_all P all q from to none =
       let within : q - 1 < d.variables = omega arith in
       let is : get_or (range_with_len 1 d.variables) (q - 1) 0 ≡ q = variable_is (q - 1) 0 within ∙ (let same : 1 + (q - 1) ≡ q = omega arith in same) in
@@ -142,14 +142,14 @@ prices_apart lp j cost k =
 
 module _ {F : Type 0} (lp : Lp F) (j : ℕ) (inside : j < length lp.columns) (cost : Number) (x : List Number) (there : lp.objective < length lp.columns) where
   -- the moved costs at the point: the objective, plus the move times the column's value
-  prices_at : cost_at lp (costs_with lp j cost) x ≡ number_of x lp.objective +ℚ (cost -ℚ objective_costs lp j) *ℚ number_of x j
+  prices_at : cost_at lp (costs_with lp j cost) x ≡ value_of_column x lp.objective +ℚ (cost -ℚ objective_costs lp j) *ℚ value_of_column x j
   prices_at =
-      sum_by_same (λ (q : ℕ × Column F). costs_with lp j cost q.0 *ℚ number_of x q.0) (λ (q : ℕ × Column F). objective_costs lp q.0 *ℚ number_of x q.0 +ℚ unit_at j (cost -ℚ objective_costs lp j) q.0 *ℚ number_of x q.0) (enumerate_from 0 lp.columns)
-      (λ q. ap (λ u. u *ℚ number_of x q.0) (prices_apart lp j cost q.0) ∙ apart (objective_costs lp q.0) (unit_at j (cost -ℚ objective_costs lp j) q.0) (number_of x q.0))
-      ∙ sum_by_ℚ-+ℚ (λ (q : ℕ × Column F). objective_costs lp q.0 *ℚ number_of x q.0) (λ (q : ℕ × Column F). unit_at j (cost -ℚ objective_costs lp j) q.0 *ℚ number_of x q.0) (enumerate_from 0 lp.columns)
+      sum_by_same (λ (q : ℕ × Column F). costs_with lp j cost q.0 *ℚ value_of_column x q.0) (λ (q : ℕ × Column F). objective_costs lp q.0 *ℚ value_of_column x q.0 +ℚ unit_at j (cost -ℚ objective_costs lp j) q.0 *ℚ value_of_column x q.0) (enumerate_from 0 lp.columns)
+      (λ q. ap (λ u. u *ℚ value_of_column x q.0) (prices_apart lp j cost q.0) ∙ apart (objective_costs lp q.0) (unit_at j (cost -ℚ objective_costs lp j) q.0) (value_of_column x q.0))
+      ∙ sum_by_ℚ-+ℚ (λ (q : ℕ × Column F). objective_costs lp q.0 *ℚ value_of_column x q.0) (λ (q : ℕ × Column F). unit_at j (cost -ℚ objective_costs lp j) q.0 *ℚ value_of_column x q.0) (enumerate_from 0 lp.columns)
       ∙ ap₂ (λ a b. a +ℚ b)
-      (unit_sum lp.objective (whole (pos 1)) (number_of x) 0 lp.columns (omega arith) (omega arith) ∙ one-*ℚ (number_of x lp.objective))
-      (unit_sum j (cost -ℚ objective_costs lp j) (number_of x) 0 lp.columns (omega arith) (omega arith))
+      (unit_sum lp.objective (whole (pos 1)) (value_of_column x) 0 lp.columns (omega arith) (omega arith) ∙ one-*ℚ (value_of_column x lp.objective))
+      (unit_sum j (cost -ℚ objective_costs lp j) (value_of_column x) 0 lp.columns (omega arith) (omega arith))
     where
       apart : (a b c : Number) → (a +ℚ b) *ℚ c ≡ a *ℚ c +ℚ b *ℚ c
       apart a b c = simp ring_ℚ
@@ -186,12 +186,12 @@ module _ (limit : ℕ) (d : Dictionary) (second : ¬ (InPhaseOne d)) (nothing : 
 
   pub amounts_above : AreAbove (cost_gains limit d maximize c)
   amounts_above =
-      All-map (λ (g : Gain). whole (pos 0) ≤ℚ g.amount) (cost_gain limit d maximize c) (others limit d)
+      All-map (λ (g : Gain). whole (pos 0) ≤ℚ g.amount) (cost_gain limit d maximize c) (nonbasic_variables limit d)
       (all_others limit d (λ q. whole (pos 0) ≤ℚ neg_ℚ (entry_at d (length d.basic) q)) (λ q from to none. neg-zero-≤ℚ (entry_at d (length d.basic) q) (coefficient_below q from to none)))
 
   pub stays_below : (t : Number) → Stay (cost_gains limit d maximize c) t → (q : ℕ) → 1 ≤ q → q ≤ d.variables → row_of_basic d q ≡ None → entry_at d (length d.basic) q +ℚ directed maximize t *ℚ column_entry d c q ≤ℚ whole (pos 0)
   stays_below t stay q from to none =
-      let all = All-from_map (λ (g : Gain). whole (pos 0) ≤ℚ g.amount +ℚ t *ℚ g.each) (cost_gain limit d maximize c) (others limit d) stay in
+      let all = All-from_map (λ (g : Gain). whole (pos 0) ≤ℚ g.amount +ℚ t *ℚ g.each) (cost_gain limit d maximize c) (nonbasic_variables limit d) stay in
       subst (λ u. entry_at d (length d.basic) q +ℚ directed maximize t *ℚ u ≤ℚ whole (pos 0)) (sym (column_change_is d limit q none c))
       (asked_below maximize (entry_at d (length d.basic) q) t (column_change limit d c q)
       (other_of_all limit d (λ q. whole (pos 0) ≤ℚ neg_ℚ (entry_at d (length d.basic) q) +ℚ t *ℚ neg_ℚ (directed maximize (column_change limit d c q))) all q from to none))
@@ -245,17 +245,17 @@ module _ {F : Type 0} (value : F → Number) (limit : ℕ) (lp : Lp F) (formed :
   abbrev target : List Number → Number
   target y = objective_at new y +ℚ t *ℚ base c.1
 
-  prices_here : (x : List Number) → cost_at lp (costs_with lp j cost) x ≡ number_of x lp.objective +ℚ move *ℚ number_of x j
+  prices_here : (x : List Number) → cost_at lp (costs_with lp j cost) x ≡ value_of_column x lp.objective +ℚ move *ℚ value_of_column x j
   prices_here x = prices_at lp j inside cost x formed.objective
 
   -- the target is the value of the costs at the point
   aim : (y : List Number) → directed lp.maximize (target y) ≡ cost_at lp (costs_with lp j cost) (point_of s y)
   aim y =
       let x = point_of s y in
-      let value_j : number_of x j ≡ base c.1 +ℚ changed_back c y = number_of-map (columns_of value lp) (λ k. shifted_back k y) j (omega (arith, inside, columns_sized value lp [])) ∙ base_and_change c y in
+      let value_j : value_of_column x j ≡ base c.1 +ℚ changed_back c y = number_of-map (columns_of value lp) (λ k. shifted_back k y) j (omega (arith, inside, columns_sized value lp [])) ∙ base_and_change c y in
       ap (directed lp.maximize) (ap (λ u. u +ℚ t *ℚ base c.1) (raised_at y) ∙ joined (objective_at s y) t (changed_back c y) (base c.1) ∙ ap (λ u. objective_at s y +ℚ t *ℚ u) (sym value_j))
-      ∙ directed-+ℚ lp.maximize (objective_at s y) (t *ℚ number_of x j)
-      ∙ ap₂ (λ a b. a +ℚ b) (ap (directed lp.maximize) (same_objective value lp y formed) ∙ directed_twice lp.maximize (number_of x lp.objective)) (directed_times lp.maximize move (number_of x j))
+      ∙ directed-+ℚ lp.maximize (objective_at s y) (t *ℚ value_of_column x j)
+      ∙ ap₂ (λ a b. a +ℚ b) (ap (directed lp.maximize) (same_objective value lp y formed) ∙ directed_twice lp.maximize (value_of_column x lp.objective)) (directed_times lp.maximize move (value_of_column x j))
       ∙ sym (prices_here x)
     where
       joined : (o t g b : Number) → (o +ℚ t *ℚ g) +ℚ t *ℚ b ≡ o +ℚ t *ℚ (b +ℚ g)
@@ -276,7 +276,7 @@ module _ {F : Type 0} (value : F → Number) (limit : ℕ) (lp : Lp F) (formed :
 
     priced_same : (y : List Number) → priced_at s (last_of e).costs y ≡ priced_at new (last_of e).costs y
     priced_same y =
-        ap (λ n. sum_by_ℚ (λ v. number_of (last_of e).costs v *ℚ number_of y v) (range_with_len 1 n) +ℚ sum_by_ℚ (λ (p : ℕ × form.StandardRow). number_of (last_of e).costs p.0 *ℚ (p.1.right -ℚ sum_at p.1.entries y)) (enumerate_from (n + 1) s.rows)) (sym count)
+        ap (λ n. sum_by_ℚ (λ v. value_of_column (last_of e).costs v *ℚ value_of_column y v) (range_with_len 1 n) +ℚ sum_by_ℚ (λ (p : ℕ × form.StandardRow). value_of_column (last_of e).costs p.0 *ℚ (p.1.right -ℚ sum_at p.1.entries y)) (enumerate_from (n + 1) s.rows)) (sym count)
 
     priced : Costs s (last_of e).costs start target
     priced =
@@ -343,7 +343,7 @@ spans_at f n (c ∷ cs) (suc j) o at =
     (omega (arith, rest.0), ap (λ k. f (k, column_at cs j)) (let same : n + suc j ≡ n + 1 + j = omega arith in same) ∙ rest.1)
 
 module _ {F : Type 0} (value : F → Number) (limit : ℕ) (lp : Lp F) (d : Dictionary) (formed : IsWellFormed value lp) (none : All (λ (column : Column F). ¬ (Crosses value column.lower column.upper)) lp.columns) (is : IsDictionaryOf (standard_form value lp) d) (second : ¬ (InPhaseOne d)) (nothing : NothingImproves d) where
-  pub costs_meet : (made : List (Option (Interval F))) (levels : List Number) → map (span_value value) made ≡ costs value limit lp d → levels ≡ levels_back value lp (last_of d) → (j : ℕ) (interval : Interval F) (cost : Number) → slice_get made j ≡ Some (Some interval) → IsWithin (interval_value value interval) cost → MeetsBoundWithCost value lp levels j cost
+  pub costs_meet : (made : List (Option (Interval F))) (levels : List Number) → map (span_value value) made ≡ costs value limit lp d → levels ≡ levels_back value lp (last_of d) → (j : ℕ) (interval : Interval F) (cost : Number) → slice_get made j ≡ Some (Some interval) → IsInSpan (interval_value value interval) cost → MeetsBoundWithCost value lp levels j cost
   costs_meet made levels made_is levels_are j interval cost at within =
       let f : ℕ × (ℕ × Shift) → Option Span = λ p. span limit (objective_costs lp p.0) (cost_gains limit d lp.maximize p.1) in
       let there : slice_get (costs value limit lp d) j ≡ Some (Some (interval_value value interval)) =

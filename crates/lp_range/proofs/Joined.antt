@@ -15,7 +15,7 @@ use Rattle.lp_core.specs.Answers.{IsAnswer}
 use Rattle.lp_core.specs.WellFormed.{IsWellFormed}
 use Rattle.lp_std.specs.Last.{IsDictionaryOf}
 use Rattle.lp_range.specs.declared.interval.Interval.{Interval}
-use Rattle.lp_range.specs.Spans.{IsWithin}
+use Rattle.lp_range.specs.Spans.{IsInSpan}
 use Rattle.lp_range.specs.Ranges.{IsOptimum, LeadTo, interval_value, span_value, rights, costs}
 use Rattle.lp_range.specs.Moved.{MeetsBoundWithRight, MeetsBoundWithCost}
 use Rattle.lp_range.proofs.Solved.{IsSolved, solved}
@@ -42,13 +42,13 @@ module _ {F : Type 0} (value : F → Number) (limit : ℕ) (lp : Lp F) (answer :
         let same = reached all.last all.leads in
         (all.last, all.leads, rights_are ∙ ap (rights value limit lp) same, costs_are ∙ ap (costs value limit lp) same)
 
-    pub right_meets : (levels row_levels duals reduced : List F) (i : ℕ) (interval : Interval F) (right : Number) → answer.end ≡ Optimal levels row_levels duals reduced → slice_get rs i ≡ Some (Some interval) → IsWithin (interval_value value interval) right → MeetsBoundWithRight value lp (map value duals) i right
+    pub right_meets : (levels row_levels duals reduced : List F) (i : ℕ) (interval : Interval F) (right : Number) → answer.end ≡ Optimal levels row_levels duals reduced → slice_get rs i ≡ Some (Some interval) → IsInSpan (interval_value value interval) right → MeetsBoundWithRight value lp (map value duals) i right
     right_meets levels row_levels duals reduced i interval right is at within =
         let all = solved value limit lp answer (length answer.pivots) Legal h levels row_levels duals reduced is in
         let same = reached all.last all.leads in
         rights_meet value limit lp all.last formed all.none (subst (IsDictionaryOf (standard_form value lp)) same of_form) all.second all.nothing rs (map value duals) (rights_are ∙ ap (rights value limit lp) same) all.duals_are i interval right at within
 
-    pub cost_meets : (levels row_levels duals reduced : List F) (j : ℕ) (interval : Interval F) (cost : Number) → answer.end ≡ Optimal levels row_levels duals reduced → slice_get cs j ≡ Some (Some interval) → IsWithin (interval_value value interval) cost → MeetsBoundWithCost value lp (map value levels) j cost
+    pub cost_meets : (levels row_levels duals reduced : List F) (j : ℕ) (interval : Interval F) (cost : Number) → answer.end ≡ Optimal levels row_levels duals reduced → slice_get cs j ≡ Some (Some interval) → IsInSpan (interval_value value interval) cost → MeetsBoundWithCost value lp (map value levels) j cost
     cost_meets levels row_levels duals reduced j interval cost is at within =
         let all = solved value limit lp answer (length answer.pivots) Legal h levels row_levels duals reduced is in
         let same = reached all.last all.leads in

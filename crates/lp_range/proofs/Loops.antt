@@ -31,18 +31,18 @@ use Rattle.lp_core.specs.Steps.{Due, AllFit, FirstStop, exchange_steps, count_of
 use Rattle.lp_core.specs.Pivots.{row_of_basic, change_by_row, ByRule, LeadsWithin}
 use Rattle.lp_std.specs.declared.types.Shift.{Shift}
 use Rattle.lp_std.specs.Meaning.{shift_value}
-use Rattle.lp_std.specs.Pieces.{rows_over, bounds_over}
+use Rattle.lp_std.specs.InnerSteps.{rows_over, bounds_over}
 use Rattle.lp_std.specs.Last.{IsDictionaryOf}
 use Rattle.lp_std.proofs.Proved.{rows_over_counted}
 use Rattle.lp_std.proofs.Ends.{count_is}
 use Rattle.lp_std.proofs.Sums.{All-append_right}
-use Rattle.lp_exact.specs.Pivots.{IsProper}
-use Rattle.lp_exact.proofs.Lists.{place_is, no_place}
-use Rattle.lp_exact.proofs.Improving.{found_or_not}
+use Rattle.lp_fraction_dict.specs.Pivots.{IsProper}
+use Rattle.lp_fraction_dict.proofs.Lists.{place_is, no_place}
+use Rattle.lp_fraction_dict.proofs.Improving.{found_or_not}
 use Rattle.lp_range.specs.declared.interval.Interval.{Interval}
 use Rattle.lp_range.specs.Spans.{Gain, end_fits, gain_fits, span_from, span}
 use Rattle.lp_range.specs.Ranges.{span_value, right_gain, right_gains, right_spans, change, cost_gains, cost_spans}
-use Rattle.lp_range.specs.Pieces.{IsFound, EndsWith}
+use Rattle.lp_range.specs.InnerSteps.{IsFound, EndsWith}
 use Rattle.lp_range.proofs.Spans.{span_goes, span_stops}
 
 -- ---- signs by comparisons

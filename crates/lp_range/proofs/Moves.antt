@@ -11,7 +11,7 @@ use Rattle.gq_number.specs.Order.{◌<ℚ◌}
 use Rattle.gq_number.specs.Sums.{sum_by_ℚ}
 use Rattle.gq_number.proofs.Ring.{ring_ℚ}
 use Rattle.gq_number.proofs.Sums.{sum_by_ℚ-nil, sum_by_ℚ-cons, sum_by_ℚ--ℚ}
-use Rattle.lp_core.specs.Sums.{number_of}
+use Rattle.lp_core.specs.Sums.{value_of_column}
 use Rattle.lp_core.specs.StandardForm as form
 use Rattle.lp_core.specs.Dictionary.{Dictionary, basic_at, constant_at, entry_at, row_at, Meets, InPhaseOne, OpeningIsDue, no_row, first_dictionary}
 use Rattle.lp_core.specs.Pivots.{row_of_basic, cost_by_row, priced_row, all_variables, last_of, NothingImproves}
@@ -21,7 +21,7 @@ use Rattle.lp_std.specs.Last.{HasZero, IsDictionaryOf}
 use Rattle.lp_std.proofs.Basics.{range_same}
 use Rattle.lp_std.proofs.Lasts.{listed_at}
 use Rattle.lp_std.proofs.First.{Within, first_row_at, first_last_at}
-use Rattle.lp_exact.proofs.Kept.{contains_get}
+use Rattle.lp_fraction_dict.proofs.Kept.{contains_get}
 
 -- Two standard forms. The second has each right side moved by the push at the row's slack, and is
 -- equal elsewhere; at the other variables the push is 0.
@@ -57,19 +57,19 @@ module _ (push : ℕ → Number) (d : Dictionary) where
 
   -- values less what is pushed
   abbrev pub shifted : List Number → List Number
-  shifted x = map (λ v. number_of x v -ℚ push v) (range_with_len 0 (d.variables + 1))
+  shifted x = map (λ v. value_of_column x v -ℚ push v) (range_with_len 0 (d.variables + 1))
 
-  pub shifted_at : (x : List Number) (v : ℕ) → v < d.variables + 1 → number_of (shifted x) v ≡ number_of x v -ℚ push v
-  shifted_at x v h = listed_at (λ v. number_of x v -ℚ push v) (d.variables + 1) v h
+  pub shifted_at : (x : List Number) (v : ℕ) → v < d.variables + 1 → value_of_column (shifted x) v ≡ value_of_column x v -ℚ push v
+  shifted_at x v h = listed_at (λ v. value_of_column x v -ℚ push v) (d.variables + 1) v h
 
   pub row_moved : (k : ℕ) (x : List Number) → row_at moved k x ≡ row_at d k (shifted x)
   row_moved k x =
       let all = range_with_len 0 (d.variables + 1) in
-      let split : sum_by_ℚ (λ v. entry_at d k v *ℚ number_of (shifted x) v) (range_with_len 0 (d.variables + 1)) ≡ sum_by_ℚ (λ v. entry_at d k v *ℚ number_of x v) (range_with_len 0 (d.variables + 1)) -ℚ gained k =
-      range_same (λ v. entry_at d k v *ℚ number_of (shifted x) v) (λ v. entry_at d k v *ℚ number_of x v -ℚ entry_at d k v *ℚ push v) 0 (d.variables + 1) (λ v low high. ap (λ u. entry_at d k v *ℚ u) (shifted_at x v (omega arith)) ∙ apart (entry_at d k v) (number_of x v) (push v))
-      ∙ sum_by_ℚ--ℚ (λ v. entry_at d k v *ℚ number_of x v) (λ v. entry_at d k v *ℚ push v) (range_with_len 0 (d.variables + 1)) in
-      ap (λ u. u -ℚ (constant_at d k +ℚ gained k)) (sum_by_same (λ v. entry_at moved k v *ℚ number_of x v) (λ v. entry_at d k v *ℚ number_of x v) all (λ v. ap (λ u. u *ℚ number_of x v) (entry_moved k v)))
-      ∙ turned (sum_by_ℚ (λ v. entry_at d k v *ℚ number_of x v) (range_with_len 0 (d.variables + 1))) (constant_at d k) (gained k)
+      let split : sum_by_ℚ (λ v. entry_at d k v *ℚ value_of_column (shifted x) v) (range_with_len 0 (d.variables + 1)) ≡ sum_by_ℚ (λ v. entry_at d k v *ℚ value_of_column x v) (range_with_len 0 (d.variables + 1)) -ℚ gained k =
+      range_same (λ v. entry_at d k v *ℚ value_of_column (shifted x) v) (λ v. entry_at d k v *ℚ value_of_column x v -ℚ entry_at d k v *ℚ push v) 0 (d.variables + 1) (λ v low high. ap (λ u. entry_at d k v *ℚ u) (shifted_at x v (omega arith)) ∙ apart (entry_at d k v) (value_of_column x v) (push v))
+      ∙ sum_by_ℚ--ℚ (λ v. entry_at d k v *ℚ value_of_column x v) (λ v. entry_at d k v *ℚ push v) (range_with_len 0 (d.variables + 1)) in
+      ap (λ u. u -ℚ (constant_at d k +ℚ gained k)) (sum_by_same (λ v. entry_at moved k v *ℚ value_of_column x v) (λ v. entry_at d k v *ℚ value_of_column x v) all (λ v. ap (λ u. u *ℚ value_of_column x v) (entry_moved k v)))
+      ∙ turned (sum_by_ℚ (λ v. entry_at d k v *ℚ value_of_column x v) (range_with_len 0 (d.variables + 1))) (constant_at d k) (gained k)
       ∙ ap (λ u. u -ℚ constant_at d k) (sym split)
     where
       apart : (a x p : Number) → a *ℚ (x -ℚ p) ≡ a *ℚ x -ℚ a *ℚ p
@@ -109,14 +109,14 @@ module _ (push : ℕ → Number) (d : Dictionary) where
         let low : e.0 < d.variables + 1 = omega (arith, here.1, is.variables) in
         let quiet : e.0 < length s.objective + 1 = omega (arith, here.1) in
         sum_by_ℚ-cons _ e entries
-        ∙ ap₂ (λ u w. e.1 *ℚ u +ℚ w) (shifted_at x e.0 low ∙ ap (λ u. number_of x e.0 -ℚ u) (form_moved.quiet e.0 quiet) ∙ nothing (number_of x e.0)) (sum_shifted x entries (All-tail (λ (e : ℕ × Number). (1 ≤ e.0) × (e.0 < 1 + length s.objective)) e entries inside))
+        ∙ ap₂ (λ u w. e.1 *ℚ u +ℚ w) (shifted_at x e.0 low ∙ ap (λ u. value_of_column x e.0 -ℚ u) (form_moved.quiet e.0 quiet) ∙ nothing (value_of_column x e.0)) (sum_shifted x entries (All-tail (λ (e : ℕ × Number). (1 ≤ e.0) × (e.0 < 1 + length s.objective)) e entries inside))
         ∙ sym (sum_by_ℚ-cons _ e entries)
       where
         nothing : (a : Number) → a -ℚ whole (pos 0) ≡ a
         nothing a = simp ring_ℚ
 
-    module _ (x : List Number) (zero_there : number_of x 0 ≡ whole (pos 0)) where
-      shifted_zero : number_of (shifted x) 0 ≡ whole (pos 0)
+    module _ (x : List Number) (zero_there : value_of_column x 0 ≡ whole (pos 0)) where
+      shifted_zero : value_of_column (shifted x) 0 ≡ whole (pos 0)
       shifted_zero = shifted_at x 0 (omega arith) ∙ ap₂ (λ u w. u -ℚ w) zero_there (form_moved.quiet 0 (omega arith)) ∙ simp ring_ℚ
 
       row_first : (r : ℕ) → r < length s.rows → row_at (first_dictionary t) r x ≡ row_at (first_dictionary s) r (shifted x)
@@ -128,9 +128,9 @@ module _ (push : ℕ → Number) (d : Dictionary) where
           let there : r < length t.rows = omega (arith, here, form_moved.sized) in
           let low : length s.objective + 1 + r < d.variables + 1 = omega (arith, here, is.variables) in
           first_row_at t x zero_there r there also
-          ∙ ap₂ (λ es n. (sum_at es x +ℚ number_of x (n + 1 + r)) -ℚ new.right) (form_moved.entries r here) count_same
-          ∙ ap (λ u. (sum_at row.entries x +ℚ number_of x (length s.objective + 1 + r)) -ℚ u) (form_moved.right r here)
-          ∙ turned (sum_at row.entries x) (number_of x (length s.objective + 1 + r)) row.right (push (length s.objective + 1 + r))
+          ∙ ap₂ (λ es n. (sum_at es x +ℚ value_of_column x (n + 1 + r)) -ℚ new.right) (form_moved.entries r here) count_same
+          ∙ ap (λ u. (sum_at row.entries x +ℚ value_of_column x (length s.objective + 1 + r)) -ℚ u) (form_moved.right r here)
+          ∙ turned (sum_at row.entries x) (value_of_column x (length s.objective + 1 + r)) row.right (push (length s.objective + 1 + r))
           ∙ ap₂ (λ u w. (u +ℚ w) -ℚ row.right) (sym (sum_shifted x row.entries inside)) (sym (shifted_at x (length s.objective + 1 + r) low))
           ∙ sym (first_row_at s (shifted x) shifted_zero r here inside)
         where
@@ -155,7 +155,7 @@ module _ (push : ℕ → Number) (d : Dictionary) where
 
       to_first : (objective : Number) → Meets moved x objective → Meets (first_dictionary t) x objective
       to_first objective m =
-          let sized : length (shifted x) ≡ d.variables + 1 = length-map-range_with_len (λ v. number_of x v -ℚ push v) 0 (d.variables + 1) in
+          let sized : length (shifted x) ≡ d.variables + 1 = length-map-range_with_len (λ v. value_of_column x v -ℚ push v) 0 (d.variables + 1) in
           let f = (is.same (shifted x) objective (λ _. shifted_zero)).0 (record { sized = sized; rows = λ k h. sym (row_moved k x) ∙ m.rows k h; objective_row = sym (row_moved (length d.basic) x) ∙ m.objective_row }) in
           record {
             sized = m.sized ∙ ap (λ n. n + 1) variables_are;
@@ -165,7 +165,7 @@ module _ (push : ℕ → Number) (d : Dictionary) where
 
       from_first : (objective : Number) → Meets (first_dictionary t) x objective → Meets moved x objective
       from_first objective m =
-          let sized : length (shifted x) ≡ d.variables + 1 = length-map-range_with_len (λ v. number_of x v -ℚ push v) 0 (d.variables + 1) in
+          let sized : length (shifted x) ≡ d.variables + 1 = length-map-range_with_len (λ v. value_of_column x v -ℚ push v) 0 (d.variables + 1) in
           let g = (is.same (shifted x) objective (λ _. shifted_zero)).1 (record {
             sized = sized ∙ ap (λ n. n + 1) is.variables;
             rows = λ r h. let here = of_first s r h in sym (row_first r here) ∙ m.rows r (in_first t r (omega (arith, here, form_moved.sized)));

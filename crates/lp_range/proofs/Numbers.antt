@@ -12,7 +12,7 @@ use Rattle.lp_core.specs.declared.program.Column.{Column}
 use Rattle.lp_core.specs.declared.program.Row.{Row}
 use Rattle.lp_core.specs.declared.program.Lp.{Lp}
 use Rattle.lp_core.specs.Feasible.{bound_value}
-use Rattle.lp_core.specs.WellFormed.{IsWellFormed, AreEntries, rows_of_sense, rows_of_bounds, variables_of_bounds}
+use Rattle.lp_core.specs.WellFormed.{IsWellFormed, AreRowEntries, rows_of_sense, rows_of_bounds, variables_of_bounds}
 use Rattle.lp_core.specs.Proofs.{Crosses}
 use Rattle.lp_core.specs.Numbers.{entries_numbers, column_numbers, row_numbers, lp_numbers}
 use Rattle.lp_nocycle.proofs.SameForm.{sum_by_map}
@@ -93,7 +93,7 @@ module _ (right : Number) where
         objective = formed.objective;
         columns_differ = formed.columns_differ;
         rows_differ = pairs_with_right i lp.rows formed.rows_differ;
-        entries = all_with_right i lp.rows (λ (row : Row Number). AreEntries itself (length lp.columns) row.entries) (λ row other h. h) formed.entries;
+        entries = all_with_right i lp.rows (λ (row : Row Number). AreRowEntries itself (length lp.columns) row.entries) (λ row other h. h) formed.entries;
         rows_few = omega (arith, few, count);
         columns_few = formed.columns_few;
       }
@@ -122,7 +122,7 @@ module _ {F : Type 0} (value : F → Number) where
   pub none_cross : (columns : List (Column F)) → All (λ (c : Column F). ¬ (Crosses value c.lower c.upper)) columns → All (λ (c : Column Number). ¬ (Crosses itself c.lower c.upper)) (map (column_numbers value) columns)
   none_cross columns = all_image (column_numbers value) columns (λ (c : Column F). ¬ (Crosses value c.lower c.upper)) (λ (c : Column Number). ¬ (Crosses itself c.lower c.upper)) (λ c none h. none (crosses_from c.lower c.upper h))
 
-  entries_same : (n m : ℕ) (entries : List (ℕ × F)) → n ≡ m → AreEntries value n entries → AreEntries itself m (entries_numbers value entries)
+  entries_same : (n m : ℕ) (entries : List (ℕ × F)) → n ≡ m → AreRowEntries value n entries → AreRowEntries itself m (entries_numbers value entries)
   entries_same n m entries same h =
       record {
         ascending = pairs_image (λ (e : ℕ × F). (e.0, value e.1)) entries (λ (a b : ℕ × F). a.0 < b.0) (λ (a b : ℕ × Number). a.0 < b.0) (λ a b less. less) h.ascending;
@@ -148,7 +148,7 @@ module _ {F : Type 0} (value : F → Number) where
         columns_differ = pairs_image (column_numbers value) lp.columns (λ (a b : Column F). a.key ≢ b.key) (λ (a b : Column Number). a.key ≢ b.key) (λ a b differ. differ) formed.columns_differ;
         rows_differ = pairs_image (row_numbers value) lp.rows (λ (a b : Row F). a.key ≢ b.key) (λ (a b : Row Number). a.key ≢ b.key) (λ a b differ. differ) formed.rows_differ;
         entries =
-            all_image (row_numbers value) lp.rows (λ (row : Row F). AreEntries value (length lp.columns) row.entries) (λ (row : Row Number). AreEntries itself (length (map (column_numbers value) lp.columns)) row.entries)
+            all_image (row_numbers value) lp.rows (λ (row : Row F). AreRowEntries value (length lp.columns) row.entries) (λ (row : Row Number). AreRowEntries itself (length (map (column_numbers value) lp.columns)) row.entries)
             (λ row h. entries_same (length lp.columns) (length (map (column_numbers value) lp.columns)) row.entries (sym size) h) formed.entries;
         rows_few = omega (arith, few, rows, bounds);
         columns_few = omega (arith, narrow, variables);

@@ -19,7 +19,7 @@ use Rattle.lp_core.specs.Dictionary.{Dictionary, entry_at, no_row}
 use Rattle.lp_core.specs.Steps.{count_of_rows}
 use Rattle.lp_core.specs.WellFormed.{IsWellFormed}
 use Rattle.lp_core.proofs.RowSums.{sum_by_same}
-use Rattle.lp_std.specs.Pieces.{shifted_over, rows_over, bounds_over}
+use Rattle.lp_std.specs.InnerSteps.{shifted_over, rows_over, bounds_over}
 use Rattle.lp_std.proofs.RowSteps.{counted_by_sense}
 use Rattle.lp_std.proofs.Sums.{unit_at, unit_here, unit_there, range_unit}
 use Rattle.lp_std.proofs.Proved.{rows_over_counted}

@@ -12,7 +12,7 @@ use Rattle.gq_number.specs.Sums.{sum_by_ℚ}
 use Rattle.gq_number.proofs.Order
 use Rattle.gq_number.proofs.Ring.{ring_ℚ}
 use Rattle.gq_number.proofs.Sums.{sum_by_ℚ-nil, sum_by_ℚ-cons, sum_by_ℚ-+ℚ, sum_by_ℚ--ℚ, sum_by_ℚ-neg, sum_by_ℚ-*ℚ}
-use Rattle.lp_core.specs.Sums.{number_of}
+use Rattle.lp_core.specs.Sums.{value_of_column}
 use Rattle.lp_core.specs.StandardForm as form
 use Rattle.lp_core.specs.StandardForm.{Shift, from_lower, from_upper, free, width, changed_back, spread, objective_of}
 use Rattle.lp_core.specs.Dictionary.{Dictionary, basic_at, constant_at, entry_at, row_at, Meets, InPhaseOne, OpeningIsDue, no_row, first_dictionary}
@@ -24,9 +24,9 @@ use Rattle.lp_std.proofs.Sums.{unit_at, unit_here, unit_there, range_unit}
 use Rattle.lp_std.proofs.Basics.{row_none, row_some, one_place}
 use Rattle.lp_std.proofs.SamePoints.{objective_sum}
 use Rattle.lp_std.proofs.First.{Within, first_row_at, first_last_at}
-use Rattle.lp_exact.proofs.Kept.{contains_get}
-use Rattle.lp_exact.proofs.Lists.{no_place}
-use Rattle.lp_exact.proofs.Equations.{eq_other, eq_same}
+use Rattle.lp_fraction_dict.proofs.Kept.{contains_get}
+use Rattle.lp_fraction_dict.proofs.Lists.{no_place}
+use Rattle.lp_fraction_dict.proofs.Equations.{eq_other, eq_same}
 use Rattle.lp_range.specs.Ranges.{column_change}
 
 -- ---- lists added place by place
@@ -50,8 +50,8 @@ sum_summed z j (x ∷ xs) [] few = nothing (sum_at (enumerate_from j (x ∷ xs))
     nothing a = simp ring_ℚ
 sum_summed z j (x ∷ xs) (y ∷ ys) few =
     sum_by_ℚ-cons _ (j, x +ℚ y) (enumerate_from (j + 1) (summed xs ys))
-    ∙ ap (λ u. (x +ℚ y) *ℚ number_of z j +ℚ u) (sum_summed z (j + 1) xs ys (omega arith))
-    ∙ apart x y (number_of z j) (sum_at (enumerate_from (j + 1) xs) z) (sum_at (enumerate_from (j + 1) ys) z)
+    ∙ ap (λ u. (x +ℚ y) *ℚ value_of_column z j +ℚ u) (sum_summed z (j + 1) xs ys (omega arith))
+    ∙ apart x y (value_of_column z j) (sum_at (enumerate_from (j + 1) xs) z) (sum_at (enumerate_from (j + 1) ys) z)
     ∙ sym (ap₂ (λ a b. a +ℚ b) (sum_by_ℚ-cons _ (j, x) (enumerate_from (j + 1) xs)) (sum_by_ℚ-cons _ (j, y) (enumerate_from (j + 1) ys)))
   where
     apart : (x y v s t : Number) → (x +ℚ y) *ℚ v +ℚ (s +ℚ t) ≡ (x *ℚ v +ℚ s) +ℚ (y *ℚ v +ℚ t)
@@ -81,19 +81,19 @@ module _ (d : Dictionary) where
   column_constant (v, free) = variable_constant (row_of_basic d v) -ℚ variable_constant (row_of_basic d (v + 1))
 
   module _ (x : List Number) (met : (k : ℕ) → k < length d.basic → row_at d k x ≡ whole (pos 0)) where
-    variable_at : (u : ℕ) → u < d.variables + 1 → (r : Option ℕ) → row_of_basic d u ≡ r → sum_by_ℚ (λ w. variable_entry u r w *ℚ number_of x w) (range_with_len 0 (d.variables + 1)) -ℚ variable_constant r ≡ number_of x u
-    variable_at u less None e = ap (λ s. s -ℚ whole (pos 0)) (range_unit u (whole (pos 1)) (number_of x) 0 (d.variables + 1) (omega arith) (omega arith)) ∙ alone (number_of x u)
+    variable_at : (u : ℕ) → u < d.variables + 1 → (r : Option ℕ) → row_of_basic d u ≡ r → sum_by_ℚ (λ w. variable_entry u r w *ℚ value_of_column x w) (range_with_len 0 (d.variables + 1)) -ℚ variable_constant r ≡ value_of_column x u
+    variable_at u less None e = ap (λ s. s -ℚ whole (pos 0)) (range_unit u (whole (pos 1)) (value_of_column x) 0 (d.variables + 1) (omega arith) (omega arith)) ∙ alone (value_of_column x u)
       where
         alone : (a : Number) → whole (pos 1) *ℚ a -ℚ whole (pos 0) ≡ a
         alone a = simp ring_ℚ
     variable_at u less (Some k) e =
         let found = row_some d u k e in
-        let own = sum_by_ℚ (λ w. entry_at d k w *ℚ number_of x w) (range_with_len 0 (d.variables + 1)) in
+        let own = sum_by_ℚ (λ w. entry_at d k w *ℚ value_of_column x w) (range_with_len 0 (d.variables + 1)) in
         ap (λ s. s -ℚ neg_ℚ (constant_at d k))
-        (sum_by_same (λ w. (unit_at u (whole (pos 1)) w -ℚ entry_at d k w) *ℚ number_of x w) (λ w. unit_at u (whole (pos 1)) w *ℚ number_of x w -ℚ entry_at d k w *ℚ number_of x w) (range_with_len 0 (d.variables + 1)) (λ w. apart (unit_at u (whole (pos 1)) w) (entry_at d k w) (number_of x w))
-        ∙ sum_by_ℚ--ℚ (λ w. unit_at u (whole (pos 1)) w *ℚ number_of x w) (λ w. entry_at d k w *ℚ number_of x w) (range_with_len 0 (d.variables + 1))
-        ∙ ap (λ s. s -ℚ own) (range_unit u (whole (pos 1)) (number_of x) 0 (d.variables + 1) (omega arith) (omega arith)))
-        ∙ turned (number_of x u) own (constant_at d k) ∙ ap (λ s. number_of x u -ℚ s) (met k found.0) ∙ less_nothing (number_of x u)
+        (sum_by_same (λ w. (unit_at u (whole (pos 1)) w -ℚ entry_at d k w) *ℚ value_of_column x w) (λ w. unit_at u (whole (pos 1)) w *ℚ value_of_column x w -ℚ entry_at d k w *ℚ value_of_column x w) (range_with_len 0 (d.variables + 1)) (λ w. apart (unit_at u (whole (pos 1)) w) (entry_at d k w) (value_of_column x w))
+        ∙ sum_by_ℚ--ℚ (λ w. unit_at u (whole (pos 1)) w *ℚ value_of_column x w) (λ w. entry_at d k w *ℚ value_of_column x w) (range_with_len 0 (d.variables + 1))
+        ∙ ap (λ s. s -ℚ own) (range_unit u (whole (pos 1)) (value_of_column x) 0 (d.variables + 1) (omega arith) (omega arith)))
+        ∙ turned (value_of_column x u) own (constant_at d k) ∙ ap (λ s. value_of_column x u -ℚ s) (met k found.0) ∙ less_nothing (value_of_column x u)
       where
         apart : (a b c : Number) → (a -ℚ b) *ℚ c ≡ a *ℚ c -ℚ b *ℚ c
         apart a b c = simp ring_ℚ
@@ -104,14 +104,14 @@ module _ (d : Dictionary) where
         less_nothing : (a : Number) → a -ℚ whole (pos 0) ≡ a
         less_nothing a = simp ring_ℚ
 
-    pub column_at : (c : ℕ × Shift) → c.0 + width c.1 ≤ d.variables + 1 → sum_by_ℚ (λ w. column_entry c w *ℚ number_of x w) (range_with_len 0 (d.variables + 1)) -ℚ column_constant c ≡ changed_back c x
+    pub column_at : (c : ℕ × Shift) → c.0 + width c.1 ≤ d.variables + 1 → sum_by_ℚ (λ w. column_entry c w *ℚ value_of_column x w) (range_with_len 0 (d.variables + 1)) -ℚ column_constant c ≡ changed_back c x
     column_at (v, from_lower b) room = let far : v + 1 ≤ d.variables + 1 = room in variable_at v (omega arith) (row_of_basic d v) refl
     column_at (v, from_upper b) room =
         let far : v + 1 ≤ d.variables + 1 = room in
         ap (λ s. s -ℚ neg_ℚ (variable_constant (row_of_basic d v)))
-        (sum_by_same (λ w. neg_ℚ (variable_entry v (row_of_basic d v) w) *ℚ number_of x w) (λ w. neg_ℚ (variable_entry v (row_of_basic d v) w *ℚ number_of x w)) (range_with_len 0 (d.variables + 1)) (λ w. turned (variable_entry v (row_of_basic d v) w) (number_of x w))
-        ∙ sum_by_ℚ-neg (λ w. variable_entry v (row_of_basic d v) w *ℚ number_of x w) (range_with_len 0 (d.variables + 1)))
-        ∙ joined (sum_by_ℚ (λ w. variable_entry v (row_of_basic d v) w *ℚ number_of x w) (range_with_len 0 (d.variables + 1))) (variable_constant (row_of_basic d v))
+        (sum_by_same (λ w. neg_ℚ (variable_entry v (row_of_basic d v) w) *ℚ value_of_column x w) (λ w. neg_ℚ (variable_entry v (row_of_basic d v) w *ℚ value_of_column x w)) (range_with_len 0 (d.variables + 1)) (λ w. turned (variable_entry v (row_of_basic d v) w) (value_of_column x w))
+        ∙ sum_by_ℚ-neg (λ w. variable_entry v (row_of_basic d v) w *ℚ value_of_column x w) (range_with_len 0 (d.variables + 1)))
+        ∙ joined (sum_by_ℚ (λ w. variable_entry v (row_of_basic d v) w *ℚ value_of_column x w) (range_with_len 0 (d.variables + 1))) (variable_constant (row_of_basic d v))
         ∙ ap neg_ℚ (variable_at v (omega arith) (row_of_basic d v) refl)
       where
         turned : (a b : Number) → neg_ℚ a *ℚ b ≡ neg_ℚ (a *ℚ b)
@@ -121,10 +121,10 @@ module _ (d : Dictionary) where
         joined s c = simp ring_ℚ
     column_at (v, free) room =
         let far : v + 2 ≤ d.variables + 1 = room in
-        let f : ℕ → Number = λ w. variable_entry v (row_of_basic d v) w *ℚ number_of x w in
-        let g : ℕ → Number = λ w. variable_entry (v + 1) (row_of_basic d (v + 1)) w *ℚ number_of x w in
+        let f : ℕ → Number = λ w. variable_entry v (row_of_basic d v) w *ℚ value_of_column x w in
+        let g : ℕ → Number = λ w. variable_entry (v + 1) (row_of_basic d (v + 1)) w *ℚ value_of_column x w in
         ap (λ s. s -ℚ (variable_constant (row_of_basic d v) -ℚ variable_constant (row_of_basic d (v + 1))))
-        (sum_by_same (λ w. (variable_entry v (row_of_basic d v) w -ℚ variable_entry (v + 1) (row_of_basic d (v + 1)) w) *ℚ number_of x w) (λ w. f w -ℚ g w) (range_with_len 0 (d.variables + 1)) (λ w. apart (variable_entry v (row_of_basic d v) w) (variable_entry (v + 1) (row_of_basic d (v + 1)) w) (number_of x w))
+        (sum_by_same (λ w. (variable_entry v (row_of_basic d v) w -ℚ variable_entry (v + 1) (row_of_basic d (v + 1)) w) *ℚ value_of_column x w) (λ w. f w -ℚ g w) (range_with_len 0 (d.variables + 1)) (λ w. apart (variable_entry v (row_of_basic d v) w) (variable_entry (v + 1) (row_of_basic d (v + 1)) w) (value_of_column x w))
         ∙ sum_by_ℚ--ℚ f g (range_with_len 0 (d.variables + 1)))
         ∙ joined (sum_by_ℚ f (range_with_len 0 (d.variables + 1))) (sum_by_ℚ g (range_with_len 0 (d.variables + 1))) (variable_constant (row_of_basic d v)) (variable_constant (row_of_basic d (v + 1)))
         ∙ ap₂ (λ a b. a -ℚ b) (variable_at v (omega arith) (row_of_basic d v) refl) (variable_at (v + 1) (omega arith) (row_of_basic d (v + 1)) refl)
@@ -188,7 +188,7 @@ module _ (d : Dictionary) where
     row_same : (k : ℕ) (x : List Number) → k < length d.basic → row_at raised k x ≡ row_at d k x
     row_same k x less =
         ap₂ (λ a b. a -ℚ b)
-        (sum_by_same (λ w. entry_at raised k w *ℚ number_of x w) (λ w. entry_at d k w *ℚ number_of x w) (range_with_len 0 (d.variables + 1)) (λ w. ap (λ u. u *ℚ number_of x w) (raised_row k (w + 1) less)))
+        (sum_by_same (λ w. entry_at raised k w *ℚ value_of_column x w) (λ w. entry_at d k w *ℚ value_of_column x w) (range_with_len 0 (d.variables + 1)) (λ w. ap (λ u. u *ℚ value_of_column x w) (raised_row k (w + 1) less)))
         (raised_row k 0 less)
 
     pub raised_not_due : ¬ (OpeningIsDue d) → ¬ (OpeningIsDue raised)
@@ -236,11 +236,11 @@ module _ (d : Dictionary) where
       last_raised : (x : List Number) → ((k : ℕ) → k < length d.basic → row_at d k x ≡ whole (pos 0)) → row_at raised (length d.basic) x ≡ row_at d (length d.basic) x +ℚ t *ℚ changed_back c x
       last_raised x met =
           let L = length d.basic in
-          let f : ℕ → Number = λ w. entry_at d (length d.basic) w *ℚ number_of x w in
-          let g : ℕ → Number = λ w. column_entry c w *ℚ number_of x w in
+          let f : ℕ → Number = λ w. entry_at d (length d.basic) w *ℚ value_of_column x w in
+          let g : ℕ → Number = λ w. column_entry c w *ℚ value_of_column x w in
           let room : c.0 + width c.1 ≤ d.variables + 1 = omega (arith, high, is.variables) in
           ap₂ (λ a b. a -ℚ b)
-          (sum_by_same (λ w. entry_at raised (length d.basic) w *ℚ number_of x w) (λ w. f w +ℚ t *ℚ g w) (range_with_len 0 (d.variables + 1)) (λ w. ap (λ u. u *ℚ number_of x w) (raised_entry w) ∙ apart (entry_at d (length d.basic) w) t (column_entry c w) (number_of x w))
+          (sum_by_same (λ w. entry_at raised (length d.basic) w *ℚ value_of_column x w) (λ w. f w +ℚ t *ℚ g w) (range_with_len 0 (d.variables + 1)) (λ w. ap (λ u. u *ℚ value_of_column x w) (raised_entry w) ∙ apart (entry_at d (length d.basic) w) t (column_entry c w) (value_of_column x w))
           ∙ sum_by_ℚ-+ℚ f (λ w. t *ℚ g w) (range_with_len 0 (d.variables + 1)) ∙ ap (λ u. sum_by_ℚ f (range_with_len 0 (d.variables + 1)) +ℚ u) (sum_by_ℚ-*ℚ t g (range_with_len 0 (d.variables + 1))))
           raised_constant
           ∙ joined (sum_by_ℚ f (range_with_len 0 (d.variables + 1))) t (sum_by_ℚ g (range_with_len 0 (d.variables + 1))) (constant_at d (length d.basic)) (column_constant c)
@@ -289,12 +289,12 @@ module _ (d : Dictionary) where
           nothing : (t : Number) → whole (pos 0) +ℚ t *ℚ whole (pos 0) ≡ whole (pos 0)
           nothing t = simp ring_ℚ
 
-      module _ (x : List Number) (zero_there : number_of x 0 ≡ whole (pos 0)) where
+      module _ (x : List Number) (zero_there : value_of_column x 0 ≡ whole (pos 0)) where
         row_first : (r : ℕ) → r < length s.rows → row_at (first_dictionary raised_form) r x ≡ row_at (first_dictionary s) r x
         row_first r here =
             let row = slice_index_or s.rows r no_row in
             first_row_at raised_form x zero_there r here (raised_within r no_row here)
-            ∙ ap (λ n. (sum_at row.entries x +ℚ number_of x (n + 1 + r)) -ℚ row.right) raised_count
+            ∙ ap (λ n. (sum_at row.entries x +ℚ value_of_column x (n + 1 + r)) -ℚ row.right) raised_count
             ∙ sym (first_row_at s x zero_there r here (within r no_row here))
 
         of_first : (f : form.Standard) (r : ℕ) → r < length (first_dictionary f).basic → r < length f.rows

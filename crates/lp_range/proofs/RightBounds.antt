@@ -14,7 +14,7 @@ use Rattle.lp_core.specs.declared.program.Sense.TheVariants as sense
 use Rattle.lp_core.specs.declared.program.Column.{Column}
 use Rattle.lp_core.specs.declared.program.Row.{Row}
 use Rattle.lp_core.specs.declared.program.Lp.{Lp}
-use Rattle.lp_core.specs.Sums.{number_of}
+use Rattle.lp_core.specs.Sums.{value_of_column}
 use Rattle.lp_core.specs.Feasible.{Feasible}
 use Rattle.lp_core.specs.WellFormed.{IsWellFormed}
 use Rattle.lp_core.specs.DualBound.{dual_bound}
@@ -28,7 +28,7 @@ use Rattle.lp_std.proofs.Shapes.{All-from_map}
 use Rattle.lp_std.proofs.Ends.{within_form, optimal_proved, count_is}
 use Rattle.lp_nocycle.proofs.SameForm.{form_same, variables_same}
 use Rattle.lp_range.specs.declared.interval.Interval.{Interval}
-use Rattle.lp_range.specs.Spans.{Gain, Span, IsWithin, Stay, span}
+use Rattle.lp_range.specs.Spans.{Gain, Span, IsInSpan, Stay, span}
 use Rattle.lp_range.specs.Ranges.{interval_value, span_value, right_gain, right_gains, right_spans, rights}
 use Rattle.lp_range.specs.Moved.{itself, rows_with_right, with_right, MeetsBoundWithRight}
 use Rattle.lp_range.proofs.Spans.{AreAbove, within_stays}
@@ -101,11 +101,11 @@ module _ (limit : ℕ) (lp : Lp Number) (formed : IsWellFormed itself lp) (order
       ap (map (directed lp.maximize))
       (duals_rows right (multiplier (variables_of itself lp) (last_of (moved pushed d)).costs) 0 i lp.rows ∙ ap (λ cs. duals_from (multiplier (variables_of itself lp) cs) 0 lp.rows) (costs_same pushed d))
 
-  pub meets_with : (x : List Number) × Feasible itself (with_right i right lp) x × (dual_bound itself (with_right i right lp) (duals_back itself lp (last_of d)) ≡ Some (number_of x lp.objective))
+  pub meets_with : (x : List Number) × Feasible itself (with_right i right lp) x × (dual_bound itself (with_right i right lp) (duals_back itself lp (last_of d)) ≡ Some (value_of_column x lp.objective))
   meets_with =
       let proof = optimal_proved itself (with_right i right lp) (with_right_formed right i lp formed) ordered (moved pushed d) of_form not_due second (nothing_moved pushed d not_due nothing) in
       let x = levels_back itself (with_right i right lp) (last_of (moved pushed d)) in
-      (x, proof.feasible, subst (λ ds. dual_bound itself (with_right i right lp) ds ≡ Some (number_of x lp.objective)) same_duals proof.bound)
+      (x, proof.feasible, subst (λ ds. dual_bound itself (with_right i right lp) ds ≡ Some (value_of_column x lp.objective)) same_duals proof.bound)
 
 -- ---- the ranges of rows
 
@@ -136,7 +136,7 @@ module _ {F : Type 0} (value : F → Number) (limit : ℕ) (lp : Lp F) (d : Dict
     abbrev numbers : Lp Number
     numbers = lp_numbers value lp
 
-    pub rights_meet : (made : List (Option (Interval F))) (duals : List Number) → map (span_value value) made ≡ rights value limit lp d → duals ≡ duals_back value lp (last_of d) → (i : ℕ) (interval : Interval F) (right : Number) → slice_get made i ≡ Some (Some interval) → IsWithin (interval_value value interval) right → MeetsBoundWithRight value lp duals i right
+    pub rights_meet : (made : List (Option (Interval F))) (duals : List Number) → map (span_value value) made ≡ rights value limit lp d → duals ≡ duals_back value lp (last_of d) → (i : ℕ) (interval : Interval F) (right : Number) → slice_get made i ≡ Some (Some interval) → IsInSpan (interval_value value interval) right → MeetsBoundWithRight value lp duals i right
     rights_meet made duals made_is duals_are i interval right at within =
         let there : slice_get (rights itself limit (lp_numbers value lp) d) i ≡ Some (Some (interval_value value interval)) =
         ap (λ l. slice_get l i) (rights_same ∙ sym made_is) ∙ slice_get-map (span_value value) made i ∙ ap (option_map (span_value value)) at in

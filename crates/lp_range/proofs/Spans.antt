@@ -14,12 +14,12 @@ use Rattle.gq_number.proofs.Signs.{≢-zero_above, ≢-zero_below, *ℚ-≤ℚ_r
 use Rattle.gq_number.proofs.Quotients.{/ℚ-*ℚ_self}
 use Rattle.gq_number.proofs.Compares.{number_ranks}
 use Rattle.lp_core.specs.Feasible.{KeepsLower, KeepsUpper}
-use Rattle.lp_range.specs.Spans.{Gain, Span, IsWithin, Stay, end_of, greater, lesser, low_by, high_by, low_with, high_with, low_end, high_end, gain_fits, gains_fit, moved_fits, moved_to, span_from, span}
+use Rattle.lp_range.specs.Spans.{Gain, Span, IsInSpan, Stay, end_of, greater_end, lesser_end, low_by, high_by, low_with, high_with, low_end, high_end, gain_fits, gains_fit, moved_fits, moved_to, span_from, span}
 
 -- ---- one end more
 
 module _ (e x : Number) where
-  greater_keeps : (low : Option Number) → KeepsLower (greater low e) x → KeepsLower low x × (e ≤ℚ x)
+  greater_keeps : (low : Option Number) → KeepsLower (greater_end low e) x → KeepsLower low x × (e ≤ℚ x)
   greater_keeps None h = (tt, h)
   greater_keeps (Some a) h = by (number_cmp a e) (number_ranks a e) h
     where
@@ -28,7 +28,7 @@ module _ (e x : Number) where
       by Equal r h = (h, subst (λ u. u ≤ℚ x) r h)
       by Greater r h = (h, Order.≤ℚ_trans e a x (Order.≤ℚ_from_<ℚ e a r) h)
 
-  keeps_greater : (low : Option Number) → KeepsLower low x → e ≤ℚ x → KeepsLower (greater low e) x
+  keeps_greater : (low : Option Number) → KeepsLower low x → e ≤ℚ x → KeepsLower (greater_end low e) x
   keeps_greater None keeps h = h
   keeps_greater (Some a) keeps h = by (number_cmp a e)
     where
@@ -37,7 +37,7 @@ module _ (e x : Number) where
       by Equal = keeps
       by Greater = keeps
 
-  lesser_keeps : (high : Option Number) → KeepsUpper (lesser high e) x → KeepsUpper high x × (x ≤ℚ e)
+  lesser_keeps : (high : Option Number) → KeepsUpper (lesser_end high e) x → KeepsUpper high x × (x ≤ℚ e)
   lesser_keeps None h = (tt, h)
   lesser_keeps (Some a) h = by (number_cmp e a) (number_ranks e a) h
     where
@@ -46,7 +46,7 @@ module _ (e x : Number) where
       by Equal r h = (h, subst (λ u. x ≤ℚ u) (sym r) h)
       by Greater r h = (h, Order.≤ℚ_trans x a e h (Order.≤ℚ_from_<ℚ a e r))
 
-  keeps_lesser : (high : Option Number) → KeepsUpper high x → x ≤ℚ e → KeepsUpper (lesser high e) x
+  keeps_lesser : (high : Option Number) → KeepsUpper high x → x ≤ℚ e → KeepsUpper (lesser_end high e) x
   keeps_lesser None keeps h = h
   keeps_lesser (Some a) keeps h = by (number_cmp e a)
     where
@@ -214,16 +214,16 @@ module _ (limit : ℕ) (given x : Number) (gains : List Gain) (s : Span) (above 
   made_is : made ≡ s
   made_is = some_made (gains_fit limit gains && moved_fits limit given (low_end None gains) && moved_fits limit given (high_end None gains)) made s is
 
-  pub within_stays : IsWithin s x → Stay gains (x -ℚ given)
+  pub within_stays : IsInSpan s x → Stay gains (x -ℚ given)
   within_stays within =
-      let inside = subst (λ (k : Span). IsWithin k x) (sym made_is) within in
+      let inside = subst (λ (k : Span). IsInSpan k x) (sym made_is) within in
       let low = low_end_keeps (x -ℚ given) None gains ((low_moved given x (low_end None gains)).0 inside.0) in
       let high = high_end_keeps (x -ℚ given) None gains ((high_moved given x (high_end None gains)).0 inside.1) in
       all_stay (x -ℚ given) gains above low.1 high.1
 
-  pub stays_within : Stay gains (x -ℚ given) → IsWithin s x
+  pub stays_within : Stay gains (x -ℚ given) → IsInSpan s x
   stays_within stay =
-      subst (λ (k : Span). IsWithin k x) made_is (
+      subst (λ (k : Span). IsInSpan k x) made_is (
         (low_moved given x (low_end None gains)).1 (keeps_low_end (x -ℚ given) None gains tt (all_low (x -ℚ given) gains stay)),
         (high_moved given x (high_end None gains)).1 (keeps_high_end (x -ℚ given) None gains tt (all_high (x -ℚ given) gains stay)),
       )

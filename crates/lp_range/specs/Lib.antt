@@ -1,4 +1,4 @@
 pub mod Spans
 pub mod Ranges
 pub mod Moved
-pub mod Pieces
+pub mod InnerSteps

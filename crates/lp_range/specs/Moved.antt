@@ -7,7 +7,7 @@ use Rattle.gq_number.specs.Sums.{sum_by_ℚ}
 use Rattle.lp_core.specs.declared.program.Column.{Column}
 use Rattle.lp_core.specs.declared.program.Row.{Row}
 use Rattle.lp_core.specs.declared.program.Lp.{Lp}
-use Rattle.lp_core.specs.Sums.{number_of}
+use Rattle.lp_core.specs.Sums.{value_of_column}
 use Rattle.lp_core.specs.Feasible.{Feasible}
 use Rattle.lp_core.specs.DualBound.{low, high, objective_costs, dual_bound}
 use Rattle.lp_core.specs.Numbers.{lp_numbers}
@@ -33,7 +33,7 @@ costs_with lp j cost k = if j == k then cost else objective_costs lp k
 
 -- the value of costs at a point
 abbrev pub cost_at : {F : Type 0} → Lp F → (ℕ → Number) → List Number → Number
-cost_at {F} lp costs x = sum_by_ℚ (λ (q : ℕ × Column F). costs q.0 *ℚ number_of x q.0) (enumerate_from 0 lp.columns)
+cost_at {F} lp costs x = sum_by_ℚ (λ (q : ℕ × Column F). costs q.0 *ℚ value_of_column x q.0) (enumerate_from 0 lp.columns)
 
 -- the bound that duals give for costs: an upper bound when maximizing, else a lower bound
 abbrev pub bound_of_costs : {F : Type 0} → (F → Number) → Lp F → (ℕ → Number) → List Number → Option Number
@@ -44,7 +44,7 @@ bound_of_costs value lp costs duals = if lp.maximize then high value lp costs du
 abbrev pub MeetsBoundWithRight : {F : Type 0} → (F → Number) → Lp F → List Number → ℕ → Number → Type 0
 MeetsBoundWithRight value lp duals i right =
     (x : List Number) × Feasible itself (with_right i right (lp_numbers value lp)) x
-    × (dual_bound itself (with_right i right (lp_numbers value lp)) duals ≡ Some (number_of x lp.objective))
+    × (dual_bound itself (with_right i right (lp_numbers value lp)) duals ≡ Some (value_of_column x lp.objective))
 
 -- With this cost of column j, some duals give a bound that equals the value of the costs at the
 -- levels.

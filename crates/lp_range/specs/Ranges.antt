@@ -58,8 +58,8 @@ module _ (limit : ℕ) (d : Dictionary) where
   right_spans value v (row ∷ rows) = span limit (value row.right) (right_gains row.sense v) ∷ right_spans value (v + rows_of_sense row.sense) rows
 
   -- the variables from number 1 that are not basic
-  abbrev pub others : List ℕ
-  others = filter (λ v. not (is_some (row_of_basic d v))) (range_with_len 1 d.variables)
+  abbrev pub nonbasic_variables : List ℕ
+  nonbasic_variables = filter (λ v. not (is_some (row_of_basic d v))) (range_with_len 1 d.variables)
 
   -- what variable v gains when the nonbasic variable q rises by 1
   abbrev pub change : ℕ → ℕ → Number
@@ -86,7 +86,7 @@ module _ (limit : ℕ) (d : Dictionary) where
 
   -- the cost gains of all nonbasic variables
   abbrev pub cost_gains : Bool → ℕ × Shift → List Gain
-  cost_gains maximize c = map (cost_gain maximize c) others
+  cost_gains maximize c = map (cost_gain maximize c) nonbasic_variables
 
 -- The ranges of right sides, one for each row: the right side may move while each constant remains
 -- at least 0.

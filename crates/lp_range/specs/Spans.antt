@@ -23,8 +23,8 @@ pub record Span : Type 0 where
   pub high : Option Number
 
 -- a number is in a span
-abbrev pub IsWithin : Span → Number → Type 0
-IsWithin span x = KeepsLower span.low x × KeepsUpper span.high x
+abbrev pub IsInSpan : Span → Number → Type 0
+IsInSpan span x = KeepsLower span.low x × KeepsUpper span.high x
 
 -- each amount is at least 0 after a move
 abbrev pub Stay : List Gain → Number → Type 0
@@ -35,24 +35,24 @@ abbrev pub end_of : Gain → Number
 end_of g = neg_ℚ (g.amount /ℚ g.each)
 
 -- the greater of an end so far, if there is one, and another
-abbrev pub greater : Option Number → Number → Option Number
-greater None x = Some x
-greater (Some e) x = if is_lt (number_cmp e x) then Some x else Some e
+abbrev pub greater_end : Option Number → Number → Option Number
+greater_end None x = Some x
+greater_end (Some e) x = if is_lt (number_cmp e x) then Some x else Some e
 
 -- the lesser of an end so far, if there is one, and another
-abbrev pub lesser : Option Number → Number → Option Number
-lesser None x = Some x
-lesser (Some e) x = if is_lt (number_cmp x e) then Some x else Some e
+abbrev pub lesser_end : Option Number → Number → Option Number
+lesser_end None x = Some x
+lesser_end (Some e) x = if is_lt (number_cmp x e) then Some x else Some e
 
 -- an amount that gains ends the moves from below, by how its gain compares with 0
 abbrev pub low_by : Ordering → Option Number → Number → Option Number
 low_by Less low e = low
 low_by Equal low e = low
-low_by Greater low e = greater low e
+low_by Greater low e = greater_end low e
 
 -- an amount that loses ends them from above
 abbrev pub high_by : Ordering → Option Number → Number → Option Number
-high_by Less high e = lesser high e
+high_by Less high e = lesser_end high e
 high_by Equal high e = high
 high_by Greater high e = high
 

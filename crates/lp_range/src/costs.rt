@@ -5,12 +5,12 @@ ghost use Rattle.lp_core.specs.DualBound.{objective_costs};
 ghost use Rattle.lp_core.specs.StandardForm.{standard_form, directed as directed_number, width, numbered};
 ghost use Rattle.lp_std.specs.Meaning.{standard_value, shift_value};
 ghost use Rattle.lp_std.specs.Last.{IsDictionaryOf};
-ghost use Rattle.lp_exact.specs.Tableau.{IsPlace};
+ghost use Rattle.lp_fraction_dict.specs.Tableau.{IsPlace};
 ghost use Rattle.lp_dict.specs.Tableau.{dictionary};
 ghost use Rattle.lp_range.specs.Spans.{span};
 ghost use Rattle.lp_range.specs.Ranges as of;
 ghost use Rattle.lp_range.specs.Ranges.{span_value, change, cost_gain, cost_gains, cost_spans};
-ghost use Rattle.lp_range.specs.Pieces.{IsFound, IsPlaced, FindsChange};
+ghost use Rattle.lp_range.specs.InnerSteps.{IsFound, IsPlaced, FindsChange};
 
 use crate::interval::{Interval, all_numbers, around, with_amount};
 use gq_field::ExactField;
@@ -47,7 +47,7 @@ fn place_of<F: ExactField>(dict: &Dict<F>, variable: u32) -> Placed
 
 /// The nonbasic variables from number 1. The only error is out of memory.
 fn others_of<F: ExactField>(alloc: Global, dict: &Dict<F>) -> Result<Vec<u32>, AllocError>
-    ensures { IfOk result (λ made. made.items ≡ of.others F.limit (dictionary F.value dict.now)) }
+    ensures { IfOk result (λ made. made.items ≡ of.nonbasic_variables F.limit (dictionary F.value dict.now)) }
 {
     let mut others = Vec::new(alloc);
     dict.keeps();
@@ -130,7 +130,7 @@ fn range_of<F: ExactField>(
     column: ColumnPlace<F>,
     cost: F,
 ) -> Option<Interval<F>>
-    requires others { others.now ≡ of.others F.limit (dictionary F.value dict.now) }
+    requires others { others.now ≡ of.nonbasic_variables F.limit (dictionary F.value dict.now) }
     requires placed { IsPlaced dict.now.basic column }
     ensures { span_value F.value result ≡ span F.limit (F.value cost)
         (cost_gains F.limit (dictionary F.value dict.now) maximize (column.first.variable, shift_value F.value column.shift)) }
@@ -181,7 +181,7 @@ fn ranges_of<F: ExactField>(
     others: &[u32],
     dict: &Dict<F>,
 ) -> Result<Vec<Option<Interval<F>>>, AllocError>
-    requires others { others.now ≡ of.others F.limit (dictionary F.value dict.now) }
+    requires others { others.now ≡ of.nonbasic_variables F.limit (dictionary F.value dict.now) }
     requires few { sum_by (λ shift. width (shift_value F.value shift)) shifts.now ≤ 3000 }
     ensures { IfOk result (λ made. map (span_value F.value) made.items
         ≡ cost_spans F.limit (dictionary F.value dict.now) lp.now 0 (numbered 1 (map (shift_value F.value) shifts.now))) }

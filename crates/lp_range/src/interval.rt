@@ -3,7 +3,7 @@ ghost use Rattle.std.specs.Prelude.{◌≡◌, true, [], None, Some};
 ghost use Rattle.lp_core.specs.Feasible.{bound_value};
 ghost use Rattle.lp_range.specs.Spans as spans;
 ghost use Rattle.lp_range.specs.Ranges.{span_value};
-ghost use Rattle.lp_range.specs.Pieces.{EndsWith, AddsTo};
+ghost use Rattle.lp_range.specs.InnerSteps.{EndsWith, AddsTo};
 
 use gq_field::ExactField;
 use lp_core::Sequence;
@@ -43,7 +43,7 @@ pub(crate) fn all_numbers<F: ExactField>() -> Interval<F>
 
 /// The greater of an end so far, if there is one, and another.
 fn greater<F: ExactField>(end: Option<F>, x: F) -> F
-    ensures { Some (F.value result) ≡ spans.greater (bound_value F.value end) (F.value x) }
+    ensures { Some (F.value result) ≡ spans.greater_end (bound_value F.value end) (F.value x) }
 {
     match end {
         None => x,
@@ -53,7 +53,7 @@ fn greater<F: ExactField>(end: Option<F>, x: F) -> F
 
 /// The lesser of an end so far, if there is one, and another.
 fn lesser<F: ExactField>(end: Option<F>, x: F) -> F
-    ensures { Some (F.value result) ≡ spans.lesser (bound_value F.value end) (F.value x) }
+    ensures { Some (F.value result) ≡ spans.lesser_end (bound_value F.value end) (F.value x) }
 {
     match end {
         None => x,

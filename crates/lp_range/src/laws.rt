@@ -7,11 +7,11 @@ ghost use Rattle.lp_core.specs.declared.answer.Answer.{Answer};
 ghost use Rattle.lp_core.specs.declared.answer.Rule.TheVariants.{Bland, Legal};
 ghost use Rattle.lp_core.specs.declared.program.Lp.{Lp};
 ghost use Rattle.lp_core.specs.Answers.{IsAnswer};
-ghost use Rattle.lp_core.specs.Sums.{number_of};
+ghost use Rattle.lp_core.specs.Sums.{value_of_column};
 ghost use Rattle.lp_core.specs.Feasible.{Feasible};
 ghost use Rattle.lp_core.specs.WellFormed.{IsWellFormed};
 ghost use Rattle.lp_core.specs.Numbers.{lp_numbers};
-ghost use Rattle.lp_range.specs.Spans.{Gain, Span, IsWithin, Stay, span};
+ghost use Rattle.lp_range.specs.Spans.{Gain, Span, IsInSpan, Stay, span};
 ghost use Rattle.lp_range.specs.Moved.{itself, with_right, costs_with, cost_at, MeetsBoundWithRight, MeetsBoundWithCost};
 ghost use Rattle.lp_range.specs.Ranges.{IsOptimum};
 
@@ -21,7 +21,7 @@ use gq_field::ExactField;
 /// when the number moves there: no wider span would do.
 pub fn widest_span()
     ensures { (limit : ℕ) (given x : Number) (gains : List Gain) (s : Span) → All (λ g. whole (pos 0) ≤ℚ g.amount) gains →
-        span limit given gains ≡ Some s → IsWithin s x ↔ Stay gains (x -ℚ given) }
+        span limit given gains ≡ Some s → IsInSpan s x ↔ Stay gains (x -ℚ given) }
 {}
 
 /// If the program with another right side has a feasible point whose objective is the bound of
@@ -30,10 +30,10 @@ pub fn widest_span()
 pub fn best_with_right<F: ExactField>()
     ensures least { (lp : Lp F) (duals : List Number) (i : ℕ) (right : Number) → IsWellFormed F.value lp → lp.maximize ≡ false →
         (meets : MeetsBoundWithRight F.value lp duals i right) → (x : List Number) →
-        Feasible itself (with_right i right (lp_numbers F.value lp)) x → number_of meets.0 lp.objective ≤ℚ number_of x lp.objective }
+        Feasible itself (with_right i right (lp_numbers F.value lp)) x → value_of_column meets.0 lp.objective ≤ℚ value_of_column x lp.objective }
     ensures greatest { (lp : Lp F) (duals : List Number) (i : ℕ) (right : Number) → IsWellFormed F.value lp → lp.maximize ≡ true →
         (meets : MeetsBoundWithRight F.value lp duals i right) → (x : List Number) →
-        Feasible itself (with_right i right (lp_numbers F.value lp)) x → number_of x lp.objective ≤ℚ number_of meets.0 lp.objective }
+        Feasible itself (with_right i right (lp_numbers F.value lp)) x → value_of_column x lp.objective ≤ℚ value_of_column meets.0 lp.objective }
 {}
 
 /// If the bound that some duals give for another cost equals the value of the costs at the levels,

@@ -6,7 +6,7 @@ ghost use Rattle.lp_core.specs.declared.answer.End.TheVariants.{Optimal};
 ghost use Rattle.lp_core.specs.Dictionary.{Dictionary};
 ghost use Rattle.lp_core.specs.Answers.{IsAnswer};
 ghost use Rattle.lp_core.specs.WellFormed.{IsWellFormed};
-ghost use Rattle.lp_range.specs.Spans.{IsWithin};
+ghost use Rattle.lp_range.specs.Spans.{IsInSpan};
 ghost use Rattle.lp_range.specs.Ranges as of;
 ghost use Rattle.lp_range.specs.Ranges.{IsOptimum, LeadTo, interval_value, span_value};
 ghost use Rattle.lp_range.specs.Moved.{MeetsBoundWithRight, MeetsBoundWithCost};
@@ -45,10 +45,10 @@ pub fn ranges<F: ExactField>(
         × (map (span_value F.value) made.costs ≡ of.costs F.value F.limit lp.now last)) }
     ensures rights { IfOk result (λ made. (levels row_levels duals reduced : List F) (i : ℕ) (interval : Interval F) (right : Number) →
         answer.now.end ≡ Optimal levels row_levels duals reduced → slice_get made.rights i ≡ Some (Some interval) →
-        IsWithin (interval_value F.value interval) right → MeetsBoundWithRight F.value lp.now (map F.value duals) i right) }
+        IsInSpan (interval_value F.value interval) right → MeetsBoundWithRight F.value lp.now (map F.value duals) i right) }
     ensures costs { IfOk result (λ made. (levels row_levels duals reduced : List F) (j : ℕ) (interval : Interval F) (cost : Number) →
         answer.now.end ≡ Optimal levels row_levels duals reduced → slice_get made.costs j ≡ Some (Some interval) →
-        IsWithin (interval_value F.value interval) cost → MeetsBoundWithCost F.value lp.now (map F.value levels) j cost) }
+        IsInSpan (interval_value F.value interval) cost → MeetsBoundWithCost F.value lp.now (map F.value levels) j cost) }
 {
     let s = form_of(alloc, lp)?;
     let first = Dict::of(alloc, &s)?;

@@ -8,7 +8,7 @@ ghost use Rattle.lp_dict.specs.Tableau.{dictionary};
 ghost use Rattle.lp_range.specs.Spans.{span};
 ghost use Rattle.lp_range.specs.Ranges as of;
 ghost use Rattle.lp_range.specs.Ranges.{span_value, right_gain, right_gains, right_spans};
-ghost use Rattle.lp_range.specs.Pieces.{IsFound};
+ghost use Rattle.lp_range.specs.InnerSteps.{IsFound};
 
 use crate::interval::{Interval, all_numbers, around, with_amount};
 use gq_field::ExactField;

@@ -25,7 +25,7 @@ use Rattle.lp_core.specs.declared.answer.EndKind.TheVariants as kind
 use Rattle.lp_std.specs.declared.stop.Stop.{Stop}
 use Rattle.lp_std.specs.declared.stop.Stop.TheVariants as stop
 use Rattle.lp_std.specs.Meaning.{shift_value, row_value, standard_value}
-use Rattle.lp_std.specs.Pieces.{StopsAt, ComputesEnd, IsSized, HasRay, AreSized, rows_over, bounds_over}
+use Rattle.lp_std.specs.InnerSteps.{StopsAt, ComputesEnd, IsSized, HasRay, AreSized, rows_over, bounds_over}
 use Rattle.lp_std.specs.Last.{IsDictionaryOf, IsReadAt, IsLast, last_value}
 use Rattle.lp_std.specs.Back.{HasNoWayBack}
 use Rattle.lp_std.proofs.Stops.{all_fit, stops_first}

@@ -13,7 +13,7 @@ use Rattle.lp_std.specs.declared.types.Shift.{Shift}
 use Rattle.lp_std.specs.declared.types.StdRow.{StdRow}
 use Rattle.lp_std.specs.declared.stop.Stop.{Stop}
 use Rattle.lp_std.specs.Meaning.{row_value}
-use Rattle.lp_std.specs.Pieces.{first_stop, StopsAt, placed_value, bounds_over}
+use Rattle.lp_std.specs.InnerSteps.{first_stop, StopsAt, placed_value, bounds_over}
 use Rattle.lp_std.proofs.Stops.{stop_behind}
 use Rattle.lp_std.proofs.Walks.{column_at-map}
 use Rattle.lp_std.proofs.RowSteps.{stops_in_front}

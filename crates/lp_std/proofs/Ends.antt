@@ -22,18 +22,18 @@ use Rattle.lp_core.specs.declared.program.Sense.TheVariants as sense
 use Rattle.lp_core.specs.declared.program.Column.{Column}
 use Rattle.lp_core.specs.declared.program.Row.{Row}
 use Rattle.lp_core.specs.declared.program.Lp.{Lp}
-use Rattle.lp_core.specs.Sums.{number_of, row_sum}
+use Rattle.lp_core.specs.Sums.{value_of_column, row_sum}
 use Rattle.lp_core.specs.Feasible.{bound_value, Feasible}
 use Rattle.lp_core.specs.WellFormed.{IsWellFormed}
 use Rattle.lp_core.specs.DualBound.{row_lower, row_upper, used, total, both, low, high, dual_bound, reduced_cost, objective_costs, no_costs}
-use Rattle.lp_core.specs.Proofs.{Crosses, KeepsSenseAlong, KeepsLowerAlong, KeepsUpperAlong, Improves, row_sums, ProvesOptimal, ProvesInfeasible, ProvesUnbounded, FirstCrossed, IsProved}
+use Rattle.lp_core.specs.Proofs.{Crosses, KeepsSenseAlong, KeepsLowerAlong, KeepsUpperAlong, ImprovesObjective, row_sums, ProvesOptimal, ProvesInfeasible, ProvesUnbounded, FirstCrossed, IsProved}
 use Rattle.lp_core.specs.StandardForm as form
 use Rattle.lp_core.specs.Dictionary.{Dictionary, constant_at, InPhaseOne, OpeningIsDue}
 use Rattle.lp_core.specs.Pivots.{NothingImproves, last_of, last_along}
 use Rattle.lp_core.proofs.RowSums.{sum_by_same, unit_sum}
 use Rattle.lp_core.proofs.Duality.{bound_below, bound_above}
 use Rattle.lp_core.proofs.Points.{entries_within}
-use Rattle.lp_std.specs.Pieces.{spread_entries, rows_over, bounds_over}
+use Rattle.lp_std.specs.InnerSteps.{spread_entries, rows_over, bounds_over}
 use Rattle.lp_std.specs.Points.{AreAtLeastZero, sum_at, objective_at}
 use Rattle.lp_std.specs.Last.{IsDictionaryOf, IsReadAt}
 use Rattle.lp_std.proofs.Shapes.{shift_for, columns_numbered}
@@ -132,27 +132,27 @@ module _ {F : Type 0} (value : F → Number) (columns : List (ℕ × form.Shift)
       let entries = All-head (λ (row : Row F). All (λ (e : ℕ × F). e.0 < length columns) row.entries) row rows there in
       All-cons (λ (row : Row F). KeepsSenseAlong row.sense (row_sum value row.entries (map (λ c. form.changed_back c y) columns))) row rows (sense_along row.sense i made (row_sum value row.entries (map (λ c. form.changed_back c y) columns)) (spread_changes value columns y row.entries entries) (All-append_left RowAlong first (rows_over value columns (i + 1) rows) all)) (rows_kept_along (i + 1) rows (All-tail (λ (row : Row F). All (λ (e : ℕ × F). e.0 < length columns) row.entries) row rows there) (All-append_right RowAlong first (rows_over value columns (i + 1) rows) all))
 
-  one_entry : (v : ℕ) → sum_at ((v, whole (pos 1)) ∷ []) y ≡ number_of y v
-  one_entry v = sum_by_ℚ-cons _ (v, whole (pos 1)) [] ∙ ap (λ u. whole (pos 1) *ℚ number_of y v +ℚ u) (sum_by_ℚ-nil _) ∙ simp ring_ℚ
+  one_entry : (v : ℕ) → sum_at ((v, whole (pos 1)) ∷ []) y ≡ value_of_column y v
+  one_entry v = sum_by_ℚ-cons _ (v, whole (pos 1)) [] ∙ ap (λ u. whole (pos 1) *ℚ value_of_column y v +ℚ u) (sum_by_ℚ-nil _) ∙ simp ring_ℚ
 
-  bound_along : (j v : ℕ) (lower upper : Option F) → whole (pos 0) ≤ℚ number_of y v → All RowAlong (form.bound_rows j v (bound_value value lower) (bound_value value upper)) → KeepsLowerAlong lower (form.changed_back (v, form.shift_of (bound_value value lower) (bound_value value upper)) y) × KeepsUpperAlong upper (form.changed_back (v, form.shift_of (bound_value value lower) (bound_value value upper)) y)
+  bound_along : (j v : ℕ) (lower upper : Option F) → whole (pos 0) ≤ℚ value_of_column y v → All RowAlong (form.bound_rows j v (bound_value value lower) (bound_value value upper)) → KeepsLowerAlong lower (form.changed_back (v, form.shift_of (bound_value value lower) (bound_value value upper)) y) × KeepsUpperAlong upper (form.changed_back (v, form.shift_of (bound_value value lower) (bound_value value upper)) y)
   bound_along j v (Some l) (Some u) above all =
       let row : form.StandardRow = record { right = value u -ℚ value l; entries = (v, whole (pos 1)) ∷ []; origin = form.of_bound j } in
       (above, subst (λ x. x ≤ℚ whole (pos 0)) (one_entry v) (All-head RowAlong row [] all))
   bound_along j v (Some l) None above all = (above, tt)
-  bound_along j v None (Some u) above all = (tt, ≤ℚ_from above (balanced (number_of y v)))
+  bound_along j v None (Some u) above all = (tt, ≤ℚ_from above (balanced (value_of_column y v)))
     where
       balanced : (a : Number) → neg_ℚ a +ℚ a ≡ whole (pos 0) +ℚ whole (pos 0)
       balanced a = simp ring_ℚ
   bound_along j v None None above all = (tt, tt)
 
-  bounds_kept_along : (j : ℕ) (bounded : List (Column F)) → j + length bounded ≤ length columns → ((k : ℕ) (d : Column F) → k < length bounded → (form.column_at columns (j + k)).1 ≡ shift_for value (get_or bounded k d)) → AreAtLeastZero y → All RowAlong (bounds_over value columns j bounded) → All (λ (p : ℕ × Column F). KeepsLowerAlong p.1.lower (number_of (map (λ c. form.changed_back c y) columns) p.0) × KeepsUpperAlong p.1.upper (number_of (map (λ c. form.changed_back c y) columns) p.0)) (enumerate_from j bounded)
-  bounds_kept_along j [] within shifts above all = All-nil (λ (p : ℕ × Column F). KeepsLowerAlong p.1.lower (number_of (map (λ c. form.changed_back c y) columns) p.0) × KeepsUpperAlong p.1.upper (number_of (map (λ c. form.changed_back c y) columns) p.0))
+  bounds_kept_along : (j : ℕ) (bounded : List (Column F)) → j + length bounded ≤ length columns → ((k : ℕ) (d : Column F) → k < length bounded → (form.column_at columns (j + k)).1 ≡ shift_for value (get_or bounded k d)) → AreAtLeastZero y → All RowAlong (bounds_over value columns j bounded) → All (λ (p : ℕ × Column F). KeepsLowerAlong p.1.lower (value_of_column (map (λ c. form.changed_back c y) columns) p.0) × KeepsUpperAlong p.1.upper (value_of_column (map (λ c. form.changed_back c y) columns) p.0)) (enumerate_from j bounded)
+  bounds_kept_along j [] within shifts above all = All-nil (λ (p : ℕ × Column F). KeepsLowerAlong p.1.lower (value_of_column (map (λ c. form.changed_back c y) columns) p.0) × KeepsUpperAlong p.1.upper (value_of_column (map (λ c. form.changed_back c y) columns) p.0))
   bounds_kept_along j (column ∷ bounded) within shifts above all =
       let c = form.column_at columns j in
-      let P : ℕ × Column F → Type 0 = λ (p : ℕ × Column F). KeepsLowerAlong p.1.lower (number_of (map (λ c. form.changed_back c y) columns) p.0) × KeepsUpperAlong p.1.upper (number_of (map (λ c. form.changed_back c y) columns) p.0) in
+      let P : ℕ × Column F → Type 0 = λ (p : ℕ × Column F). KeepsLowerAlong p.1.lower (value_of_column (map (λ c. form.changed_back c y) columns) p.0) × KeepsUpperAlong p.1.upper (value_of_column (map (λ c. form.changed_back c y) columns) p.0) in
       let shift : c.1 ≡ shift_for value column = ap (λ k. (form.column_at columns k).1) (let e : j ≡ j + 0 = omega arith in e) ∙ shifts 0 column (omega arith) in
-      let level : number_of (map (λ c. form.changed_back c y) columns) j ≡ form.changed_back (c.0, shift_for value column) y = number_of-map columns (λ c. form.changed_back c y) j (omega arith) ∙ ap (λ s. form.changed_back (c.0, s) y) shift in
+      let level : value_of_column (map (λ c. form.changed_back c y) columns) j ≡ form.changed_back (c.0, shift_for value column) y = number_of-map columns (λ c. form.changed_back c y) j (omega arith) ∙ ap (λ s. form.changed_back (c.0, s) y) shift in
       let first = form.bound_rows j c.0 (bound_value value column.lower) (bound_value value column.upper) in
       All-cons P (j, column) (enumerate_from (j + 1) bounded) (subst (λ x. KeepsLowerAlong column.lower x × KeepsUpperAlong column.upper x) (sym level) (bound_along j c.0 column.lower column.upper (at_least_zero y above c.0) (All-append_left RowAlong first (bounds_over value columns (j + 1) bounded) all)))
       (bounds_kept_along (j + 1) bounded (omega arith) (λ k d h. ap (λ m. (form.column_at columns m).1) (let e : j + 1 + k ≡ j + suc k = omega arith in e) ∙ shifts (suc k) d (omega arith)) above (All-append_right RowAlong first (bounds_over value columns (j + 1) bounded) all))
@@ -160,7 +160,7 @@ module _ {F : Type 0} (value : F → Number) (columns : List (ℕ × form.Shift)
 -- ---- a program and a final dictionary of its standard form
 
 -- reduced costs are the coefficients, where a free column has none
-module _ {F : Type 0} (value : F → Number) (costs : List Number) (n : ℕ) (below : (w : ℕ) → 1 ≤ w → number_of costs w ≤ℚ whole (pos 0)) where
+module _ {F : Type 0} (value : F → Number) (costs : List Number) (n : ℕ) (below : (w : ℕ) → 1 ≤ w → value_of_column costs w ≤ℚ whole (pos 0)) where
   none_of_two : (a c : Number) → a ≤ℚ whole (pos 0) → c ≤ℚ whole (pos 0) → a +ℚ c ≡ whole (pos 0) → a ≡ whole (pos 0)
   none_of_two a c low next e = Order.≤ℚ_antisymm a (whole (pos 0)) low (≤ℚ_from next (sum a c ∙ sym e))
     where
@@ -171,9 +171,9 @@ module _ {F : Type 0} (value : F → Number) (costs : List Number) (n : ℕ) (be
   reduced_is (Some l) (Some u) v r past e = refl
   reduced_is (Some l) None v r past e = refl
   reduced_is None (Some u) v r past e = refl
-  reduced_is None None v r past e = sym (none_of_two (number_of costs v) (number_of costs (v + 1)) (below v past) (below (v + 1) (omega arith)) e)
+  reduced_is None None v r past e = sym (none_of_two (value_of_column costs v) (value_of_column costs (v + 1)) (below v past) (below (v + 1) (omega arith)) e)
 
-  pub reduced_are : (columns : List (Column F)) (v r : ℕ) → 1 ≤ v → ((k : ℕ) → k < length columns → number_of (by_columns value costs n (second value costs n) v r columns) k ≡ whole (pos 0)) → form.reduced_from costs (form.multiplier n costs) r (form.numbered v (map (shift_for value) columns)) columns ≡ by_columns value costs n (slope value costs n) v r columns
+  pub reduced_are : (columns : List (Column F)) (v r : ℕ) → 1 ≤ v → ((k : ℕ) → k < length columns → value_of_column (by_columns value costs n (second value costs n) v r columns) k ≡ whole (pos 0)) → form.reduced_from costs (form.multiplier n costs) r (form.numbered v (map (shift_for value) columns)) columns ≡ by_columns value costs n (slope value costs n) v r columns
   reduced_are [] v r past seconds = refl
   reduced_are (column ∷ columns) v r past seconds =
       ap₂ (λ a more. a ∷ more) (reduced_is column.lower column.upper v r past (seconds 0 (omega arith))) (reduced_are columns (v + form.width (shift_for value column)) (r + form.rows_of_bounds column.lower column.upper) (omega arith) (λ k h. seconds (suc k) (omega arith)))
@@ -201,17 +201,17 @@ module _ {F : Type 0} (value : F → Number) (lp : Lp F) (formed : IsWellFormed 
     point_feasible =
         (same_points value lp (last_of d).values formed (values_above (form.standard_form value lp) d is not_due (within_form value lp formed))).0 (values_keep (form.standard_form value lp) d is not_due (within_form value lp formed) phase_two)
 
-    level_is : form.directed lp.maximize (number_of (form.levels_back value lp (last_of d)) lp.objective) ≡ whole (pos 0) -ℚ constant_at d (length d.basic)
+    level_is : form.directed lp.maximize (value_of_column (form.levels_back value lp (last_of d)) lp.objective) ≡ whole (pos 0) -ℚ constant_at d (length d.basic)
     level_is = sym (same_objective value lp (last_of d).values formed) ∙ values_objective (form.standard_form value lp) d is not_due (within_form value lp formed) phase_two
 
     module _ (nothing : NothingImproves d) where
       priced : Costs (form.standard_form value lp) (last_of d).costs (constant_at d (length d.basic)) (objective_at (form.standard_form value lp))
       priced = optimal_costs (form.standard_form value lp) d is not_due (within_form value lp formed) phase_two nothing
 
-      aim : (y : List Number) → form.directed lp.maximize (objective_at (form.standard_form value lp) y) ≡ sum_by_ℚ (λ (q : ℕ × Column F). objective_costs lp q.0 *ℚ number_of (form.point_of (form.standard_form value lp) y) q.0) (enumerate_from 0 lp.columns)
+      aim : (y : List Number) → form.directed lp.maximize (objective_at (form.standard_form value lp) y) ≡ sum_by_ℚ (λ (q : ℕ × Column F). objective_costs lp q.0 *ℚ value_of_column (form.point_of (form.standard_form value lp) y) q.0) (enumerate_from 0 lp.columns)
       aim y =
-          ap (form.directed lp.maximize) (same_objective value lp y formed) ∙ directed_twice lp.maximize (number_of (form.point_of (form.standard_form value lp) y) lp.objective)
-          ∙ sym (unit_sum lp.objective (whole (pos 1)) (number_of (form.point_of (form.standard_form value lp) y)) 0 lp.columns (omega arith) (omega (arith, formed.objective)) ∙ one_times (number_of (form.point_of (form.standard_form value lp) y) lp.objective))
+          ap (form.directed lp.maximize) (same_objective value lp y formed) ∙ directed_twice lp.maximize (value_of_column (form.point_of (form.standard_form value lp) y) lp.objective)
+          ∙ sym (unit_sum lp.objective (whole (pos 1)) (value_of_column (form.point_of (form.standard_form value lp) y)) 0 lp.columns (omega arith) (omega (arith, formed.objective)) ∙ one_times (value_of_column (form.point_of (form.standard_form value lp) y) lp.objective))
         where
           one_times : (a : Number) → whole (pos 1) *ℚ a ≡ a
           one_times a = simp ring_ℚ
@@ -221,7 +221,7 @@ module _ {F : Type 0} (value : F → Number) (lp : Lp F) (formed : IsWellFormed 
           let found = bound_is value lp (last_of d).costs formed (constant_at d (length d.basic)) (objective_at (form.standard_form value lp)) priced lp.maximize (objective_costs lp) aim ordered in
           (found.0, both_pick value lp (objective_costs lp) (form.duals_back value lp (last_of d)) lp.maximize found.0 found.1, found.2)
 
-      bound_meets : (t z k : Number) → dual_bound value lp (form.duals_back value lp (last_of d)) ≡ Some t → z ≡ number_of (form.levels_back value lp (last_of d)) lp.objective → (b : Bool) → lp.maximize ≡ b → form.directed b t ≤ℚ neg_ℚ k → form.directed b z ≡ whole (pos 0) -ℚ k → t ≡ z
+      bound_meets : (t z k : Number) → dual_bound value lp (form.duals_back value lp (last_of d)) ≡ Some t → z ≡ value_of_column (form.levels_back value lp (last_of d)) lp.objective → (b : Bool) → lp.maximize ≡ b → form.directed b t ≤ℚ neg_ℚ k → form.directed b z ≡ whole (pos 0) -ℚ k → t ≡ z
       bound_meets t z k e z_is true greatest most level =
           Order.≤ℚ_antisymm t z (≤ℚ_from most (balanced t k ∙ ap (λ u. u +ℚ t) (sym level))) (subst (λ u. u ≤ℚ t) (sym z_is) (bound_above value lp (form.duals_back value lp (last_of d)) (form.levels_back value lp (last_of d)) t formed point_feasible greatest e))
         where
@@ -252,12 +252,12 @@ module _ {F : Type 0} (value : F → Number) (lp : Lp F) (formed : IsWellFormed 
                 ∙ fill_by_all (λ j. reduced_cost value lp (objective_costs lp) (form.duals_back value lp (last_of d)) j) (map (form.directed lp.maximize) (slopes value lp (last_of d).costs)) (length lp.columns) (whole (pos 0))
                 (length-map (slopes value lp (last_of d).costs) (form.directed lp.maximize) ∙ length-of_columns value (last_of d).costs (form.variables_of value lp) (slope value (last_of d).costs (form.variables_of value lp)) 1 (own_place value lp (last_of d).costs) lp.columns)
                 (λ k h. get_or-map (form.directed lp.maximize) (slopes value lp (last_of d).costs) k (whole (pos 0)) (whole (pos 0)) (omega (arith, length-of_columns value (last_of d).costs (form.variables_of value lp) (slope value (last_of d).costs (form.variables_of value lp)) 1 (own_place value lp (last_of d).costs) lp.columns)) ∙ sym (slopes_are value lp (last_of d).costs formed K (objective_at (form.standard_form value lp)) priced lp.maximize (objective_costs lp) aim k h));
-            bound = found.1 ∙ ap Some (bound_meets found.0 (number_of (form.levels_back value lp (last_of d)) lp.objective) K found.1 refl lp.maximize refl found.2 level_is);
+            bound = found.1 ∙ ap Some (bound_meets found.0 (value_of_column (form.levels_back value lp (last_of d)) lp.objective) K found.1 refl lp.maximize refl found.2 level_is);
           }
 
     -- ---- a ray
     module _ (q : ℕ) (unlimited : IsUnlimited Legal d q) where
-      ray_objective : form.directed lp.maximize (number_of (form.ray_back value lp (last_along d q)) lp.objective) ≡ sum_at (enumerate_from 1 (form.standard_form value lp).objective) (last_along d q).changes
+      ray_objective : form.directed lp.maximize (value_of_column (form.ray_back value lp (last_along d q)) lp.objective) ≡ sum_at (enumerate_from 1 (form.standard_form value lp).objective) (last_along d q).changes
       ray_objective =
           let z = form.column_at (form.columns_of value lp) lp.objective in
           let within = objective_numbered value lp (last_along d q).changes formed in
@@ -274,7 +274,7 @@ module _ {F : Type 0} (value : F → Number) (lp : Lp F) (formed : IsWellFormed 
               less : (x : Number) → neg_ℚ (whole (pos 1)) *ℚ x ≡ neg_ℚ x
               less x = simp ring_ℚ
 
-      better : (b : Bool) (x : Number) → whole (pos 0) <ℚ form.directed b x → Improves b x
+      better : (b : Bool) (x : Number) → whole (pos 0) <ℚ form.directed b x → ImprovesObjective b x
       better true x h = h
       better false x h = <ℚ_from h (balanced x)
         where
@@ -299,7 +299,7 @@ module _ {F : Type 0} (value : F → Number) (lp : Lp F) (formed : IsWellFormed 
               lower = λ k e h. (bounds k e h).0;
               upper = λ k e h. (bounds k e h).1;
               rows = rows_kept_along value columns y 0 lp.rows (entries_within value lp (length columns) formed (columns_sized value lp y)) (All-append_left P first behind rows);
-              better = better lp.maximize (number_of (form.ray_back value lp (last_along d q)) lp.objective) (subst (λ u. whole (pos 0) <ℚ u) (sym ray_objective) (objective_along (form.standard_form value lp) d is not_due (within_form value lp formed) phase_two q unlimited));
+              better = better lp.maximize (value_of_column (form.ray_back value lp (last_along d q)) lp.objective) (subst (λ u. whole (pos 0) <ℚ u) (sym ray_objective) (objective_along (form.standard_form value lp) d is not_due (within_form value lp formed) phase_two q unlimited));
             };
           }
 
@@ -308,9 +308,9 @@ module _ {F : Type 0} (value : F → Number) (lp : Lp F) (formed : IsWellFormed 
     priced_one : Costs (form.standard_form value lp) (last_of d).costs (constant_at d phase_one.0) (λ y. whole (pos 0))
     priced_one = infeasible_costs (form.standard_form value lp) d is not_due (within_form value lp formed) phase_one nothing
 
-    aim_none : (y : List Number) → form.directed false (whole (pos 0)) ≡ sum_by_ℚ (λ (q : ℕ × Column F). no_costs q.0 *ℚ number_of (form.point_of (form.standard_form value lp) y) q.0) (enumerate_from 0 lp.columns)
+    aim_none : (y : List Number) → form.directed false (whole (pos 0)) ≡ sum_by_ℚ (λ (q : ℕ × Column F). no_costs q.0 *ℚ value_of_column (form.point_of (form.standard_form value lp) y) q.0) (enumerate_from 0 lp.columns)
     aim_none y =
-        none ∙ sym (sum_by_same (λ (q : ℕ × Column F). whole (pos 0) *ℚ number_of (form.point_of (form.standard_form value lp) y) q.0) (λ (q : ℕ × Column F). whole (pos 0)) (enumerate_from 0 lp.columns) (λ q. zero-*ℚ (number_of (form.point_of (form.standard_form value lp) y) q.0)) ∙ sum_by_ℚ-zero (enumerate_from 0 lp.columns))
+        none ∙ sym (sum_by_same (λ (q : ℕ × Column F). whole (pos 0) *ℚ value_of_column (form.point_of (form.standard_form value lp) y) q.0) (λ (q : ℕ × Column F). whole (pos 0)) (enumerate_from 0 lp.columns) (λ q. zero-*ℚ (value_of_column (form.point_of (form.standard_form value lp) y) q.0)) ∙ sum_by_ℚ-zero (enumerate_from 0 lp.columns))
       where
         none : neg_ℚ (whole (pos 0)) ≡ whole (pos 0)
         none = simp ring_ℚ

@@ -11,19 +11,19 @@ use Rattle.lp_core.specs.declared.answer.StepName.{StepName}
 use Rattle.lp_core.specs.declared.answer.StepName.TheVariants.{Recover}
 use Rattle.lp_core.specs.declared.program.Column.{Column}
 use Rattle.lp_core.specs.declared.program.Row.{Row}
-use Rattle.lp_core.specs.Sums.{number_of, row_sum}
+use Rattle.lp_core.specs.Sums.{value_of_column, row_sum}
 use Rattle.lp_core.specs.StandardForm as form
 use Rattle.lp_core.specs.Steps.{Due, product_fits, row_level_steps, count_of_rows, dual_steps, reduced_steps}
 use Rattle.lp_form.proofs.Walks.{drop_item}
 use Rattle.lp_std.specs.declared.types.Shift.{Shift}
 use Rattle.lp_std.specs.Meaning.{shift_value}
-use Rattle.lp_std.specs.Pieces.{first_stop, placed_value, dual_step, reduced_step}
+use Rattle.lp_std.specs.InnerSteps.{first_stop, placed_value, dual_step, reduced_step}
 use Rattle.lp_std.proofs.Stops.{stop_behind, stop_before}
 
 -- ---- a row's sum
 
 module _ {F : Type 0} (value : F → Number) (limit i : ℕ) (entries : List (ℕ × F)) (levels : List F) (k : ℕ) (e : ℕ × F) (level : F) (here : k < length entries) (e_is : e ≡ get_or entries k e) (there : e.0 < length levels) (level_is : level ≡ get_or levels e.0 level) where
-  level_there : number_of (map value levels) e.0 ≡ value level
+  level_there : value_of_column (map value levels) e.0 ≡ value level
   level_there = get_or-map value levels e.0 level (whole (pos 0)) there ∙ ap value (sym level_is)
 
   abbrev two_steps : Number → List Due
@@ -44,8 +44,8 @@ module _ {F : Type 0} (value : F → Number) (limit i : ℕ) (entries : List (�
 
   pub sum_more : (s t : Number) → s ≡ row_sum value (take k entries) (map value levels) → t ≡ s +ℚ value e.1 *ℚ value level → t ≡ row_sum value (take (k + 1) entries) (map value levels)
   sum_more s t so is =
-      is ∙ ap₂ (λ u w. u +ℚ w) so (ap (λ n. value e.1 *ℚ n) (sym level_there) ∙ ap (λ (d : ℕ × F). value d.1 *ℚ number_of (map value levels) d.0) e_is)
-      ∙ sym (sum_by_ℚ_more (λ (d : ℕ × F). value d.1 *ℚ number_of (map value levels) d.0) entries k e here)
+      is ∙ ap₂ (λ u w. u +ℚ w) so (ap (λ n. value e.1 *ℚ n) (sym level_there) ∙ ap (λ (d : ℕ × F). value d.1 *ℚ value_of_column (map value levels) d.0) e_is)
+      ∙ sym (sum_by_ℚ_more (λ (d : ℕ × F). value d.1 *ℚ value_of_column (map value levels) d.0) entries k e here)
 
 -- ---- duals, row by row
 

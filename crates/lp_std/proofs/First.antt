@@ -12,7 +12,7 @@ use Rattle.gq_number.specs.Sums.{sum_by_ℚ}
 use Rattle.gq_number.proofs.Ring.{ring_ℚ, *ℚ-zero, zero-*ℚ, zero-+ℚ}
 use Rattle.gq_number.proofs.Field.{+ℚ-zero}
 use Rattle.gq_number.proofs.Sums.{sum_by_ℚ-nil, sum_by_ℚ-cons, sum_by_ℚ-append, sum_by_ℚ-zero, sum_by_ℚ-+ℚ}
-use Rattle.lp_core.specs.Sums.{number_of}
+use Rattle.lp_core.specs.Sums.{value_of_column}
 use Rattle.lp_core.specs.StandardForm as form
 use Rattle.lp_core.specs.Dictionary.{entry_at, row_at, Meets, some_below, of_variable, first_row, first_objective, no_row, first_dictionary}
 use Rattle.lp_std.specs.Points.{sum_at, objective_at}
@@ -61,33 +61,33 @@ without_zero k g nothing =
     ∙ sum_by_ℚ-cons g 0 (range_with_len 1 k) ∙ ap (λ u. u +ℚ sum_by_ℚ g (range_with_len 1 k)) nothing ∙ zero-+ℚ (sum_by_ℚ g (range_with_len 1 k))
 
 -- the coefficients of a list by places
-listed : (f : ℕ → Number) (a : ℕ) (xs : List Number) → sum_by_ℚ (λ v. number_of xs (v - a) *ℚ f v) (range_with_len a (length xs)) ≡ sum_by_ℚ (λ (p : ℕ × Number). p.1 *ℚ f p.0) (enumerate_from a xs)
+listed : (f : ℕ → Number) (a : ℕ) (xs : List Number) → sum_by_ℚ (λ v. value_of_column xs (v - a) *ℚ f v) (range_with_len a (length xs)) ≡ sum_by_ℚ (λ (p : ℕ × Number). p.1 *ℚ f p.0) (enumerate_from a xs)
 listed f a [] = sum_by_ℚ-nil _ ∙ sym (sum_by_ℚ-nil _)
 listed f a (x ∷ xs) =
     sum_by_ℚ-cons _ a (range_with_len (a + 1) (length xs))
-    ∙ ap₂ (λ u w. u *ℚ f a +ℚ w) (ap (number_of (x ∷ xs)) (let e : a - a ≡ 0 = omega arith in e)) (range_same (λ v. number_of (x ∷ xs) (v - a) *ℚ f v) (λ v. number_of xs (v - (a + 1)) *ℚ f v) (a + 1) (length xs) (λ v low high. ap (λ k. number_of (x ∷ xs) k *ℚ f v) (let e : v - a ≡ suc (v - (a + 1)) = omega arith in e)) ∙ listed f (a + 1) xs)
+    ∙ ap₂ (λ u w. u *ℚ f a +ℚ w) (ap (value_of_column (x ∷ xs)) (let e : a - a ≡ 0 = omega arith in e)) (range_same (λ v. value_of_column (x ∷ xs) (v - a) *ℚ f v) (λ v. value_of_column xs (v - (a + 1)) *ℚ f v) (a + 1) (length xs) (λ v low high. ap (λ k. value_of_column (x ∷ xs) k *ℚ f v) (let e : v - a ≡ suc (v - (a + 1)) = omega arith in e)) ∙ listed f (a + 1) xs)
     ∙ sym (sum_by_ℚ-cons _ (a, x) (enumerate_from (a + 1) xs))
 
-objective_past_zero : (s : form.Standard) (v : ℕ) → 1 ≤ v → first_objective s (v + 1) ≡ number_of s.objective (v - 1)
+objective_past_zero : (s : form.Standard) (v : ℕ) → 1 ≤ v → first_objective s (v + 1) ≡ value_of_column s.objective (v - 1)
 objective_past_zero s zero h = absurd (omega arith)
-objective_past_zero s (suc v) h = ap (first_objective s) (let e : suc v + 1 ≡ suc (suc v) = omega arith in e) ∙ ap (number_of s.objective) (let e : v ≡ suc v - 1 = omega arith in e)
+objective_past_zero s (suc v) h = ap (first_objective s) (let e : suc v + 1 ≡ suc (suc v) = omega arith in e) ∙ ap (value_of_column s.objective) (let e : v ≡ suc v - 1 = omega arith in e)
 
 module _ (s : form.Standard) (x : List Number) where
-  module _ (zero_there : number_of x 0 ≡ whole (pos 0)) where
+  module _ (zero_there : value_of_column x 0 ≡ whole (pos 0)) where
     -- a row of the first dictionary
-    pub first_row_at : (r : ℕ) → r < length s.rows → Within (length s.objective) (slice_index_or s.rows r no_row).entries → row_at (first_dictionary s) r x ≡ (sum_at (slice_index_or s.rows r no_row).entries x +ℚ number_of x (length s.objective + 1 + r)) -ℚ (slice_index_or s.rows r no_row).right
+    pub first_row_at : (r : ℕ) → r < length s.rows → Within (length s.objective) (slice_index_or s.rows r no_row).entries → row_at (first_dictionary s) r x ≡ (sum_at (slice_index_or s.rows r no_row).entries x +ℚ value_of_column x (length s.objective + 1 + r)) -ℚ (slice_index_or s.rows r no_row).right
     first_row_at r here within =
         let row = slice_index_or s.rows r no_row in
         let n = length s.objective in
         let k = n + length s.rows in
         let test : nat_lt r (length s.rows) ≡ true = grind (arith, nat_tests) in
         let numbers : (c : ℕ) → (first_dictionary s).numbers r c ≡ first_row (some_below s) (n + 1 + r) row c = λ c. ap (λ t. cond t (first_row (some_below s) (n + 1 + r) row c) (first_objective s c)) test in
-        let terms : sum_by_ℚ (λ v. entry_at (first_dictionary s) r v *ℚ number_of x v) (range_with_len 0 (k + 1)) ≡ sum_at row.entries x +ℚ number_of x (n + 1 + r) =
-        without_zero k (λ v. entry_at (first_dictionary s) r v *ℚ number_of x v) (ap (λ u. entry_at (first_dictionary s) r 0 *ℚ u) zero_there ∙ *ℚ-zero (entry_at (first_dictionary s) r 0))
-        ∙ range_same (λ v. entry_at (first_dictionary s) r v *ℚ number_of x v) (λ v. of_variable row.entries v *ℚ number_of x v +ℚ unit_at (n + 1 + r) (whole (pos 1)) v *ℚ number_of x v) 1 k
-        (λ v low high. ap (λ u. u *ℚ number_of x v) (numbers (v + 1) ∙ entry_past_zero (some_below s) (n + 1 + r) row v low) ∙ slack_apart n (n + 1 + r) row.entries (number_of x) within (omega arith) v)
-        ∙ sum_by_ℚ-+ℚ (λ v. of_variable row.entries v *ℚ number_of x v) (λ v. unit_at (n + 1 + r) (whole (pos 1)) v *ℚ number_of x v) (range_with_len 1 k)
-        ∙ ap₂ (λ u w. u +ℚ w) (range_entries (number_of x) 1 k row.entries (All-weaker (λ (e : ℕ × Number). (1 ≤ e.0) × (e.0 < 1 + n)) (λ (e : ℕ × Number). (1 ≤ e.0) × (e.0 < 1 + k)) (λ e h. (h.0, omega (arith, h.1))) row.entries within)) (range_unit (n + 1 + r) (whole (pos 1)) (number_of x) 1 k (omega arith) (omega arith) ∙ one_times (number_of x (n + 1 + r))) in
+        let terms : sum_by_ℚ (λ v. entry_at (first_dictionary s) r v *ℚ value_of_column x v) (range_with_len 0 (k + 1)) ≡ sum_at row.entries x +ℚ value_of_column x (n + 1 + r) =
+        without_zero k (λ v. entry_at (first_dictionary s) r v *ℚ value_of_column x v) (ap (λ u. entry_at (first_dictionary s) r 0 *ℚ u) zero_there ∙ *ℚ-zero (entry_at (first_dictionary s) r 0))
+        ∙ range_same (λ v. entry_at (first_dictionary s) r v *ℚ value_of_column x v) (λ v. of_variable row.entries v *ℚ value_of_column x v +ℚ unit_at (n + 1 + r) (whole (pos 1)) v *ℚ value_of_column x v) 1 k
+        (λ v low high. ap (λ u. u *ℚ value_of_column x v) (numbers (v + 1) ∙ entry_past_zero (some_below s) (n + 1 + r) row v low) ∙ slack_apart n (n + 1 + r) row.entries (value_of_column x) within (omega arith) v)
+        ∙ sum_by_ℚ-+ℚ (λ v. of_variable row.entries v *ℚ value_of_column x v) (λ v. unit_at (n + 1 + r) (whole (pos 1)) v *ℚ value_of_column x v) (range_with_len 1 k)
+        ∙ ap₂ (λ u w. u +ℚ w) (range_entries (value_of_column x) 1 k row.entries (All-weaker (λ (e : ℕ × Number). (1 ≤ e.0) × (e.0 < 1 + n)) (λ (e : ℕ × Number). (1 ≤ e.0) × (e.0 < 1 + k)) (λ e h. (h.0, omega (arith, h.1))) row.entries within)) (range_unit (n + 1 + r) (whole (pos 1)) (value_of_column x) 1 k (omega arith) (omega arith) ∙ one_times (value_of_column x (n + 1 + r))) in
         ap₂ (λ u w. u -ℚ w) terms (numbers 0)
       where
         one_times : (a : Number) → whole (pos 1) *ℚ a ≡ a
@@ -101,12 +101,12 @@ module _ (s : form.Standard) (x : List Number) where
         let k = n + m in
         let test : nat_lt m m ≡ false = grind (arith, nat_tests) in
         let numbers : (c : ℕ) → (first_dictionary s).numbers m c ≡ first_objective s c = λ c. ap (λ t. cond t (first_row (some_below s) (n + 1 + m) (slice_index_or s.rows m no_row) c) (first_objective s c)) test in
-        let terms : sum_by_ℚ (λ v. entry_at (first_dictionary s) m v *ℚ number_of x v) (range_with_len 0 (k + 1)) ≡ sum_at (enumerate_from 1 s.objective) x =
-        without_zero k (λ v. entry_at (first_dictionary s) m v *ℚ number_of x v) (ap (λ u. entry_at (first_dictionary s) m 0 *ℚ u) zero_there ∙ *ℚ-zero (entry_at (first_dictionary s) m 0))
-        ∙ range_same (λ v. entry_at (first_dictionary s) m v *ℚ number_of x v) (λ v. number_of s.objective (v - 1) *ℚ number_of x v) 1 k (λ v low high. ap (λ u. u *ℚ number_of x v) (numbers (v + 1) ∙ objective_past_zero s v low))
-        ∙ ap (sum_by_ℚ (λ v. number_of s.objective (v - 1) *ℚ number_of x v)) (range-append 1 n m)
-        ∙ sum_by_ℚ-append (λ v. number_of s.objective (v - 1) *ℚ number_of x v) (range_with_len 1 n) (range_with_len (1 + n) m)
-        ∙ ap₂ (λ u w. u +ℚ w) (listed (number_of x) 1 s.objective) (range_same (λ v. number_of s.objective (v - 1) *ℚ number_of x v) (λ v. whole (pos 0)) (1 + n) m (λ v low high. ap (λ u. u *ℚ number_of x v) (get_or_past s.objective (v - 1) (whole (pos 0)) (omega arith)) ∙ zero-*ℚ (number_of x v)) ∙ sum_by_ℚ-zero (range_with_len (1 + n) m))
+        let terms : sum_by_ℚ (λ v. entry_at (first_dictionary s) m v *ℚ value_of_column x v) (range_with_len 0 (k + 1)) ≡ sum_at (enumerate_from 1 s.objective) x =
+        without_zero k (λ v. entry_at (first_dictionary s) m v *ℚ value_of_column x v) (ap (λ u. entry_at (first_dictionary s) m 0 *ℚ u) zero_there ∙ *ℚ-zero (entry_at (first_dictionary s) m 0))
+        ∙ range_same (λ v. entry_at (first_dictionary s) m v *ℚ value_of_column x v) (λ v. value_of_column s.objective (v - 1) *ℚ value_of_column x v) 1 k (λ v low high. ap (λ u. u *ℚ value_of_column x v) (numbers (v + 1) ∙ objective_past_zero s v low))
+        ∙ ap (sum_by_ℚ (λ v. value_of_column s.objective (v - 1) *ℚ value_of_column x v)) (range-append 1 n m)
+        ∙ sum_by_ℚ-append (λ v. value_of_column s.objective (v - 1) *ℚ value_of_column x v) (range_with_len 1 n) (range_with_len (1 + n) m)
+        ∙ ap₂ (λ u w. u +ℚ w) (listed (value_of_column x) 1 s.objective) (range_same (λ v. value_of_column s.objective (v - 1) *ℚ value_of_column x v) (λ v. whole (pos 0)) (1 + n) m (λ v low high. ap (λ u. u *ℚ value_of_column x v) (get_or_past s.objective (v - 1) (whole (pos 0)) (omega arith)) ∙ zero-*ℚ (value_of_column x v)) ∙ sum_by_ℚ-zero (range_with_len (1 + n) m))
         ∙ +ℚ-zero (sum_at (enumerate_from 1 s.objective) x) in
         ap (λ i. row_at (first_dictionary s) i x) (length-range_with_len (n + 1) m) ∙ ap₂ (λ u w. u -ℚ w) terms (numbers 0) ∙ turned (sum_at (enumerate_from 1 s.objective) x) s.constant
       where
@@ -120,13 +120,13 @@ abbrev pub filled : form.Standard → List Number → List Number
 filled s y = y ++ map (λ (row : form.StandardRow). row.right -ℚ sum_at row.entries y) s.rows
 
 module _ (s : form.Standard) (y : List Number) (sized : length y ≡ length s.objective + 1) where
-  pub filled_slack : (r : ℕ) → r < length s.rows → number_of (filled s y) (length s.objective + 1 + r) ≡ (slice_index_or s.rows r no_row).right -ℚ sum_at (slice_index_or s.rows r no_row).entries y
+  pub filled_slack : (r : ℕ) → r < length s.rows → value_of_column (filled s y) (length s.objective + 1 + r) ≡ (slice_index_or s.rows r no_row).right -ℚ sum_at (slice_index_or s.rows r no_row).entries y
   filled_slack r here =
-      ap (λ n. number_of (filled s y) (n + r)) (sym sized)
+      ap (λ n. value_of_column (filled s y) (n + r)) (sym sized)
       ∙ get_or-append-add y (map (λ (row : form.StandardRow). row.right -ℚ sum_at row.entries y) s.rows) r (whole (pos 0))
       ∙ get_or-map (λ (row : form.StandardRow). row.right -ℚ sum_at row.entries y) s.rows r no_row (whole (pos 0)) here
 
-  pub filled_other : (v : ℕ) → v < length s.objective + 1 → number_of (filled s y) v ≡ number_of y v
+  pub filled_other : (v : ℕ) → v < length s.objective + 1 → value_of_column (filled s y) v ≡ value_of_column y v
   filled_other v h = get_or_append_left y (map (λ (row : form.StandardRow). row.right -ℚ sum_at row.entries y) s.rows) (whole (pos 0)) v (omega (arith, sized))
 
   pub filled_sum : (entries : List (ℕ × Number)) → Within (length s.objective) entries → sum_at entries (filled s y) ≡ sum_at entries y
@@ -142,8 +142,8 @@ module _ (s : form.Standard) (y : List Number) (sized : length y ≡ length s.ob
   filled_enumerated a (x ∷ xs) low high =
       All-cons (λ (e : ℕ × Number). (1 ≤ e.0) × (e.0 < 1 + length s.objective)) (a, x) (enumerate_from (a + 1) xs) (omega arith, omega arith) (filled_enumerated (a + 1) xs (omega arith) (omega arith))
 
-  module _ (zero_there : number_of y 0 ≡ whole (pos 0)) (within : All (λ (row : form.StandardRow). Within (length s.objective) row.entries) s.rows) where
-    pub filled_zero : number_of (filled s y) 0 ≡ whole (pos 0)
+  module _ (zero_there : value_of_column y 0 ≡ whole (pos 0)) (within : All (λ (row : form.StandardRow). Within (length s.objective) row.entries) s.rows) where
+    pub filled_zero : value_of_column (filled s y) 0 ≡ whole (pos 0)
     filled_zero = filled_other 0 (omega arith) ∙ zero_there
 
     pub filled_objective : objective_at s (filled s y) ≡ objective_at s y

@@ -14,7 +14,7 @@ use Rattle.lp_std.specs.declared.types.Shift.{Shift}
 use Rattle.lp_std.specs.declared.types.StdRow.{StdRow}
 use Rattle.lp_std.specs.declared.stop.Stop.{Stop}
 use Rattle.lp_std.specs.Meaning.{shift_value, row_value, standard_value, HasNoForm}
-use Rattle.lp_std.specs.Pieces.{first_stop, StopsAt, placed_value, rows_over, bounds_over}
+use Rattle.lp_std.specs.InnerSteps.{first_stop, StopsAt, placed_value, rows_over, bounds_over}
 use Rattle.lp_std.specs.declared.stop.Stop.TheVariants as stop
 use Rattle.lp_std.proofs.Stops.{stop_behind, all_fit, stops_first}
 use Rattle.lp_std.proofs.RowSteps.{stops_on, stops_in_front}

@@ -17,7 +17,7 @@ use Rattle.gq_number.proofs.Signs.{neg-zero-≤ℚ, zero-≤ℚ-one}
 use Rattle.gq_number.proofs.Sums.{sum_by_ℚ-nil, sum_by_ℚ-cons, sum_by_ℚ-append, sum_by_ℚ-+ℚ}
 use Rattle.lp_core.specs.declared.answer.Rule.TheVariants.{Legal}
 use Rattle.lp_core.specs.Ends.{IsUnlimited}
-use Rattle.lp_core.specs.Sums.{number_of}
+use Rattle.lp_core.specs.Sums.{value_of_column}
 use Rattle.lp_core.specs.StandardForm as form
 use Rattle.lp_core.specs.Dictionary.{Dictionary, basic_at, constant_at, entry_at, row_at, Meets, InPhaseOne, OpeningIsDue, IsPriced, no_row, first_dictionary}
 use Rattle.lp_core.specs.Pivots.{row_of_basic, value_by_row, change_by_row, cost_by_row, priced_row, all_variables, NothingImproves}
@@ -29,7 +29,7 @@ use Rattle.lp_std.proofs.Basics.{range_same, equal_numbers, row_none, row_some, 
 use Rattle.lp_std.proofs.First.{Within, without_zero, first_row_at, first_last_at, filled, filled_zero, filled_meets, filled_other}
 
 -- the list of a function of the variables
-pub listed_at : (f : ℕ → Number) (n v : ℕ) → v < n → number_of (map f (range_with_len 0 n)) v ≡ f v
+pub listed_at : (f : ℕ → Number) (n v : ℕ) → v < n → value_of_column (map f (range_with_len 0 n)) v ≡ f v
 listed_at f n v h = get_or-map-range_with_len f 0 n v v (whole (pos 0)) h (omega arith)
 
 -- what a function has at each number holds of the list, and past its end of 0
@@ -39,7 +39,7 @@ listed_above f n above = All-map (λ x. whole (pos 0) ≤ℚ x) f (range_with_le
 -- a row of a dictionary at such a list
 row_at_listed : (d : Dictionary) (i : ℕ) (f : ℕ → Number) → row_at d i (map f (range_with_len 0 (d.variables + 1))) ≡ sum_by_ℚ (λ v. entry_at d i v *ℚ f v) (range_with_len 0 (d.variables + 1)) -ℚ constant_at d i
 row_at_listed d i f =
-    ap (λ u. u -ℚ constant_at d i) (range_same (λ v. entry_at d i v *ℚ number_of (map f (range_with_len 0 (d.variables + 1))) v) (λ v. entry_at d i v *ℚ f v) 0 (d.variables + 1) (λ v low high. ap (λ u. entry_at d i v *ℚ u) (listed_at f (d.variables + 1) v (omega arith))))
+    ap (λ u. u -ℚ constant_at d i) (range_same (λ v. entry_at d i v *ℚ value_of_column (map f (range_with_len 0 (d.variables + 1))) v) (λ v. entry_at d i v *ℚ f v) 0 (d.variables + 1) (λ v low high. ap (λ u. entry_at d i v *ℚ u) (listed_at f (d.variables + 1) v (omega arith))))
 
 -- the values of entries of two lists added
 added_sum : (f g : ℕ → Number) (n k : ℕ) (entries : List (ℕ × Number)) → Within n entries → 1 + n ≤ k → sum_at entries (map (λ v. f v +ℚ g v) (range_with_len 0 k)) ≡ sum_at entries (map f (range_with_len 0 k)) +ℚ sum_at entries (map g (range_with_len 0 k))
@@ -56,23 +56,23 @@ added_sum f g n k (e ∷ entries) within room =
     apart a x y s t = simp ring_ℚ
 
 -- coefficients of rows by their places
-placed_sum : {X : Type 0} (g : ℕ → Number) (f : X → Number) (a : ℕ) (xs : List X) → sum_by_ℚ (λ v. g v *ℚ number_of (map f xs) (v - a)) (range_with_len a (length xs)) ≡ sum_by_ℚ (λ (p : ℕ × X). g p.0 *ℚ f p.1) (enumerate_from a xs)
+placed_sum : {X : Type 0} (g : ℕ → Number) (f : X → Number) (a : ℕ) (xs : List X) → sum_by_ℚ (λ v. g v *ℚ value_of_column (map f xs) (v - a)) (range_with_len a (length xs)) ≡ sum_by_ℚ (λ (p : ℕ × X). g p.0 *ℚ f p.1) (enumerate_from a xs)
 placed_sum g f a [] = sum_by_ℚ-nil _ ∙ sym (sum_by_ℚ-nil _)
 placed_sum g f a (x ∷ xs) =
     sum_by_ℚ-cons _ a (range_with_len (a + 1) (length xs))
-    ∙ ap₂ (λ u w. g a *ℚ u +ℚ w) (ap (number_of (f x ∷ map f xs)) (let e : a - a ≡ 0 = omega arith in e)) (range_same (λ v. g v *ℚ number_of (f x ∷ map f xs) (v - a)) (λ v. g v *ℚ number_of (map f xs) (v - (a + 1))) (a + 1) (length xs) (λ v low high. ap (λ k. g v *ℚ number_of (f x ∷ map f xs) k) (let e : v - a ≡ suc (v - (a + 1)) = omega arith in e)) ∙ placed_sum g f (a + 1) xs)
+    ∙ ap₂ (λ u w. g a *ℚ u +ℚ w) (ap (value_of_column (f x ∷ map f xs)) (let e : a - a ≡ 0 = omega arith in e)) (range_same (λ v. g v *ℚ value_of_column (f x ∷ map f xs) (v - a)) (λ v. g v *ℚ value_of_column (map f xs) (v - (a + 1))) (a + 1) (length xs) (λ v low high. ap (λ k. g v *ℚ value_of_column (f x ∷ map f xs) k) (let e : v - a ≡ suc (v - (a + 1)) = omega arith in e)) ∙ placed_sum g f (a + 1) xs)
     ∙ sym (sum_by_ℚ-cons _ (a, x) (enumerate_from (a + 1) xs))
 
 -- the value of coefficients at values of the variables, with the slacks that these determine
 abbrev pub priced_at : form.Standard → List Number → List Number → Number
 priced_at s costs y =
-    sum_by_ℚ (λ v. number_of costs v *ℚ number_of y v) (range_with_len 1 (length s.objective))
-    +ℚ sum_by_ℚ (λ (p : ℕ × form.StandardRow). number_of costs p.0 *ℚ (p.1.right -ℚ sum_at p.1.entries y)) (enumerate_from (length s.objective + 1) s.rows)
+    sum_by_ℚ (λ v. value_of_column costs v *ℚ value_of_column y v) (range_with_len 1 (length s.objective))
+    +ℚ sum_by_ℚ (λ (p : ℕ × form.StandardRow). value_of_column costs p.0 *ℚ (p.1.right -ℚ sum_at p.1.entries y)) (enumerate_from (length s.objective + 1) s.rows)
 
 -- Coefficients of the priced row: their value at values of the variables, and that none is above 0.
 pub record Costs (s : form.Standard) (costs : List Number) (start : Number) (target : List Number → Number) : Type 0 where
-  pub sums : (y : List Number) → length y ≡ length s.objective + 1 → number_of y 0 ≡ whole (pos 0) → priced_at s costs y ≡ start +ℚ target y
-  pub below : (v : ℕ) → 1 ≤ v → number_of costs v ≤ℚ whole (pos 0)
+  pub sums : (y : List Number) → length y ≡ length s.objective + 1 → value_of_column y 0 ≡ whole (pos 0) → priced_at s costs y ≡ start +ℚ target y
+  pub below : (v : ℕ) → 1 ≤ v → value_of_column costs v ≤ℚ whole (pos 0)
 
 -- an element that is got
 got : (xs : List ℕ) (k v d : ℕ) → slice_get xs k ≡ Some v → (k < length xs) × (slice_index_or xs k d ≡ v)
@@ -117,7 +117,7 @@ module _ (s : form.Standard) (d : Dictionary) (is : IsDictionaryOf s d) (not_due
     not_basic : row_of_basic d 0 ≡ None
     not_basic = no_row_of d 0 (λ k h at. second (k, h, at))
 
-    values_zero : number_of values 0 ≡ whole (pos 0)
+    values_zero : value_of_column values 0 ≡ whole (pos 0)
     values_zero = listed_at (λ v. value_by_row d (row_of_basic d v)) (d.variables + 1) 0 (omega arith) ∙ ap (value_by_row d) not_basic
 
     values_first : Meets (first_dictionary s) values (whole (pos 0) -ℚ constant_at d (length d.basic))
@@ -128,11 +128,11 @@ module _ (s : form.Standard) (d : Dictionary) (is : IsDictionaryOf s d) (not_due
         All-from_get_or (λ (row : form.StandardRow). sum_at row.entries values ≤ℚ row.right) s.rows no_row
         (λ r h.
         let row = slice_index_or s.rows r no_row in
-        let slack = number_of values (length s.objective + 1 + r) in
+        let slack = value_of_column values (length s.objective + 1 + r) in
         let equal = sym (first_row_at s values values_zero r h (within r no_row h)) ∙ values_first.rows r (omega (arith, length-range_with_len (length s.objective + 1) (length s.rows))) in
         ≤ℚ_from (at_least (length s.objective + 1 + r)) (balanced (sum_at row.entries values) slack row.right equal))
       where
-        at_least : (v : ℕ) → whole (pos 0) ≤ℚ number_of values v
+        at_least : (v : ℕ) → whole (pos 0) ≤ℚ value_of_column values v
         at_least v =
             elim (cases_lt v (length values)) [
               | inl h ↦ values_above v (whole (pos 0)) h
@@ -197,7 +197,7 @@ module _ (s : form.Standard) (d : Dictionary) (is : IsDictionaryOf s d) (not_due
           itself : (a : Number) → (a +ℚ whole (pos 0)) -ℚ a ≡ whole (pos 0)
           itself a = simp ring_ℚ
 
-      changes_zero : number_of changes 0 ≡ whole (pos 0)
+      changes_zero : value_of_column changes 0 ≡ whole (pos 0)
       changes_zero =
           listed_at (λ v. change_by_row d q v (row_of_basic d v)) (d.variables + 1) 0 (omega arith) ∙ ap (change_by_row d q 0) not_basic ∙ by (q == 0) refl
         where
@@ -205,7 +205,7 @@ module _ (s : form.Standard) (d : Dictionary) (is : IsDictionaryOf s d) (not_due
           by true e = absurd (unlimited.1.other (equal_numbers q 0 e))
           by false e = refl
 
-      moved_zero : number_of moved 0 ≡ whole (pos 0)
+      moved_zero : value_of_column moved 0 ≡ whole (pos 0)
       moved_zero =
           listed_at (λ v. value_by_row d (row_of_basic d v) +ℚ change_by_row d q v (row_of_basic d v)) (d.variables + 1) 0 (omega arith)
           ∙ ap₂ (λ u w. u +ℚ w) (sym (listed_at (λ v. value_by_row d (row_of_basic d v)) (d.variables + 1) 0 (omega arith)) ∙ values_zero) (sym (listed_at (λ v. change_by_row d q v (row_of_basic d v)) (d.variables + 1) 0 (omega arith)) ∙ changes_zero)
@@ -215,7 +215,7 @@ module _ (s : form.Standard) (d : Dictionary) (is : IsDictionaryOf s d) (not_due
       moved_first = (is.same moved ((whole (pos 0) +ℚ entry_at d (length d.basic) q) -ℚ constant_at d (length d.basic)) (λ _. moved_zero)).0 moved_meet
 
       -- what the ray does to each row, and to the objective
-      row_along : (r : ℕ) → r < length s.rows → sum_at (slice_index_or s.rows r no_row).entries changes +ℚ number_of changes (length s.objective + 1 + r) ≡ whole (pos 0)
+      row_along : (r : ℕ) → r < length s.rows → sum_at (slice_index_or s.rows r no_row).entries changes +ℚ value_of_column changes (length s.objective + 1 + r) ≡ whole (pos 0)
       row_along r h =
           let row = slice_index_or s.rows r no_row in
           let v = length s.objective + 1 + r in
@@ -224,9 +224,9 @@ module _ (s : form.Standard) (d : Dictionary) (is : IsDictionaryOf s d) (not_due
           let at_values = sym (first_row_at s values values_zero r h (within r no_row h)) ∙ values_first.rows r in_first in
           let at_moved = sym (first_row_at s moved moved_zero r h (within r no_row h)) ∙ moved_first.rows r in_first in
           let sums = added_sum (λ v. value_by_row d (row_of_basic d v)) (λ v. change_by_row d q v (row_of_basic d v)) (length s.objective) (d.variables + 1) row.entries (within r no_row h) (omega (arith, is.variables)) in
-          let slacks : number_of moved v ≡ number_of values v +ℚ number_of changes v = listed_at (λ v. value_by_row d (row_of_basic d v) +ℚ change_by_row d q v (row_of_basic d v)) (d.variables + 1) v low ∙ sym (ap₂ (λ u w. u +ℚ w) (listed_at (λ v. value_by_row d (row_of_basic d v)) (d.variables + 1) v low) (listed_at (λ v. change_by_row d q v (row_of_basic d v)) (d.variables + 1) v low)) in
-          apart (sum_at row.entries values) (number_of values v) (sum_at row.entries changes) (number_of changes v) row.right
-          ∙ ap₂ (λ u w. (u +ℚ w) -ℚ row.right -ℚ ((sum_at row.entries values +ℚ number_of values v) -ℚ row.right)) (sym sums) (sym slacks)
+          let slacks : value_of_column moved v ≡ value_of_column values v +ℚ value_of_column changes v = listed_at (λ v. value_by_row d (row_of_basic d v) +ℚ change_by_row d q v (row_of_basic d v)) (d.variables + 1) v low ∙ sym (ap₂ (λ u w. u +ℚ w) (listed_at (λ v. value_by_row d (row_of_basic d v)) (d.variables + 1) v low) (listed_at (λ v. change_by_row d q v (row_of_basic d v)) (d.variables + 1) v low)) in
+          apart (sum_at row.entries values) (value_of_column values v) (sum_at row.entries changes) (value_of_column changes v) row.right
+          ∙ ap₂ (λ u w. (u +ℚ w) -ℚ row.right -ℚ ((sum_at row.entries values +ℚ value_of_column values v) -ℚ row.right)) (sym sums) (sym slacks)
           ∙ ap₂ (λ u w. u -ℚ w) at_moved at_values
           ∙ simp ring_ℚ
         where
@@ -236,9 +236,9 @@ module _ (s : form.Standard) (d : Dictionary) (is : IsDictionaryOf s d) (not_due
       pub rows_along : All (λ (row : form.StandardRow). sum_at row.entries changes ≤ℚ whole (pos 0)) s.rows
       rows_along =
           All-from_get_or (λ (row : form.StandardRow). sum_at row.entries changes ≤ℚ whole (pos 0)) s.rows no_row
-          (λ r h. let row = slice_index_or s.rows r no_row in ≤ℚ_from (at_least (length s.objective + 1 + r)) (balanced (sum_at row.entries changes) (number_of changes (length s.objective + 1 + r)) (row_along r h)))
+          (λ r h. let row = slice_index_or s.rows r no_row in ≤ℚ_from (at_least (length s.objective + 1 + r)) (balanced (sum_at row.entries changes) (value_of_column changes (length s.objective + 1 + r)) (row_along r h)))
         where
-          at_least : (v : ℕ) → whole (pos 0) ≤ℚ number_of changes v
+          at_least : (v : ℕ) → whole (pos 0) ≤ℚ value_of_column changes v
           at_least v =
               elim (cases_lt v (length changes)) [
                 | inl h ↦ changes_above v (whole (pos 0)) h
@@ -274,7 +274,7 @@ module _ (s : form.Standard) (d : Dictionary) (is : IsDictionaryOf s d) (not_due
   costs = map (λ v. cost_by_row d (priced_row d) v (row_of_basic d v)) (all_variables d)
 
   module _ (priced : ℕ) (row_is : priced_row d ≡ priced) (room : priced ≤ length d.basic) (own : (k : ℕ) → k < length d.basic → priced ≡ k → basic_at d k ≡ 0) where
-    cost_is : (v : ℕ) → 1 ≤ v → v < d.variables + 1 → number_of costs v ≡ entry_at d priced v
+    cost_is : (v : ℕ) → 1 ≤ v → v < d.variables + 1 → value_of_column costs v ≡ entry_at d priced v
     cost_is v past low = listed_at (λ v. cost_by_row d (priced_row d) v (row_of_basic d v)) (d.variables + 1) v low ∙ ap (λ k. cost_by_row d k v (row_of_basic d v)) row_is ∙ by (row_of_basic d v) refl
       where
         by : (r : Option ℕ) → row_of_basic d v ≡ r → cost_by_row d priced v r ≡ entry_at d priced v
@@ -286,30 +286,30 @@ module _ (s : form.Standard) (d : Dictionary) (is : IsDictionaryOf s d) (not_due
 
     -- the value of the coefficients, if the values extend to a list whose sum in the priced row is
     -- known
-    pub priced_sum : (y : List Number) (total : Number) (sized : length y ≡ length s.objective + 1) → number_of y 0 ≡ whole (pos 0) → sum_by_ℚ (λ v. entry_at d priced v *ℚ number_of (filled s y) v) (range_with_len 0 (d.variables + 1)) ≡ total → priced_at s costs y ≡ total
+    pub priced_sum : (y : List Number) (total : Number) (sized : length y ≡ length s.objective + 1) → value_of_column y 0 ≡ whole (pos 0) → sum_by_ℚ (λ v. entry_at d priced v *ℚ value_of_column (filled s y) v) (range_with_len 0 (d.variables + 1)) ≡ total → priced_at s costs y ≡ total
     priced_sum y total sized zero_there e =
         let n = length s.objective in
         let m = length s.rows in
-        let g = λ (v : ℕ). number_of costs v *ℚ number_of (filled s y) v in
+        let g = λ (v : ℕ). value_of_column costs v *ℚ value_of_column (filled s y) v in
         let all : sum_by_ℚ g (range_with_len 1 (n + m)) ≡ total =
-        range_same g (λ v. entry_at d priced v *ℚ number_of (filled s y) v) 1 (n + m) (λ v low high. ap (λ u. u *ℚ number_of (filled s y) v) (cost_is v low (omega (arith, is.variables))))
-        ∙ sym (without_zero (n + m) (λ v. entry_at d priced v *ℚ number_of (filled s y) v) (ap (λ u. entry_at d priced 0 *ℚ u) (filled_zero s y sized zero_there within) ∙ *ℚ-zero (entry_at d priced 0)))
-        ∙ ap (λ k. sum_by_ℚ (λ v. entry_at d priced v *ℚ number_of (filled s y) v) (range_with_len 0 (k + 1))) (sym is.variables)
+        range_same g (λ v. entry_at d priced v *ℚ value_of_column (filled s y) v) 1 (n + m) (λ v low high. ap (λ u. u *ℚ value_of_column (filled s y) v) (cost_is v low (omega (arith, is.variables))))
+        ∙ sym (without_zero (n + m) (λ v. entry_at d priced v *ℚ value_of_column (filled s y) v) (ap (λ u. entry_at d priced 0 *ℚ u) (filled_zero s y sized zero_there within) ∙ *ℚ-zero (entry_at d priced 0)))
+        ∙ ap (λ k. sum_by_ℚ (λ v. entry_at d priced v *ℚ value_of_column (filled s y) v) (range_with_len 0 (k + 1))) (sym is.variables)
         ∙ e in
         ap₂ (λ u w. u +ℚ w)
-        (range_same (λ v. number_of costs v *ℚ number_of y v) g 1 n (λ v low high. ap (λ u. number_of costs v *ℚ u) (sym (filled_other s y sized v (omega arith)))))
-        (sym (placed_sum (number_of costs) (λ (row : form.StandardRow). row.right -ℚ sum_at row.entries y) (n + 1) s.rows)
-        ∙ range_same (λ v. number_of costs v *ℚ number_of (map (λ (row : form.StandardRow). row.right -ℚ sum_at row.entries y) s.rows) (v - (n + 1))) g (n + 1) m (λ v low high. ap (λ u. number_of costs v *ℚ u) (behind v low (omega arith)))
+        (range_same (λ v. value_of_column costs v *ℚ value_of_column y v) g 1 n (λ v low high. ap (λ u. value_of_column costs v *ℚ u) (sym (filled_other s y sized v (omega arith)))))
+        (sym (placed_sum (value_of_column costs) (λ (row : form.StandardRow). row.right -ℚ sum_at row.entries y) (n + 1) s.rows)
+        ∙ range_same (λ v. value_of_column costs v *ℚ value_of_column (map (λ (row : form.StandardRow). row.right -ℚ sum_at row.entries y) s.rows) (v - (n + 1))) g (n + 1) m (λ v low high. ap (λ u. value_of_column costs v *ℚ u) (behind v low (omega arith)))
         ∙ ap (λ a. sum_by_ℚ g (range_with_len a m)) (let c : n + 1 ≡ 1 + n = omega arith in c))
         ∙ sym (sum_by_ℚ-append g (range_with_len 1 n) (range_with_len (1 + n) m)) ∙ ap (sum_by_ℚ g) (sym (range-append 1 n m)) ∙ all
       where
-        behind : (v : ℕ) → length s.objective + 1 ≤ v → v < length s.objective + 1 + length s.rows → number_of (map (λ (row : form.StandardRow). row.right -ℚ sum_at row.entries y) s.rows) (v - (length s.objective + 1)) ≡ number_of (filled s y) v
+        behind : (v : ℕ) → length s.objective + 1 ≤ v → v < length s.objective + 1 + length s.rows → value_of_column (map (λ (row : form.StandardRow). row.right -ℚ sum_at row.entries y) s.rows) (v - (length s.objective + 1)) ≡ value_of_column (filled s y) v
         behind v low high =
             let r = v - (length s.objective + 1) in
-            sym (ap (λ k. number_of (filled s y) k) (let c : v ≡ length y + r = omega (arith, sized) in c) ∙ get_or-append-add y (map (λ (row : form.StandardRow). row.right -ℚ sum_at row.entries y) s.rows) r (whole (pos 0)))
+            sym (ap (λ k. value_of_column (filled s y) k) (let c : v ≡ length y + r = omega (arith, sized) in c) ∙ get_or-append-add y (map (λ (row : form.StandardRow). row.right -ℚ sum_at row.entries y) s.rows) r (whole (pos 0)))
 
     -- no coefficient is above 0
-    pub costs_below : NothingImproves d → ((k : ℕ) → IsPriced d k → k ≡ priced) → (v : ℕ) → 1 ≤ v → number_of costs v ≤ℚ whole (pos 0)
+    pub costs_below : NothingImproves d → ((k : ℕ) → IsPriced d k → k ≡ priced) → (v : ℕ) → 1 ≤ v → value_of_column costs v ≤ℚ whole (pos 0)
     costs_below nothing only v past =
         elim (cases_lt v (d.variables + 1)) [
           | inl low ↦ subst (λ u. u ≤ℚ whole (pos 0)) (sym (cost_is v past low)) (by low (row_of_basic d v) refl)

@@ -9,10 +9,10 @@ use Rattle.gq_number.specs.Sums.{sum_by_ℚ}
 use Rattle.gq_number.proofs.Ring.{ring_ℚ}
 use Rattle.gq_number.proofs.Sums.{sum_by_ℚ-nil, sum_by_ℚ-cons, sum_by_ℚ-append}
 use Rattle.lp_core.specs.declared.program.Column.{Column}
-use Rattle.lp_core.specs.Sums.{number_of}
+use Rattle.lp_core.specs.Sums.{value_of_column}
 use Rattle.lp_core.specs.Feasible.{bound_value}
 use Rattle.lp_core.specs.StandardForm as form
-use Rattle.lp_std.specs.Pieces.{bounds_over}
+use Rattle.lp_std.specs.InnerSteps.{bounds_over}
 use Rattle.lp_std.specs.Points.{sum_at}
 use Rattle.lp_std.proofs.BoundSteps.{counted_by_bounds}
 use Rattle.lp_std.proofs.Shapes.{shift_for}
@@ -32,10 +32,10 @@ length-piece (form.from_upper b) a c = refl
 length-piece form.free a c = refl
 
 -- a value after others
-value_at : (front : List Number) (a : Number) (rest y : List Number) (v : ℕ) → y ≡ front ++ a ∷ rest → length front ≡ v → number_of y v ≡ a
-value_at front a rest y v e n = ap (λ l. number_of l v) e ∙ get_or_at front a rest (whole (pos 0)) v n
+value_at : (front : List Number) (a : Number) (rest y : List Number) (v : ℕ) → y ≡ front ++ a ∷ rest → length front ≡ v → value_of_column y v ≡ a
+value_at front a rest y v e n = ap (λ l. value_of_column l v) e ∙ get_or_at front a rest (whole (pos 0)) v n
 
-value_next : (front : List Number) (a c : Number) (rest y : List Number) (v : ℕ) → y ≡ front ++ a ∷ c ∷ rest → length front ≡ v → number_of y (v + 1) ≡ c
+value_next : (front : List Number) (a c : Number) (rest y : List Number) (v : ℕ) → y ≡ front ++ a ∷ c ∷ rest → length front ≡ v → value_of_column y (v + 1) ≡ c
 value_next front a c rest y v e n = value_at (front ++ a ∷ []) c rest y (v + 1) (e ∙ sym (append_assoc front (a ∷ []) (c ∷ rest))) (length-append front (a ∷ []) ∙ ap (λ k. k + 1) n)
 
 -- the column has that value there
@@ -48,21 +48,21 @@ module _ {F : Type 0} (value : F → Number) (costs : List Number) (n : ℕ) whe
   -- the share of a column in the value of coefficients: one part by its value, one by its second
   -- variable's value, and a constant
   abbrev pub slope : ℕ → ℕ → Option F → Option F → Number
-  slope v r (Some l) (Some u) = number_of costs v +ℚ form.multiplier n costs r
-  slope v r (Some l) None = number_of costs v
-  slope v r None (Some u) = neg_ℚ (number_of costs v)
-  slope v r None None = number_of costs v
+  slope v r (Some l) (Some u) = value_of_column costs v +ℚ form.multiplier n costs r
+  slope v r (Some l) None = value_of_column costs v
+  slope v r None (Some u) = neg_ℚ (value_of_column costs v)
+  slope v r None None = value_of_column costs v
 
   abbrev pub second : ℕ → ℕ → Option F → Option F → Number
   second v r (Some l) (Some u) = whole (pos 0)
   second v r (Some l) None = whole (pos 0)
   second v r None (Some u) = whole (pos 0)
-  second v r None None = number_of costs v +ℚ number_of costs (v + 1)
+  second v r None None = value_of_column costs v +ℚ value_of_column costs (v + 1)
 
   abbrev pub constant : ℕ → ℕ → Option F → Option F → Number
-  constant v r (Some l) (Some u) = neg_ℚ (number_of costs v *ℚ value l +ℚ form.multiplier n costs r *ℚ value u)
-  constant v r (Some l) None = neg_ℚ (number_of costs v *ℚ value l)
-  constant v r None (Some u) = number_of costs v *ℚ value u
+  constant v r (Some l) (Some u) = neg_ℚ (value_of_column costs v *ℚ value l +ℚ form.multiplier n costs r *ℚ value u)
+  constant v r (Some l) None = neg_ℚ (value_of_column costs v *ℚ value l)
+  constant v r None (Some u) = value_of_column costs v *ℚ value u
   constant v r None None = whole (pos 0)
 
   -- the numbers of columns, the first with first variable v and own row at place r
@@ -106,38 +106,38 @@ module _ (x t : ℕ → Number) where
     two_terms : (f : ℕ → Number) (v : ℕ) → sum_by_ℚ f (range_with_len v 2) ≡ f v +ℚ f (v + 1)
     two_terms f v = sum_by_ℚ-cons f v ((v + 1) ∷ []) ∙ ap (λ u. f v +ℚ u) (one_term f (v + 1))
 
-    one_entry : (v : ℕ) (y : List Number) → sum_at ((v, whole (pos 1)) ∷ []) y ≡ number_of y v
-    one_entry v y = sum_by_ℚ-cons _ (v, whole (pos 1)) [] ∙ ap (λ u. whole (pos 1) *ℚ number_of y v +ℚ u) (sum_by_ℚ-nil _) ∙ simp ring_ℚ
+    one_entry : (v : ℕ) (y : List Number) → sum_at ((v, whole (pos 1)) ∷ []) y ≡ value_of_column y v
+    one_entry v y = sum_by_ℚ-cons _ (v, whole (pos 1)) [] ∙ ap (λ u. whole (pos 1) *ℚ value_of_column y v +ℚ u) (sum_by_ℚ-nil _) ∙ simp ring_ℚ
 
-    column_sum : (lower upper : Option F) (front : List Number) (a c : Number) (rest y : List Number) (v r j : ℕ) → y ≡ front ++ (piece (form.shift_of (bound_value value lower) (bound_value value upper)) a c ++ rest) → length front ≡ v → sum_by_ℚ (λ w. number_of costs w *ℚ number_of y w) (range_with_len v (form.width (form.shift_of (bound_value value lower) (bound_value value upper)))) +ℚ slack_sum costs y (n + 1 + r) (form.bound_rows j v (bound_value value lower) (bound_value value upper)) ≡ slope value costs n v r lower upper *ℚ a +ℚ second value costs n v r lower upper *ℚ c +ℚ constant value costs n v r lower upper
+    column_sum : (lower upper : Option F) (front : List Number) (a c : Number) (rest y : List Number) (v r j : ℕ) → y ≡ front ++ (piece (form.shift_of (bound_value value lower) (bound_value value upper)) a c ++ rest) → length front ≡ v → sum_by_ℚ (λ w. value_of_column costs w *ℚ value_of_column y w) (range_with_len v (form.width (form.shift_of (bound_value value lower) (bound_value value upper)))) +ℚ slack_sum costs y (n + 1 + r) (form.bound_rows j v (bound_value value lower) (bound_value value upper)) ≡ slope value costs n v r lower upper *ℚ a +ℚ second value costs n v r lower upper *ℚ c +ℚ constant value costs n v r lower upper
     column_sum (Some l) (Some u) front a c rest y v r j e m =
         let is = value_at front (a -ℚ value l) rest y v e m in
-        ap₂ (λ s w. s +ℚ w) (one_term (λ w. number_of costs w *ℚ number_of y w) v ∙ ap (λ k. number_of costs v *ℚ k) is) (one_slack costs y (n + 1 + r) _ ∙ ap (λ k. number_of costs (n + 1 + r) *ℚ ((value u -ℚ value l) -ℚ k)) (one_entry v y ∙ is))
-        ∙ apart (number_of costs v) (number_of costs (n + 1 + r)) (value l) (value u) a c
+        ap₂ (λ s w. s +ℚ w) (one_term (λ w. value_of_column costs w *ℚ value_of_column y w) v ∙ ap (λ k. value_of_column costs v *ℚ k) is) (one_slack costs y (n + 1 + r) _ ∙ ap (λ k. value_of_column costs (n + 1 + r) *ℚ ((value u -ℚ value l) -ℚ k)) (one_entry v y ∙ is))
+        ∙ apart (value_of_column costs v) (value_of_column costs (n + 1 + r)) (value l) (value u) a c
       where
         apart : (k p l u a c : Number) → k *ℚ (a -ℚ l) +ℚ p *ℚ ((u -ℚ l) -ℚ (a -ℚ l)) ≡ (k +ℚ neg_ℚ p) *ℚ a +ℚ whole (pos 0) *ℚ c +ℚ neg_ℚ (k *ℚ l +ℚ neg_ℚ p *ℚ u)
         apart k p l u a c = simp ring_ℚ
     column_sum (Some l) None front a c rest y v r j e m =
-        ap₂ (λ s w. s +ℚ w) (one_term (λ w. number_of costs w *ℚ number_of y w) v ∙ ap (λ k. number_of costs v *ℚ k) (value_at front (a -ℚ value l) rest y v e m)) (sum_by_ℚ-nil _)
-        ∙ apart (number_of costs v) (value l) a c
+        ap₂ (λ s w. s +ℚ w) (one_term (λ w. value_of_column costs w *ℚ value_of_column y w) v ∙ ap (λ k. value_of_column costs v *ℚ k) (value_at front (a -ℚ value l) rest y v e m)) (sum_by_ℚ-nil _)
+        ∙ apart (value_of_column costs v) (value l) a c
       where
         apart : (k l a c : Number) → k *ℚ (a -ℚ l) +ℚ whole (pos 0) ≡ k *ℚ a +ℚ whole (pos 0) *ℚ c +ℚ neg_ℚ (k *ℚ l)
         apart k l a c = simp ring_ℚ
     column_sum None (Some u) front a c rest y v r j e m =
-        ap₂ (λ s w. s +ℚ w) (one_term (λ w. number_of costs w *ℚ number_of y w) v ∙ ap (λ k. number_of costs v *ℚ k) (value_at front (value u -ℚ a) rest y v e m)) (sum_by_ℚ-nil _)
-        ∙ apart (number_of costs v) (value u) a c
+        ap₂ (λ s w. s +ℚ w) (one_term (λ w. value_of_column costs w *ℚ value_of_column y w) v ∙ ap (λ k. value_of_column costs v *ℚ k) (value_at front (value u -ℚ a) rest y v e m)) (sum_by_ℚ-nil _)
+        ∙ apart (value_of_column costs v) (value u) a c
       where
         apart : (k u a c : Number) → k *ℚ (u -ℚ a) +ℚ whole (pos 0) ≡ neg_ℚ k *ℚ a +ℚ whole (pos 0) *ℚ c +ℚ k *ℚ u
         apart k u a c = simp ring_ℚ
     column_sum None None front a c rest y v r j e m =
-        ap₂ (λ s w. s +ℚ w) (two_terms (λ w. number_of costs w *ℚ number_of y w) v ∙ ap₂ (λ k l. number_of costs v *ℚ k +ℚ number_of costs (v + 1) *ℚ l) (value_at front (a +ℚ c) (c ∷ rest) y v e m) (value_next front (a +ℚ c) c rest y v e m)) (sum_by_ℚ-nil _)
-        ∙ apart (number_of costs v) (number_of costs (v + 1)) a c
+        ap₂ (λ s w. s +ℚ w) (two_terms (λ w. value_of_column costs w *ℚ value_of_column y w) v ∙ ap₂ (λ k l. value_of_column costs v *ℚ k +ℚ value_of_column costs (v + 1) *ℚ l) (value_at front (a +ℚ c) (c ∷ rest) y v e m) (value_next front (a +ℚ c) c rest y v e m)) (sum_by_ℚ-nil _)
+        ∙ apart (value_of_column costs v) (value_of_column costs (v + 1)) a c
       where
         apart : (k l a c : Number) → (k *ℚ (a +ℚ c) +ℚ l *ℚ c) +ℚ whole (pos 0) ≡ k *ℚ a +ℚ (k +ℚ l) *ℚ c +ℚ whole (pos 0)
         apart k l a c = simp ring_ℚ
 
     -- columns and their own rows
-    pub columns_sum : (all : List (ℕ × form.Shift)) (columns : List (Column F)) (front y : List Number) (v r j : ℕ) → y ≡ front ++ lift (map (shift_for value) columns) j → length front ≡ v → ((k : ℕ) → form.column_at all (j + k) ≡ form.column_at (form.numbered v (map (shift_for value) columns)) k) → sum_by_ℚ (λ w. number_of costs w *ℚ number_of y w) (range_with_len v (sum_by form.width (map (shift_for value) columns))) +ℚ slack_sum costs y (n + 1 + r) (bounds_over value all j columns) ≡ weighted x j (by_columns value costs n (slope value costs n) v r columns) +ℚ weighted t j (by_columns value costs n (second value costs n) v r columns) +ℚ plain (by_columns value costs n (constant value costs n) v r columns)
+    pub columns_sum : (all : List (ℕ × form.Shift)) (columns : List (Column F)) (front y : List Number) (v r j : ℕ) → y ≡ front ++ lift (map (shift_for value) columns) j → length front ≡ v → ((k : ℕ) → form.column_at all (j + k) ≡ form.column_at (form.numbered v (map (shift_for value) columns)) k) → sum_by_ℚ (λ w. value_of_column costs w *ℚ value_of_column y w) (range_with_len v (sum_by form.width (map (shift_for value) columns))) +ℚ slack_sum costs y (n + 1 + r) (bounds_over value all j columns) ≡ weighted x j (by_columns value costs n (slope value costs n) v r columns) +ℚ weighted t j (by_columns value costs n (second value costs n) v r columns) +ℚ plain (by_columns value costs n (constant value costs n) v r columns)
     columns_sum all [] front y v r j e m at = ap₂ (λ a b. a +ℚ b) (sum_by_ℚ-nil _) (sum_by_ℚ-nil _) ∙ nothing ∙ sym (ap₂ (λ a b. a +ℚ b) (ap₂ (λ a b. a +ℚ b) (sum_by_ℚ-nil _) (sum_by_ℚ-nil _)) (sum_by_ℚ-nil _))
       where
         nothing : whole (pos 0) +ℚ whole (pos 0) ≡ whole (pos 0) +ℚ whole (pos 0) +ℚ whole (pos 0)
@@ -145,7 +145,7 @@ module _ (x t : ℕ → Number) where
     columns_sum all (column ∷ columns) front y v r j e m at =
         let s = shift_for value column in
         let shifts = map (shift_for value) columns in
-        let g = λ (w : ℕ). number_of costs w *ℚ number_of y w in
+        let g = λ (w : ℕ). value_of_column costs w *ℚ value_of_column y w in
         let W = sum_by form.width shifts in
         let here : form.column_at all j ≡ (v, s) = ap (form.column_at all) (let c : j ≡ j + 0 = omega arith in c) ∙ at 0 in
         let first = form.bound_rows j v (bound_value value column.lower) (bound_value value column.upper) in

@@ -9,9 +9,9 @@ use Rattle.gq_number.proofs.Sums.{sum_by_ℚ-nil, sum_by_ℚ-cons, sum_by_ℚ-ap
 use Rattle.lp_core.specs.declared.program.Sense.{Sense}
 use Rattle.lp_core.specs.declared.program.Sense.TheVariants as sense
 use Rattle.lp_core.specs.declared.program.Row.{Row}
-use Rattle.lp_core.specs.Sums.{number_of, row_sum}
+use Rattle.lp_core.specs.Sums.{value_of_column, row_sum}
 use Rattle.lp_core.specs.StandardForm as form
-use Rattle.lp_std.specs.Pieces.{rows_over, spread_entries}
+use Rattle.lp_std.specs.InnerSteps.{rows_over, spread_entries}
 use Rattle.lp_std.specs.Points.{sum_at}
 use Rattle.lp_std.proofs.RowSteps.{counted_by_sense}
 use Rattle.lp_std.proofs.SamePoints.{left_at, negated_at}
@@ -23,16 +23,16 @@ enumerate-append a (x ∷ xs) ys = ap (λ zs. (a, x) ∷ zs) (enumerate-append (
 
 -- what rows of the standard form leave, each times its coefficient; the first has number a
 abbrev pub slack_sum : List Number → List Number → ℕ → List form.StandardRow → Number
-slack_sum costs y a rows = sum_by_ℚ (λ (p : ℕ × form.StandardRow). number_of costs p.0 *ℚ (p.1.right -ℚ sum_at p.1.entries y)) (enumerate_from a rows)
+slack_sum costs y a rows = sum_by_ℚ (λ (p : ℕ × form.StandardRow). value_of_column costs p.0 *ℚ (p.1.right -ℚ sum_at p.1.entries y)) (enumerate_from a rows)
 
 pub slack_sum-append : (costs y : List Number) (a : ℕ) (xs ys : List form.StandardRow) → slack_sum costs y a (xs ++ ys) ≡ slack_sum costs y a xs +ℚ slack_sum costs y (a + length xs) ys
-slack_sum-append costs y a xs ys = ap (sum_by_ℚ (λ (p : ℕ × form.StandardRow). number_of costs p.0 *ℚ (p.1.right -ℚ sum_at p.1.entries y))) (enumerate-append a xs ys) ∙ sum_by_ℚ-append _ (enumerate_from a xs) (enumerate_from (a + length xs) ys)
+slack_sum-append costs y a xs ys = ap (sum_by_ℚ (λ (p : ℕ × form.StandardRow). value_of_column costs p.0 *ℚ (p.1.right -ℚ sum_at p.1.entries y))) (enumerate-append a xs ys) ∙ sum_by_ℚ-append _ (enumerate_from a xs) (enumerate_from (a + length xs) ys)
 
-pub one_slack : (costs y : List Number) (a : ℕ) (row : form.StandardRow) → slack_sum costs y a (row ∷ []) ≡ number_of costs a *ℚ (row.right -ℚ sum_at row.entries y)
-one_slack costs y a row = sum_by_ℚ-cons _ (a, row) [] ∙ ap (λ u. number_of costs a *ℚ (row.right -ℚ sum_at row.entries y) +ℚ u) (sum_by_ℚ-nil _) ∙ simp ring_ℚ
+pub one_slack : (costs y : List Number) (a : ℕ) (row : form.StandardRow) → slack_sum costs y a (row ∷ []) ≡ value_of_column costs a *ℚ (row.right -ℚ sum_at row.entries y)
+one_slack costs y a row = sum_by_ℚ-cons _ (a, row) [] ∙ ap (λ u. value_of_column costs a *ℚ (row.right -ℚ sum_at row.entries y) +ℚ u) (sum_by_ℚ-nil _) ∙ simp ring_ℚ
 
-two_slacks : (costs y : List Number) (a : ℕ) (row next : form.StandardRow) → slack_sum costs y a (row ∷ next ∷ []) ≡ number_of costs a *ℚ (row.right -ℚ sum_at row.entries y) +ℚ number_of costs (a + 1) *ℚ (next.right -ℚ sum_at next.entries y)
-two_slacks costs y a row next = sum_by_ℚ-cons _ (a, row) ((a + 1, next) ∷ []) ∙ ap (λ u. number_of costs a *ℚ (row.right -ℚ sum_at row.entries y) +ℚ u) (one_slack costs y (a + 1) next)
+two_slacks : (costs y : List Number) (a : ℕ) (row next : form.StandardRow) → slack_sum costs y a (row ∷ next ∷ []) ≡ value_of_column costs a *ℚ (row.right -ℚ sum_at row.entries y) +ℚ value_of_column costs (a + 1) *ℚ (next.right -ℚ sum_at next.entries y)
+two_slacks costs y a row next = sum_by_ℚ-cons _ (a, row) ((a + 1, next) ∷ []) ∙ ap (λ u. value_of_column costs a *ℚ (row.right -ℚ sum_at row.entries y) +ℚ u) (one_slack costs y (a + 1) next)
 
 -- what a row with its sign changed leaves
 negated_left : (i : ℕ) (row : form.StandardRow) (y : List Number) (left : Number) → row.right -ℚ sum_at row.entries y ≡ left → (form.negated_row i row).right -ℚ sum_at (form.negated_row i row).entries y ≡ neg_ℚ left
@@ -46,17 +46,17 @@ module _ (costs y : List Number) (n : ℕ) where
   sense_sum : (s : Sense) (i r : ℕ) (row : form.StandardRow) (left : Number) → row.right -ℚ sum_at row.entries y ≡ left → slack_sum costs y (n + 1 + r) (form.rows_by_sense s i row) ≡ neg_ℚ (form.dual_by_sense s (form.multiplier n costs) r *ℚ left)
   sense_sum sense.E i r row left e =
       two_slacks costs y (n + 1 + r) row (form.negated_row i row)
-      ∙ ap₂ (λ u w. number_of costs (n + 1 + r) *ℚ u +ℚ number_of costs (n + 1 + r + 1) *ℚ w) e (negated_left i row y left e)
-      ∙ ap (λ k. number_of costs (n + 1 + r) *ℚ left +ℚ number_of costs k *ℚ neg_ℚ left) (let c : n + 1 + r + 1 ≡ n + 1 + (r + 1) = omega arith in c)
-      ∙ apart (number_of costs (n + 1 + r)) (number_of costs (n + 1 + (r + 1))) left
+      ∙ ap₂ (λ u w. value_of_column costs (n + 1 + r) *ℚ u +ℚ value_of_column costs (n + 1 + r + 1) *ℚ w) e (negated_left i row y left e)
+      ∙ ap (λ k. value_of_column costs (n + 1 + r) *ℚ left +ℚ value_of_column costs k *ℚ neg_ℚ left) (let c : n + 1 + r + 1 ≡ n + 1 + (r + 1) = omega arith in c)
+      ∙ apart (value_of_column costs (n + 1 + r)) (value_of_column costs (n + 1 + (r + 1))) left
     where
       apart : (a b l : Number) → a *ℚ l +ℚ b *ℚ neg_ℚ l ≡ neg_ℚ ((neg_ℚ a -ℚ neg_ℚ b) *ℚ l)
       apart a b l = simp ring_ℚ
-  sense_sum sense.L i r row left e = one_slack costs y (n + 1 + r) row ∙ ap (λ u. number_of costs (n + 1 + r) *ℚ u) e ∙ apart (number_of costs (n + 1 + r)) left
+  sense_sum sense.L i r row left e = one_slack costs y (n + 1 + r) row ∙ ap (λ u. value_of_column costs (n + 1 + r) *ℚ u) e ∙ apart (value_of_column costs (n + 1 + r)) left
     where
       apart : (a l : Number) → a *ℚ l ≡ neg_ℚ (neg_ℚ a *ℚ l)
       apart a l = simp ring_ℚ
-  sense_sum sense.G i r row left e = one_slack costs y (n + 1 + r) (form.negated_row i row) ∙ ap (λ u. number_of costs (n + 1 + r) *ℚ u) (negated_left i row y left e) ∙ apart (number_of costs (n + 1 + r)) left
+  sense_sum sense.G i r row left e = one_slack costs y (n + 1 + r) (form.negated_row i row) ∙ ap (λ u. value_of_column costs (n + 1 + r) *ℚ u) (negated_left i row y left e) ∙ apart (value_of_column costs (n + 1 + r)) left
     where
       apart : (a l : Number) → a *ℚ neg_ℚ l ≡ neg_ℚ (neg_ℚ (neg_ℚ a) *ℚ l)
       apart a l = simp ring_ℚ

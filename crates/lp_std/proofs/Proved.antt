@@ -17,7 +17,7 @@ use Rattle.gq_number.proofs.Sums.{sum_by_ℚ-nil, sum_by_ℚ-cons, sum_by_ℚ-ze
 use Rattle.lp_core.specs.declared.program.Column.{Column}
 use Rattle.lp_core.specs.declared.program.Row.{Row}
 use Rattle.lp_core.specs.declared.program.Lp.{Lp}
-use Rattle.lp_core.specs.Sums.{number_of, coefficient, row_sum}
+use Rattle.lp_core.specs.Sums.{value_of_column, column_coefficient, row_sum}
 use Rattle.lp_core.specs.Feasible.{bound_value}
 use Rattle.lp_core.specs.WellFormed.{IsWellFormed}
 use Rattle.lp_core.specs.DualBound.{row_lower, row_upper, used, total, both, reduced_cost}
@@ -26,7 +26,7 @@ use Rattle.lp_core.specs.StandardForm as form
 use Rattle.lp_core.proofs.RowSums.{sum_by_same, unit_sum, row_by_columns}
 use Rattle.lp_core.proofs.Duality.{All-zip}
 use Rattle.lp_core.proofs.Points.{entries_within}
-use Rattle.lp_std.specs.Pieces.{rows_over, bounds_over}
+use Rattle.lp_std.specs.InnerSteps.{rows_over, bounds_over}
 use Rattle.lp_std.proofs.RowSteps.{counted_by_sense}
 use Rattle.lp_std.proofs.Shapes.{shift_for, variables_counted}
 use Rattle.lp_std.proofs.Sums.{unit_at, unit_here, unit_there}
@@ -69,7 +69,7 @@ weighted_past j k (a ∷ xs) h =
     nothing : (a : Number) → a *ℚ whole (pos 0) +ℚ whole (pos 0) ≡ whole (pos 0)
     nothing a = simp ring_ℚ
 
-weighted_unit : (j k : ℕ) (xs : List Number) → k < length xs → weighted (unit_at (j + k) (whole (pos 1))) j xs ≡ number_of xs k
+weighted_unit : (j k : ℕ) (xs : List Number) → k < length xs → weighted (unit_at (j + k) (whole (pos 1))) j xs ≡ value_of_column xs k
 weighted_unit j k [] h = absurd (omega arith)
 weighted_unit j zero (a ∷ xs) h =
     sum_by_ℚ-cons _ (j, a) (enumerate_from (j + 1) xs)
@@ -80,7 +80,7 @@ weighted_unit j zero (a ∷ xs) h =
 weighted_unit j (suc k) (a ∷ xs) h =
     let other : j + suc k ≢ j = omega arith in
     sum_by_ℚ-cons _ (j, a) (enumerate_from (j + 1) xs)
-    ∙ ap₂ (λ u w. a *ℚ u +ℚ w) (unit_there (j + suc k) j (whole (pos 1)) other) (ap (λ m. weighted (unit_at m (whole (pos 1))) (j + 1) xs) (let e : j + suc k ≡ j + 1 + k = omega arith in e) ∙ weighted_unit (j + 1) k xs (omega arith)) ∙ rest a (number_of xs k)
+    ∙ ap₂ (λ u w. a *ℚ u +ℚ w) (unit_there (j + suc k) j (whole (pos 1)) other) (ap (λ m. weighted (unit_at m (whole (pos 1))) (j + 1) xs) (let e : j + suc k ≡ j + 1 + k = omega arith in e) ∙ weighted_unit (j + 1) k xs (omega arith)) ∙ rest a (value_of_column xs k)
   where
     rest : (a b : Number) → a *ℚ whole (pos 0) +ℚ b ≡ b
     rest a b = simp ring_ℚ
@@ -111,23 +111,23 @@ rows_over_counted {F} value columns i (row ∷ rows) =
     ∙ sym (sum_by-cons (λ (row : Row F). form.rows_of_sense row.sense) row rows)
 
 -- the value at a point of the rows, each times its factor, and of the reduced costs
-costs_apart : {F : Type 0} (value : F → Number) (lp : Lp F) (factors x : List Number) (prices : ℕ → Number) → All (λ (row : Row F). All (λ (e : ℕ × F). e.0 < length lp.columns) row.entries) lp.rows → sum_by_ℚ (λ (p : Row F × Number). p.1 *ℚ row_sum value p.0.entries x) (zip lp.rows factors) +ℚ sum_by_ℚ (λ (q : ℕ × Column F). reduced_cost value lp prices factors q.0 *ℚ number_of x q.0) (enumerate_from 0 lp.columns) ≡ sum_by_ℚ (λ (q : ℕ × Column F). prices q.0 *ℚ number_of x q.0) (enumerate_from 0 lp.columns)
+costs_apart : {F : Type 0} (value : F → Number) (lp : Lp F) (factors x : List Number) (prices : ℕ → Number) → All (λ (row : Row F). All (λ (e : ℕ × F). e.0 < length lp.columns) row.entries) lp.rows → sum_by_ℚ (λ (p : Row F × Number). p.1 *ℚ row_sum value p.0.entries x) (zip lp.rows factors) +ℚ sum_by_ℚ (λ (q : ℕ × Column F). reduced_cost value lp prices factors q.0 *ℚ value_of_column x q.0) (enumerate_from 0 lp.columns) ≡ sum_by_ℚ (λ (q : ℕ × Column F). prices q.0 *ℚ value_of_column x q.0) (enumerate_from 0 lp.columns)
 costs_apart {F} value lp factors x prices there =
     let rows = zip lp.rows factors in
     let columns = enumerate_from 0 lp.columns in
-    let part = λ (j : ℕ). sum_by_ℚ (λ (p : Row F × Number). p.1 *ℚ coefficient value p.0.entries j) rows in
+    let part = λ (j : ℕ). sum_by_ℚ (λ (p : Row F × Number). p.1 *ℚ column_coefficient value p.0.entries j) rows in
     let at_rows = sum_by_ℚ (λ (p : Row F × Number). p.1 *ℚ row_sum value p.0.entries x) rows in
-    let exchanged : sum_by_ℚ (λ (q : ℕ × Column F). part q.0 *ℚ number_of x q.0) columns ≡ at_rows =
-    sum_by_same _ (λ (q : ℕ × Column F). sum_by_ℚ (λ (p : Row F × Number). p.1 *ℚ coefficient value p.0.entries q.0 *ℚ number_of x q.0) rows) columns (λ q. sym (sum_by_ℚ-*ℚ_right (number_of x q.0) (λ (p : Row F × Number). p.1 *ℚ coefficient value p.0.entries q.0) rows))
-    ∙ sum_by_ℚ_exchanged (λ (q : ℕ × Column F) (p : Row F × Number). p.1 *ℚ coefficient value p.0.entries q.0 *ℚ number_of x q.0) columns rows
+    let exchanged : sum_by_ℚ (λ (q : ℕ × Column F). part q.0 *ℚ value_of_column x q.0) columns ≡ at_rows =
+    sum_by_same _ (λ (q : ℕ × Column F). sum_by_ℚ (λ (p : Row F × Number). p.1 *ℚ column_coefficient value p.0.entries q.0 *ℚ value_of_column x q.0) rows) columns (λ q. sym (sum_by_ℚ-*ℚ_right (value_of_column x q.0) (λ (p : Row F × Number). p.1 *ℚ column_coefficient value p.0.entries q.0) rows))
+    ∙ sum_by_ℚ_exchanged (λ (q : ℕ × Column F) (p : Row F × Number). p.1 *ℚ column_coefficient value p.0.entries q.0 *ℚ value_of_column x q.0) columns rows
     ∙ sum_by_ℚ_same _ (λ (p : Row F × Number). p.1 *ℚ row_sum value p.0.entries x) rows
     (All-weaker (λ (p : Row F × Number). All (λ (e : ℕ × F). e.0 < length lp.columns) p.0.entries) _
-    (λ p inside. sum_by_same _ (λ (q : ℕ × Column F). p.1 *ℚ (coefficient value p.0.entries q.0 *ℚ number_of x q.0)) columns (λ q. *ℚ_assoc p.1 (coefficient value p.0.entries q.0) (number_of x q.0)) ∙ sum_by_ℚ-*ℚ p.1 (λ (q : ℕ × Column F). coefficient value p.0.entries q.0 *ℚ number_of x q.0) columns ∙ ap (λ u. p.1 *ℚ u) (row_by_columns value lp.columns x p.0.entries inside))
+    (λ p inside. sum_by_same _ (λ (q : ℕ × Column F). p.1 *ℚ (column_coefficient value p.0.entries q.0 *ℚ value_of_column x q.0)) columns (λ q. *ℚ_assoc p.1 (column_coefficient value p.0.entries q.0) (value_of_column x q.0)) ∙ sum_by_ℚ-*ℚ p.1 (λ (q : ℕ × Column F). column_coefficient value p.0.entries q.0 *ℚ value_of_column x q.0) columns ∙ ap (λ u. p.1 *ℚ u) (row_by_columns value lp.columns x p.0.entries inside))
     rows (All-zip (λ (row : Row F). All (λ (e : ℕ × F). e.0 < length lp.columns) row.entries) lp.rows factors there)) in
     ap (λ u. at_rows +ℚ u)
-    (sum_by_same (λ (q : ℕ × Column F). reduced_cost value lp prices factors q.0 *ℚ number_of x q.0) (λ (q : ℕ × Column F). prices q.0 *ℚ number_of x q.0 -ℚ part q.0 *ℚ number_of x q.0) columns (λ q. -ℚ-*ℚ (prices q.0) (part q.0) (number_of x q.0))
-    ∙ sum_by_ℚ--ℚ (λ (q : ℕ × Column F). prices q.0 *ℚ number_of x q.0) (λ (q : ℕ × Column F). part q.0 *ℚ number_of x q.0) columns ∙ ap (λ u. sum_by_ℚ (λ (q : ℕ × Column F). prices q.0 *ℚ number_of x q.0) columns -ℚ u) exchanged)
-    ∙ put_back at_rows (sum_by_ℚ (λ (q : ℕ × Column F). prices q.0 *ℚ number_of x q.0) columns)
+    (sum_by_same (λ (q : ℕ × Column F). reduced_cost value lp prices factors q.0 *ℚ value_of_column x q.0) (λ (q : ℕ × Column F). prices q.0 *ℚ value_of_column x q.0 -ℚ part q.0 *ℚ value_of_column x q.0) columns (λ q. -ℚ-*ℚ (prices q.0) (part q.0) (value_of_column x q.0))
+    ∙ sum_by_ℚ--ℚ (λ (q : ℕ × Column F). prices q.0 *ℚ value_of_column x q.0) (λ (q : ℕ × Column F). part q.0 *ℚ value_of_column x q.0) columns ∙ ap (λ u. sum_by_ℚ (λ (q : ℕ × Column F). prices q.0 *ℚ value_of_column x q.0) columns -ℚ u) exchanged)
+    ∙ put_back at_rows (sum_by_ℚ (λ (q : ℕ × Column F). prices q.0 *ℚ value_of_column x q.0) columns)
   where
     put_back : (a b : Number) → a +ℚ (b -ℚ a) ≡ b
     put_back a b = simp ring_ℚ
@@ -171,7 +171,7 @@ module _ {F : Type 0} (value : F → Number) (lp : Lp F) (costs : List Number) w
         let n = form.variables_of value lp in
         let columns = form.columns_of value lp in
         let count : length (form.standard_form value lp).objective ≡ form.variables_of value lp = length-map-range_with_len _ 1 (form.variables_of value lp) in
-        let g = λ (w : ℕ). number_of costs w *ℚ number_of lifted w in
+        let g = λ (w : ℕ). value_of_column costs w *ℚ value_of_column lifted w in
         let first = rows_over value columns 0 lp.rows in
         let behind = bounds_over value columns 0 lp.columns in
         let there = entries_within value lp (length columns) formed (columns_sized value lp lifted) in
@@ -189,7 +189,7 @@ module _ {F : Type 0} (value : F → Number) (lp : Lp F) (costs : List Number) w
         turned a b c = simp ring_ℚ
 
   -- ---- the coefficients of a priced row, and a direction
-  module _ (formed : IsWellFormed value lp) (start : Number) (target : List Number → Number) (are : Costs (form.standard_form value lp) costs start target) (b : Bool) (prices : ℕ → Number) (aim : (y : List Number) → form.directed b (target y) ≡ sum_by_ℚ (λ (q : ℕ × Column F). prices q.0 *ℚ number_of (form.point_of (form.standard_form value lp) y) q.0) (enumerate_from 0 lp.columns)) where
+  module _ (formed : IsWellFormed value lp) (start : Number) (target : List Number → Number) (are : Costs (form.standard_form value lp) costs start target) (b : Bool) (prices : ℕ → Number) (aim : (y : List Number) → form.directed b (target y) ≡ sum_by_ℚ (λ (q : ℕ × Column F). prices q.0 *ℚ value_of_column (form.point_of (form.standard_form value lp) y) q.0) (enumerate_from 0 lp.columns)) where
     abbrev pub back : List Number
     back = map (form.directed b) duals
 
@@ -197,7 +197,7 @@ module _ {F : Type 0} (value : F → Number) (lp : Lp F) (costs : List Number) w
     rights = sum_by_ℚ (λ (q : Row F × Number). q.1 *ℚ value q.0.right) (zip lp.rows back)
 
     abbrev reduced_at : (ℕ → Number) → Number
-    reduced_at x = sum_by_ℚ (λ (q : ℕ × Column F). reduced_cost value lp prices back q.0 *ℚ number_of (map x (range_with_len 0 (length lp.columns))) q.0) (enumerate_from 0 lp.columns)
+    reduced_at x = sum_by_ℚ (λ (q : ℕ × Column F). reduced_cost value lp prices back q.0 *ℚ value_of_column (map x (range_with_len 0 (length lp.columns))) q.0) (enumerate_from 0 lp.columns)
 
     master : (x t : ℕ → Number) → form.directed b (weighted x 0 slopes) +ℚ form.directed b (weighted t 0 seconds) +ℚ form.directed b (plain constants) ≡ (form.directed b start +ℚ rights) +ℚ reduced_at x
     master x t =
@@ -212,7 +212,7 @@ module _ {F : Type 0} (value : F → Number) (lp : Lp F) (costs : List Number) w
         let S = sum_by_ℚ (λ (q : Row F × Number). q.1 *ℚ row_sum value q.0.entries X) (zip lp.rows duals) in
         let identity : (A +ℚ B +ℚ C) +ℚ neg_ℚ D ≡ start +ℚ target y = sym (priced_sum formed x t) ∙ are.sums y sized refl in
         let split : D ≡ R -ℚ S = sum_by_same _ (λ (q : Row F × Number). q.1 *ℚ value q.0.right -ℚ q.1 *ℚ row_sum value q.0.entries X) (zip lp.rows duals) (λ q. apart q.1 (value q.0.right) (row_sum value q.0.entries X)) ∙ sum_by_ℚ--ℚ (λ (q : Row F × Number). q.1 *ℚ value q.0.right) (λ (q : Row F × Number). q.1 *ℚ row_sum value q.0.entries X) (zip lp.rows duals) in
-        let point : form.directed b (target y) ≡ sum_by_ℚ (λ (q : ℕ × Column F). prices q.0 *ℚ number_of X q.0) (enumerate_from 0 lp.columns) = aim y ∙ ap (λ Z. sum_by_ℚ (λ (q : ℕ × Column F). prices q.0 *ℚ number_of Z q.0) (enumerate_from 0 lp.columns)) (lifted_point formed x t) in
+        let point : form.directed b (target y) ≡ sum_by_ℚ (λ (q : ℕ × Column F). prices q.0 *ℚ value_of_column X q.0) (enumerate_from 0 lp.columns) = aim y ∙ ap (λ Z. sum_by_ℚ (λ (q : ℕ × Column F). prices q.0 *ℚ value_of_column Z q.0) (enumerate_from 0 lp.columns)) (lifted_point formed x t) in
         let whole_sum = costs_apart value lp back X prices (entries_within value lp (length lp.columns) formed refl) in
         solved (form.directed b A) (form.directed b B) (form.directed b C) (form.directed b R) (form.directed b S) (form.directed b start) (reduced_at x)
         (sym (directed-+ℚ b (A +ℚ B +ℚ C) (neg_ℚ (R -ℚ S)) ∙ ap₂ (λ u w. u +ℚ w) (directed-+ℚ b (A +ℚ B) C ∙ ap (λ u. u +ℚ form.directed b C) (directed-+ℚ b A B)) (directed_neg b (R -ℚ S) ∙ ap neg_ℚ (directed-ℚ b R S))) ∙ ap (form.directed b) (ap (λ u. (A +ℚ B +ℚ C) +ℚ neg_ℚ u) (sym split) ∙ identity) ∙ directed-+ℚ b start (target y) ∙ ap (λ u. form.directed b start +ℚ u) (point ∙ sym whole_sum ∙ ap (λ u. u +ℚ reduced_at x) (directed_zip b (λ (row : Row F). row_sum value row.entries X) lp.rows duals)))
@@ -236,7 +236,7 @@ module _ {F : Type 0} (value : F → Number) (lp : Lp F) (costs : List Number) w
 
     reduced_sum : (x : ℕ → Number) → reduced_at x ≡ sum_by_ℚ (λ (q : ℕ × Column F). reduced_cost value lp prices back q.0 *ℚ x q.0) (enumerate_from 0 lp.columns)
     reduced_sum x =
-        enumerate_same (λ j. reduced_cost value lp prices back j *ℚ number_of (map x (range_with_len 0 (length lp.columns))) j) (λ j. reduced_cost value lp prices back j *ℚ x j) 0 lp.columns
+        enumerate_same (λ j. reduced_cost value lp prices back j *ℚ value_of_column (map x (range_with_len 0 (length lp.columns))) j) (λ j. reduced_cost value lp prices back j *ℚ x j) 0 lp.columns
         (λ k low high. ap (λ u. reduced_cost value lp prices back k *ℚ u) (get_or-map-range_with_len x 0 (length lp.columns) k k (whole (pos 0)) (omega arith) (omega arith)))
 
     reduced_none : reduced_at (λ v. whole (pos 0)) ≡ whole (pos 0)
@@ -265,9 +265,9 @@ module _ {F : Type 0} (value : F → Number) (lp : Lp F) (costs : List Number) w
         ends : (c : Number) → c +ℚ whole (pos 0) ≡ c
         ends c = simp ring_ℚ
 
-    pub slopes_are : (k : ℕ) → k < length lp.columns → reduced_cost value lp prices back k ≡ form.directed b (number_of slopes k)
+    pub slopes_are : (k : ℕ) → k < length lp.columns → reduced_cost value lp prices back k ≡ form.directed b (value_of_column slopes k)
     slopes_are k h =
-        sym (cancelled (form.directed b (number_of slopes k)) (form.directed b (plain constants)) (form.directed b start +ℚ rights) (reduced_cost value lp prices back k) constants_sum
+        sym (cancelled (form.directed b (value_of_column slopes k)) (form.directed b (plain constants)) (form.directed b start +ℚ rights) (reduced_cost value lp prices back k) constants_sum
         (sym (ap₂ (λ u w. u +ℚ w +ℚ form.directed b (plain constants)) (ap (form.directed b) (ap (λ m. weighted (unit_at m (whole (pos 1))) 0 slopes) (let c : k ≡ 0 + k = omega arith in c) ∙ weighted_unit 0 k slopes (omega (arith, length-by_columns value costs (form.variables_of value lp) (slope value costs (form.variables_of value lp)) 1 own_place lp.columns)))) (ap (form.directed b) (weighted_none 0 seconds) ∙ directed_zero b))
         ∙ master (unit_at k (whole (pos 1))) (λ v. whole (pos 0))
         ∙ ap (λ u. (form.directed b start +ℚ rights) +ℚ u) (reduced_unit k h)))
@@ -281,9 +281,9 @@ module _ {F : Type 0} (value : F → Number) (lp : Lp F) (costs : List Number) w
             two : (k q : Number) → (k +ℚ q) -ℚ k ≡ q
             two k q = simp ring_ℚ
 
-    pub seconds_are : (k : ℕ) → k < length lp.columns → number_of seconds k ≡ whole (pos 0)
+    pub seconds_are : (k : ℕ) → k < length lp.columns → value_of_column seconds k ≡ whole (pos 0)
     seconds_are k h =
-        sym (directed_twice b (number_of seconds k)) ∙ ap (form.directed b) (cancelled (form.directed b (number_of seconds k)) (form.directed b (plain constants)) (form.directed b start +ℚ rights) constants_sum
+        sym (directed_twice b (value_of_column seconds k)) ∙ ap (form.directed b) (cancelled (form.directed b (value_of_column seconds k)) (form.directed b (plain constants)) (form.directed b start +ℚ rights) constants_sum
         (sym (ap₂ (λ u w. u +ℚ w +ℚ form.directed b (plain constants)) (ap (form.directed b) (weighted_none 0 slopes) ∙ directed_zero b) (ap (form.directed b) (ap (λ m. weighted (unit_at m (whole (pos 1))) 0 seconds) (let c : k ≡ 0 + k = omega arith in c) ∙ weighted_unit 0 k seconds (omega (arith, length-by_columns value costs (form.variables_of value lp) (second value costs (form.variables_of value lp)) 1 own_place lp.columns)))))
         ∙ master (λ v. whole (pos 0)) (unit_at k (whole (pos 1)))
         ∙ ap (λ u. (form.directed b start +ℚ rights) +ℚ u) reduced_none)) ∙ directed_zero b
@@ -300,7 +300,7 @@ module _ {F : Type 0} (value : F → Number) (lp : Lp F) (costs : List Number) w
     -- the used bounds have a sum, which in the objective's direction is at most the negated start
     pub bound_is : All (λ (column : Column F). ¬ (Crosses value column.lower column.upper)) lp.columns → (t : Number) × (both (total (map (λ (q : Row F × Number). used q.1 (cond b (row_upper q.0.sense (value q.0.right)) (row_lower q.0.sense (value q.0.right))) (cond b (row_lower q.0.sense (value q.0.right)) (row_upper q.0.sense (value q.0.right)))) (zip lp.rows back))) (total (map (λ (q : ℕ × Column F). used (reduced_cost value lp prices back q.0) (cond b (bound_value value q.1.upper) (bound_value value q.1.lower)) (cond b (bound_value value q.1.lower) (bound_value value q.1.upper))) (enumerate_from 0 lp.columns))) ≡ Some t) × (form.directed b t ≤ℚ neg_ℚ start)
     bound_is ordered =
-        let rows = rows_total value b (form.multiplier (form.variables_of value lp) costs) (λ k. neg-zero-≤ℚ (number_of costs (form.variables_of value lp + 1 + k)) (are.below (form.variables_of value lp + 1 + k) (omega arith))) 0 lp.rows in
+        let rows = rows_total value b (form.multiplier (form.variables_of value lp) costs) (λ k. neg-zero-≤ℚ (value_of_column costs (form.variables_of value lp + 1 + k)) (are.below (form.variables_of value lp + 1 + k) (omega arith))) 0 lp.rows in
         let columns = columns_total value b costs (form.variables_of value lp) are.below (reduced_cost value lp prices back) lp.columns 1 own_place 0 (omega arith) ordered (λ k h. ap (reduced_cost value lp prices back) (let c : 0 + k ≡ k = omega arith in c) ∙ slopes_are k h) seconds_are in (
           rights +ℚ columns.0,
           ap₂ both rows columns.1,

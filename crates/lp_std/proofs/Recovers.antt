@@ -10,8 +10,8 @@ use Rattle.gq_number.specs.Number.{Number, whole, neg_ℚ}
 use Rattle.lp_core.specs.declared.program.Column.{Column}
 use Rattle.lp_core.specs.declared.program.Row.{Row}
 use Rattle.lp_core.specs.declared.program.Lp.{Lp}
-use Rattle.lp_core.specs.Sums.{number_of, row_sum}
-use Rattle.lp_core.specs.WellFormed.{AreEntries, IsWellFormed}
+use Rattle.lp_core.specs.Sums.{value_of_column, row_sum}
+use Rattle.lp_core.specs.WellFormed.{AreRowEntries, IsWellFormed}
 use Rattle.lp_core.specs.Proofs.{row_sums}
 use Rattle.lp_core.specs.StandardForm as form
 use Rattle.lp_core.specs.Steps.{Due, level_step, row_level_steps, dual_steps, reduced_steps, levels_steps, row_levels_steps, count_of_rows}
@@ -20,7 +20,7 @@ use Rattle.lp_std.specs.declared.types.Shift.{Shift}
 use Rattle.lp_std.specs.declared.types.Final.{Final}
 use Rattle.lp_std.specs.declared.stop.Stop.{Stop}
 use Rattle.lp_std.specs.Meaning.{shift_value}
-use Rattle.lp_std.specs.Pieces.{first_stop, StopsAt, placed_value, slack_multiplier, ComputesAll, IsSized}
+use Rattle.lp_std.specs.InnerSteps.{first_stop, StopsAt, placed_value, slack_multiplier, ComputesAll, IsSized}
 use Rattle.lp_std.specs.Last.{last_value}
 use Rattle.lp_std.proofs.Stops.{stop_behind}
 use Rattle.lp_std.proofs.RowSteps.{stops_on, stops_in_front}
@@ -40,7 +40,7 @@ ascending_few {F} low n (e ∷ entries) ascending there h =
 module _ {F : Type 0} (value : F → Number) (lp : Lp F) (formed : IsWellFormed value lp) where
   pub entries_few : All (λ (row : Row F). length row.entries < 2 ^ 32) lp.rows
   entries_few =
-      All-weaker (λ (row : Row F). AreEntries value (length lp.columns) row.entries) (λ (row : Row F). length row.entries < 2 ^ 32)
+      All-weaker (λ (row : Row F). AreRowEntries value (length lp.columns) row.entries) (λ (row : Row F). length row.entries < 2 ^ 32)
       (λ row entries. let few = ascending_few 0 (length lp.columns) row.entries entries.ascending (λ k d less. (omega arith, entries.there k d less)) (omega arith) in omega (arith, few, columns_few value lp formed)) lp.rows formed.entries
 
   module _ (columns : List (ℕ × Shift F)) (numbered : placed_value value columns ≡ form.columns_of value lp) (n : ℕ) (sized : IsSized value lp n) where
@@ -108,7 +108,7 @@ module _ {F : Type 0} (value : F → Number) (limit : ℕ) (lp : Lp F) (columns 
 
 slacks_are : {F : Type 0} (value : F → Number) (n : ℕ) (costs slacks : List F) → slacks ≡ drop (n + 1) costs → slack_multiplier value slacks ≡ form.multiplier n (map value costs)
 slacks_are value n costs slacks is =
-    λ t r. (ap neg_ℚ (ap (λ xs. number_of (map value xs) r) is ∙ ap (λ xs. number_of xs r) (sym (drop-map value (n + 1) costs)) ∙ get_or-drop (n + 1) (map value costs) r (whole (pos 0)))) t
+    λ t r. (ap neg_ℚ (ap (λ xs. value_of_column (map value xs) r) is ∙ ap (λ xs. value_of_column xs r) (sym (drop-map value (n + 1) costs)) ∙ get_or-drop (n + 1) (map value costs) r (whole (pos 0)))) t
 
 pub duals_are : {F : Type 0} (value : F → Number) (limit : ℕ) (b : Bool) (n m : ℕ) (rows all : List (Row F)) (costs given slacks : List F) (r : Result (Vec F Global) Stop) → rows ≡ all → given ≡ costs → slacks ≡ drop (n + 1) given → n ≡ m → ComputesAll value (dual_steps limit (slack_multiplier value slacks) 0 0 rows) (map (form.directed b) (form.duals_from (slack_multiplier value slacks) 0 rows)) r → ComputesAll value (dual_steps limit (form.multiplier m (map value costs)) 0 0 all) (map (form.directed b) (form.duals_from (form.multiplier n (map value costs)) 0 all)) r
 duals_are {F} value limit b n m rows all costs given slacks r rows_are given_is is same h =

@@ -18,7 +18,7 @@ use Rattle.lp_std.specs.declared.types.Origin.TheVariants as origin
 use Rattle.lp_std.specs.declared.stop.Stop.{Stop}
 use Rattle.lp_std.specs.declared.stop.Stop.TheVariants as stop
 use Rattle.lp_std.specs.Meaning.{entries_value, row_value}
-use Rattle.lp_std.specs.Pieces.{first_stop, StopsAt, sense_steps, rows_over, right_after, spread_entries, shifted_over}
+use Rattle.lp_std.specs.InnerSteps.{first_stop, StopsAt, sense_steps, rows_over, right_after, spread_entries, shifted_over}
 use Rattle.lp_std.proofs.Stops.{stop_behind, stop_before}
 use Rattle.lp_std.proofs.Walks.{right_sum}
 

@@ -17,12 +17,12 @@ use Rattle.lp_core.specs.declared.program.Sense.TheVariants as sense
 use Rattle.lp_core.specs.declared.program.Column.{Column}
 use Rattle.lp_core.specs.declared.program.Row.{Row}
 use Rattle.lp_core.specs.declared.program.Lp.{Lp}
-use Rattle.lp_core.specs.Sums.{number_of, row_sum}
+use Rattle.lp_core.specs.Sums.{value_of_column, row_sum}
 use Rattle.lp_core.specs.Feasible.{KeepsSense, KeepsRow, KeepsBounds, KeepsLower, KeepsUpper, bound_value, Feasible}
 use Rattle.lp_core.specs.WellFormed.{IsWellFormed}
 use Rattle.lp_core.specs.StandardForm as form
 use Rattle.lp_core.proofs.Points.{entries_within}
-use Rattle.lp_std.specs.Pieces.{spread_entries, rows_over, bounds_over}
+use Rattle.lp_std.specs.InnerSteps.{spread_entries, rows_over, bounds_over}
 use Rattle.lp_std.specs.Points.{AreAtLeastZero, sum_at, KeepsRows, objective_at}
 use Rattle.lp_std.proofs.Shapes.{shift_for, length-numbered, columns_numbered}
 use Rattle.lp_std.proofs.Sums.{All-append_left, All-append_right, range_entries, enumerated_range}
@@ -37,15 +37,15 @@ base_and_change (v, form.free) y = simp ring_ℚ
 
 -- a coefficient of a column, expressed by the column's variables
 pub spread_at : (c : ℕ × form.Shift) (a : Number) (y : List Number) → sum_at (form.spread c.0 c.1 a) y ≡ a *ℚ form.changed_back c y
-spread_at (v, form.from_lower b) a y = sum_by_ℚ-cons _ (v, a) [] ∙ ap (λ u. a *ℚ number_of y v +ℚ u) (sum_by_ℚ-nil _) ∙ simp ring_ℚ
-spread_at (v, form.from_upper b) a y = sum_by_ℚ-cons _ (v, neg_ℚ a) [] ∙ ap (λ u. neg_ℚ a *ℚ number_of y v +ℚ u) (sum_by_ℚ-nil _) ∙ simp ring_ℚ
+spread_at (v, form.from_lower b) a y = sum_by_ℚ-cons _ (v, a) [] ∙ ap (λ u. a *ℚ value_of_column y v +ℚ u) (sum_by_ℚ-nil _) ∙ simp ring_ℚ
+spread_at (v, form.from_upper b) a y = sum_by_ℚ-cons _ (v, neg_ℚ a) [] ∙ ap (λ u. neg_ℚ a *ℚ value_of_column y v +ℚ u) (sum_by_ℚ-nil _) ∙ simp ring_ℚ
 spread_at (v, form.free) a y =
     sum_by_ℚ-cons _ (v, a) ((v + 1, neg_ℚ a) ∷ [])
-    ∙ ap (λ u. a *ℚ number_of y v +ℚ u) (sum_by_ℚ-cons _ (v + 1, neg_ℚ a) [] ∙ ap (λ u. neg_ℚ a *ℚ number_of y (v + 1) +ℚ u) (sum_by_ℚ-nil _))
+    ∙ ap (λ u. a *ℚ value_of_column y v +ℚ u) (sum_by_ℚ-cons _ (v + 1, neg_ℚ a) [] ∙ ap (λ u. neg_ℚ a *ℚ value_of_column y (v + 1) +ℚ u) (sum_by_ℚ-nil _))
     ∙ simp ring_ℚ
 
 -- a column at its place, past the end one without effect
-pub number_of-map : (columns : List (ℕ × form.Shift)) (f : ℕ × form.Shift → Number) (j : ℕ) → j < length columns → number_of (map f columns) j ≡ f (form.column_at columns j)
+pub number_of-map : (columns : List (ℕ × form.Shift)) (f : ℕ × form.Shift → Number) (j : ℕ) → j < length columns → value_of_column (map f columns) j ≡ f (form.column_at columns j)
 number_of-map columns f j h = get_or-map f columns j (0, form.free) (whole (pos 0)) h
 
 -- the shift of a numbered column is its own
@@ -95,8 +95,8 @@ pub negated_at : (entries : List (ℕ × Number)) (y : List Number) → sum_at (
 negated_at [] y = sum_by_ℚ-nil _ ∙ sym (ap neg_ℚ (sum_by_ℚ-nil _) ∙ simp ring_ℚ)
 negated_at (e ∷ entries) y =
     sum_by_ℚ-cons _ (e.0, neg_ℚ e.1) (map (λ (e : ℕ × Number). (e.0, neg_ℚ e.1)) entries)
-    ∙ ap (λ u. neg_ℚ e.1 *ℚ number_of y e.0 +ℚ u) (negated_at entries y)
-    ∙ apart e.1 (number_of y e.0) (sum_at entries y)
+    ∙ ap (λ u. neg_ℚ e.1 *ℚ value_of_column y e.0 +ℚ u) (negated_at entries y)
+    ∙ apart e.1 (value_of_column y e.0) (sum_at entries y)
     ∙ ap neg_ℚ (sym (sum_by_ℚ-cons _ e entries))
   where
     apart : (a b s : Number) → neg_ℚ a *ℚ b +ℚ neg_ℚ s ≡ neg_ℚ (a *ℚ b +ℚ s)
@@ -148,8 +148,8 @@ module _ (y : List Number) where
 
   -- ---- columns with two bounds
 
-  one_entry : (v : ℕ) → sum_at ((v, whole (pos 1)) ∷ []) y ≡ number_of y v
-  one_entry v = sum_by_ℚ-cons _ (v, whole (pos 1)) [] ∙ ap (λ u. whole (pos 1) *ℚ number_of y v +ℚ u) (sum_by_ℚ-nil _) ∙ simp ring_ℚ
+  one_entry : (v : ℕ) → sum_at ((v, whole (pos 1)) ∷ []) y ≡ value_of_column y v
+  one_entry v = sum_by_ℚ-cons _ (v, whole (pos 1)) [] ∙ ap (λ u. whole (pos 1) *ℚ value_of_column y v +ℚ u) (sum_by_ℚ-nil _) ∙ simp ring_ℚ
 
   rises_from : (l x : Number) → whole (pos 0) ≤ℚ x → l ≤ℚ l +ℚ x
   rises_from l x h = ≤ℚ_from h (simp ring_ℚ)
@@ -163,19 +163,19 @@ module _ (y : List Number) where
   below_back : (l u x : Number) → l +ℚ x ≤ℚ u → x ≤ℚ u -ℚ l
   below_back l u x h = ≤ℚ_from h (simp ring_ℚ)
 
-  module _ (j v : ℕ) (above : whole (pos 0) ≤ℚ number_of y v) where
+  module _ (j v : ℕ) (above : whole (pos 0) ≤ℚ value_of_column y v) where
     pub by_bounds : (lower upper : Option Number) → All RowKept (form.bound_rows j v lower upper) ↔ (KeepsLower lower (form.shifted_back (v, form.shift_of lower upper) y) × KeepsUpper upper (form.shifted_back (v, form.shift_of lower upper) y))
     by_bounds (Some l) (Some u) =
         let row : form.StandardRow = record { right = u -ℚ l; entries = (v, whole (pos 1)) ∷ []; origin = form.of_bound j } in (
-          λ all. (rises_from l (number_of y v) above, below l u (number_of y v) (subst (λ x. x ≤ℚ u -ℚ l) (one_entry v) (All-head RowKept row [] all))),
-          λ h. All-cons RowKept row [] (subst (λ x. x ≤ℚ u -ℚ l) (sym (one_entry v)) (below_back l u (number_of y v) h.1)) (All-nil RowKept),
+          λ all. (rises_from l (value_of_column y v) above, below l u (value_of_column y v) (subst (λ x. x ≤ℚ u -ℚ l) (one_entry v) (All-head RowKept row [] all))),
+          λ h. All-cons RowKept row [] (subst (λ x. x ≤ℚ u -ℚ l) (sym (one_entry v)) (below_back l u (value_of_column y v) h.1)) (All-nil RowKept),
         )
-    by_bounds (Some l) None = (λ _. (rises_from l (number_of y v) above, tt), λ _. All-nil RowKept)
-    by_bounds None (Some u) = (λ _. (tt, falls_from u (number_of y v) above), λ _. All-nil RowKept)
+    by_bounds (Some l) None = (λ _. (rises_from l (value_of_column y v) above, tt), λ _. All-nil RowKept)
+    by_bounds None (Some u) = (λ _. (tt, falls_from u (value_of_column y v) above), λ _. All-nil RowKept)
     by_bounds None None = (λ _. (tt, tt), λ _. All-nil RowKept)
 
 -- a value that is at least 0, also past the end
-pub at_least_zero : (y : List Number) → AreAtLeastZero y → (v : ℕ) → whole (pos 0) ≤ℚ number_of y v
+pub at_least_zero : (y : List Number) → AreAtLeastZero y → (v : ℕ) → whole (pos 0) ≤ℚ value_of_column y v
 at_least_zero y all v =
     elim (cases_lt v (length y)) [
       | inl h ↦ all v (whole (pos 0)) h
@@ -204,13 +204,13 @@ module _ {F : Type 0} (value : F → Number) (columns : List (ℕ × form.Shift)
         λ all. All-append (RowKept y) first (rows_over value columns (i + 1) rows) (here.1 (All-head (λ (row : Row F). KeepsRow value row (map (λ c. form.shifted_back c y) columns)) row rows all)) (rest.1 (All-tail (λ (row : Row F). KeepsRow value row (map (λ c. form.shifted_back c y) columns)) row rows all)),
       )
 
-  pub bounds_kept : (j : ℕ) (bounded : List (Column F)) → j + length bounded ≤ length columns → ((k : ℕ) (d : Column F) → k < length bounded → (form.column_at columns (j + k)).1 ≡ shift_for value (get_or bounded k d)) → AreAtLeastZero y → All (RowKept y) (bounds_over value columns j bounded) ↔ All (λ (p : ℕ × Column F). KeepsBounds value p.1 (number_of (map (λ c. form.shifted_back c y) columns) p.0)) (enumerate_from j bounded)
-  bounds_kept j [] within shifts above = (λ _. All-nil (λ (p : ℕ × Column F). KeepsBounds value p.1 (number_of (map (λ c. form.shifted_back c y) columns) p.0)), λ _. All-nil (RowKept y))
+  pub bounds_kept : (j : ℕ) (bounded : List (Column F)) → j + length bounded ≤ length columns → ((k : ℕ) (d : Column F) → k < length bounded → (form.column_at columns (j + k)).1 ≡ shift_for value (get_or bounded k d)) → AreAtLeastZero y → All (RowKept y) (bounds_over value columns j bounded) ↔ All (λ (p : ℕ × Column F). KeepsBounds value p.1 (value_of_column (map (λ c. form.shifted_back c y) columns) p.0)) (enumerate_from j bounded)
+  bounds_kept j [] within shifts above = (λ _. All-nil (λ (p : ℕ × Column F). KeepsBounds value p.1 (value_of_column (map (λ c. form.shifted_back c y) columns) p.0)), λ _. All-nil (RowKept y))
   bounds_kept j (column ∷ bounded) within shifts above =
       let c = form.column_at columns j in
-      let P : ℕ × Column F → Type 0 = λ (p : ℕ × Column F). KeepsBounds value p.1 (number_of (map (λ c. form.shifted_back c y) columns) p.0) in
+      let P : ℕ × Column F → Type 0 = λ (p : ℕ × Column F). KeepsBounds value p.1 (value_of_column (map (λ c. form.shifted_back c y) columns) p.0) in
       let shift : c.1 ≡ shift_for value column = ap (λ k. (form.column_at columns k).1) (let e : j ≡ j + 0 = omega arith in e) ∙ shifts 0 column (omega arith) in
-      let level : number_of (map (λ c. form.shifted_back c y) columns) j ≡ form.shifted_back (c.0, shift_for value column) y = number_of-map columns (λ c. form.shifted_back c y) j (omega arith) ∙ ap (λ s. form.shifted_back (c.0, s) y) shift in
+      let level : value_of_column (map (λ c. form.shifted_back c y) columns) j ≡ form.shifted_back (c.0, shift_for value column) y = number_of-map columns (λ c. form.shifted_back c y) j (omega arith) ∙ ap (λ s. form.shifted_back (c.0, s) y) shift in
       let here = by_bounds y j c.0 (at_least_zero y above c.0) (bound_value value column.lower) (bound_value value column.upper) in
       let first = form.bound_rows j c.0 (bound_value value column.lower) (bound_value value column.upper) in
       let rest = bounds_kept (j + 1) bounded (omega arith) (λ k d h. ap (λ m. (form.column_at columns m).1) (let e : j + 1 + k ≡ j + suc k = omega arith in e) ∙ shifts (suc k) d (omega arith)) above in (
@@ -245,8 +245,8 @@ spread_within low high v form.free a from to =
 -- a multiple of a column as an objective
 pub objective_sum : (count : ℕ) (c : ℕ × form.Shift) (a : Number) (y : List Number) → 1 ≤ c.0 → c.0 + form.width c.1 ≤ 1 + count → sum_at (enumerate_from 1 (form.objective_of count (form.spread c.0 c.1 a))) y ≡ a *ℚ form.changed_back c y
 objective_sum count c a y from to =
-    enumerated_range (λ v. sum_by_ℚ (λ (e : ℕ × Number). if e.0 == v then e.1 else whole (pos 0)) (form.spread c.0 c.1 a)) (λ v n. n *ℚ number_of y v) 1 count
-    ∙ range_entries (number_of y) 1 count (form.spread c.0 c.1 a) (spread_within 1 (1 + count) c.0 c.1 a from to)
+    enumerated_range (λ v. sum_by_ℚ (λ (e : ℕ × Number). if e.0 == v then e.1 else whole (pos 0)) (form.spread c.0 c.1 a)) (λ v n. n *ℚ value_of_column y v) 1 count
+    ∙ range_entries (value_of_column y) 1 count (form.spread c.0 c.1 a) (spread_within 1 (1 + count) c.0 c.1 a from to)
     ∙ spread_at c a y
 
 directed_sum : (b : Bool) (x y : Number) → form.directed b x +ℚ form.directed b (whole (pos 1)) *ℚ y ≡ form.directed b (x +ℚ y)
@@ -264,7 +264,7 @@ module _ {F : Type 0} (value : F → Number) (lp : Lp F) (y : List Number) where
   pub objective_numbered : IsWellFormed value lp → (1 ≤ (form.column_at (form.columns_of value lp) lp.objective).0) × ((form.column_at (form.columns_of value lp) lp.objective).0 + form.width (form.column_at (form.columns_of value lp) lp.objective).1 ≤ 1 + form.variables_of value lp)
   objective_numbered formed = columns_numbered value lp lp.objective (0, form.free) (omega (arith, formed.objective, columns_sized value lp y))
 
-  pub same_objective : IsWellFormed value lp → objective_at (form.standard_form value lp) y ≡ form.directed lp.maximize (number_of (form.point_of (form.standard_form value lp) y) lp.objective)
+  pub same_objective : IsWellFormed value lp → objective_at (form.standard_form value lp) y ≡ form.directed lp.maximize (value_of_column (form.point_of (form.standard_form value lp) y) lp.objective)
   same_objective formed =
       let columns = form.columns_of value lp in
       let z = form.column_at columns lp.objective in

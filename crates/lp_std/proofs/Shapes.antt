@@ -17,7 +17,7 @@ use Rattle.lp_core.specs.declared.program.Lp.{Lp}
 use Rattle.lp_core.specs.StandardForm as form
 use Rattle.lp_std.specs.declared.types.Shift.{Shift}
 use Rattle.lp_std.specs.Meaning.{shift_value}
-use Rattle.lp_std.specs.Pieces.{placed_value}
+use Rattle.lp_std.specs.InnerSteps.{placed_value}
 
 -- ---- columns and their variables
 

@@ -13,7 +13,7 @@ use Rattle.lp_core.specs.Steps.{Due, AllFit, FirstStop, shifting}
 use Rattle.lp_std.specs.declared.types.Shift.{Shift}
 use Rattle.lp_std.specs.declared.types.Shift.TheVariants as shift
 use Rattle.lp_std.specs.Meaning.{shift_value}
-use Rattle.lp_std.specs.Pieces.{first_stop, bound_of_shift}
+use Rattle.lp_std.specs.InnerSteps.{first_stop, bound_of_shift}
 
 is_lt_Less : (r : Ordering) → is_lt r ≡ true → r ≡ Less
 is_lt_Less Less e = refl

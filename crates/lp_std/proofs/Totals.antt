@@ -19,7 +19,7 @@ use Rattle.lp_core.specs.declared.program.Sense.{Sense}
 use Rattle.lp_core.specs.declared.program.Sense.TheVariants as sense
 use Rattle.lp_core.specs.declared.program.Column.{Column}
 use Rattle.lp_core.specs.declared.program.Row.{Row}
-use Rattle.lp_core.specs.Sums.{number_of}
+use Rattle.lp_core.specs.Sums.{value_of_column}
 use Rattle.lp_core.specs.Feasible.{bound_value}
 use Rattle.lp_core.specs.DualBound.{row_lower, row_upper, by_sign, used, total}
 use Rattle.lp_core.specs.Proofs.{Crosses}
@@ -90,9 +90,9 @@ module _ {F : Type 0} (value : F → Number) (b : Bool) (costs : List Number) (n
       (form.directed b m *ℚ c, directed_used b m c (bound_value value lower) (bound_value value upper) above below, subst (λ u. u ≤ℚ neg_ℚ k) (sym (directed_times b m c)) most)
 
   -- the coefficients of a column's variables
-  column_used : (lower upper : Option F) (v r : ℕ) → number_of costs v ≤ℚ whole (pos 0) → number_of costs (v + 1) ≤ℚ whole (pos 0) → whole (pos 0) ≤ℚ form.multiplier n costs r → ¬ (Crosses value lower upper) → second value costs n v r lower upper ≡ whole (pos 0) → UsesAtMost value b (slope value costs n v r lower upper) (constant value costs n v r lower upper) lower upper
+  column_used : (lower upper : Option F) (v r : ℕ) → value_of_column costs v ≤ℚ whole (pos 0) → value_of_column costs (v + 1) ≤ℚ whole (pos 0) → whole (pos 0) ≤ℚ form.multiplier n costs r → ¬ (Crosses value lower upper) → second value costs n v r lower upper ≡ whole (pos 0) → UsesAtMost value b (slope value costs n v r lower upper) (constant value costs n v r lower upper) lower upper
   column_used (Some l) (Some u) v r first next above ordered nothing =
-      let k = number_of costs v in
+      let k = value_of_column costs v in
       let p = form.multiplier n costs r in
       let gap : value l ≤ℚ value u = Order.≤ℚ_from_not_above (value l) (value u) ordered in
       elim (Order.≤ℚ_or_above (k +ℚ p) (whole (pos 0))) [
@@ -106,20 +106,20 @@ module _ {F : Type 0} (value : F → Number) (b : Bool) (costs : List Number) (n
       high_part : (k p l u : Number) → (k +ℚ p) *ℚ u +ℚ l *ℚ k ≡ neg_ℚ (neg_ℚ (k *ℚ l +ℚ p *ℚ u)) +ℚ u *ℚ k
       high_part k p l u = simp ring_ℚ
   column_used (Some l) None v r first next above ordered nothing =
-      let k = number_of costs v in
+      let k = value_of_column costs v in
       by_bound k (value l) (neg_ℚ (k *ℚ value l)) (Some l) None (λ h. absurd (Order.not_above k (whole (pos 0)) first h)) (λ _. refl) (Order.≤ℚ_from_≡ (k *ℚ value l) (neg_ℚ (neg_ℚ (k *ℚ value l))) (twice (k *ℚ value l)))
     where
       twice : (a : Number) → a ≡ neg_ℚ (neg_ℚ a)
       twice a = simp ring_ℚ
   column_used None (Some u) v r first next above ordered nothing =
-      let k = number_of costs v in
+      let k = value_of_column costs v in
       by_bound (neg_ℚ k) (value u) (k *ℚ value u) None (Some u) (λ _. refl) (λ h. absurd (Order.not_above (whole (pos 0)) (neg_ℚ k) (neg-zero-≤ℚ k first) h)) (Order.≤ℚ_from_≡ (neg_ℚ k *ℚ value u) (neg_ℚ (k *ℚ value u)) (apart k (value u)))
     where
       apart : (a c : Number) → neg_ℚ a *ℚ c ≡ neg_ℚ (a *ℚ c)
       apart a c = simp ring_ℚ
   column_used None None v r first next above ordered nothing =
-      let k = number_of costs v in
-      let is : k ≡ whole (pos 0) = none k (number_of costs (v + 1)) first next nothing in
+      let k = value_of_column costs v in
+      let is : k ≡ whole (pos 0) = none k (value_of_column costs (v + 1)) first next nothing in
       by_bound k (whole (pos 0)) (whole (pos 0)) None None (λ h. absurd (Order.not_above k (whole (pos 0)) first h)) (λ h. absurd (Order.≢_from_<ℚ k (whole (pos 0)) h is)) (Order.≤ℚ_from_≡ (k *ℚ whole (pos 0)) (neg_ℚ (whole (pos 0))) (nothing_there k))
     where
       nothing_there : (a : Number) → a *ℚ whole (pos 0) ≡ neg_ℚ (whole (pos 0))
@@ -135,14 +135,14 @@ module _ {F : Type 0} (value : F → Number) (b : Bool) (costs : List Number) (n
           sum a c e = two_zeros ∙ sym e
 
   -- all columns, of which the first has place j
-  pub columns_total : ((w : ℕ) → 1 ≤ w → number_of costs w ≤ℚ whole (pos 0)) → (reduced : ℕ → Number) (columns : List (Column F)) (v r j : ℕ) → 1 ≤ v → All (λ (column : Column F). ¬ (Crosses value column.lower column.upper)) columns → ((k : ℕ) → k < length columns → reduced (j + k) ≡ form.directed b (number_of (by_columns value costs n (slope value costs n) v r columns) k)) → ((k : ℕ) → k < length columns → number_of (by_columns value costs n (second value costs n) v r columns) k ≡ whole (pos 0)) → (u : Number) × (total (map (λ (q : ℕ × Column F). used (reduced q.0) (cond b (bound_value value q.1.upper) (bound_value value q.1.lower)) (cond b (bound_value value q.1.lower) (bound_value value q.1.upper))) (enumerate_from j columns)) ≡ Some u) × (form.directed b u ≤ℚ neg_ℚ (plain (by_columns value costs n (constant value costs n) v r columns)))
+  pub columns_total : ((w : ℕ) → 1 ≤ w → value_of_column costs w ≤ℚ whole (pos 0)) → (reduced : ℕ → Number) (columns : List (Column F)) (v r j : ℕ) → 1 ≤ v → All (λ (column : Column F). ¬ (Crosses value column.lower column.upper)) columns → ((k : ℕ) → k < length columns → reduced (j + k) ≡ form.directed b (value_of_column (by_columns value costs n (slope value costs n) v r columns) k)) → ((k : ℕ) → k < length columns → value_of_column (by_columns value costs n (second value costs n) v r columns) k ≡ whole (pos 0)) → (u : Number) × (total (map (λ (q : ℕ × Column F). used (reduced q.0) (cond b (bound_value value q.1.upper) (bound_value value q.1.lower)) (cond b (bound_value value q.1.lower) (bound_value value q.1.upper))) (enumerate_from j columns)) ≡ Some u) × (form.directed b u ≤ℚ neg_ℚ (plain (by_columns value costs n (constant value costs n) v r columns)))
   columns_total below reduced [] v r j past ordered slopes seconds = (whole (pos 0), refl, Order.≤ℚ_from_≡ (form.directed b (whole (pos 0))) (neg_ℚ (plain [])) (none b ∙ sym (ap neg_ℚ (sum_by_ℚ-nil _))))
     where
       none : (b : Bool) → form.directed b (whole (pos 0)) ≡ neg_ℚ (whole (pos 0))
       none true = simp ring_ℚ
       none false = refl
   columns_total below reduced (column ∷ columns) v r j past ordered slopes seconds =
-      let here = column_used column.lower column.upper v r (below v past) (below (v + 1) (omega arith)) (neg-zero-≤ℚ (number_of costs (n + 1 + r)) (below (n + 1 + r) (omega arith))) (All-head (λ (column : Column F). ¬ (Crosses value column.lower column.upper)) column columns ordered) (seconds 0 (omega arith)) in
+      let here = column_used column.lower column.upper v r (below v past) (below (v + 1) (omega arith)) (neg-zero-≤ℚ (value_of_column costs (n + 1 + r)) (below (n + 1 + r) (omega arith))) (All-head (λ (column : Column F). ¬ (Crosses value column.lower column.upper)) column columns ordered) (seconds 0 (omega arith)) in
       let w = form.width (shift_for value column) in
       let count = form.rows_of_bounds column.lower column.upper in
       let rest = columns_total below reduced columns (v + form.width (shift_for value column)) (r + form.rows_of_bounds column.lower column.upper) (j + 1) (omega arith) (All-tail (λ (column : Column F). ¬ (Crosses value column.lower column.upper)) column columns ordered) (λ k h. ap reduced (let c : j + 1 + k ≡ j + suc k = omega arith in c) ∙ slopes (suc k) (omega arith)) (λ k h. seconds (suc k) (omega arith)) in

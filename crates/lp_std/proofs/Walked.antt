@@ -7,7 +7,7 @@ use Rattle.gq_number.specs.Number.{Number}
 use Rattle.lp_core.specs.declared.answer.StepName.{StepName}
 use Rattle.lp_core.specs.Steps.{Due}
 use Rattle.lp_form.proofs.Walks.{drop_item}
-use Rattle.lp_std.specs.Pieces.{first_stop}
+use Rattle.lp_std.specs.InnerSteps.{first_stop}
 use Rattle.lp_std.proofs.Stops.{stop_behind, stop_before}
 
 pub map-map : {X Y Z : Type 0} (f : Y → Z) (g : X → Y) (xs : List X) → map f (map g xs) ≡ map (λ x. f (g x)) xs

@@ -12,7 +12,7 @@ use Rattle.lp_core.specs.Steps.{shifting, row_steps}
 use Rattle.lp_form.proofs.Walks.{drop_item}
 use Rattle.lp_std.specs.declared.types.Shift.{Shift}
 use Rattle.lp_std.specs.Meaning.{shift_value}
-use Rattle.lp_std.specs.Pieces.{first_stop, placed_value, right_after, spread_entries}
+use Rattle.lp_std.specs.InnerSteps.{first_stop, placed_value, right_after, spread_entries}
 use Rattle.lp_std.proofs.Stops.{stop_behind, stop_before}
 
 -- ---- numbers of variables

@@ -5,7 +5,7 @@ use Rattle.std.specs.List.{All}
 use Rattle.gq_number.specs.Number.{Number, whole}
 use Rattle.gq_number.specs.Order.{◌<ℚ◌}
 use Rattle.lp_core.specs.Ends.{EndsAt}
-use Rattle.lp_core.specs.Sums.{number_of}
+use Rattle.lp_core.specs.Sums.{value_of_column}
 use Rattle.lp_core.specs.StandardForm as form
 use Rattle.lp_core.specs.Dictionary.{Dictionary, basic_at, constant_at, entry_at, Meets, InPhaseOne, OpeningIsDue, Improves, first_dictionary}
 use Rattle.lp_std.specs.declared.types.Standard.{Standard}
@@ -27,7 +27,7 @@ pub record IsDictionaryOf (s : form.Standard) (d : Dictionary) : Type 0 where
   pub there : All (λ v. v ≤ d.variables) d.basic
   pub own : (k : ℕ) → k < length d.basic → entry_at d k (basic_at d k) ≡ whole (pos 1)
   pub alone : (i k : ℕ) → i ≤ length d.basic → k < length d.basic → i ≢ k → entry_at d i (basic_at d k) ≡ whole (pos 0)
-  pub same : (x : List Number) (objective : Number) → (¬ (HasZero d) → number_of x 0 ≡ whole (pos 0)) → Meets d x objective ↔ Meets (first_dictionary s) x objective
+  pub same : (x : List Number) (objective : Number) → (¬ (HasZero d) → value_of_column x 0 ≡ whole (pos 0)) → Meets d x objective ↔ Meets (first_dictionary s) x objective
   pub zero_above : (k : ℕ) → slice_get d.basic k ≡ Some 0 → ¬ (OpeningIsDue d) → whole (pos 0) <ℚ constant_at d k
 
 -- the lists of a final dictionary, as numbers

@@ -21,7 +21,7 @@ shift_value value (shift.Upper b) = form.from_upper (value b)
 shift_value value shift.Free = form.free
 
 -- what an origin means
-abbrev pub origin_value : Origin → form.Origin
+abbrev pub origin_value : Origin → form.RowOrigin
 origin_value (origin.Row i) = form.of_row i
 origin_value (origin.Negated i) = form.of_negated i
 origin_value (origin.Bound j) = form.of_bound j

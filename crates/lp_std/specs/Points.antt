@@ -4,7 +4,7 @@ use Rattle.std.specs.List.{All, enumerate_from}
 use Rattle.gq_number.specs.Number.{Number, whole, ◌+ℚ◌, ◌*ℚ◌}
 use Rattle.gq_number.specs.Order.{◌≤ℚ◌}
 use Rattle.gq_number.specs.Sums.{sum_by_ℚ}
-use Rattle.lp_core.specs.Sums.{number_of}
+use Rattle.lp_core.specs.Sums.{value_of_column}
 use Rattle.lp_core.specs.StandardForm.{Standard, StandardRow}
 
 -- A list has the values of all variables by their numbers, beginning with variable 0; a variable
@@ -16,7 +16,7 @@ AreAtLeastZero y = All (λ x. whole (pos 0) ≤ℚ x) y
 
 -- the sum of coefficient times value
 abbrev pub sum_at : List (ℕ × Number) → List Number → Number
-sum_at entries y = sum_by_ℚ (λ (e : ℕ × Number). e.1 *ℚ number_of y e.0) entries
+sum_at entries y = sum_by_ℚ (λ (e : ℕ × Number). e.1 *ℚ value_of_column y e.0) entries
 
 -- the sum of each row is at most its right side
 abbrev pub KeepsRows : Standard → List Number → Type 0

@@ -9,7 +9,7 @@ ghost use Rattle.lp_core.specs.WellFormed.{IsWellFormed};
 ghost use Rattle.lp_std.specs.Back.{IsFormOf, HasNoWayBack};
 ghost use Rattle.lp_std.specs.Last.{last_value, IsLast};
 ghost use Rattle.lp_core.specs.declared.answer.EndKind.TheVariants as kind;
-ghost use Rattle.lp_std.specs.Pieces.{first_stop, StopsAt, placed_value, ComputesAll, ComputesEnd, IsSized, AreSized};
+ghost use Rattle.lp_std.specs.InnerSteps.{first_stop, StopsAt, placed_value, ComputesAll, ComputesEnd, IsSized, AreSized};
 
 use crate::bounds::{placed, variables_of};
 use crate::duals::{count_rows, duals_of, reduced_costs_of};

@@ -4,7 +4,7 @@ ghost use Rattle.lp_core.specs.Feasible.{bound_value};
 ghost use Rattle.lp_core.specs.Proofs.{Crosses, FirstCrossed};
 ghost use Rattle.lp_core.specs.StandardForm as form;
 ghost use Rattle.lp_std.specs.Meaning.{shift_value};
-ghost use Rattle.lp_std.specs.Pieces.{placed_value};
+ghost use Rattle.lp_std.specs.InnerSteps.{placed_value};
 
 use crate::types::Shift;
 use gq_field::ExactField;

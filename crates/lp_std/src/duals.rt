@@ -2,10 +2,10 @@
 ghost use Rattle.std.specs.Prelude.{◌≡◌, ◌≤◌, ◌<◌, ◌+◌, length, map, sum_by};
 ghost use Rattle.std.specs.List.{All};
 ghost use Rattle.gq_number.specs.Number.{neg_ℚ};
-ghost use Rattle.lp_core.specs.Sums.{number_of};
+ghost use Rattle.lp_core.specs.Sums.{value_of_column};
 ghost use Rattle.lp_core.specs.StandardForm as form;
 ghost use Rattle.lp_core.specs.Steps.{count_of_rows, dual_steps, reduced_steps};
-ghost use Rattle.lp_std.specs.Pieces.{placed_value, slack_multiplier, dual_step, reduced_step, Computes, ComputesAll};
+ghost use Rattle.lp_std.specs.InnerSteps.{placed_value, slack_multiplier, dual_step, reduced_step, Computes, ComputesAll};
 
 use crate::form::directed;
 use crate::levels::or_step;

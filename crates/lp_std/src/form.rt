@@ -7,7 +7,7 @@ ghost use Rattle.lp_core.specs.Proofs.{FirstCrossed};
 ghost use Rattle.lp_core.specs.StandardForm as form;
 ghost use Rattle.lp_core.specs.Steps.{AllFit, standard_steps};
 ghost use Rattle.lp_std.specs.Meaning.{shift_value, row_value, standard_value, HasNoForm};
-ghost use Rattle.lp_std.specs.Pieces.{first_stop, StopsAt, placed_value};
+ghost use Rattle.lp_std.specs.InnerSteps.{first_stop, StopsAt, placed_value};
 
 use crate::bounds::{first_crossed, placed, shifts_of, variables_of};
 use crate::rows::{rows_of, with_bound_rows};

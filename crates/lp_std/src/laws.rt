@@ -2,7 +2,7 @@
 ghost use Rattle.std.specs.Prelude.{◌≡◌, ◌↔◌, ℕ, List};
 ghost use Rattle.gq_number.specs.Number.{Number};
 ghost use Rattle.lp_core.specs.declared.program.Lp.{Lp};
-ghost use Rattle.lp_core.specs.Sums.{number_of};
+ghost use Rattle.lp_core.specs.Sums.{value_of_column};
 ghost use Rattle.lp_core.specs.Feasible.{Feasible};
 ghost use Rattle.lp_core.specs.WellFormed.{IsWellFormed};
 ghost use Rattle.lp_core.specs.StandardForm.{standard_form, point_of, directed};
@@ -18,5 +18,5 @@ pub fn same_points<F: ExactField>()
         KeepsRows (standard_form F.value lp) y ↔ Feasible F.value lp (point_of (standard_form F.value lp) y) }
     ensures objective { (lp : Lp F) (y : List Number) → IsWellFormed F.value lp →
         objective_at (standard_form F.value lp) y
-        ≡ directed lp.maximize (number_of (point_of (standard_form F.value lp) y) lp.objective) }
+        ≡ directed lp.maximize (value_of_column (point_of (standard_form F.value lp) y) lp.objective) }
 {}

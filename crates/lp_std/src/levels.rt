@@ -8,7 +8,7 @@ ghost use Rattle.lp_core.specs.Sums.{row_sum};
 ghost use Rattle.lp_core.specs.StandardForm as form;
 ghost use Rattle.lp_core.specs.Steps.{product_fits, level_step, row_level_steps, ray_step};
 ghost use Rattle.lp_std.specs.Meaning.{shift_value};
-ghost use Rattle.lp_std.specs.Pieces.{placed_value, Computes, ComputesAll};
+ghost use Rattle.lp_std.specs.InnerSteps.{placed_value, Computes, ComputesAll};
 
 use crate::stop::Stop;
 use crate::types::Shift;

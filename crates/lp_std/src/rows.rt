@@ -7,7 +7,7 @@ ghost use Rattle.lp_core.specs.Feasible.{bound_value};
 ghost use Rattle.lp_core.specs.StandardForm as form;
 ghost use Rattle.lp_core.specs.Steps.{shifting, row_steps, rows_steps, bound_step, bounds_steps, count_of_rows};
 ghost use Rattle.lp_std.specs.Meaning.{shift_value, entries_value, row_value};
-ghost use Rattle.lp_std.specs.Pieces.{first_stop, StopsAt, placed_value, right_after, spread_entries, shifted_over, sense_steps, rows_over, bounds_over, bound_of_shift, bound_row_of, BoundsPush};
+ghost use Rattle.lp_std.specs.InnerSteps.{first_stop, StopsAt, placed_value, right_after, spread_entries, shifted_over, sense_steps, rows_over, bounds_over, bound_of_shift, bound_row_of, BoundsPush};
 
 use crate::stop::Stop;
 use crate::types::{Origin, Shift, StdRow};

@@ -1,2 +1,2 @@
-pub mod Improving
+pub mod InnerImproving
 pub mod Name

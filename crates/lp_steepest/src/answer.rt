@@ -5,12 +5,12 @@ ghost use Rattle.lp_core.specs.Answers.{IsAnswer};
 ghost use Rattle.lp_core.specs.Dictionary.{Improves};
 ghost use Rattle.lp_core.specs.WellFormed.{IsWellFormed};
 ghost use Rattle.lp_nocycle.specs.Turns.{HasFewPivotsByTurn, ComesToEndByTurn};
-ghost use Rattle.lp_turn.specs.Turn.{IsTurningAnswer};
+ghost use Rattle.lp_simplex.specs.Turn.{IsTurningAnswer};
 
 use crate::limiting::Limiting;
 use gq_field::ExactField;
 use lp_core::{Answer, Lp};
-use lp_turn::solve_with;
+use lp_simplex::solve_with;
 use std::alloc::{AllocError, Global};
 
 /// The answer of a program by steepest edge over the rows that limit a variable, found by at most

@@ -1,11 +1,11 @@
 //! Steepest edge over the rows that limit a variable.
 ghost use Rattle.lp_core.specs.Dictionary.{Improves};
-ghost use Rattle.lp_steepest.specs.Improving.{itself};
+ghost use Rattle.lp_steepest.specs.InnerImproving.{itself};
 
 use crate::weighing::worthiest;
 use gq_field::ExactField;
 use lp_dict::Dict;
-use lp_turn::Picking;
+use lp_simplex::Picking;
 
 /// Steepest edge over limiting rows: the variable enters along whose edge the objective grows most
 /// for its length, where the length counts the rows that limit the variable: Goldfarb and Reid, "A

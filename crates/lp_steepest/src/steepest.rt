@@ -8,7 +8,7 @@ ghost use Rattle.lp_slot.specs.declared.solver.SolverRule.TheVariants as slot;
 ghost use Rattle.lp_core.specs.WellFormed.{IsWellFormed};
 ghost use Rattle.lp_nocycle.specs.Turns.{HasFewPivotsByTurn, ComesToEndByTurn};
 ghost use Rattle.lp_steepest.specs.Name.{steepest_is_name};
-ghost use Rattle.lp_turn.specs.Turn.{IsTurningAnswer};
+ghost use Rattle.lp_simplex.specs.Turn.{IsTurningAnswer};
 
 use crate::answer::solve_in;
 use gq_frac::Frac;

@@ -1,5 +1,5 @@
 use Rattle.std.proofs.Common.{sym, subst, ◌∙◌}
-use Rattle.gms_words.specs.CommandLine.{texts}
+use Rattle.gms_command.specs.CommandLine.{texts}
 use Rattle.gms_run.specs.Statuses.{IsReadyFor}
 use Rattle.gms25.proofs.Given.{Says, are_given, ends_given}
 use Rattle.gms25.proofs.run_given.Goals as goal

@@ -4,7 +4,7 @@ use denote.Param.Object.{read_made}
 use Rattle.lp_core.specs.declared.answer.Pivot.{Pivot}
 use Rattle.lp_slot.specs.declared.solver.SolverRule.{SolverRule}
 use Rattle.gms_run.specs.Statuses.{NamesProgram}
-use Rattle.gms_words.specs.CommandLine.{texts}
+use Rattle.gms_command.specs.CommandLine.{texts}
 use Rattle.gms25.proofs.Lent.{are_lent, names_lent}
 use Rattle.gms25.proofs.run_with_solvers.OwnLists.{at-1-1, at-1-2, at-1-3, at-1-4, entry-1-1, entry-1-2, entry-1-3, entry-1-4, own-1, same-1-1, same-1-2, same-1-3, same-1-4}
 use Rattle.gms25.proofs.run_with_solvers.Goals as goal

@@ -1,5 +1,5 @@
 use Rattle.std.proofs.Common.{◌≡◌, map, take}
-use Rattle.gms_ast.specs.Greatest.{greatest}
+use Rattle.gms_ast.specs.InnerGreatest.{greatest}
 use Rattle.gms_ast.specs.Nesting.{capped, nesting, deepest_amount}
 use Rattle.gms_ast.specs.TreeView.{tree_of, index_tree}
 use Rattle.gms_ast.specs.Trees.{no_index}

@@ -1,9 +1,9 @@
 use Rattle.std.proofs.Common.{◌≡◌, ◌∙◌, ◌++◌, ◌<◌, ◌≤◌, ap, sym, subst, refl, length, get_or, List, Option}
 use Rattle.std.specs.Prelude.{ℕ}
 use Rattle.gms_ast.specs.declared.program.Stmt.{Stmt}
-use Rattle.gms_known.specs.Facts.{Facts, first_facts}
+use Rattle.gms_scope.specs.Facts.{Facts, first_facts}
 use Rattle.gms_check.specs.declared.error.CompileError.{CompileError}
-use Rattle.gms_check.specs.Checking.{Checking, known_by, seen}
+use Rattle.gms_check.specs.InnerChecking.{Checking, known_by, seen}
 use Rattle.gms_check.specs.CompileErrors.{statement_error}
 use Rattle.gms_check.proofs.PastErrors.{each-all, each-end, each-step, each_from}
 use Rattle.gms_check.proofs.checker.check_statements.Goals as goal

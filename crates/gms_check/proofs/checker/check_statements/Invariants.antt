@@ -1,6 +1,6 @@
 use Rattle.std.proofs.Common.{◌≡◌, ◌++◌, drop, None}
-use Rattle.gms_known.specs.Facts.{first_facts}
-use Rattle.gms_check.specs.Checking.{seen}
+use Rattle.gms_scope.specs.Facts.{first_facts}
+use Rattle.gms_check.specs.InnerChecking.{seen}
 use Rattle.gms_check.proofs.PastErrors.{each_from}
 use Rattle.gms_check.proofs.checker.check_statements.Given as goal
 

@@ -1,6 +1,6 @@
 use Rattle.std.proofs.Common.{◌≡◌, ap, subst, List}
 use Rattle.std.specs.Prelude.{ℕ, IfOk}
-use Rattle.gms_check.specs.Checking.{Checking}
+use Rattle.gms_check.specs.InnerChecking.{Checking}
 use Rattle.gms_check.specs.CompileErrors.{statement_errors}
 use Rattle.gms_check.proofs.checker.statement_errors.Goals as goal
 

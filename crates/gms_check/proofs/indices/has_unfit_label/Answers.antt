@@ -1,7 +1,7 @@
 use Rattle.std.proofs.Common.{◌≡◌, ◌∙◌, ◌+◌, ◌≤◌, true, false, not, ◌||◌, List, ℕ, length, drop, Option, ap, sym, refl, rules, arith}
 use Rattle.std.proofs.lemmas.List.{drop_all}
-use Rattle.gms_known.specs.Facts.{names}
-use Rattle.gms_known.specs.Names.{positions}
+use Rattle.gms_scope.specs.Facts.{names}
+use Rattle.gms_scope.specs.Names.{positions}
 use Rattle.gms_check.specs.IndexList.{have_unfit_label}
 use Rattle.gms_check.specs.StatementUses.{index_list}
 use Rattle.gms_check.proofs.IndexLists.{outside-past, outside-at, outside-set, outside-end}

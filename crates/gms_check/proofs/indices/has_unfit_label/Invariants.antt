@@ -1,7 +1,7 @@
 use Rattle.std.proofs.Common.{◌≡◌, ◌==◌, not, drop, take, ℕ}
 use Rattle.std.specs.List.{list_any}
-use Rattle.gms_known.specs.Facts.{names}
-use Rattle.gms_known.specs.Names.{positions}
+use Rattle.gms_scope.specs.Facts.{names}
+use Rattle.gms_scope.specs.Names.{positions}
 use Rattle.gms_check.specs.IndexList.{have_unfit_label}
 use Rattle.gms_check.specs.StatementUses.{index_list}
 use Rattle.gms_check.proofs.indices.has_unfit_label.Given as goal

@@ -1,8 +1,8 @@
 use Rattle.std.proofs.Common.{◌≡◌, ◌∙◌, ◌+◌, ◌≤◌, true, false, not, ◌||◌, List, ℕ, length, drop, Option, ap, sym, refl, rules, arith}
 use Rattle.std.proofs.lemmas.List.{drop_all}
-use Rattle.gms_known.specs.Entries.{above_of}
-use Rattle.gms_known.specs.Facts.{names}
-use Rattle.gms_known.specs.Names.{positions}
+use Rattle.gms_scope.specs.Entries.{above_of}
+use Rattle.gms_scope.specs.Facts.{names}
+use Rattle.gms_scope.specs.Names.{positions}
 use Rattle.gms_check.specs.IndexList.{have_unfit_set}
 use Rattle.gms_check.specs.StatementUses.{index_list}
 use Rattle.gms_check.proofs.IndexLists.{unfit-past, unfit-at, unfit-label, unfit-end}

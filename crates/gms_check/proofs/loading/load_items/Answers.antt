@@ -3,7 +3,7 @@ use Rattle.std.specs.List.{fold}
 use Rattle.std.proofs.lemmas.List.{at_drop_more, drop_all}
 use Rattle.gms_ast.specs.declared.declaration.Decl.{Decl}
 use Rattle.gms_store.specs.State.{State}
-use Rattle.gms_check.specs.Loadable.{AreLoadable}
+use Rattle.gms_check.specs.InnerLoadable.{AreLoadable}
 use Rattle.gms_check.specs.Past.{with_item}
 use Rattle.gms_check.proofs.LoadedData.{next-item}
 use Rattle.gms_check.proofs.loading.load_items.Goals as goal

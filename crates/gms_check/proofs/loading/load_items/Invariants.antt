@@ -1,6 +1,6 @@
 use Rattle.std.proofs.Common.{◌≡◌, drop}
 use Rattle.std.specs.List.{fold}
-use Rattle.gms_check.specs.Loadable.{AreLoadable}
+use Rattle.gms_check.specs.InnerLoadable.{AreLoadable}
 use Rattle.gms_check.specs.Past.{with_item}
 use Rattle.gms_check.proofs.loading.load_items.Given as goal
 

@@ -2,7 +2,7 @@ use Rattle.std.proofs.Common.{◌≡◌, ◌∙◌, ◌<◌, ◌≤◌, ap, sym,
 use Rattle.std.proofs.lemmas.List.{take_all}
 use Rattle.gms_ast.specs.declared.program.Stmt.{Stmt}
 use Rattle.gms_store.specs.State.{State}
-use Rattle.gms_check.specs.Loadable.{IsLoadable}
+use Rattle.gms_check.specs.InnerLoadable.{IsLoadable}
 use Rattle.gms_check.specs.Loaded.{sound}
 use Rattle.gms_check.specs.Past.{after_act, state_after}
 use Rattle.gms_check.proofs.LoadedData.{state-more, statement-loadable}

@@ -6,12 +6,12 @@ use Rattle.gms_ast.specs.declared.expression.Expr.{size-Expr}
 use Rattle.gms_ast.specs.declared.expression.Index.{Set, size-Index}
 use Rattle.gms_ast.specs.TreeView.{tree_of, control_tree}
 use Rattle.gms_ast.specs.Trees.{plain, signed, placed, related, chosen}
-use Rattle.gms_eval.specs.Nodes.{chain, sum_step, product_step, power_step, relation_step, all_step, one_step, in_order, each_holds, fold_step, called, counted, is_so, truth, signed_step}
+use Rattle.gms_eval.specs.Nodes.{chain, sum_step, product_step, power_step, relation_step, all_step, one_step, in_order, each_holds, fold_step, called, count_value, is_so, truth, signed_step}
 use Rattle.gms_eval.specs.Bindings.{controlled}
 use Rattle.gms_eval.specs.Domain.{elements}
 use Rattle.gms_eval.specs.Faults.{nothing, faulted, ◌and_then◌}
 use Rattle.gms_eval.specs.Holds.{holds}
-use Rattle.gms_eval.specs.References.{tuple_of, entry_of}
+use Rattle.gms_eval.specs.References.{tuple_of, entry_or_zero}
 use Rattle.gms_eval.specs.Value.{value, domain, label_answer}
 use Rattle.gms_eval.specs.InnerWalks.{those_of}
 use Rattle.gms_eval.specs.declared.stop.StopKind.TheVariants.{EmptyExtreme}
@@ -53,7 +53,7 @@ pub value-returns-in-And : goal.value-returns-in-And
 value-returns-in-And g t c = gives-same g.F.ExactField.value (extended g.F.ExactField.value) c.all_of.result (of_expr g.F.ExactField.value g.F.ExactField.limit c.args.store.now c.args.b.now c.args.e.now) _ (ap (of_expr g.F.ExactField.value g.F.ExactField.limit c.args.store.now c.args.b.now) c.in-And.is ∙ value-And g.F.ExactField.value g.F.ExactField.limit c.args.store.now c.args.b.now c.in-And.parts ∙ ap (λ ps. chain all_step (map (λ p. (plain, of_expr g.F.ExactField.value g.F.ExactField.limit c.args.store.now c.args.b.now p)) ps)) (sym c.deref-in-And.ensures.value)) c.all_of.ensures
 
 pub value-returns-in-Card : goal.value-returns-in-Card
-value-returns-in-Card g t c = gives-same g.F.ExactField.value (extended g.F.ExactField.value) c.counted-in-Card.result ((of_expr g.F.ExactField.value g.F.ExactField.limit c.args.store.now c.args.b.now) c.args.e.now) _ (ap (of_expr g.F.ExactField.value g.F.ExactField.limit c.args.store.now c.args.b.now) c.in-Card.is ∙ value-Card g.F.ExactField.value g.F.ExactField.limit c.args.store.now c.args.b.now c.in-Card.at c.in-Card.set ∙ ap (λ members. counted g.F.ExactField.limit c.args.b.now c.in-Card.at (length members)) (sym c.members.ensures.value) ∙ ap (counted g.F.ExactField.limit c.args.b.now c.in-Card.at) (sym c.len.ensures.len)) c.counted-in-Card.ensures
+value-returns-in-Card g t c = gives-same g.F.ExactField.value (extended g.F.ExactField.value) c.counted-in-Card.result ((of_expr g.F.ExactField.value g.F.ExactField.limit c.args.store.now c.args.b.now) c.args.e.now) _ (ap (of_expr g.F.ExactField.value g.F.ExactField.limit c.args.store.now c.args.b.now) c.in-Card.is ∙ value-Card g.F.ExactField.value g.F.ExactField.limit c.args.store.now c.args.b.now c.in-Card.at c.in-Card.set ∙ ap (λ members. count_value g.F.ExactField.limit c.args.b.now c.in-Card.at (length members)) (sym c.members.ensures.value) ∙ ap (count_value g.F.ExactField.limit c.args.b.now c.in-Card.at) (sym c.len.ensures.len)) c.counted-in-Card.ensures
 
 pub value-returns-in-Number : goal.value-returns-in-Number
 value-returns-in-Number g t c = ap (of_expr g.F.ExactField.value g.F.ExactField.limit c.args.store.now c.args.b.now) c.in-Number.is ∙ value-Number g.F.ExactField.value g.F.ExactField.limit c.args.store.now c.args.b.now c.in-Number.number
@@ -86,10 +86,10 @@ pub value-returns-in_err-those-in-Fold : goal.value-returns-in_err-those-in-Fold
 value-returns-in_err-those-in-Fold g t c = handed_on g.F.ExactField.value (extended g.F.ExactField.value) c.from_residual-in_err-those-in-Fold.result c.in_err-those-in-Fold.field-0.0 _ c.from_residual-in_err-those-in-Fold.ensures.1 (stops-same g.F.ExactField.value c.in_err-those-in-Fold.field-0.0 ((of_expr g.F.ExactField.value g.F.ExactField.limit c.args.store.now c.args.b.now) c.args.e.now) _ (ap (of_expr g.F.ExactField.value g.F.ExactField.limit c.args.store.now c.args.b.now) c.in-Fold.is ∙ value-Fold g.F.ExactField.value g.F.ExactField.limit c.args.store.now c.args.b.now c.in-Fold.at c.in-Fold.op c.in-Fold.control c.in-Fold.body) (stops-then g.F.ExactField.value c.in_err-those-in-Fold.field-0.0 (domain g.F.ExactField.value g.F.ExactField.limit c.args.store.now c.args.b.now c.in-Fold.at (control_tree c.in-Fold.control)) _ c.in_err-those-in-Fold.ensures.value))
 
 pub referred-returns-in_err-tuple : goal.referred-returns-in_err-tuple
-referred-returns-in_err-tuple g t c = handed_on g.F.ExactField.value (extended g.F.ExactField.value) c.from_residual.result c.in_err-tuple.field-0.0 _ c.from_residual.ensures.1 (stops-then g.F.ExactField.value c.in_err-tuple.field-0.0 (in_order (map (label_answer g.F.ExactField.value g.F.ExactField.limit c.args.store.now c.args.b.now) c.args.indices.now) and_then λ those. Ok (tuple_of those)) (entry_of g.F.ExactField.limit c.args.store.now c.args.b.now c.args.at c.args.name c.args.suffix) c.in_err-tuple.ensures)
+referred-returns-in_err-tuple g t c = handed_on g.F.ExactField.value (extended g.F.ExactField.value) c.from_residual.result c.in_err-tuple.field-0.0 _ c.from_residual.ensures.1 (stops-then g.F.ExactField.value c.in_err-tuple.field-0.0 (in_order (map (label_answer g.F.ExactField.value g.F.ExactField.limit c.args.store.now c.args.b.now) c.args.indices.now) and_then λ those. Ok (tuple_of those)) (entry_or_zero g.F.ExactField.limit c.args.store.now c.args.b.now c.args.at c.args.name c.args.suffix) c.in_err-tuple.ensures)
 
 pub referred-returns : goal.referred-returns
-referred-returns g t c = gives-same g.F.ExactField.value (extended g.F.ExactField.value) c.entry_of.result _ _ (then-value (in_order (map (label_answer g.F.ExactField.value g.F.ExactField.limit c.args.store.now c.args.b.now) c.args.indices.now) and_then λ those. Ok (tuple_of those)) c.in_ok-tuple.tuple (entry_of g.F.ExactField.limit c.args.store.now c.args.b.now c.args.at c.args.name c.args.suffix) c.in_ok-tuple.ensures) c.entry_of.ensures
+referred-returns g t c = gives-same g.F.ExactField.value (extended g.F.ExactField.value) c.entry_of.result _ _ (then-value (in_order (map (label_answer g.F.ExactField.value g.F.ExactField.limit c.args.store.now c.args.b.now) c.args.indices.now) and_then λ those. Ok (tuple_of those)) c.in_ok-tuple.tuple (entry_or_zero g.F.ExactField.limit c.args.store.now c.args.b.now c.args.at c.args.name c.args.suffix) c.in_ok-tuple.ensures) c.entry_of.ensures
 
 pub value-returns-in-Neg : goal.value-returns-in-Neg
 value-returns-in-Neg g t c = gives-same g.F.ExactField.value (extended g.F.ExactField.value) c.negative.result ((of_expr g.F.ExactField.value g.F.ExactField.limit c.args.store.now c.args.b.now) c.args.e.now) _ (ap (of_expr g.F.ExactField.value g.F.ExactField.limit c.args.store.now c.args.b.now) c.in-Neg.is ∙ value-Neg g.F.ExactField.value g.F.ExactField.limit c.args.store.now c.args.b.now c.in-Neg.operand ∙ ap (λ e. (of_expr g.F.ExactField.value g.F.ExactField.limit c.args.store.now c.args.b.now) e and_then (λ x. Ok (negated x))) (sym c.deref-in-Neg.ensures)) c.negative.ensures
@@ -101,13 +101,13 @@ pub value-returns-in-Call : goal.value-returns-in-Call
 value-returns-in-Call g t c = gives-same g.F.ExactField.value (extended g.F.ExactField.value) c.call.result ((of_expr g.F.ExactField.value g.F.ExactField.limit c.args.store.now c.args.b.now) c.args.e.now) _ (ap (of_expr g.F.ExactField.value g.F.ExactField.limit c.args.store.now c.args.b.now) c.in-Call.is ∙ value-Call g.F.ExactField.value g.F.ExactField.limit c.args.store.now c.args.b.now c.in-Call.at c.in-Call.function c.in-Call.args ∙ ap (λ args. in_order (map (of_expr g.F.ExactField.value g.F.ExactField.limit c.args.store.now c.args.b.now) args) and_then λ xs. called g.F.ExactField.limit c.args.b.now c.in-Call.at c.in-Call.function xs) (sym c.deref-in-Call.ensures.value)) c.call.ensures
 
 pub value-returns-in_ok-place_in_set-in-Ord : goal.value-returns-in_ok-place_in_set-in-Ord
-value-returns-in_ok-place_in_set-in-Ord g t c = gives-same g.F.ExactField.value (extended g.F.ExactField.value) c.counted.result ((of_expr g.F.ExactField.value g.F.ExactField.limit c.args.store.now c.args.b.now) c.args.e.now) _ (ap (of_expr g.F.ExactField.value g.F.ExactField.limit c.args.store.now c.args.b.now) c.in-Ord.is ∙ value-Ord g.F.ExactField.value g.F.ExactField.limit c.args.store.now c.args.b.now c.in-Ord.at c.in-Ord.set ∙ ap (counted g.F.ExactField.limit c.args.b.now c.in-Ord.at) (sym c.in_ok-place_in_set-in-Ord.ensures)) c.counted.ensures
+value-returns-in_ok-place_in_set-in-Ord g t c = gives-same g.F.ExactField.value (extended g.F.ExactField.value) c.counted.result ((of_expr g.F.ExactField.value g.F.ExactField.limit c.args.store.now c.args.b.now) c.args.e.now) _ (ap (of_expr g.F.ExactField.value g.F.ExactField.limit c.args.store.now c.args.b.now) c.in-Ord.is ∙ value-Ord g.F.ExactField.value g.F.ExactField.limit c.args.store.now c.args.b.now c.in-Ord.at c.in-Ord.set ∙ ap (count_value g.F.ExactField.limit c.args.b.now c.in-Ord.at) (sym c.in_ok-place_in_set-in-Ord.ensures)) c.counted.ensures
 
 pub value-returns-in_ok-those-in-Fold : goal.value-returns-in_ok-those-in-Fold
 value-returns-in_ok-those-in-Fold g t c = gives-same g.F.ExactField.value (extended g.F.ExactField.value) c.folded.result ((of_expr g.F.ExactField.value g.F.ExactField.limit c.args.store.now c.args.b.now) c.args.e.now) _ (ap (of_expr g.F.ExactField.value g.F.ExactField.limit c.args.store.now c.args.b.now) c.in-Fold.is ∙ fold-over g.F.ExactField.value g.F.ExactField.limit c.args.store.now c.args.b.now c.in-Fold.at c.in-Fold.control c.as_slice.result.now c.as_slice.ensures c.in-Fold.op c.in-Fold.body c.deref-in-Fold.result.now c.in_ok-those-in-Fold.those c.deref-in-Fold.ensures c.in_ok-those-in-Fold.ensures.value) c.folded.ensures
 
 pub value-returns-in-Ref : goal.value-returns-in-Ref
-value-returns-in-Ref g t c = gives-same g.F.ExactField.value (extended g.F.ExactField.value) c.referred.result ((of_expr g.F.ExactField.value g.F.ExactField.limit c.args.store.now c.args.b.now) c.args.e.now) _ (ap (of_expr g.F.ExactField.value g.F.ExactField.limit c.args.store.now c.args.b.now) c.in-Ref.is ∙ value-Ref g.F.ExactField.value g.F.ExactField.limit c.args.store.now c.args.b.now c.in-Ref.at c.in-Ref.name c.in-Ref.suffix c.in-Ref.indices ∙ ap (λ indices. (in_order (map (label_answer g.F.ExactField.value g.F.ExactField.limit c.args.store.now c.args.b.now) indices) and_then λ those. Ok (tuple_of those)) and_then entry_of g.F.ExactField.limit c.args.store.now c.args.b.now c.in-Ref.at c.in-Ref.name c.in-Ref.suffix) (sym c.deref.ensures.value)) c.referred.ensures
+value-returns-in-Ref g t c = gives-same g.F.ExactField.value (extended g.F.ExactField.value) c.referred.result ((of_expr g.F.ExactField.value g.F.ExactField.limit c.args.store.now c.args.b.now) c.args.e.now) _ (ap (of_expr g.F.ExactField.value g.F.ExactField.limit c.args.store.now c.args.b.now) c.in-Ref.is ∙ value-Ref g.F.ExactField.value g.F.ExactField.limit c.args.store.now c.args.b.now c.in-Ref.at c.in-Ref.name c.in-Ref.suffix c.in-Ref.indices ∙ ap (λ indices. (in_order (map (label_answer g.F.ExactField.value g.F.ExactField.limit c.args.store.now c.args.b.now) indices) and_then λ those. Ok (tuple_of those)) and_then entry_or_zero g.F.ExactField.limit c.args.store.now c.args.b.now c.in-Ref.at c.in-Ref.name c.in-Ref.suffix) (sym c.deref.ensures.value)) c.referred.ensures
 
 pub negative-returns-in_err-x : goal.negative-returns-in_err-x
 negative-returns-in_err-x g t c = handed_on g.F.ExactField.value (extended g.F.ExactField.value) c.from_residual.result c.in_err-x.field-0.0 _ c.from_residual.ensures.1 (stops-then g.F.ExactField.value c.in_err-x.field-0.0 ((of_expr g.F.ExactField.value g.F.ExactField.limit c.args.store.now c.args.b.now) c.args.operand.now) (λ x. Ok (negated x)) c.in_err-x.ensures)

@@ -2,7 +2,7 @@ use Rattle.std.proofs.Common.{◌≡◌, ap, sym, ◌∙◌, pos, Err, to_z, ari
 use Rattle.std.proofs.lemmas.Int.{ints}
 use mir.Syntax.{w128}
 use Rattle.gq_extended.specs.Meaning.{extended}
-use Rattle.gms_eval.specs.Nodes.{counted}
+use Rattle.gms_eval.specs.Nodes.{count_value}
 use Rattle.gms_eval.specs.Faults.{nothing, faulted}
 use Rattle.gms_eval.specs.declared.stop.StopKind.TheVariants.{Limit}
 use Rattle.gms_eval.proofs.Counts.{counted-fits, counted-over}
@@ -18,4 +18,4 @@ pub returns-in-Err : goal.returns-in-Err
 returns-in-Err g c =
     let z : to_z w128 c.args.count ≡ pos c.args.count = omega (arith, ints) in
     let shown = extended g.F.ExactField.value in
-    stops-shown g.F.ExactField.value c.at_step.result _ (counted g.F.ExactField.limit c.args.b.now c.args.at c.args.count) (counted-over g.F.ExactField.limit c.args.count c.args.b.now c.args.at _ z c.in-Err.ensures ∙ ap (λ x. Err (faulted Limit c.args.at c.args.b.now x nothing)) (sym c.zero.ensures) ∙ ap (λ x. Err (faulted Limit c.args.at c.args.b.now (shown c.zero.result) x)) (sym c.zero-in-Err.ensures)) c.at_step.ensures
+    stops-shown g.F.ExactField.value c.at_step.result _ (count_value g.F.ExactField.limit c.args.b.now c.args.at c.args.count) (counted-over g.F.ExactField.limit c.args.count c.args.b.now c.args.at _ z c.in-Err.ensures ∙ ap (λ x. Err (faulted Limit c.args.at c.args.b.now x nothing)) (sym c.zero.ensures) ∙ ap (λ x. Err (faulted Limit c.args.at c.args.b.now (shown c.zero.result) x)) (sym c.zero-in-Err.ensures)) c.at_step.ensures

@@ -5,7 +5,7 @@ use Rattle.gms_eval.specs.Faults.{◌and_then◌}
 use Rattle.gms_eval.proofs.Answering.{stops-same, stops-then, handed_on, gives-same, then-value}
 use Rattle.gms_eval.proofs.Marks.{signed_mark}
 use Rattle.gms_eval.proofs.NodeValues.{of_expr}
-use Rattle.gms_exec.specs.Membership.{joined, in_sum, in_product}
+use Rattle.gms_exec.specs.Membership.{joined_membership, in_sum, in_product}
 use Rattle.gms_exec.proofs.MemberTrees.{member_expr, member_part, member-Yes, member-No, member-Neg, member-Not, member-Plus, member-Times, member-Guard, guarded-so, guarded-not, joined_on-more, joined_on-end, joined_on-stops}
 use Rattle.gms_exec.proofs.OtherTrees.{member-other}
 use Rattle.gms_exec.proofs.membership.+membership.Goals as goal
@@ -65,11 +65,11 @@ membership-returns-in_ok-membership-in-Not g t c =
 
 pub membership-returns-in-Plus : goal.membership-returns-in-Plus
 membership-returns-in-Plus g t c =
-    gives-same g.F.ExactField.value (λ holds. holds) c.in_sum.result (member_expr g.F.ExactField.value g.F.ExactField.limit c.args.store.now c.args.b.now c.args.e.now) _ (ap (member_expr g.F.ExactField.value g.F.ExactField.limit c.args.store.now c.args.b.now) c.in-Plus.is ∙ member-Plus g.F.ExactField.value g.F.ExactField.limit c.args.store.now c.args.b.now c.in-Plus.parts ∙ ap (λ ps. joined in_sum false (map (λ p. (signed p.0 p.1, member_expr g.F.ExactField.value g.F.ExactField.limit c.args.store.now c.args.b.now p.2)) ps)) (sym c.deref-in-Plus.ensures.value)) c.in_sum.ensures
+    gives-same g.F.ExactField.value (λ holds. holds) c.in_sum.result (member_expr g.F.ExactField.value g.F.ExactField.limit c.args.store.now c.args.b.now c.args.e.now) _ (ap (member_expr g.F.ExactField.value g.F.ExactField.limit c.args.store.now c.args.b.now) c.in-Plus.is ∙ member-Plus g.F.ExactField.value g.F.ExactField.limit c.args.store.now c.args.b.now c.in-Plus.parts ∙ ap (λ ps. joined_membership in_sum false (map (λ p. (signed p.0 p.1, member_expr g.F.ExactField.value g.F.ExactField.limit c.args.store.now c.args.b.now p.2)) ps)) (sym c.deref-in-Plus.ensures.value)) c.in_sum.ensures
 
 pub membership-returns-in-Times : goal.membership-returns-in-Times
 membership-returns-in-Times g t c =
-    gives-same g.F.ExactField.value (λ holds. holds) c.in_product.result (member_expr g.F.ExactField.value g.F.ExactField.limit c.args.store.now c.args.b.now c.args.e.now) _ (ap (member_expr g.F.ExactField.value g.F.ExactField.limit c.args.store.now c.args.b.now) c.in-Times.is ∙ member-Times g.F.ExactField.value g.F.ExactField.limit c.args.store.now c.args.b.now c.in-Times.parts ∙ ap (λ ps. joined in_product true (map (λ p. (signed p.0 p.1, member_expr g.F.ExactField.value g.F.ExactField.limit c.args.store.now c.args.b.now p.2)) ps)) (sym c.deref-in-Times.ensures.value)) c.in_product.ensures
+    gives-same g.F.ExactField.value (λ holds. holds) c.in_product.result (member_expr g.F.ExactField.value g.F.ExactField.limit c.args.store.now c.args.b.now c.args.e.now) _ (ap (member_expr g.F.ExactField.value g.F.ExactField.limit c.args.store.now c.args.b.now) c.in-Times.is ∙ member-Times g.F.ExactField.value g.F.ExactField.limit c.args.store.now c.args.b.now c.in-Times.parts ∙ ap (λ ps. joined_membership in_product true (map (λ p. (signed p.0 p.1, member_expr g.F.ExactField.value g.F.ExactField.limit c.args.store.now c.args.b.now p.2)) ps)) (sym c.deref-in-Times.ensures.value)) c.in_product.ensures
 
 pub membership-returns-in_err-all_hold-in-Guard : goal.membership-returns-in_err-all_hold-in-Guard
 membership-returns-in_err-all_hold-in-Guard g t c =

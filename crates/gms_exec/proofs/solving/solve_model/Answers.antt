@@ -6,9 +6,9 @@ use Rattle.gms_eval.specs.Faults.{faulted, nothing}
 use Rattle.gms_eval.specs.declared.stop.StopKind.TheVariants.{NoSolver}
 use Rattle.gms_rows.specs.ProgramLp.{program_lp}
 use Rattle.gms_rows.specs.Rows.{equations_of}
-use Rattle.gms_exec.specs.Run.{with_value, answered, solve}
+use Rattle.gms_exec.specs.Run.{with_evaluated, answered, solve}
 use Rattle.gms_exec.specs.Standing.{ShowsStanding}
-use Rattle.gms_exec.specs.Stepping.{Seen, Answered, come_to}
+use Rattle.gms_exec.specs.Stepping.{RunView, Answered, come_to}
 use Rattle.gms_exec.proofs.Arms.{runs-value_stops, unless-any}
 use Rattle.gms_exec.proofs.Joining.{answered-nothing}
 use Rattle.gms_exec.proofs.SolveRuns.{runs-fault, runs-grown, solve-does, solve-none, solves-runs, solves-answered, solves-standing, is-none, is-some, some-there}
@@ -25,7 +25,7 @@ pub returns-then-is_empty-clause-runs : goal.returns-then-is_empty-clause-runs
 returns-then-is_empty-clause-runs g c =
     let s = c.args.s in
     let b = c.args.b.now in
-    let seen : Seen Frac = record { state = c.args.store.now; events = c.args.events.now.items; answers = c.args.answers.now.items } in
+    let seen : RunView Frac = record { state = c.args.store.now; events = c.args.events.now.items; answers = c.args.answers.now.items } in
     let names = map (λ b. (goal.LpSolver-dyn g (b.vtable, b.value)).name b.value) c.args.solvers.now.items in
     runs-fault frac_value c.stopped.result (faulted NoSolver s.at b nothing nothing) (solve frac_value (2 ^ 127 - 1) names c.args.program.now.statements.items s.model s.objective s.maximize s.at b) seen c.stopped.ensures
     (λ left. solve-none frac_value (2 ^ 127 - 1) names c.args.program.now.statements.items s.model s.objective s.maximize s.at b (come_to frac_value seen left) (is-none (λ b. (goal.LpSolver-dyn g (b.vtable, b.value)).name b.value) c.args.solvers.now (sym c.is_empty.ensures ∙ c.if-is_empty.true)))
@@ -35,7 +35,7 @@ returns-in_err-lp-clause-runs g c =
     let s = c.args.s in
     let b = c.args.b.now in
     let statements = c.args.program.now.statements.items in
-    let seen : Seen Frac = record { state = c.args.store.now; events = c.args.events.now.items; answers = c.args.answers.now.items } in
+    let seen : RunView Frac = record { state = c.args.store.now; events = c.args.events.now.items; answers = c.args.answers.now.items } in
     let names = map (λ b. (goal.LpSolver-dyn g (b.vtable, b.value)).name b.value) c.args.solvers.now.items in
     let p = err_from_is_err_and c.from_residual.result c.from_residual.ensures.1 in
     rw (p.1, p.2) (runs-value_stops frac_value c.in_err-lp.field-0.0 (solve frac_value (2 ^ 127 - 1) names statements s.model s.objective s.maximize s.at b) seen (program_lp frac_value (2 ^ 127 - 1) c.args.store.now statements s.model s.objective s.maximize s.at) (λ course lp. answered frac_value (2 ^ 127 - 1) names s.model (equations_of statements s.model) s.objective s.at course lp) c.in_err-lp.ensures.program
@@ -46,11 +46,11 @@ returns-clause-runs g c =
     let s = c.args.s in
     let b = c.args.b.now in
     let statements = c.args.program.now.statements.items in
-    let old : Seen Frac = record { state = c.args.store.now; events = c.args.events.now.items; answers = c.args.answers.now.items } in
+    let old : RunView Frac = record { state = c.args.store.now; events = c.args.events.now.items; answers = c.args.answers.now.items } in
     let names = map (λ b. (goal.LpSolver-dyn g (b.vtable, b.value)).name b.value) c.args.solvers.now.items in
     solves-runs frac_value (2 ^ 127 - 1) names _ _ _ s.at s.model (equations_of statements s.model) s.objective c.in_ok-lp.lp old _ c.in_ok-solve_program.ensures.solves tt (solve frac_value (2 ^ 127 - 1) names statements s.model s.objective s.maximize s.at b)
     (λ left. solve-does frac_value (2 ^ 127 - 1) names statements s.model s.objective s.maximize s.at b (come_to frac_value old left) (is-some (λ b. (goal.LpSolver-dyn g (b.vtable, b.value)).name b.value) c.args.solvers.now (sym c.is_empty.ensures ∙ c.if-is_empty.false))
-    ∙ ap (λ answer. with_value answer (answered frac_value (2 ^ 127 - 1) names s.model (equations_of statements s.model) s.objective s.at (come_to frac_value old left)) (come_to frac_value old left)) c.in_ok-lp.ensures.program)
+    ∙ ap (λ answer. with_evaluated answer (answered frac_value (2 ^ 127 - 1) names s.model (equations_of statements s.model) s.objective s.at (come_to frac_value old left)) (come_to frac_value old left)) c.in_ok-lp.ensures.program)
 
 pub returns-clause-standing : goal.returns-clause-standing
 returns-clause-standing g c =
@@ -64,7 +64,7 @@ returns-in_err-solve_program-clause-runs g c =
 pub returns-then-is_empty-clause-solvers : goal.returns-then-is_empty-clause-solvers
 returns-then-is_empty-clause-solvers g c =
     let xs = c.args.solvers.now.items in
-    let seen : Seen Frac = record { state = c.args.store.now; events = c.args.events.now.items; answers = c.args.answers.now.items } in
+    let seen : RunView Frac = record { state = c.args.store.now; events = c.args.events.now.items; answers = c.args.answers.now.items } in
     unless-any {F = Frac} {A = Unit {0}} (Err c.stopped.result) (Answered frac_value (2 ^ 127 - 1) (λ b. (goal.LpSolver-dyn g (b.vtable, b.value)).name b.value) (λ b. (goal.LpSolver-dyn g (b.vtable, b.value)).rule b.value) (λ b. (goal.LpSolver-dyn g (b.vtable, b.value)).paths b.value) xs xs seen seen) (answered-nothing frac_value (2 ^ 127 - 1) (λ b. (goal.LpSolver-dyn g (b.vtable, b.value)).name b.value) (λ b. (goal.LpSolver-dyn g (b.vtable, b.value)).rule b.value) (λ b. (goal.LpSolver-dyn g (b.vtable, b.value)).paths b.value) xs seen)
 
 pub returns-then-is_empty-clause-standing : goal.returns-then-is_empty-clause-standing
@@ -77,7 +77,7 @@ returns-then-is_empty-clause-standing g c =
 pub returns-in_err-lp-clause-solvers : goal.returns-in_err-lp-clause-solvers
 returns-in_err-lp-clause-solvers g c =
     let xs = c.args.solvers.now.items in
-    let seen : Seen Frac = record { state = c.args.store.now; events = c.args.events.now.items; answers = c.args.answers.now.items } in
+    let seen : RunView Frac = record { state = c.args.store.now; events = c.args.events.now.items; answers = c.args.answers.now.items } in
     unless-any {F = Frac} {A = Unit {0}} (c.from_residual.result) (Answered frac_value (2 ^ 127 - 1) (λ b. (goal.LpSolver-dyn g (b.vtable, b.value)).name b.value) (λ b. (goal.LpSolver-dyn g (b.vtable, b.value)).rule b.value) (λ b. (goal.LpSolver-dyn g (b.vtable, b.value)).paths b.value) xs xs seen seen) (answered-nothing frac_value (2 ^ 127 - 1) (λ b. (goal.LpSolver-dyn g (b.vtable, b.value)).name b.value) (λ b. (goal.LpSolver-dyn g (b.vtable, b.value)).rule b.value) (λ b. (goal.LpSolver-dyn g (b.vtable, b.value)).paths b.value) xs seen)
 
 pub returns-in_err-lp-clause-standing : goal.returns-in_err-lp-clause-standing

@@ -7,8 +7,8 @@ use Rattle.gms_eval.proofs.Inner.{inner-controlled}
 use Rattle.gms_eval.proofs.Shapes.{tree-sets}
 use Rattle.gms_eval.specs.Bindings.{controlled}
 use Rattle.gms_eval.specs.Value.{domain, sets_of}
-use Rattle.gms_exec.specs.Run.{with_value, for_each}
-use Rattle.gms_exec.specs.Stepping.{Seen, come_to}
+use Rattle.gms_exec.specs.Run.{with_evaluated, for_each}
+use Rattle.gms_exec.specs.Stepping.{RunView, come_to}
 use Rattle.gms_exec.proofs.ActSteps.{on-Loop}
 use Rattle.gms_exec.proofs.Arms.{runs-value_stops, runs-memory}
 use Rattle.gms_exec.proofs.Joining.{reaches-memory}
@@ -26,7 +26,7 @@ returns-in_default g t c =
 
 pub returns-in_err-elements : goal.returns-in_err-elements
 returns-in_err-elements g t c =
-    let old : Seen Frac = record { state = c.args.store.now; events = c.args.events.now.items; answers = c.args.answers.now.items } in
+    let old : RunView Frac = record { state = c.args.store.now; events = c.args.events.now.items; answers = c.args.answers.now.items } in
     let control = c.in-Loop.control in
     let names = map (λ b. (dyn.members g.dyn-1 (b.vtable, b.value)).name b.value) c.args.solvers.now.items in
     let p = err_from_is_err_and c.from_residual.result c.from_residual.ensures.1 in
@@ -47,13 +47,13 @@ returns-in_err-inner g t c =
 
 pub loop-element-init : goal.loop-element-init
 loop-element-init g t c =
-    let old : Seen Frac = record { state = c.args.store.now; events = c.args.events.now.items; answers = c.args.answers.now.items } in
+    let old : RunView Frac = record { state = c.args.store.now; events = c.args.events.now.items; answers = c.args.answers.now.items } in
     let control = c.in-Loop.control in
     let sets = sets_of (control_tree control) in
     let names = map (λ b. (dyn.members g.dyn-1 (b.vtable, b.value)).name b.value) c.args.solvers.now.items in
     between-start frac_value (2 ^ 127 - 1) _ _ _ c.args.program.now _ sets c.args.b.now c.in-Loop.body.items c.deref-element-items.result.now c.args.solvers.now.items old c.in_ok-inner.inner c.in_ok-inner.ensures
     (λ rest. on-Loop frac_value (2 ^ 127 - 1) (record { program = c.args.program.now; solvers = names }) c.args.s.now c.args.b.now (come_to frac_value old rest) control c.in-Loop.body c.in-Loop.is
-    ∙ ap (λ answer. with_value answer (λ elements. for_each sets (map (step_of frac_value (2 ^ 127 - 1) c.args.program.now names) c.in-Loop.body.items) elements c.args.b.now (come_to frac_value old rest)) (come_to frac_value old rest)) (c.in_ok-elements.ensures ∙ ap Ok (sym c.deref-element-items.ensures.value)))
+    ∙ ap (λ answer. with_evaluated answer (λ elements. for_each sets (map (step_of frac_value (2 ^ 127 - 1) c.args.program.now names) c.in-Loop.body.items) elements c.args.b.now (come_to frac_value old rest)) (come_to frac_value old rest)) (c.in_ok-elements.ensures ∙ ap Ok (sym c.deref-element-items.ensures.value)))
     (record { settings = record { decimals = c.requires.decimals; chosen = c.requires.chosen }; plain = c.requires.plain })
 
 pub returns-in_err-control : goal.returns-in_err-control

@@ -3,7 +3,7 @@ use Rattle.gms_eval.specs.Faults.{faulted, nothing}
 use Rattle.gms_eval.specs.declared.stop.StopKind.TheVariants.{Aborted}
 use Rattle.gms_event.specs.Events.{aborts}
 use Rattle.gms_event.specs.declared.event.Event.TheVariants as event
-use Rattle.gms_exec.specs.Run.{with_value, with_event, stopped_by, abort}
+use Rattle.gms_exec.specs.Run.{with_evaluated, with_event, stopped_by, abort}
 use Rattle.gms_exec.specs.Stepping.{come_to}
 use Rattle.std.proofs.lemmas.Result.{err_from_is_err_and}
 use Rattle.gms_exec.specs.Showing.{all_shown}
@@ -21,7 +21,7 @@ returns g c =
     record {
       runs = λ answers. runs-event_stopped v c.stopped.result fault (abort v g.F.ExactField.limit c.args.labels c.args.items.now c.args.at c.args.b.now) c.args.store.now old c.push.new.self.items shown answers c.in_ok-push.ensures.items c.stopped.ensures (λ left.
           let course = come_to v (record { state = c.args.store.now; events = old; answers = answers }) left in
-          ap (λ answer. with_value answer (λ shown. stopped_by (with_event course (aborts c.args.at.line shown)) fault) course) c.in_ok-items.ensures);
+          ap (λ answer. with_evaluated answer (λ shown. stopped_by (with_event course (aborts c.args.at.line shown)) fault) course) c.in_ok-items.ensures);
       quiet = record { shown = shown ∷ []; events = c.in_ok-push.ensures.items; quiet = tt };
       standing = λ rules answers. standing-abort v g.F.ExactField.limit rules answers old c.push.new.self.items c.args.at.line c.in_ok-items.items c.in_ok-push.ensures.items (few-decimals c.args.labels c.args.store.now c.args.b.now v c.args.items.now c.in_ok-items.items c.in_ok-items.ensures c.requires.decimals);
     }

@@ -3,7 +3,7 @@ use Rattle.std.specs.Prelude.{option_copied}
 use Rattle.std.proofs.lemmas.Result.{err_from_is_err_and}
 use Rattle.gms_ast.specs.TreeView.{tree_of}
 use Rattle.gms_eval.specs.Holds.{holds}
-use Rattle.gms_exec.specs.Run.{with_value, abort, abort_where}
+use Rattle.gms_exec.specs.Run.{with_evaluated, abort, abort_where}
 use Rattle.gms_exec.specs.Stepping.{come_to}
 use Rattle.gms_exec.proofs.Arms.{runs-alike, runs-nothing, runs-value_stops}
 use Rattle.gms_exec.proofs.Standings.{standing-nothing}
@@ -39,7 +39,7 @@ returns-then-branch-clause-runs g c answers =
     (λ left.
     let course = come_to v (record { state = c.args.store.now; events = c.args.events.now.items; answers = answers }) left in
     ap (λ condition. abort_where v limit c.args.labels (option_map tree_of (option_copied condition)) items c.args.at b course) c.in-Some.is
-    ∙ ap (λ answer. with_value answer (λ so. if so then abort v limit c.args.labels items c.args.at b course else course) course) c.in_ok-holds.ensures
+    ∙ ap (λ answer. with_evaluated answer (λ so. if so then abort v limit c.args.labels items c.args.at b course else course) course) c.in_ok-holds.ensures
     ∙ ap (λ so. if so then abort v limit c.args.labels items c.args.at b course else course) c.if-branch.true)
     (c.abort-then-branch.ensures.runs answers)
 
@@ -53,7 +53,7 @@ returns-else-branch-clause-runs g c answers =
     (λ left.
     let course = come_to v (record { state = c.args.store.now; events = c.args.events.now.items; answers = answers }) left in
     ap (λ condition. abort_where v limit c.args.labels (option_map tree_of (option_copied condition)) items c.args.at b course) c.in-Some.is
-    ∙ ap (λ answer. with_value answer (λ so. if so then abort v limit c.args.labels items c.args.at b course else course) course) c.in_ok-holds.ensures
+    ∙ ap (λ answer. with_evaluated answer (λ so. if so then abort v limit c.args.labels items c.args.at b course else course) course) c.in_ok-holds.ensures
     ∙ ap (λ so. if so then abort v limit c.args.labels items c.args.at b course else course) c.if-branch.false)
 
 pub returns-in_err-holds-clause-standing : goal.returns-in_err-holds-clause-standing

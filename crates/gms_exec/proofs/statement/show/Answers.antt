@@ -1,7 +1,7 @@
 use Rattle.std.proofs.Common.{◌∷◌, [], ap, refl, sym, append-nil}
 use Rattle.gms_event.specs.Events.{displays}
 use Rattle.gms_event.specs.declared.event.Event.TheVariants as event
-use Rattle.gms_exec.specs.Run.{with_value, with_event, display}
+use Rattle.gms_exec.specs.Run.{with_evaluated, with_event, display}
 use Rattle.gms_exec.specs.Stepping.{come_to}
 use Rattle.std.proofs.lemmas.Result.{err_from_is_err_and}
 use Rattle.gms_exec.specs.Showing.{all_shown}
@@ -18,7 +18,7 @@ returns g c =
     record {
       runs = λ answers. runs-event v tt (display v g.F.ExactField.limit c.args.labels c.args.items.now c.args.at c.args.b.now) c.args.store.now old c.push.new.self.items shown answers c.in_ok-push.ensures.items (λ left.
           let course = come_to v (record { state = c.args.store.now; events = old; answers = answers }) left in
-          ap (λ answer. with_value answer (λ shown. with_event course (displays c.args.at.line shown)) course) c.in_ok-items.ensures);
+          ap (λ answer. with_evaluated answer (λ shown. with_event course (displays c.args.at.line shown)) course) c.in_ok-items.ensures);
       quiet = record { shown = shown ∷ []; events = c.in_ok-push.ensures.items; quiet = tt };
       standing = λ rules answers. standing-display v g.F.ExactField.limit rules answers old c.push.new.self.items c.args.at.line c.in_ok-items.items c.in_ok-push.ensures.items (few-decimals c.args.labels c.args.store.now c.args.b.now v c.args.items.now c.in_ok-items.items c.in_ok-items.ensures c.requires.decimals);
     }

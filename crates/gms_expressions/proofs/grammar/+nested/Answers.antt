@@ -1,7 +1,7 @@
 use Rattle.std.proofs.Common.{sym, subst}
 use Rattle.gms_grammar.specs.Grammar.{the}
 use Rattle.gms_expressions.specs.declared.grammar.Inner.{Inner}
-use Rattle.gms_expressions.specs.Readings.{IsExpression, meaning_of, nonterminal_of}
+use Rattle.gms_expressions.specs.InnerReadings.{IsExpression, meaning_of, nonterminal_of}
 use Rattle.gms_expressions.proofs.grammar.+nested.Goals as goal
 
 pub returns-in-Expression : goal.returns-in-Expression

@@ -2,7 +2,7 @@ use Rattle.std.proofs.Common.{◌≡◌}
 use Rattle.gms_grammar.specs.GamsGrammar.{Control}
 use Rattle.gms_ast.specs.TreeView.{control_tree}
 use Rattle.gms_ast.specs.Numbers.{control_in_numbers}
-use Rattle.gms_expressions.specs.Readings.{IsControl}
+use Rattle.gms_expressions.specs.InnerReadings.{IsControl}
 use Rattle.gms_expressions.specs.ExpressionTrees as trees
 use Rattle.gms_expressions.proofs.Opening.{said_of, went_on}
 use Rattle.gms_expressions.proofs.read.control.Goals as goal

@@ -2,7 +2,7 @@ use Rattle.std.proofs.Common.{◌≡◌}
 use Rattle.gms_grammar.specs.GamsGrammar.{Primary}
 use Rattle.gms_ast.specs.TreeView.{tree_of}
 use Rattle.gms_ast.specs.Numbers.{in_numbers}
-use Rattle.gms_expressions.specs.Readings.{IsMeant}
+use Rattle.gms_expressions.specs.InnerReadings.{IsMeant}
 use Rattle.gms_expressions.specs.ExpressionTrees as trees
 use Rattle.gms_expressions.proofs.Opening.{said_of, went_on}
 use Rattle.gms_expressions.proofs.read.primary.Goals as goal

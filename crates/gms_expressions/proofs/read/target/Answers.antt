@@ -3,7 +3,7 @@ use Rattle.gms_grammar.specs.GamsGrammar.{Target}
 use Rattle.gms_ast.specs.Trees.{reference}
 use Rattle.gms_ast.specs.TreeView.{indices_of, index_tree}
 use Rattle.gms_ast.specs.Numbers.{indices_in_numbers}
-use Rattle.gms_expressions.specs.Readings.{IsTarget}
+use Rattle.gms_expressions.specs.InnerReadings.{IsTarget}
 use Rattle.gms_expressions.specs.ExpressionTrees as trees
 use Rattle.gms_expressions.proofs.Opening.{said_of, went_on}
 use Rattle.gms_expressions.proofs.read.target.Goals as goal

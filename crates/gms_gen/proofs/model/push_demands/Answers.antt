@@ -1,6 +1,6 @@
 use Rattle.std.proofs.Common.{◌≡◌, ℕ, suc, ◌+◌, ◌*◌, ◌++◌, refl, sym, ap, ◌∙◌, arith}
 use Rattle.std.specs.Prelude.{codes, string_bytes}
-use Rattle.gms_gen.specs.Generator.{state_after, demand, datum, element, texts_below, sum_below, drawn}
+use Rattle.gms_gen.specs.Generator.{seed_after, demand, datum, element, texts_below, sum_below, drawn}
 use Rattle.gms_gen.proofs.Turns.{state-more, drawn-more, line-more, sum-more, line-of}
 use Rattle.gms_gen.proofs.model.push_demands.Goals as goal
 
@@ -25,4 +25,4 @@ pub returns-clause-total : goal.returns-clause-total
 returns-clause-total c = λ seed plants e. (c.loop-market.invariant.1 seed plants e).1 ∙ ap (λ n. sum_below n (demand seed plants c.args.markets)) (let all : c.loop-market.market ≡ c.args.markets = omega (arith, c.loop-market-test.false, c.loop-market.auto.market-end) in all)
 
 pub returns-clause-draws : goal.returns-clause-draws
-returns-clause-draws c = λ seed e. (c.loop-market.invariant.1 seed 0 e).0 ∙ ap (state_after seed) (let all : c.loop-market.market ≡ c.args.markets = omega (arith, c.loop-market-test.false, c.loop-market.auto.market-end) in all)
+returns-clause-draws c = λ seed e. (c.loop-market.invariant.1 seed 0 e).0 ∙ ap (seed_after seed) (let all : c.loop-market.market ≡ c.args.markets = omega (arith, c.loop-market-test.false, c.loop-market.auto.market-end) in all)

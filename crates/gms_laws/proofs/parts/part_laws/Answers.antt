@@ -2,7 +2,7 @@ use Rattle.gms_ast.specs.TreeView.{tree_of, control_tree}
 use Rattle.gms_ast.specs.Numbers.{in_numbers, control_in_numbers}
 use Rattle.gms_grammar.specs.GamsGrammar.{Expression, Primary, Control, Target}
 use Rattle.gms_expressions.specs.ExpressionTrees as trees
-use Rattle.gms_laws.specs.Parts.{target_in}
+use Rattle.gms_laws.specs.Parts.{meant_target}
 use Rattle.gms_laws.proofs.OnePart.{one_part, one_fault, not_both, not_neither, same_meaning}
 use Rattle.gms_laws.proofs.parts.part_laws.Goals as goal
 
@@ -23,7 +23,7 @@ returns-clause-one_control g c source before after later tokens rest others one 
 
 pub returns-clause-one_target : goal.returns-clause-one_target
 returns-clause-one_target g c source before after later tokens rest others one other p q =
-    same_meaning g.F.ExactField.limit source Target (target_in g.F.ExactField.value) (trees.target source) before after later tokens rest others one other p q
+    same_meaning g.F.ExactField.limit source Target (meant_target g.F.ExactField.value) (trees.target source) before after later tokens rest others one other p q
 
 pub returns-clause-one_fault : goal.returns-clause-one_fault
 returns-clause-one_fault g c limit source n before tokens one other f h = one_fault limit source n before tokens one other f h

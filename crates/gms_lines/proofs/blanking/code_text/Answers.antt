@@ -2,7 +2,7 @@
 use Rattle.std.proofs.Common.{◌≡◌, ◌+◌, ◌++◌, false, length, sym, ap, ◌∙◌, arith, length-append}
 use Rattle.std.specs.Option.{option_or}
 use Rattle.gms_lines.specs.Lines.{lines, code_of, code_text, class_of, inside_after, read_as}
-use Rattle.gms_lines.specs.LineSearch.{first_in_line, first_in_lines}
+use Rattle.gms_lines.specs.InnerLineSearch.{first_in_line, first_in_lines}
 use Rattle.gms_lines.proofs.FirstLemmas.{code_step, fault_step, fault_whole, length-read_as}
 use Rattle.gms_lines.proofs.blanking.code_text.Goals as goal
 

@@ -1,7 +1,7 @@
 use Rattle.std.proofs.Common.{◌≡◌, ◌+◌, ◌++◌, false, length}
 use Rattle.std.specs.Option.{option_or}
 use Rattle.gms_lines.specs.Lines.{lines, code_of, code_text}
-use Rattle.gms_lines.specs.LineSearch.{first_in_lines}
+use Rattle.gms_lines.specs.InnerLineSearch.{first_in_lines}
 use Rattle.gms_lines.proofs.blanking.code_text.Given as goal
 
 -- what was read so far, with what the rest is read as, is the whole

@@ -1,9 +1,9 @@
 use Rattle.std.proofs.Common.{◌≡◌, map, drop, length}
-use Rattle.gms_list.specs.SolveText.{each_once}
+use Rattle.gms_list.specs.SolveText.{distinct_names}
 use Rattle.gms_list.proofs.Once.{gathered}
 use Rattle.lp_core.specs.declared.program.Column.{Column}
 use Rattle.gms_list.proofs.equations.variables_of.Given as goal
 
 abbrev pub invariant-loop-column : goal.invariant-loop-column
 invariant-loop-column g l =
-    gathered l.variables.items (map (λ (column : Column _). column.key.symbol) (drop l.column-index l.columns)) ≡ each_once (map (λ (column : Column _). column.key.symbol) l.columns)
+    gathered l.variables.items (map (λ (column : Column _). column.key.symbol) (drop l.column-index l.columns)) ≡ distinct_names (map (λ (column : Column _). column.key.symbol) l.columns)

@@ -1,7 +1,7 @@
 use Rattle.std.proofs.Common.{◌≡◌, string_bytes}
 use Rattle.std.proofs.lemmas.Result.{IfOk-weaker}
 use Rattle.lp_core.specs.Numbers.{answer_numbers}
-use Rattle.gms_list.specs.Walks.{status_lines}
+use Rattle.gms_list.specs.InnerSolves.{status_lines}
 use Rattle.gms_list.proofs.SolveLines.{statuses_of, solver_line_of, model_line_of}
 use Rattle.gms_list.proofs.solves.status_lines.Goals as goal
 

@@ -1,11 +1,11 @@
 use Rattle.std.proofs.Common.{[], length, take, drop, refl}
 use Rattle.gq_frac.specs.Frac.{frac_value}
 use Rattle.gms_check.specs.Loaded.{loaded}
-use Rattle.gms_joint.proofs.Lasting.{loaded-begins}
-use Rattle.gms_joint.proofs.Starting.{begins-lasting}
+use Rattle.gms_run_laws.proofs.Lasting.{loaded-begins}
+use Rattle.gms_run_laws.proofs.Starting.{begins-lasting}
 use Rattle.gms_save.specs.JointErrors.{resumed, saved_statements}
-use Rattle.gms_save.specs.Saves.{number_limit, solvers_chosen}
-use Rattle.gms_seam.specs.Fronts.{first_line}
+use Rattle.gms_save.specs.Saves.{greatest_part, solvers_chosen}
+use Rattle.gms_joint_source.specs.Fronts.{first_line}
 use Rattle.gms_restart.proofs.Continued.{resumed-begins, whole-accepted}
 use Rattle.gms_plans.proofs.Meant.{answers-are-so, take-drop}
 use Rattle.gms_plans.proofs.laws.plan_laws.Goals as goal
@@ -20,7 +20,7 @@ returns-clause-restarted g c limit source file saved world state solver rules an
     let first = resumed frac_value state world.program in
     let n = length (saved_statements (first_line source) world.program) in
     let statements = world.program.statements.items in
-    answers-are-so frac_value limit world (whole-accepted number_limit source file saved world p q (solvers_chosen saved, is.no_error) none) first
+    answers-are-so frac_value limit world (whole-accepted greatest_part source file saved world p q (solvers_chosen saved, is.no_error) none) first
     (begins-lasting frac_value world.program first (resumed-begins source file saved world state solver p q none is)) (take n statements) (drop n statements) (take-drop n statements) rules answers answered
 
 pub returns-clause-begun : goal.returns-clause-begun

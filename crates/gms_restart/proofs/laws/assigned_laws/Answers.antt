@@ -1,5 +1,5 @@
-use Rattle.gms_joint.proofs.Lasting.{start-lasts}
-use Rattle.gms_joint.proofs.Starting.{begins-lasting}
+use Rattle.gms_run_laws.proofs.Lasting.{start-lasts}
+use Rattle.gms_run_laws.proofs.Starting.{begins-lasting}
 use Rattle.gms_restart.proofs.Assigned.{assigned-long}
 use Rattle.gms_restart.proofs.laws.assigned_laws.Goals as goal
 

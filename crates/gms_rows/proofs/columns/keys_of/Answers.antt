@@ -4,7 +4,7 @@ use Rattle.std.specs.List.{All}
 use Rattle.std.proofs.lemmas.List.{take_all}
 use Rattle.std.proofs.lemmas.List.Elements.{All-more}
 use Rattle.lp_form.specs.Affine.{IsForm}
-use Rattle.gms_rows.specs.ProgramLp.{ordered}
+use Rattle.gms_rows.specs.ProgramLp.{ordered_keys}
 use Rattle.gms_rows.specs.declared.form_row.FormRow.{FormRow}
 use Rattle.gms_rows.proofs.ColumnKeys.{keys-more, keys-rows, ordered-is}
 use Rattle.gms_rows.proofs.columns.keys_of.Goals as goal
@@ -21,7 +21,7 @@ returns-clause-keys g c =
     let forms = subst (All (λ row. IsForm g.F.ExactField.value row.form)) every c.loop-row.invariant.1 in
     let keys = c.loop-row.invariant.0 ∙ ap (λ rows. record { symbol = c.args.objective; tuple = [] } ∷ flat_map (λ row. row.form.keys) rows) every ∙ ap (λ keys. record { symbol = c.args.objective; tuple = [] } ∷ keys) (sym (keys-rows g.F.ExactField.value c.args.rows.now forms)) in
     let once = c.in_ok-order_once.ensures in
-    ordered-is c.loop-row.keys.items _ once.ordered once.same ∙ ap ordered keys
+    ordered-is c.loop-row.keys.items _ once.ordered once.same ∙ ap ordered_keys keys
 
 pub returns-clause-forms : goal.returns-clause-forms
 returns-clause-forms g c =

@@ -12,7 +12,7 @@ use Rattle.gms_eval.proofs.Inner.{inner-start, inner-controlled, inner-kept}
 use Rattle.gms_eval.proofs.NodeValues.{of_expr}
 use Rattle.gms_eval.proofs.Shapes.{tree-sets}
 use Rattle.gms_rows.specs.Affine.{plus, affine}
-use Rattle.gms_rows.specs.Forms.{Form, form_in, zero_form, scaled}
+use Rattle.gms_rows.specs.Forms.{Form, form_in, zero_form, scaled_form}
 use Rattle.gms_rows.specs.InnerWalks.{parts_in, signed_join, added_at, chain_form, total_form}
 use Rattle.gms_rows.proofs.Joins.{join-more, join-end, part-stops, join-stops}
 use Rattle.gms_rows.proofs.OtherNodes.{form-other}
@@ -50,8 +50,8 @@ affine-returns-in_err-form-in-Neg g t c =
     let state = c.args.store.now in
     let b = c.args.b.now in
     let stop = c.in_err-form-in-Neg.field-0.0 in
-    let whole_is = form-Neg v limit state c.args.at b c.args.e.now (sym c.has_variables.ensures ∙ c.if-not-has_variables.false) c.in-Neg.operand c.in-Neg.is ∙ ap (λ i. affine v limit state c.args.at b (tree_of i) and_then λ form. scaled limit c.args.at b false form (neg_ℚ (whole (pos 1)))) (sym c.deref-in-Neg.ensures) in
-    handed_on v (form_in v) c.from_residual.result stop (affine v limit state c.args.at b (tree_of c.args.e.now)) c.from_residual.ensures.1 (stops-same v stop _ _ whole_is (stops-then v stop (affine v limit state c.args.at b (tree_of c.deref-in-Neg.result.now)) (λ form. scaled limit c.args.at b false form (neg_ℚ (whole (pos 1)))) c.in_err-form-in-Neg.ensures))
+    let whole_is = form-Neg v limit state c.args.at b c.args.e.now (sym c.has_variables.ensures ∙ c.if-not-has_variables.false) c.in-Neg.operand c.in-Neg.is ∙ ap (λ i. affine v limit state c.args.at b (tree_of i) and_then λ form. scaled_form limit c.args.at b false form (neg_ℚ (whole (pos 1)))) (sym c.deref-in-Neg.ensures) in
+    handed_on v (form_in v) c.from_residual.result stop (affine v limit state c.args.at b (tree_of c.args.e.now)) c.from_residual.ensures.1 (stops-same v stop _ _ whole_is (stops-then v stop (affine v limit state c.args.at b (tree_of c.deref-in-Neg.result.now)) (λ form. scaled_form limit c.args.at b false form (neg_ℚ (whole (pos 1)))) c.in_err-form-in-Neg.ensures))
 
 pub affine-returns-in_ok-form-in-Neg : goal.affine-returns-in_ok-form-in-Neg
 affine-returns-in_ok-form-in-Neg g t c =
@@ -59,8 +59,8 @@ affine-returns-in_ok-form-in-Neg g t c =
     let limit = g.F.ExactField.limit in
     let state = c.args.store.now in
     let b = c.args.b.now in
-    let whole_is = form-Neg v limit state c.args.at b c.args.e.now (sym c.has_variables.ensures ∙ c.if-not-has_variables.false) c.in-Neg.operand c.in-Neg.is ∙ ap (λ i. affine v limit state c.args.at b (tree_of i) and_then λ form. scaled limit c.args.at b false form (neg_ℚ (whole (pos 1)))) (sym c.deref-in-Neg.ensures) in
-    gives-same v (form_in v) c.scale.result _ _ (whole_is ∙ ap (λ a. a and_then λ form. scaled limit c.args.at b false form (neg_ℚ (whole (pos 1)))) c.in_ok-form-in-Neg.ensures ∙ ap (scaled limit c.args.at b false (form_in v c.in_ok-form-in-Neg.form)) (sym (c.neg.ensures ∙ ap neg_ℚ c.one.ensures))) c.scale.ensures
+    let whole_is = form-Neg v limit state c.args.at b c.args.e.now (sym c.has_variables.ensures ∙ c.if-not-has_variables.false) c.in-Neg.operand c.in-Neg.is ∙ ap (λ i. affine v limit state c.args.at b (tree_of i) and_then λ form. scaled_form limit c.args.at b false form (neg_ℚ (whole (pos 1)))) (sym c.deref-in-Neg.ensures) in
+    gives-same v (form_in v) c.scale.result _ _ (whole_is ∙ ap (λ a. a and_then λ form. scaled_form limit c.args.at b false form (neg_ℚ (whole (pos 1)))) c.in_ok-form-in-Neg.ensures ∙ ap (scaled_form limit c.args.at b false (form_in v c.in_ok-form-in-Neg.form)) (sym (c.neg.ensures ∙ ap neg_ℚ c.one.ensures))) c.scale.ensures
 
 pub affine-returns-in-Plus : goal.affine-returns-in-Plus
 affine-returns-in-Plus g t c =

@@ -7,7 +7,7 @@ use Rattle.gms_eval.specs.Faults.{faulted}
 use Rattle.gms_eval.specs.declared.stop.StopKind.TheVariants.{Divide}
 use Rattle.gms_eval.proofs.Answering.{stops-same}
 use Rattle.gms_eval.proofs.Marks.{stops-shown}
-use Rattle.gms_rows.specs.Forms.{form_in, entry_of, entries_by, where_fits, quotient_of}
+use Rattle.gms_rows.specs.Forms.{form_in, number_in_form, entries_by, where_fits, quotient_of}
 use Rattle.gms_rows.proofs.FormSteps.{told-quotient}
 use Rattle.gms_rows.proofs.Faulting.{stops-told, over-zero, over-some}
 use Rattle.gms_rows.proofs.steps.divide.Goals as goal
@@ -23,7 +23,7 @@ returns-in-Ok g c =
     let v = g.F.ExactField.value in
     let form = form_in v c.args.form.now in
     over-some g.F.ExactField.limit c.args.at c.args.b.now form (v c.args.x) (λ zero. both_ways c.is_zero.result c.if-is_zero.false (c.is_zero.ensures.1 zero))
-    ∙ ap (where_fits c.args.at c.args.b.now (entry_of form) (λ _. number (v c.args.x))) (told-quotient v g.F.ExactField.limit some c.args.form.now (v c.args.x) (Ok c.in-Ok.quotient) c.keys.ensures.form c.in-Ok.ensures)
+    ∙ ap (where_fits c.args.at c.args.b.now (number_in_form form) (λ _. number (v c.args.x))) (told-quotient v g.F.ExactField.limit some c.args.form.now (v c.args.x) (Ok c.in-Ok.quotient) c.keys.ensures.form c.in-Ok.ensures)
 
 pub returns-in-Err : goal.returns-in-Err
 returns-in-Err g c =
@@ -31,4 +31,4 @@ returns-in-Err g c =
     let v = g.F.ExactField.value in
     let form = form_in v c.args.form.now in
     let other : v c.args.x ≢ whole (pos 0) = λ zero. both_ways c.is_zero.result c.if-is_zero.false (c.is_zero.ensures.1 zero) in
-    stops-same v c.with_number.result _ _ (over-some g.F.ExactField.limit c.args.at c.args.b.now form (v c.args.x) other) (stops-told v c.args.at c.args.b.now (entry_of form) (λ _. number (v c.args.x)) c.in-Err.fault c.with_number.result (entries_by (quotient_step g.F.ExactField.limit) form (v c.args.x)) (told-quotient v g.F.ExactField.limit some c.args.form.now (v c.args.x) (Err c.in-Err.fault) c.keys.ensures.form c.in-Err.ensures) c.with_number.ensures)
+    stops-same v c.with_number.result _ _ (over-some g.F.ExactField.limit c.args.at c.args.b.now form (v c.args.x) other) (stops-told v c.args.at c.args.b.now (number_in_form form) (λ _. number (v c.args.x)) c.in-Err.fault c.with_number.result (entries_by (quotient_step g.F.ExactField.limit) form (v c.args.x)) (told-quotient v g.F.ExactField.limit some c.args.form.now (v c.args.x) (Err c.in-Err.fault) c.keys.ensures.form c.in-Err.ensures) c.with_number.ensures)

@@ -1,6 +1,6 @@
 use Rattle.std.proofs.Common.{◌≡◌, Some, None, ap, sym, ◌∙◌, option_map}
 use Rattle.gms_host.proofs.Counting.{writing_none}
-use Rattle.gms_words.specs.CommandLine.{asked_by}
+use Rattle.gms_command.specs.CommandLine.{asked_by}
 use Rattle.gms_run.specs.Listings.{save_file}
 use Rattle.gms_run.proofs.Runs.{saves_file, saves_none}
 use Rattle.gms_run.proofs.closing.write_save.Goals as goal

@@ -4,11 +4,11 @@ use Rattle.std.specs.Prelude.{string_bytes}
 use Rattle.std.proofs.lemmas.Result.{err_from_is_err_and}
 use Rattle.gms_host.specs.Meaning.{Outside}
 use Rattle.gms_host.proofs.Counting.{writing_more}
-use Rattle.gms_words.specs.CommandLine.{asked_by}
+use Rattle.gms_command.specs.CommandLine.{asked_by}
 use Rattle.gms_run.specs.InnerReports.{script_in}
 use Rattle.gms_run.specs.Jobs.{job_of}
 use Rattle.gms_run.specs.Scripts.{scripted}
-use Rattle.gms_run.specs.Solving.{seen, solving}
+use Rattle.gms_run.specs.Solving.{solver_views, solving}
 use Rattle.gms_run.proofs.Comings.{comes_as, comes_err, both_of, told_as, writing_err}
 use Rattle.gms_run.proofs.Executing.{breaks_echoed, breaks_first, ends_echoed, room_behind}
 use Rattle.gms_run.proofs.Reports.{follows_job, job_of_script, prepares_job, unwritten_job}
@@ -26,7 +26,7 @@ returns-in_err-pass_echo-clause-outside g c state begins =
     let job = job_of (script_in c.args.script state) c.args.program.now in
     rw (p.1, p.2) (comes_err _ _ c.in_err-pass_echo.field-0.0
     (λ front. unwritten_job (solving (λ b. (goal.LpSolver-dyn g (b.vtable, b.value)).name b.value) (λ b. (goal.LpSolver-dyn g (b.vtable, b.value)).rule b.value) (λ b. (goal.LpSolver-dyn g (b.vtable, b.value)).paths b.value) c.args.solvers.now.items c.args.solvers.now.items c.args.answers.now.items) (g.H.Host.meaning c.args.host.now).outside (g.H.Host.meaning c.pass_echo.new.host).outside (scripted (script_in c.args.script state)) job (job_of_script (map (λ b. (goal.LpSolver-dyn g (b.vtable, b.value)).name b.value) c.args.solvers.now.items) (script_in c.args.script state) c.args.program.now begins.accepted)
-    (breaks_first job (seen (λ b. (goal.LpSolver-dyn g (b.vtable, b.value)).name b.value) (λ b. (goal.LpSolver-dyn g (b.vtable, b.value)).rule b.value) (λ b. (goal.LpSolver-dyn g (b.vtable, b.value)).paths b.value) c.args.solvers.now.items) c.args.answers.now.items _ _ c.requires.none front)) c.in_err-pass_echo.ensures.outside)
+    (breaks_first job (solver_views (λ b. (goal.LpSolver-dyn g (b.vtable, b.value)).name b.value) (λ b. (goal.LpSolver-dyn g (b.vtable, b.value)).rule b.value) (λ b. (goal.LpSolver-dyn g (b.vtable, b.value)).paths b.value) c.args.solvers.now.items) c.args.answers.now.items _ _ c.requires.none front)) c.in_err-pass_echo.ensures.outside)
 
 pub returns-in_err-pass_echo-clause-counts : goal.returns-in_err-pass_echo-clause-counts
 returns-in_err-pass_echo-clause-counts g c =

@@ -1,10 +1,10 @@
 use Rattle.std.proofs.Common.{◌<◌, ◌++◌, ◌∙◌, ◌^◌, ap, refl, subst, sym}
 use Rattle.std.proofs.lemmas.Result.{err_from_is_err_and}
-use Rattle.gms_exec.specs.Stepping.{AreKept}
+use Rattle.gms_exec.specs.Stepping.{AreValidSettings}
 use Rattle.gms_host.specs.Meaning.{Outside}
 use Rattle.gms_host.proofs.Counting.{writing_done, writing_more, writing_none}
 use Rattle.gms_run.specs.InnerSteps.{between, work}
-use Rattle.gms_run.specs.Solving.{seen}
+use Rattle.gms_run.specs.Solving.{solver_views}
 use Rattle.gms_run.proofs.Comings.{comes_broken, writing_failed, writing_memory}
 use Rattle.gms_run.proofs.Executing.{Executes, broke, came_done, came_stopped, come_more, come_start, executes_next, room_behind, same_many}
 use Rattle.gms_run.proofs.execution.statements.Goals as goal
@@ -12,7 +12,7 @@ use Rattle.gms_run.proofs.execution.statements.Goals as goal
 pub loop-s-init : goal.loop-s-init
 loop-s-init g c =
     record {
-      come = come_start (work c.args.program.now c.args.store.now c.args.list.now) (seen (λ b. (goal.LpSolver-dyn g (b.vtable, b.value)).name b.value) (λ b. (goal.LpSolver-dyn g (b.vtable, b.value)).rule b.value) (λ b. (goal.LpSolver-dyn g (b.vtable, b.value)).paths b.value) c.args.solvers.now.items) _ _ c.args.answers.now.items c.args.solved.now.items c.requires.none c.requires.unsolved;
+      come = come_start (work c.args.program.now c.args.store.now c.args.list.now) (solver_views (λ b. (goal.LpSolver-dyn g (b.vtable, b.value)).name b.value) (λ b. (goal.LpSolver-dyn g (b.vtable, b.value)).rule b.value) (λ b. (goal.LpSolver-dyn g (b.vtable, b.value)).paths b.value) c.args.solvers.now.items) _ _ c.args.answers.now.items c.args.solved.now.items c.requires.none c.requires.unsolved;
       room = c.requires.room;
       settings = c.requires.settings;
       plain = c.requires.plain;
@@ -23,7 +23,7 @@ pub statement-requires-clause-few : goal.statement-requires-clause-few
 statement-requires-clause-few g c = subst (λ n. n < 2 ^ 32) (sym (same_many (λ b. (goal.LpSolver-dyn g (b.vtable, b.value)).name b.value) c.loop-s.solvers.items c.args.solvers.now.items c.loop-s.invariant.come.done.grown.names)) c.requires.few
 
 pub statement-requires-clause-settings : goal.statement-requires-clause-settings
-statement-requires-clause-settings g c = subst (λ n. AreKept n c.loop-s.store.settings) (sym (same_many (λ b. (goal.LpSolver-dyn g (b.vtable, b.value)).name b.value) c.loop-s.solvers.items c.args.solvers.now.items c.loop-s.invariant.come.done.grown.names)) c.loop-s.invariant.settings
+statement-requires-clause-settings g c = subst (λ n. AreValidSettings n c.loop-s.store.settings) (sym (same_many (λ b. (goal.LpSolver-dyn g (b.vtable, b.value)).name b.value) c.loop-s.solvers.items c.args.solvers.now.items c.loop-s.invariant.come.done.grown.names)) c.loop-s.invariant.settings
 
 pub statement-requires-clause-plain : goal.statement-requires-clause-plain
 statement-requires-clause-plain g c = c.loop-s.invariant.plain
@@ -44,7 +44,7 @@ returns-in_err-goes_on-clause-counts g c =
 pub returns-in_err-pass-clause-outside : goal.returns-in_err-pass-clause-outside
 returns-in_err-pass-clause-outside g c =
     let job = work c.args.program.now c.args.store.now c.args.list.now in
-    let before = seen (λ b. (goal.LpSolver-dyn g (b.vtable, b.value)).name b.value) (λ b. (goal.LpSolver-dyn g (b.vtable, b.value)).rule b.value) (λ b. (goal.LpSolver-dyn g (b.vtable, b.value)).paths b.value) c.args.solvers.now.items in
+    let before = solver_views (λ b. (goal.LpSolver-dyn g (b.vtable, b.value)).name b.value) (λ b. (goal.LpSolver-dyn g (b.vtable, b.value)).rule b.value) (λ b. (goal.LpSolver-dyn g (b.vtable, b.value)).paths b.value) c.args.solvers.now.items in
     let old = (g.H.Host.meaning c.args.host.now).outside in
     let mid = (g.H.Host.meaning c.loop-s.host).outside in
     let due = c.args.outlet.now.spool ++ c.args.outlet.now.listing in
@@ -65,7 +65,7 @@ returns-in_err-pass-clause-counts g c =
 pub returns-then-not-goes_on-clause-outside : goal.returns-then-not-goes_on-clause-outside
 returns-then-not-goes_on-clause-outside g c =
     let job = work c.args.program.now c.args.store.now c.args.list.now in
-    let before = seen (λ b. (goal.LpSolver-dyn g (b.vtable, b.value)).name b.value) (λ b. (goal.LpSolver-dyn g (b.vtable, b.value)).rule b.value) (λ b. (goal.LpSolver-dyn g (b.vtable, b.value)).paths b.value) c.args.solvers.now.items in
+    let before = solver_views (λ b. (goal.LpSolver-dyn g (b.vtable, b.value)).name b.value) (λ b. (goal.LpSolver-dyn g (b.vtable, b.value)).rule b.value) (λ b. (goal.LpSolver-dyn g (b.vtable, b.value)).paths b.value) c.args.solvers.now.items in
     let old = (g.H.Host.meaning c.args.host.now).outside in
     let mid = (g.H.Host.meaning c.loop-s.host).outside in
     let due = c.args.outlet.now.spool ++ c.args.outlet.now.listing in
@@ -85,7 +85,7 @@ returns-then-not-goes_on-clause-counts g c =
 pub loop-s-preserved : goal.loop-s-preserved
 loop-s-preserved g c =
     let job = work c.args.program.now c.args.store.now c.args.list.now in
-    let before = seen (λ b. (goal.LpSolver-dyn g (b.vtable, b.value)).name b.value) (λ b. (goal.LpSolver-dyn g (b.vtable, b.value)).rule b.value) (λ b. (goal.LpSolver-dyn g (b.vtable, b.value)).paths b.value) c.args.solvers.now.items in
+    let before = solver_views (λ b. (goal.LpSolver-dyn g (b.vtable, b.value)).name b.value) (λ b. (goal.LpSolver-dyn g (b.vtable, b.value)).rule b.value) (λ b. (goal.LpSolver-dyn g (b.vtable, b.value)).paths b.value) c.args.solvers.now.items in
     let old = (g.H.Host.meaning c.args.host.now).outside in
     let mid = (g.H.Host.meaning c.loop-s.host).outside in
     let due = c.args.outlet.now.spool ++ c.args.outlet.now.listing in
@@ -100,14 +100,14 @@ loop-s-preserved g c =
     record {
       come = come_more job before old due mid (g.H.Host.meaning c.pass.new.host).outside c.loop-s.s-index next (c.loop-s.outlet.spool ++ c.statement.new.listing) c.pass.new.self.spool c.pass.new.self.listing goes c.in_ok-pass.ensures.outside c.in_ok-pass.ensures.none;
       room = room_behind c.pass.new.self.spool c.pass.new.self.listing c.in_ok-pass.ensures.room c.in_ok-pass.ensures.none;
-      settings = subst (λ n. AreKept n c.statement.new.store.settings) (same_many (λ b. (goal.LpSolver-dyn g (b.vtable, b.value)).name b.value) c.loop-s.solvers.items c.args.solvers.now.items c.loop-s.invariant.come.done.grown.names) kept.settings;
+      settings = subst (λ n. AreValidSettings n c.statement.new.store.settings) (same_many (λ b. (goal.LpSolver-dyn g (b.vtable, b.value)).name b.value) c.loop-s.solvers.items c.args.solvers.now.items c.loop-s.invariant.come.done.grown.names) kept.settings;
       plain = kept.plain;
       counts = writing_more tt at.counts (writing_done _ tt c.in_ok-pass.ensures.counts);
     }
 
 pub returns-clause-outside : goal.returns-clause-outside
 returns-clause-outside g c =
-    came_done (work c.args.program.now c.args.store.now c.args.list.now) (seen (λ b. (goal.LpSolver-dyn g (b.vtable, b.value)).name b.value) (λ b. (goal.LpSolver-dyn g (b.vtable, b.value)).rule b.value) (λ b. (goal.LpSolver-dyn g (b.vtable, b.value)).paths b.value) c.args.solvers.now.items) (g.H.Host.meaning c.args.host.now).outside (c.args.outlet.now.spool ++ c.args.outlet.now.listing) (g.H.Host.meaning c.loop-s.host).outside c.loop-s.s-index
+    came_done (work c.args.program.now c.args.store.now c.args.list.now) (solver_views (λ b. (goal.LpSolver-dyn g (b.vtable, b.value)).name b.value) (λ b. (goal.LpSolver-dyn g (b.vtable, b.value)).rule b.value) (λ b. (goal.LpSolver-dyn g (b.vtable, b.value)).paths b.value) c.args.solvers.now.items) (g.H.Host.meaning c.args.host.now).outside (c.args.outlet.now.spool ++ c.args.outlet.now.listing) (g.H.Host.meaning c.loop-s.host).outside c.loop-s.s-index
     (between (λ b. (goal.LpSolver-dyn g (b.vtable, b.value)).name b.value) (λ b. (goal.LpSolver-dyn g (b.vtable, b.value)).rule b.value) (λ b. (goal.LpSolver-dyn g (b.vtable, b.value)).paths b.value) c.loop-s.store c.loop-s.answers.items c.loop-s.solved.items c.loop-s.solvers.items) (c.loop-s.outlet.spool ++ c.loop-s.outlet.listing) c.args.list.now
     c.loop-s.invariant.come c.loop-s.invariant.room refl c.loop-s-test.false
 

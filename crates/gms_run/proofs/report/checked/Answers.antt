@@ -5,12 +5,12 @@ use Rattle.std.specs.Prelude.{string_bytes}
 use Rattle.std.proofs.lemmas.List.{length-map}
 use Rattle.std.proofs.lemmas.Result.{err_from_is_err_and}
 use Rattle.gms_host.proofs.Counting.{writing_none}
-use Rattle.gms_exec.specs.Stepping.{AreKept}
-use Rattle.gms_words.specs.CommandLine.{asked_by}
+use Rattle.gms_exec.specs.Stepping.{AreValidSettings}
+use Rattle.gms_command.specs.CommandLine.{asked_by}
 use Rattle.lp_slot.specs.SolverNames.{IsSolverName}
 use Rattle.gms_run.specs.declared.status.Status.TheVariants.{Compile}
 use Rattle.gms_run.specs.InnerReports.{script_in}
-use Rattle.gms_run.specs.Scripts.{errors_of, scripted}
+use Rattle.gms_run.specs.Scripts.{errors_of_script, scripted}
 use Rattle.gms_run.specs.Solving.{solving}
 use Rattle.gms_run.proofs.Beginning.{first_origin, first_plain, first_settings}
 use Rattle.gms_run.proofs.Comings.{writing_memory}
@@ -19,21 +19,21 @@ use Rattle.gms_run.proofs.report.checked.Goals as goal
 
 pub begin-requires : goal.begin-requires
 begin-requires g c =
-    (map (λ b. (goal.LpSolver-dyn g (b.vtable, b.value)).name b.value) c.args.solvers.now.items, (lists_none c.in_ok-has_errors.field-0 (errors_of (script_in c.args.script c.args.run.now.store).saved (script_in c.args.script c.args.run.now.store).line c.args.program.now (map (λ b. (goal.LpSolver-dyn g (b.vtable, b.value)).name b.value) c.args.solvers.now.items)) (script_in c.args.script c.args.run.now.store) c.args.outlet.now.listing c.has_errors.new.listing c.if-branch.false (lists_as (λ b. (goal.LpSolver-dyn g (b.vtable, b.value)).name b.value) c.as_slice.result.now c.args.solvers.now.items c.in_ok-has_errors.field-0 (script_in c.args.script c.args.run.now.store) c.args.program.now c.args.outlet.now.listing c.has_errors.new.listing c.as_slice.ensures.value (c.in_ok-has_errors.ensures.listed c.args.run.now.store))).0)
+    (map (λ b. (goal.LpSolver-dyn g (b.vtable, b.value)).name b.value) c.args.solvers.now.items, (lists_none c.in_ok-has_errors.field-0 (errors_of_script (script_in c.args.script c.args.run.now.store).saved (script_in c.args.script c.args.run.now.store).line c.args.program.now (map (λ b. (goal.LpSolver-dyn g (b.vtable, b.value)).name b.value) c.args.solvers.now.items)) (script_in c.args.script c.args.run.now.store) c.args.outlet.now.listing c.has_errors.new.listing c.if-branch.false (lists_as (λ b. (goal.LpSolver-dyn g (b.vtable, b.value)).name b.value) c.as_slice.result.now c.args.solvers.now.items c.in_ok-has_errors.field-0 (script_in c.args.script c.args.run.now.store) c.args.program.now c.args.outlet.now.listing c.has_errors.new.listing c.as_slice.ensures.value (c.in_ok-has_errors.ensures.listed c.args.run.now.store))).0)
 
 pub execute-requires-clause-settings : goal.execute-requires-clause-settings
 execute-requires-clause-settings g c =
-    subst (λ (n : ℕ). AreKept n c.begin.new.store.settings) (length-map c.args.solvers.now.items (λ b. (goal.LpSolver-dyn g (b.vtable, b.value)).name b.value))
+    subst (λ (n : ℕ). AreValidSettings n c.begin.new.store.settings) (length-map c.args.solvers.now.items (λ b. (goal.LpSolver-dyn g (b.vtable, b.value)).name b.value))
     (first_settings (map (λ b. (goal.LpSolver-dyn g (b.vtable, b.value)).name b.value) c.args.solvers.now.items) (script_in c.args.script c.args.run.now.store).source c.args.script.line (script_in c.args.script c.args.run.now.store).saved c.args.program.now c.begin.new.store c.in_ok-begin.ensures c.requires.sound)
 
 pub execute-requires-clause-plain : goal.execute-requires-clause-plain
 execute-requires-clause-plain g c =
     first_plain (map (λ b. (goal.LpSolver-dyn g (b.vtable, b.value)).name b.value) c.args.solvers.now.items) (script_in c.args.script c.args.run.now.store) c.args.program.now c.begin.new.store c.in_ok-begin.ensures
-    (record { is_program = c.requires.is_program; no_error = (lists_none c.in_ok-has_errors.field-0 (errors_of (script_in c.args.script c.args.run.now.store).saved (script_in c.args.script c.args.run.now.store).line c.args.program.now (map (λ b. (goal.LpSolver-dyn g (b.vtable, b.value)).name b.value) c.args.solvers.now.items)) (script_in c.args.script c.args.run.now.store) c.args.outlet.now.listing c.has_errors.new.listing c.if-branch.false (lists_as (λ b. (goal.LpSolver-dyn g (b.vtable, b.value)).name b.value) c.as_slice.result.now c.args.solvers.now.items c.in_ok-has_errors.field-0 (script_in c.args.script c.args.run.now.store) c.args.program.now c.args.outlet.now.listing c.has_errors.new.listing c.as_slice.ensures.value (c.in_ok-has_errors.ensures.listed c.args.run.now.store))).0 }) c.requires.sound
+    (record { is_program = c.requires.is_program; no_error = (lists_none c.in_ok-has_errors.field-0 (errors_of_script (script_in c.args.script c.args.run.now.store).saved (script_in c.args.script c.args.run.now.store).line c.args.program.now (map (λ b. (goal.LpSolver-dyn g (b.vtable, b.value)).name b.value) c.args.solvers.now.items)) (script_in c.args.script c.args.run.now.store) c.args.outlet.now.listing c.has_errors.new.listing c.if-branch.false (lists_as (λ b. (goal.LpSolver-dyn g (b.vtable, b.value)).name b.value) c.as_slice.result.now c.args.solvers.now.items c.in_ok-has_errors.field-0 (script_in c.args.script c.args.run.now.store) c.args.program.now c.args.outlet.now.listing c.has_errors.new.listing c.as_slice.ensures.value (c.in_ok-has_errors.ensures.listed c.args.run.now.store))).0 }) c.requires.sound
 
 pub execute-requires-clause-empty : goal.execute-requires-clause-empty
 execute-requires-clause-empty g c =
-    ap (λ t. c.args.outlet.now.spool ++ t) (lists_none c.in_ok-has_errors.field-0 (errors_of (script_in c.args.script c.args.run.now.store).saved (script_in c.args.script c.args.run.now.store).line c.args.program.now (map (λ b. (goal.LpSolver-dyn g (b.vtable, b.value)).name b.value) c.args.solvers.now.items)) (script_in c.args.script c.args.run.now.store) c.args.outlet.now.listing c.has_errors.new.listing c.if-branch.false (lists_as (λ b. (goal.LpSolver-dyn g (b.vtable, b.value)).name b.value) c.as_slice.result.now c.args.solvers.now.items c.in_ok-has_errors.field-0 (script_in c.args.script c.args.run.now.store) c.args.program.now c.args.outlet.now.listing c.has_errors.new.listing c.as_slice.ensures.value (c.in_ok-has_errors.ensures.listed c.args.run.now.store))).1 ∙ c.requires.empty
+    ap (λ t. c.args.outlet.now.spool ++ t) (lists_none c.in_ok-has_errors.field-0 (errors_of_script (script_in c.args.script c.args.run.now.store).saved (script_in c.args.script c.args.run.now.store).line c.args.program.now (map (λ b. (goal.LpSolver-dyn g (b.vtable, b.value)).name b.value) c.args.solvers.now.items)) (script_in c.args.script c.args.run.now.store) c.args.outlet.now.listing c.has_errors.new.listing c.if-branch.false (lists_as (λ b. (goal.LpSolver-dyn g (b.vtable, b.value)).name b.value) c.as_slice.result.now c.args.solvers.now.items c.in_ok-has_errors.field-0 (script_in c.args.script c.args.run.now.store) c.args.program.now c.args.outlet.now.listing c.has_errors.new.listing c.as_slice.ensures.value (c.in_ok-has_errors.ensures.listed c.args.run.now.store))).1 ∙ c.requires.empty
 
 pub returns-in_err-has_errors-clause-outside : goal.returns-in_err-has_errors-clause-outside
 returns-in_err-has_errors-clause-outside g c =
@@ -69,11 +69,11 @@ returns-in_err-begin-clause-counts g c =
 
 pub returns-clause-outside : goal.returns-clause-outside
 returns-clause-outside g c =
-    c.execute.ensures.outside c.args.run.now.store (record { accepted = record { is_program = c.requires.is_program; no_error = (lists_none c.in_ok-has_errors.field-0 (errors_of (script_in c.args.script c.args.run.now.store).saved (script_in c.args.script c.args.run.now.store).line c.args.program.now (map (λ b. (goal.LpSolver-dyn g (b.vtable, b.value)).name b.value) c.args.solvers.now.items)) (script_in c.args.script c.args.run.now.store) c.args.outlet.now.listing c.has_errors.new.listing c.if-branch.false (lists_as (λ b. (goal.LpSolver-dyn g (b.vtable, b.value)).name b.value) c.as_slice.result.now c.args.solvers.now.items c.in_ok-has_errors.field-0 (script_in c.args.script c.args.run.now.store) c.args.program.now c.args.outlet.now.listing c.has_errors.new.listing c.as_slice.ensures.value (c.in_ok-has_errors.ensures.listed c.args.run.now.store))).0 }; named = subst (λ (boxes : List _). All IsSolverName (map (λ b. (goal.LpSolver-dyn g (b.vtable, b.value)).name b.value) boxes)) c.as_slice.ensures.value c.in_ok-has_errors.ensures.named; origin = first_origin (map (λ b. (goal.LpSolver-dyn g (b.vtable, b.value)).name b.value) c.args.solvers.now.items) (script_in c.args.script c.args.run.now.store).source c.args.script.line (script_in c.args.script c.args.run.now.store).saved c.requires.sound; first = c.in_ok-begin.ensures })
+    c.execute.ensures.outside c.args.run.now.store (record { accepted = record { is_program = c.requires.is_program; no_error = (lists_none c.in_ok-has_errors.field-0 (errors_of_script (script_in c.args.script c.args.run.now.store).saved (script_in c.args.script c.args.run.now.store).line c.args.program.now (map (λ b. (goal.LpSolver-dyn g (b.vtable, b.value)).name b.value) c.args.solvers.now.items)) (script_in c.args.script c.args.run.now.store) c.args.outlet.now.listing c.has_errors.new.listing c.if-branch.false (lists_as (λ b. (goal.LpSolver-dyn g (b.vtable, b.value)).name b.value) c.as_slice.result.now c.args.solvers.now.items c.in_ok-has_errors.field-0 (script_in c.args.script c.args.run.now.store) c.args.program.now c.args.outlet.now.listing c.has_errors.new.listing c.as_slice.ensures.value (c.in_ok-has_errors.ensures.listed c.args.run.now.store))).0 }; named = subst (λ (boxes : List _). All IsSolverName (map (λ b. (goal.LpSolver-dyn g (b.vtable, b.value)).name b.value) boxes)) c.as_slice.ensures.value c.in_ok-has_errors.ensures.named; origin = first_origin (map (λ b. (goal.LpSolver-dyn g (b.vtable, b.value)).name b.value) c.args.solvers.now.items) (script_in c.args.script c.args.run.now.store).source c.args.script.line (script_in c.args.script c.args.run.now.store).saved c.requires.sound; first = c.in_ok-begin.ensures })
 
 pub returns-clause-follows : goal.returns-clause-follows
 returns-clause-follows g c =
-    c.execute.ensures.follows c.args.run.now.store (record { accepted = record { is_program = c.requires.is_program; no_error = (lists_none c.in_ok-has_errors.field-0 (errors_of (script_in c.args.script c.args.run.now.store).saved (script_in c.args.script c.args.run.now.store).line c.args.program.now (map (λ b. (goal.LpSolver-dyn g (b.vtable, b.value)).name b.value) c.args.solvers.now.items)) (script_in c.args.script c.args.run.now.store) c.args.outlet.now.listing c.has_errors.new.listing c.if-branch.false (lists_as (λ b. (goal.LpSolver-dyn g (b.vtable, b.value)).name b.value) c.as_slice.result.now c.args.solvers.now.items c.in_ok-has_errors.field-0 (script_in c.args.script c.args.run.now.store) c.args.program.now c.args.outlet.now.listing c.has_errors.new.listing c.as_slice.ensures.value (c.in_ok-has_errors.ensures.listed c.args.run.now.store))).0 }; named = subst (λ (boxes : List _). All IsSolverName (map (λ b. (goal.LpSolver-dyn g (b.vtable, b.value)).name b.value) boxes)) c.as_slice.ensures.value c.in_ok-has_errors.ensures.named; origin = first_origin (map (λ b. (goal.LpSolver-dyn g (b.vtable, b.value)).name b.value) c.args.solvers.now.items) (script_in c.args.script c.args.run.now.store).source c.args.script.line (script_in c.args.script c.args.run.now.store).saved c.requires.sound; first = c.in_ok-begin.ensures })
+    c.execute.ensures.follows c.args.run.now.store (record { accepted = record { is_program = c.requires.is_program; no_error = (lists_none c.in_ok-has_errors.field-0 (errors_of_script (script_in c.args.script c.args.run.now.store).saved (script_in c.args.script c.args.run.now.store).line c.args.program.now (map (λ b. (goal.LpSolver-dyn g (b.vtable, b.value)).name b.value) c.args.solvers.now.items)) (script_in c.args.script c.args.run.now.store) c.args.outlet.now.listing c.has_errors.new.listing c.if-branch.false (lists_as (λ b. (goal.LpSolver-dyn g (b.vtable, b.value)).name b.value) c.as_slice.result.now c.args.solvers.now.items c.in_ok-has_errors.field-0 (script_in c.args.script c.args.run.now.store) c.args.program.now c.args.outlet.now.listing c.has_errors.new.listing c.as_slice.ensures.value (c.in_ok-has_errors.ensures.listed c.args.run.now.store))).0 }; named = subst (λ (boxes : List _). All IsSolverName (map (λ b. (goal.LpSolver-dyn g (b.vtable, b.value)).name b.value) boxes)) c.as_slice.ensures.value c.in_ok-has_errors.ensures.named; origin = first_origin (map (λ b. (goal.LpSolver-dyn g (b.vtable, b.value)).name b.value) c.args.solvers.now.items) (script_in c.args.script c.args.run.now.store).source c.args.script.line (script_in c.args.script c.args.run.now.store).saved c.requires.sound; first = c.in_ok-begin.ensures })
 
 pub returns-clause-counts : goal.returns-clause-counts
 returns-clause-counts g c = c.execute.ensures.counts

@@ -6,13 +6,13 @@ use Rattle.lp_slot.specs.SolverNames.{IsSolverName}
 use Rattle.gms_store.specs.State.{State}
 use Rattle.gms_check.specs.declared.error.CompileError.{CompileError}
 use Rattle.gms_run.specs.InnerReports.{script_in}
-use Rattle.gms_run.specs.Scripts.{errors_of}
+use Rattle.gms_run.specs.Scripts.{errors_of_script}
 use Rattle.gms_run.proofs.Comings.{holds_done}
 use Rattle.gms_run.proofs.report.errors_for.Goals as goal
 
 pub returns-clause-errors : goal.returns-clause-errors
 returns-clause-errors g c =
-    subst (λ (names : List (List ℕ)). IfOk c.errors_of.result (λ (errors : Vec CompileError Global). (state : State) → errors.items ≡ errors_of (script_in c.args.script state).saved c.args.script.line c.args.program.now names)) (ap (map string_bytes) c.deref.ensures.value ∙ c.in_ok-names.ensures.texts) c.errors_of.ensures
+    subst (λ (names : List (List ℕ)). IfOk c.errors_of.result (λ (errors : Vec CompileError Global). (state : State) → errors.items ≡ errors_of_script (script_in c.args.script state).saved c.args.script.line c.args.program.now names)) (ap (map string_bytes) c.deref.ensures.value ∙ c.in_ok-names.ensures.texts) c.errors_of.ensures
 
 pub returns-clause-named : goal.returns-clause-named
 returns-clause-named g c =

@@ -1,9 +1,9 @@
 -- A refusal, or what becomes of a program.
 use Rattle.std.proofs.Common.{refl, subst, inl}
 use Rattle.std.specs.Prelude.{string_bytes}
-use Rattle.gms_parse.specs.Outcomes.{IsRefusal}
+use Rattle.gms_parse.specs.Outcomes.{IsSourceRefusal}
 use Rattle.gms_host.proofs.Counting.{writing_none}
-use Rattle.gms_words.specs.CommandLine.{asked_by}
+use Rattle.gms_command.specs.CommandLine.{asked_by}
 use Rattle.gms_run.specs.InnerReports.{script_in}
 use Rattle.gms_run.specs.Listings.{refusal_text}
 use Rattle.gms_run.specs.Scripts.{scripted}
@@ -25,7 +25,7 @@ returns-in_ok-status-in-Err-Fault-clause-outside g c =
     let refusal = c.in_ok-status-in-Err-Fault.ensures in
     prepares_why c.in_ok-status-in-Err-Fault.status (solving (λ b. (goal.LpSolver-dyn g (b.vtable, b.value)).name b.value) (λ b. (goal.LpSolver-dyn g (b.vtable, b.value)).rule b.value) (λ b. (goal.LpSolver-dyn g (b.vtable, b.value)).paths b.value) c.args.solvers.now.items c.args.solvers.now.items c.args.answers.now.items) (g.H.Host.meaning c.args.host.now).outside (scripted (script_in c.args.script c.args.run.now.store)) c.args.outlet.now.spool c.args.outlet.now.listing c.refused.new.outlet.spool c.refused.new.outlet.listing (refusal_text (script_in c.args.script c.args.run.now.store) c.in-Err-Fault.fault)
     refusal.status (c.requires.none, refl) c.requires.empty refusal.spool (refusal.text c.args.run.now.store)
-    (inl (record { fault = c.in-Err-Fault.fault; refused = subst (λ e. IsRefusal number_limit c.args.script.source.now e) c.in-Err-Fault.field-0-is c.in-Err-Fault.ensures; listing = refl }))
+    (inl (record { fault = c.in-Err-Fault.fault; refused = subst (λ e. IsSourceRefusal number_limit c.args.script.source.now e) c.in-Err-Fault.field-0-is c.in-Err-Fault.ensures; listing = refl }))
 
 pub returns-in_ok-status-in-Err-Fault-clause-follows : goal.returns-in_ok-status-in-Err-Fault-clause-follows
 returns-in_ok-status-in-Err-Fault-clause-follows g c =

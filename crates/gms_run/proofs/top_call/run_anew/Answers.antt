@@ -1,5 +1,5 @@
 -- No state is gone on from.
-use Rattle.gms_words.specs.CommandLine.{asked_by}
+use Rattle.gms_command.specs.CommandLine.{asked_by}
 use Rattle.gms_run.specs.InnerReports.{matter_in}
 use Rattle.gms_run.specs.Solving.{solving}
 use Rattle.gms_run.proofs.Runs.{ran_at}

@@ -1,7 +1,7 @@
 use Rattle.std.proofs.Common.{refl, subst, Vec, ℕ}
 use Rattle.std.specs.declared.alloc.Global.{Global}
 use Rattle.gms_host.specs.Rules.{CountsReading, IsThere}
-use Rattle.gms_words.specs.CommandLine.{asked_by}
+use Rattle.gms_command.specs.CommandLine.{asked_by}
 use Rattle.gms_run.specs.Solving.{solving}
 use Rattle.gms_run.proofs.Comings.{failed_with}
 use Rattle.gms_run.proofs.Runs.{counts_read, counts_read_memory, counts_unread, of_behind, unread_behind}

@@ -1,7 +1,7 @@
 -- The run holds the restored state, and the joint source begins with the saved one.
 use Rattle.std.proofs.Common.{◌∙◌, List, ap, map, subst, sym, ℕ}
 use Rattle.gms_store.specs.State.{State}
-use Rattle.gms_words.specs.CommandLine.{asked_by}
+use Rattle.gms_command.specs.CommandLine.{asked_by}
 use Rattle.gms_run.specs.InnerReports.{CanGoOn}
 use Rattle.gms_run.specs.Scripts.{first_line, joint_source}
 use Rattle.gms_run.specs.Solving.{solving}

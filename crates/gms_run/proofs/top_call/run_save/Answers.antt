@@ -2,7 +2,7 @@
 use Rattle.std.proofs.Common.{◌≡◌, ◌<◌, ◌^◌, length, map, List, ℕ, ap, refl, subst, sym}
 use Rattle.std.specs.Prelude.{Ok}
 use Rattle.gms_save.specs.Saves.{GivesBack, IsRestored}
-use Rattle.gms_words.specs.CommandLine.{asked_by}
+use Rattle.gms_command.specs.CommandLine.{asked_by}
 use Rattle.gms_run.specs.declared.script.Matter.TheVariants.{Unrestored}
 use Rattle.gms_run.specs.InnerReports.{matter_in}
 use Rattle.gms_run.specs.Scripts.{IsUnrestored, unrestored}

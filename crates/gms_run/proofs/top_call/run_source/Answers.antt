@@ -1,6 +1,6 @@
 -- A source resumes from no state.
 use Rattle.std.proofs.Common.{false, refl}
-use Rattle.gms_words.specs.CommandLine.{asked_by}
+use Rattle.gms_command.specs.CommandLine.{asked_by}
 use Rattle.gms_run.specs.declared.script.Matter.TheVariants.{ToRun}
 use Rattle.gms_run.specs.InnerReports.{matter_in}
 use Rattle.gms_run.specs.Scripts.{script_of, scripted}

@@ -4,7 +4,7 @@ use Rattle.std.specs.Prelude.{string_bytes}
 use Rattle.std.proofs.lemmas.Result.{err_from_is_err_and}
 use Rattle.gms_host.specs.Meaning.{Outside}
 use Rattle.gms_host.proofs.Counting.{writing_done, writing_more}
-use Rattle.gms_words.specs.CommandLine.{asked_by}
+use Rattle.gms_command.specs.CommandLine.{asked_by}
 use Rattle.gms_run.specs.InnerReports.{matter_in}
 use Rattle.gms_run.specs.Listings.{SavesSo}
 use Rattle.gms_run.specs.Solving.{solving}

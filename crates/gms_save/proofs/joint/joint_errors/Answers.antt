@@ -5,7 +5,7 @@ use Rattle.gq_frac.specs.Frac.{frac_value}
 use Rattle.gms_check.specs.declared.error.CompileError.{CompileError}
 use Rattle.gms_check.specs.CompileErrors.{statement_errors}
 use Rattle.gms_save.specs.JointErrors.{each_sooner, restart_error}
-use Rattle.gms_save.specs.RestartChecks.{error_by}
+use Rattle.gms_save.specs.InnerRestartChecks.{error_by}
 use Rattle.gms_save.proofs.Joints.{errors-length, each-length, each-same}
 use Rattle.gms_save.proofs.Restarts.{error-same}
 use Rattle.gms_save.proofs.joint.joint_errors.Goals as goal

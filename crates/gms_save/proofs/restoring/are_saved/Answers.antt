@@ -1,6 +1,6 @@
 use Rattle.std.proofs.Common.{◌≡◌, ◌≤◌, Bool, true, false, refl, arith, below_more}
-use Rattle.gms_known.specs.Facts.{marked}
-use Rattle.gms_save.specs.RestoreSteps.{IsSavedAt}
+use Rattle.gms_scope.specs.Facts.{marked}
+use Rattle.gms_save.specs.InnerRestoreSteps.{IsSavedAt}
 use Rattle.gms_save.proofs.restoring.are_saved.Goals as goal
 
 not_both : (b : Bool) → b ≡ true → b ≡ false → ⊥

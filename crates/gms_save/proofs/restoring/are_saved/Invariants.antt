@@ -1,6 +1,6 @@
 use Rattle.std.proofs.Common.{◌<◌, ℕ}
-use Rattle.gms_known.specs.Facts.{marked}
-use Rattle.gms_save.specs.RestoreSteps.{IsSavedAt}
+use Rattle.gms_scope.specs.Facts.{marked}
+use Rattle.gms_save.specs.InnerRestoreSteps.{IsSavedAt}
 use Rattle.gms_save.proofs.restoring.are_saved.Given as goal
 
 abbrev pub invariant-loop-name : goal.invariant-loop-name

@@ -1,5 +1,5 @@
 use Rattle.std.proofs.Common.{◌≡◌, ◌∙◌, Bool, true, false, refl, sym, ap}
-use Rattle.gms_saved.specs.Validity.{are_in_range}
+use Rattle.gms_save_text.specs.Validity.{are_in_range}
 use Rattle.std.proofs.lemmas.Result.{IfOk-weaker}
 use Rattle.gms_save.proofs.SavedNames.{names-from-saved, same-declares, saved-from-names}
 use Rattle.gms_save.proofs.restoring.is_saved.Goals as goal

@@ -1,10 +1,10 @@
 use Rattle.std.proofs.Common.{◌≡◌, ◌≤◌, ◌^◌, ℕ, Bool, true, false, List, length, sym, subst, arith}
 use Rattle.gq_frac.specs.Frac.{frac_value}
 use Rattle.gms_store.specs.State.{State}
-use Rattle.gms_known.specs.DynamicSets.{dynamic_sets}
+use Rattle.gms_scope.specs.DynamicSets.{dynamic_sets}
 use Rattle.gms_check.specs.Loaded.{loaded}
 use Rattle.gms_check.specs.Past.{is_among}
-use Rattle.gms_save.specs.RestoreSteps.{IsSavedIn}
+use Rattle.gms_save.specs.InnerRestoreSteps.{IsSavedIn}
 use Rattle.gms_save.specs.Saves.{with_solver}
 use Rattle.gms_save.proofs.Restored.{unread_state}
 use Rattle.gms_save.proofs.SavedNames.{saved-placed}

@@ -1,7 +1,7 @@
 use Rattle.std.proofs.Common.{◌≡◌, ◌<◌, ◌+◌, ◌/◌, ◌%◌, ◌++◌, ◌∷◌, [], ◌∙◌, ap, sym, subst, length, get_or, Some, arith}
 use Rattle.std.proofs.lemmas.List.{get_or_read}
 use Rattle.std.proofs.lemmas.Option.{slice_get-get_or}
-use Rattle.gms_tuple.specs.Products.{product}
+use Rattle.gms_tuple.specs.Products.{tuple_product}
 use Rattle.gms_set.proofs.Products.{IsMade, IsMade-more, IsMade-all, next}
 use Rattle.gms_set.proofs.product.tuple_at.Goals as goal
 
@@ -31,4 +31,4 @@ loop-part-preserved c =
 pub returns : goal.returns
 returns c =
     let at = IsMade-all c.args.parts.now c.args.place c.loop-part.part-index c.loop-part.below c.loop-part.rest c.loop-part.tuple c.loop-part-test.false c.loop-part.invariant in
-    slice_get-get_or (product c.args.parts.now) c.args.place [] (omega (arith, c.requires.place, c.requires.count)) ∙ ap Some (sym at)
+    slice_get-get_or (tuple_product c.args.parts.now) c.args.place [] (omega (arith, c.requires.place, c.requires.count)) ∙ ap Some (sym at)

@@ -1,6 +1,6 @@
 -- The remaining headings, the first of which the number may meet.
 use Rattle.std.proofs.Common.{refl, sym, arith}
-use Rattle.gms_table.specs.Shown.{seen}
+use Rattle.gms_table.specs.InnerShown.{seen}
 use Rattle.gms_table.proofs.LabelLemmas.{nothing}
 use Rattle.gms_table.proofs.HeadingLemmas.{met_none, met_behind, met_two, met_one}
 use Rattle.gms_table.proofs.heading.heading_of.Goals as goal

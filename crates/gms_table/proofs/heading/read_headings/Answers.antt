@@ -3,7 +3,7 @@ use Rattle.std.proofs.Common.{List, suc, take, drop, get_or, [], ◌∷◌, ◌+
 use Rattle.std.proofs.lemmas.Result.{err_from_is_err_and}
 use Rattle.gms_table.specs.declared.heading.Heading.{Heading}
 use Rattle.gms_table.specs.Words as words
-use Rattle.gms_table.specs.Shown.{seen, seen_all}
+use Rattle.gms_table.specs.InnerShown.{seen, seen_all}
 use Rattle.gms_table.proofs.LabelLemmas.{GoesOn-refl, GoesOn-trans}
 use Rattle.gms_table.proofs.RowLemmas.{HeadingsSoFar, headings_none, headings_more, headings_refused, no_word, seen_all-more, seen_all-split}
 use Rattle.gms_table.proofs.heading.read_headings.Goals as goal

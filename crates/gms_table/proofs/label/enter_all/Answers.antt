@@ -2,8 +2,8 @@
 use Rattle.std.proofs.Common.{ℕ, List, suc, take, drop, get_or, [], ◌∷◌, ◌++◌, Err, ap, sym, subst}
 use Rattle.std.specs.Borrow.{Bor}
 use Rattle.std.proofs.lemmas.Result.{err_from_is_err_and}
-use Rattle.gms_table.specs.WordLabels.{GoesOn}
-use Rattle.gms_table.specs.Names.{read_all, AreEntered}
+use Rattle.gms_table.specs.WordLabels.{IsPrefix}
+use Rattle.gms_table.specs.InnerNames.{read_all, AreEntered}
 use Rattle.gms_table.proofs.EnterLemmas.{AreEntered-more, read_all-more, read_all-split, enter_stops, goes_on-so_far, goes_on-more}
 use Rattle.gms_table.proofs.label.enter_all.Goals as goal
 
@@ -16,7 +16,7 @@ returns-in_err-enter-clause-entered c =
 
 pub returns-in_err-enter-clause-goes_on : goal.returns-in_err-enter-clause-goes_on
 returns-in_err-enter-clause-goes_on c =
-    subst (GoesOn c.args.table.now) (sym c.in_err-enter.ensures.err) (goes_on-so_far c.args.table.now c.loop-label.table (read_all (take c.loop-label.label-index c.args.labels.now)) c.loop-label.numbers.items c.loop-label.invariant)
+    subst (IsPrefix c.args.table.now) (sym c.in_err-enter.ensures.err) (goes_on-so_far c.args.table.now c.loop-label.table (read_all (take c.loop-label.label-index c.args.labels.now)) c.loop-label.numbers.items c.loop-label.invariant)
 
 pub loop-label-preserved : goal.loop-label-preserved
 loop-label-preserved c =

@@ -1,5 +1,5 @@
 use Rattle.std.proofs.Common.{take}
-use Rattle.gms_table.specs.Names.{read_all, AreEntered}
+use Rattle.gms_table.specs.InnerNames.{read_all, AreEntered}
 use Rattle.gms_table.proofs.label.enter_all.Given as goal
 
 -- the labels so far were entered

@@ -3,7 +3,7 @@ use Rattle.std.proofs.Common.{ℕ, ◌-◌, List, ◌≤◌, length, take, drop,
 use Rattle.std.specs.Borrow.{Bor}
 use Rattle.std.proofs.lemmas.List.{map_push}
 use Rattle.std.proofs.lemmas.List.Elements.{All-push, All-same}
-use Rattle.gms_table.specs.Names.{read_all}
+use Rattle.gms_table.specs.InnerNames.{read_all}
 use Rattle.gms_table.proofs.LabelLemmas.{joined, labels_from, labels-none, labels-last, labels-more}
 use Rattle.gms_table.proofs.label.labels_of.Goals as goal
 

@@ -5,7 +5,7 @@ use Rattle.std.proofs.lemmas.List.Elements.{All-tail}
 use Rattle.gms_lines.specs.LineFaults.{longest_line}
 use Rattle.gms_table.specs.declared.entry.TableLine.{TableLine}
 use Rattle.gms_table.specs.Words.{words_of}
-use Rattle.gms_table.specs.Shown.{seen_all}
+use Rattle.gms_table.specs.InnerShown.{seen_all}
 use Rattle.gms_table.proofs.LabelLemmas.{nothing}
 use Rattle.gms_table.proofs.TableLemmas.{line_passed}
 use Rattle.gms_table.proofs.tables.first_line.Goals as goal

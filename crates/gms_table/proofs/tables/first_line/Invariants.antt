@@ -2,7 +2,7 @@ use Rattle.std.proofs.Common.{◌≡◌, ◌≤◌, length}
 use Rattle.std.specs.Prelude.{All, string_len}
 use Rattle.gms_lines.specs.LineFaults.{longest_line}
 use Rattle.gms_table.specs.TableEntries.{table_of}
-use Rattle.gms_table.specs.Progress.{lines_of}
+use Rattle.gms_table.specs.InnerProgress.{lines_of}
 use Rattle.gms_table.proofs.tables.first_line.Given as goal
 
 -- the lines so far have no words

@@ -1,8 +1,8 @@
 -- One number of a row more.
 use Rattle.std.proofs.Common.{Some, refl, sym, ap, ◌∙◌, subst}
-use Rattle.gms_table.specs.Given.{is_given}
-use Rattle.gms_table.specs.Shown.{seen}
-use Rattle.gms_table.specs.ReadNumbers.{ReadsCell}
+use Rattle.gms_table.specs.InnerGiven.{is_given}
+use Rattle.gms_table.specs.InnerShown.{seen}
+use Rattle.gms_table.specs.InnerNumbers.{ReadsCell}
 use Rattle.gms_table.proofs.NumberLemmas.{is_number}
 use Rattle.gms_table.proofs.CellSteps.{cell_unread, cell_unmet, cell_repeated, cell_beyond, cell_added}
 use Rattle.gms_table.proofs.tables.read_cell.Goals as goal

@@ -2,9 +2,9 @@
 use Rattle.std.proofs.Common.{◌++◌, map, sym, ap, ◌∙◌, subst, arith}
 use Rattle.std.proofs.lemmas.Result.{err_from_is_err_and, MatchResult-weaker}
 use Rattle.gms_table.specs.Words.{words_of}
-use Rattle.gms_table.specs.Shown.{seen, seen_all, AreSpaced, AreHeadings}
+use Rattle.gms_table.specs.InnerShown.{seen, seen_all, AreSpaced, AreHeadings}
 use Rattle.gms_table.specs.TableEntries.{name}
-use Rattle.gms_table.specs.Progress.{words_in, row_parts}
+use Rattle.gms_table.specs.InnerProgress.{words_in, row_parts}
 use Rattle.gms_table.proofs.LabelLemmas.{nothing}
 use Rattle.gms_table.proofs.RowSteps.{Stay-progress, line_empty, line_plus, plus_refused, line_row, line_refused}
 use Rattle.gms_table.proofs.tables.read_line.Goals as goal

@@ -4,8 +4,8 @@ use Rattle.std.proofs.lemmas.List.{take_all}
 use Rattle.std.proofs.lemmas.Result.{err_from_is_err_and}
 use Rattle.gms_table.specs.declared.word.Word.{Word as Kept}
 use Rattle.gms_table.specs.Words.{Word}
-use Rattle.gms_table.specs.Shown.{seen, seen_all}
-use Rattle.gms_table.specs.Progress.{row_parts, IsRow, Keeps}
+use Rattle.gms_table.specs.InnerShown.{seen, seen_all}
+use Rattle.gms_table.specs.InnerProgress.{row_parts, IsRow, Keeps}
 use Rattle.gms_table.proofs.RowLemmas.{no_word, seen_all-more, seen_all-split}
 use Rattle.gms_table.proofs.RowSteps.{RowSoFar, row_begun, row_refused, row_more, number_refused}
 use Rattle.gms_table.proofs.tables.read_row.Goals as goal

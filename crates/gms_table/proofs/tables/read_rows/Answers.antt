@@ -4,7 +4,7 @@ use Rattle.std.proofs.lemmas.List.{at_drop_more, drop_all}
 use Rattle.std.proofs.lemmas.Result.{err_from_is_err_and}
 use Rattle.gms_table.specs.declared.entry.TableLine.{TableLine}
 use Rattle.gms_table.specs.Words.{Word}
-use Rattle.gms_table.specs.Progress.{words_in, lines_of, LinesSoFar}
+use Rattle.gms_table.specs.InnerProgress.{words_in, lines_of, LinesSoFar}
 use Rattle.gms_table.proofs.LabelLemmas.{GoesOn-refl, GoesOn-trans}
 use Rattle.gms_table.proofs.RowSteps.{lines_begun, lines_read}
 use Rattle.gms_table.proofs.tables.read_rows.Goals as goal

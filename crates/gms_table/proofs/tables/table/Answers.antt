@@ -4,9 +4,9 @@ use Rattle.std.specs.Prelude.{IfSome}
 use Rattle.std.proofs.lemmas.Result.{err_from_is_err_and}
 use Rattle.gms_table.specs.declared.entry.Entry.{Entry}
 use Rattle.gms_table.specs.Words.{Word}
-use Rattle.gms_table.specs.Shown.{seen_all, AreHeadings}
+use Rattle.gms_table.specs.InnerShown.{seen_all, AreHeadings}
 use Rattle.gms_table.specs.TableEntries.{name, under}
-use Rattle.gms_table.specs.Progress.{lines_of, Progress, Refuses, Keeps, IsFirstLine}
+use Rattle.gms_table.specs.InnerProgress.{lines_of, Progress, Refuses, Keeps, IsFirstLine}
 use Rattle.gms_table.proofs.RowSteps.{Refuses-more}
 use Rattle.gms_table.proofs.TableLemmas.{nothing_read, headings_read, table_refused, table_read}
 use Rattle.gms_table.proofs.tables.table.Goals as goal

@@ -1,5 +1,5 @@
 -- One more field was read.
-use Rattle.gms_table.specs.Shown.{seen_all}
+use Rattle.gms_table.specs.InnerShown.{seen_all}
 use Rattle.gms_table.proofs.WordLemmas.{next_stretch, words_last, words_spaced, words_more}
 use Rattle.gms_table.proofs.word.words_of.Goals as goal
 

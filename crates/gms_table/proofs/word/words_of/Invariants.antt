@@ -1,5 +1,5 @@
 use Rattle.std.proofs.Common.{◌-◌, length}
-use Rattle.gms_table.specs.Shown.{seen_all}
+use Rattle.gms_table.specs.InnerShown.{seen_all}
 use Rattle.gms_table.proofs.WordLemmas.{WordsSoFar}
 use Rattle.gms_table.proofs.word.words_of.Given as goal
 

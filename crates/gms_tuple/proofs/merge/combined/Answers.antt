@@ -1,7 +1,7 @@
 use Rattle.std.proofs.Common.{◌≡◌, ◌∙◌, ◌+◌, ◌-◌, ◌<◌, ◌≤◌, ◌++◌, ◌∷◌, [], Bool, cond, true, false, refl, sym, ap, subst, length, get_or, take, drop, arith}
 use Rattle.std.proofs.lemmas.List.{take_rest, length-drop}
 use mir.Val.{bool_byte}
-use Rattle.gms_tuple.specs.Operations.{takes, turn}
+use Rattle.gms_tuple.specs.InnerOperations.{takes, turn}
 use Rattle.gms_tuple.proofs.Combined.{IsWalked-all, IsWalked-turn, turn-within, turn-other, first-of-rest, has-combine, IsOrdered-combine, one_if}
 use Rattle.gms_tuple.proofs.merge.combined.Goals as goal
 use Rattle.gms_tuple.proofs.merge.combined.Goals.{then-i-first, else-i-first+then-j-second, then-in_first, else-in_first, then-takes+in_ok-copy+in_ok-push, else-takes}

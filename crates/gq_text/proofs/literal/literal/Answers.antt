@@ -3,7 +3,7 @@ use Rattle.std.proofs.Common.{◌*◌, ◌^◌, ◌-◌, ◌+◌, ◌++◌, not,
 use Rattle.gq_number.specs.Number.{ratio}
 use Rattle.gq_text.specs.Numeral.{spelled}
 use Rattle.gq_text.specs.Literal.{FitsLiteral, AnswersLiteral}
-use Rattle.gq_text.specs.Shortest.{added}
+use Rattle.gq_text.specs.InnerShortest.{added}
 use Rattle.gq_text.proofs.Combined.{number_is, none_fits, far_digits, far_up, far_down}
 use Rattle.gq_text.proofs.literal.literal.Goals as goal
 

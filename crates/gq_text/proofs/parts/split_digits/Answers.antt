@@ -2,7 +2,7 @@
 use Rattle.std.proofs.Common.{ℕ, ◌≤◌, List, length, take, drop, sym, ap, ◌∙◌, subst, subst₂}
 use Rattle.std.specs.Char.{is_ascii_digit}
 use Rattle.std.proofs.lemmas.List.Sums.{prefix_len-le-length}
-use Rattle.gq_text.specs.Parts.{SplitsDigits}
+use Rattle.gq_text.specs.InnerParts.{SplitsDigits}
 use Rattle.gq_text.proofs.Splits.{counted_digits}
 use Rattle.gq_text.proofs.parts.split_digits.Goals as goal
 

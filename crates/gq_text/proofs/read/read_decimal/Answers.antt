@@ -1,7 +1,7 @@
 -- A text divides in one way, so what is not read is none.
 use Rattle.std.proofs.Common.{◌+◌, ◌<◌, length, arith}
 use Rattle.std.proofs.lemmas.Bool.Decides.{nat_tests}
-use Rattle.gq_text.specs.Parts.{exponent_of}
+use Rattle.gq_text.specs.InnerParts.{exponent_of}
 use Rattle.gq_text.specs.Decimal.{Decimal}
 use Rattle.gq_text.proofs.Readings.{read_literal, no_digits, no_power}
 use Rattle.gq_text.proofs.read.read_decimal.Goals as goal

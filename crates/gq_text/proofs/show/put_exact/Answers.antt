@@ -4,7 +4,7 @@ use Rattle.std.specs.Int.RustNames.{int_lt}
 use mir.Val.{to_z, of_z}
 use mir.Syntax.{w128}
 use Rattle.gq_text.specs.Numeral.{IsNumeral, WithSign}
-use Rattle.gq_text.specs.Appends.{sign_text}
+use Rattle.gq_text.specs.InnerAppends.{sign_text}
 use Rattle.gq_text.proofs.Showings.{WithSign_from, with_own_sign, sign_alone, read_back, IsExactText_from}
 use Rattle.gq_text.proofs.Exacts.{exact_is}
 use Rattle.gq_text.proofs.show.put_exact.Goals as goal

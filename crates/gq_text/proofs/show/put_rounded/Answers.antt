@@ -5,8 +5,8 @@ use Rattle.std.specs.Int.RustNames.{int_lt}
 use mir.Val.{to_z, of_z}
 use mir.Syntax.{w128}
 use Rattle.gq_text.specs.Numeral.{WithSign}
-use Rattle.gq_text.specs.Shown.{with_point, IsFixed}
-use Rattle.gq_text.specs.Appends.{sign_text}
+use Rattle.gq_text.specs.Shown.{with_decimal_point, IsFixed}
+use Rattle.gq_text.specs.InnerAppends.{sign_text}
 use Rattle.gq_text.proofs.Literals.{tens_above}
 use Rattle.gq_text.proofs.Showings.{rounded_units, units, IsFixed_from, WithSign_from, read_back, some_units}
 use Rattle.gq_text.proofs.show.put_rounded.Goals as goal
@@ -26,8 +26,8 @@ returns g c =
     let numeral = c.push_numeral.ensures.numeral.numeral in
     let decimals = c.push_decimals.ensures.decimals in
     let front : c.push_sign.new.self ≡ sign = c.push_sign.ensures ∙ ap (λ (l : List ℕ). l ++ sign) c.clear.ensures in
-    let layout : c.push_decimals.new.self ≡ sign ++ (numeral ++ with_point decimals) =
-    c.push_decimals.ensures.appended ∙ ap (λ (l : List ℕ). l ++ with_point decimals) (c.push_numeral.ensures.numeral.appended ∙ ap (λ (l : List ℕ). l ++ numeral) front) ∙ append_assoc sign numeral (with_point decimals) in
+    let layout : c.push_decimals.new.self ≡ sign ++ (numeral ++ with_decimal_point decimals) =
+    c.push_decimals.ensures.appended ∙ ap (λ (l : List ℕ). l ++ with_decimal_point decimals) (c.push_numeral.ensures.numeral.appended ∙ ap (λ (l : List ℕ). l ++ numeral) front) ∙ append_assoc sign numeral (with_decimal_point decimals) in
     let negative : c.if-numerator-lt0.push_sign ≡ (int_lt x.numerator (pos 0) && nat_lt 0 k) = elim c.if-numerator-lt0.branch [
       | then-numerator-lt0 w ↦
           let below : int_lt x.numerator (pos 0) ≡ true = ap (λ z. int_lt z (pos 0)) (sym same) ∙ w.if-numerator-lt0.true in
@@ -36,7 +36,7 @@ returns g c =
           let above : int_lt x.numerator (pos 0) ≡ false = ap (λ z. int_lt z (pos 0)) (sym same) ∙ w.if-numerator-lt0.false in
           w.push_sign-is ∙ w.if-numerator-lt0.false ∙ sym (ap (λ b. b && nat_lt 0 k) above)
     ] in
-    let fixed : IsFixed c.args.decimals k (numeral ++ with_point decimals) =
-    IsFixed_from numeral (numeral ++ with_point decimals) decimals c.args.decimals whole fraction k c.push_numeral.ensures.numeral.is_numeral c.push_decimals.ensures.are_digits c.push_decimals.ensures.places_are c.push_decimals.ensures.spells c.rounded-whole.ensures.fraction units_are refl in
+    let fixed : IsFixed c.args.decimals k (numeral ++ with_decimal_point decimals) =
+    IsFixed_from numeral (numeral ++ with_decimal_point decimals) decimals c.args.decimals whole fraction k c.push_numeral.ensures.numeral.is_numeral c.push_decimals.ensures.are_digits c.push_decimals.ensures.places_are c.push_decimals.ensures.spells c.rounded-whole.ensures.fraction units_are refl in
     subst (λ z. WithSign (IsFixed c.args.decimals) z c.push_decimals.new.self) (sym (rounded_units x t (tens_above c.args.decimals)))
-    (WithSign_from (IsFixed c.args.decimals) x.numerator k c.if-numerator-lt0.push_sign c.push_decimals.new.self (numeral ++ with_point decimals) negative layout fixed)
+    (WithSign_from (IsFixed c.args.decimals) x.numerator k c.if-numerator-lt0.push_sign c.push_decimals.new.self (numeral ++ with_decimal_point decimals) negative layout fixed)

@@ -1,6 +1,6 @@
 use Rattle.std.proofs.Common.{◌≤◌, arith}
 use Rattle.lp_core.proofs.Rules.{bland_choice, bland_answer}
-use Rattle.lp_exists.proofs.Existing.{some_answer}
+use Rattle.lp_simplex.proofs.Existing.{some_answer}
 use Rattle.lp_bland.proofs.Few.{least_chosen}
 use Rattle.lp_bland.proofs.laws.an_answer.Goals as goal
 

@@ -1,7 +1,7 @@
 use Rattle.std.proofs.Common.{map, ap, arith}
 use Rattle.std.proofs.lemmas.List.{drop_all}
 use Rattle.std.proofs.lemmas.Result.{err_from_is_err_and}
-use Rattle.lp_check.specs.BoundSteps.{all_reduced_steps, reduced_steps}
+use Rattle.lp_check.specs.BoundSteps.{all_reduced_steps, reduced_cost_bound_steps}
 use Rattle.lp_check.specs.Partials.{costs_of}
 use Rattle.lp_check.proofs.Fits.{room_for_count, count_on, count_stops, count_ends}
 use Rattle.lp_check.proofs.Walks.{all_reduced_from}
@@ -9,7 +9,7 @@ use Rattle.lp_check.proofs.columns.reduced_costs_fit.Goals as goal
 
 pub reduced_cost-requires-clause-room : goal.reduced_cost-requires-clause-room
 reduced_cost-requires-clause-room g c =
-    rw c.cost_of-sum.ensures (room_for_count _ _ _ _ c.loop-j.invariant (reduced_steps g.F.ExactField.value g.F.ExactField.limit c.loop-j.j (costs_of c.args.objective c.loop-j.j) c.args.rows.now (map g.F.ExactField.value c.args.duals.now)) _
+    rw c.cost_of-sum.ensures (room_for_count _ _ _ _ c.loop-j.invariant (reduced_cost_bound_steps g.F.ExactField.value g.F.ExactField.limit c.loop-j.j (costs_of c.args.objective c.loop-j.j) c.args.rows.now (map g.F.ExactField.value c.args.duals.now)) _
     (all_reduced_from g.F.ExactField.value g.F.ExactField.limit c.args.columns.now c.loop-j.j c.index-columns-j.result c.loop-j-test.true c.index-columns-j.is (costs_of c.args.objective) c.args.rows.now (map g.F.ExactField.value c.args.duals.now)))
 
 pub loop-j-init : goal.loop-j-init
@@ -17,7 +17,7 @@ loop-j-init g c = record { room = omega arith; so_far = λ result h. h }
 
 pub loop-j-preserved : goal.loop-j-preserved
 loop-j-preserved g c =
-    count_on _ _ _ _ c.loop-j.invariant (reduced_steps g.F.ExactField.value g.F.ExactField.limit c.loop-j.j (costs_of c.args.objective c.loop-j.j) c.args.rows.now (map g.F.ExactField.value c.args.duals.now)) _
+    count_on _ _ _ _ c.loop-j.invariant (reduced_cost_bound_steps g.F.ExactField.value g.F.ExactField.limit c.loop-j.j (costs_of c.args.objective c.loop-j.j) c.args.rows.now (map g.F.ExactField.value c.args.duals.now)) _
     (all_reduced_from g.F.ExactField.value g.F.ExactField.limit c.args.columns.now c.loop-j.j c.index-columns-j.result c.loop-j-test.true c.index-columns-j.is (costs_of c.args.objective) c.args.rows.now (map g.F.ExactField.value c.args.duals.now))
     c.in_ok-reduced.reduced.taken
     (rw c.cost_of-sum.ensures at c.in_ok-reduced.ensures.0)
@@ -25,7 +25,7 @@ loop-j-preserved g c =
 pub returns-in_err-reduced : goal.returns-in_err-reduced
 returns-in_err-reduced g c =
     let p = err_from_is_err_and c.from_residual.result c.from_residual.ensures.1 in
-    rw (p.1, p.2) (count_stops _ _ _ _ c.loop-j.invariant (reduced_steps g.F.ExactField.value g.F.ExactField.limit c.loop-j.j (costs_of c.args.objective c.loop-j.j) c.args.rows.now (map g.F.ExactField.value c.args.duals.now)) _
+    rw (p.1, p.2) (count_stops _ _ _ _ c.loop-j.invariant (reduced_cost_bound_steps g.F.ExactField.value g.F.ExactField.limit c.loop-j.j (costs_of c.args.objective c.loop-j.j) c.args.rows.now (map g.F.ExactField.value c.args.duals.now)) _
     (all_reduced_from g.F.ExactField.value g.F.ExactField.limit c.args.columns.now c.loop-j.j c.index-columns-j.result c.loop-j-test.true c.index-columns-j.is (costs_of c.args.objective) c.args.rows.now (map g.F.ExactField.value c.args.duals.now))
     c.in_err-reduced.field-0.0 (rw c.cost_of-sum.ensures at c.in_err-reduced.ensures))
 

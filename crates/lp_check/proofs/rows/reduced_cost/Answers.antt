@@ -4,7 +4,7 @@ use Rattle.std.proofs.lemmas.List.Elements.{All-get_or}
 use Rattle.std.proofs.lemmas.List.{drop_all}
 use Rattle.std.proofs.lemmas.Result.{err_from_is_err_and}
 use Rattle.lp_core.specs.Feasible.{bound_value}
-use Rattle.lp_check.specs.BoundSteps.{reduced_steps, less_steps}
+use Rattle.lp_check.specs.BoundSteps.{reduced_cost_bound_steps, less_steps}
 use Rattle.lp_check.specs.Partials.{reduced_sum}
 use Rattle.lp_check.proofs.Fits.{room_for, goes_on, stops, ends}
 use Rattle.lp_check.proofs.Walks.{reduced_from, reduced_sum_from}
@@ -39,4 +39,4 @@ returns-in_err-partial g c =
 
 pub returns : goal.returns
 returns g c =
-    ends g.F.ExactField.value _ _ _ _ _ _ c.loop-i.invariant (ap (λ rows. reduced_steps g.F.ExactField.value g.F.ExactField.limit c.args.column (g.F.ExactField.value c.loop-i.partial.sum) rows (drop c.loop-i.i (map g.F.ExactField.value c.args.duals.now))) (drop_all c.loop-i.i c.args.rows.now (omega arith))) c.loop-i.partial refl (sym (ap (λ rows. reduced_sum g.F.ExactField.value c.args.column (g.F.ExactField.value c.loop-i.partial.sum) rows (drop c.loop-i.i (map g.F.ExactField.value c.args.duals.now))) (drop_all c.loop-i.i c.args.rows.now (omega arith))))
+    ends g.F.ExactField.value _ _ _ _ _ _ c.loop-i.invariant (ap (λ rows. reduced_cost_bound_steps g.F.ExactField.value g.F.ExactField.limit c.args.column (g.F.ExactField.value c.loop-i.partial.sum) rows (drop c.loop-i.i (map g.F.ExactField.value c.args.duals.now))) (drop_all c.loop-i.i c.args.rows.now (omega arith))) c.loop-i.partial refl (sym (ap (λ rows. reduced_sum g.F.ExactField.value c.args.column (g.F.ExactField.value c.loop-i.partial.sum) rows (drop c.loop-i.i (map g.F.ExactField.value c.args.duals.now))) (drop_all c.loop-i.i c.args.rows.now (omega arith))))

@@ -2,7 +2,7 @@ use Rattle.std.proofs.Common.{map, drop, sym, ap, arith, refl}
 use Rattle.std.proofs.lemmas.List.{drop_all}
 use Rattle.std.proofs.lemmas.Result.{err_from_is_err_and}
 use Rattle.lp_core.specs.Feasible.{bound_value}
-use Rattle.lp_check.specs.BoundSteps.{rows_steps, rows_sum, plus_steps}
+use Rattle.lp_check.specs.BoundSteps.{row_bound_steps, rows_sum, plus_steps}
 use Rattle.lp_check.proofs.Fits.{room_for, goes_on, stops, ends}
 use Rattle.lp_check.proofs.Walks.{rows_from, rows_sum_from}
 use Rattle.lp_check.proofs.rows.rows_part.Goals as goal
@@ -32,4 +32,4 @@ returns-in_err-partial g c =
 
 pub returns : goal.returns
 returns g c =
-    ends g.F.ExactField.value _ _ _ _ _ _ c.loop-i.invariant (ap (λ rows. rows_steps g.F.ExactField.value g.F.ExactField.limit c.args.above (g.F.ExactField.value c.loop-i.partial.sum) rows (drop c.loop-i.i (map g.F.ExactField.value c.args.duals.now))) (drop_all c.loop-i.i c.args.rows.now (omega arith))) c.loop-i.partial refl (sym (ap (λ rows. rows_sum g.F.ExactField.value c.args.above (g.F.ExactField.value c.loop-i.partial.sum) rows (drop c.loop-i.i (map g.F.ExactField.value c.args.duals.now))) (drop_all c.loop-i.i c.args.rows.now (omega arith))))
+    ends g.F.ExactField.value _ _ _ _ _ _ c.loop-i.invariant (ap (λ rows. row_bound_steps g.F.ExactField.value g.F.ExactField.limit c.args.above (g.F.ExactField.value c.loop-i.partial.sum) rows (drop c.loop-i.i (map g.F.ExactField.value c.args.duals.now))) (drop_all c.loop-i.i c.args.rows.now (omega arith))) c.loop-i.partial refl (sym (ap (λ rows. rows_sum g.F.ExactField.value c.args.above (g.F.ExactField.value c.loop-i.partial.sum) rows (drop c.loop-i.i (map g.F.ExactField.value c.args.duals.now))) (drop_all c.loop-i.i c.args.rows.now (omega arith))))

@@ -1,5 +1,5 @@
 use Rattle.std.proofs.Common.{◌≡◌, drop}
-use Rattle.lp_core.specs.Entries.{are_in_order}
+use Rattle.lp_core.specs.InnerEntries.{are_in_order}
 use Rattle.lp_core.proofs.shape.are_entries.Given as goal
 
 abbrev pub invariant-loop-column : goal.invariant-loop-column

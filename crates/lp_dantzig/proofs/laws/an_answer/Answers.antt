@@ -1,8 +1,8 @@
 use Rattle.std.proofs.Common.{◌≤◌, arith}
 use Rattle.lp_core.specs.LargestCoefficient.{HasGreatest, IsNext}
-use Rattle.lp_exists.proofs.Existing.{some_answer}
-use Rattle.lp_turn.proofs.Chosen.{always_chooses}
-use Rattle.lp_dantzig.specs.Next.{next_improves}
+use Rattle.lp_simplex.proofs.Existing.{some_answer}
+use Rattle.lp_simplex.proofs.Chosen.{always_chooses}
+use Rattle.lp_dantzig.specs.InnerNext.{next_improves}
 use Rattle.lp_dantzig.proofs.Greatest.{greatest_there}
 use Rattle.lp_dantzig.proofs.laws.an_answer.Goals as goal
 

@@ -1,6 +1,6 @@
 use Rattle.lp_core.specs.LargestCoefficient.{IsNext}
 use Rattle.lp_core.proofs.Rules.{legal_answer}
-use Rattle.lp_dantzig.specs.Next.{next_improves}
+use Rattle.lp_dantzig.specs.InnerNext.{next_improves}
 use Rattle.lp_dantzig.proofs.laws.answer_is_legal.Goals as goal
 
 pub returns : goal.returns

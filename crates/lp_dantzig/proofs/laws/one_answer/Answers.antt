@@ -1,6 +1,6 @@
 use Rattle.lp_core.specs.LargestCoefficient.{IsNext}
-use Rattle.lp_walk.proofs.Unique.{one_answer_by}
-use Rattle.lp_dantzig.specs.Next.{next_improves}
+use Rattle.lp_simplex.proofs.Unique.{one_answer_by}
+use Rattle.lp_dantzig.specs.InnerNext.{next_improves}
 use Rattle.lp_dantzig.proofs.Nexts.{next_once}
 use Rattle.lp_dantzig.proofs.laws.one_answer.Goals as goal
 

@@ -1,8 +1,8 @@
 use Rattle.std.proofs.Common.{◌≡◌, ◌+◌, length, Some, refl, ap, ◌∙◌, subst, arith}
 use Rattle.std.specs.Prelude.{slice_get, slice_index_or}
-use Rattle.lp_exact.proofs.Kept.{index_get}
-use Rattle.lp_whole.specs.Whole.{dictionary as dictionary_of}
-use Rattle.lp_dict.specs.Reading.{AreByVariable}
+use Rattle.lp_fraction_dict.proofs.Kept.{index_get}
+use Rattle.lp_integer_dict.specs.Whole.{integer_dictionary as dictionary_of}
+use Rattle.lp_dict.specs.InnerReading.{AreByVariable}
 use Rattle.lp_dict.proofs.Finals.{variables_more}
 use Rattle.lp_dict.proofs.last.by_variable.Goals as goal
 

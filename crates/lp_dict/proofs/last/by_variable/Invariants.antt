@@ -1,6 +1,6 @@
 use Rattle.std.specs.Prelude.{◌+◌}
-use Rattle.lp_whole.specs.Whole.{dictionary as dictionary_of}
-use Rattle.lp_dict.specs.Reading.{AreByVariable}
+use Rattle.lp_integer_dict.specs.Whole.{integer_dictionary as dictionary_of}
+use Rattle.lp_dict.specs.InnerReading.{AreByVariable}
 use Rattle.lp_dict.proofs.last.by_variable.Given as goal
 
 abbrev pub invariant-loop-place : goal.invariant-loop-place

@@ -2,8 +2,8 @@ use Rattle.std.proofs.Common.{◌≡◌, ◌+◌, ◌<◌, ◌≤◌, length, ma
 use Rattle.std.specs.Prelude.{Vec}
 use Rattle.std.specs.declared.alloc.Global.{Global}
 use Rattle.lp_core.specs.Pivots.{last_of}
-use Rattle.lp_whole.specs.Whole.{dictionary as dictionary_of}
-use Rattle.lp_dict.specs.Reading.{AreOfRow}
+use Rattle.lp_integer_dict.specs.Whole.{integer_dictionary as dictionary_of}
+use Rattle.lp_dict.specs.InnerReading.{AreOfRow}
 use Rattle.lp_dict.proofs.Finals.{costs_of_row, costs_of_objective}
 use Rattle.lp_dict.proofs.last.costs.Goals.{then-row-basic, else-row-basic}
 use Rattle.lp_dict.proofs.last.costs.Goals as goal

@@ -1,4 +1,4 @@
-use Rattle.lp_whole.specs.Whole.{dictionary as dictionary_of}
+use Rattle.lp_integer_dict.specs.Whole.{integer_dictionary as dictionary_of}
 use Rattle.lp_dict.proofs.Finals.{changes_are}
 use Rattle.lp_dict.proofs.last.ray.Goals as goal
 

@@ -1,5 +1,5 @@
-use Rattle.lp_whole.specs.Whole.{dictionary as dictionary_of}
-use Rattle.lp_dict.specs.Reading.{AreOfRow}
+use Rattle.lp_integer_dict.specs.Whole.{integer_dictionary as dictionary_of}
+use Rattle.lp_dict.specs.InnerReading.{AreOfRow}
 use Rattle.lp_dict.proofs.last.row_of.Given as goal
 
 abbrev pub invariant-loop-variable : goal.invariant-loop-variable

@@ -3,8 +3,8 @@ use Rattle.std.specs.Prelude.{Vec}
 use Rattle.std.specs.declared.alloc.Global.{Global}
 use Rattle.std.proofs.lemmas.Result.{IfOk-weaker}
 use Rattle.lp_core.specs.Pivots.{last_of}
-use Rattle.lp_whole.specs.Whole.{dictionary as dictionary_of}
-use Rattle.lp_dict.specs.Reading.{AreByVariable}
+use Rattle.lp_integer_dict.specs.Whole.{integer_dictionary as dictionary_of}
+use Rattle.lp_dict.specs.InnerReading.{AreByVariable}
 use Rattle.lp_dict.proofs.Finals.{values_are}
 use Rattle.lp_dict.proofs.last.values.Goals as goal
 

@@ -1,6 +1,6 @@
 use Rattle.std.proofs.Common.{ap, ◌∙◌}
-use Rattle.lp_exact.proofs.Kept.{contains_get}
-use Rattle.lp_whole.specs.Whole.{dictionary as dictionary_of}
+use Rattle.lp_fraction_dict.proofs.Kept.{contains_get}
+use Rattle.lp_integer_dict.specs.Whole.{integer_dictionary as dictionary_of}
 use Rattle.lp_dict.proofs.reading.amount.Goals as goal
 
 pub returns-in-Some-clause-basic : goal.returns-in-Some-clause-basic

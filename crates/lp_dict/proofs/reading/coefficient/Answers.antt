@@ -1,6 +1,6 @@
 use Rattle.std.proofs.Common.{ap, ◌∙◌}
 use Rattle.lp_core.specs.Dictionary.{entry_at}
-use Rattle.lp_whole.specs.Whole.{dictionary as dictionary_of}
+use Rattle.lp_integer_dict.specs.Whole.{integer_dictionary as dictionary_of}
 use Rattle.lp_dict.proofs.Finals.{priced_is}
 use Rattle.lp_dict.proofs.reading.coefficient.Goals as goal
 

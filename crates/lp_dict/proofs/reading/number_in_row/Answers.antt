@@ -1,4 +1,4 @@
-use Rattle.lp_exact.proofs.Rows.{search_after, search_here, search_before, less_by_cmp, equal_by_cmp, greater_by_cmp}
+use Rattle.lp_fraction_dict.proofs.Rows.{search_after, search_here, search_before, less_by_cmp, equal_by_cmp, greater_by_cmp}
 use Rattle.lp_dict.proofs.reading.number_in_row.Goals as goal
 
 pub loop-entry-preserved-in-Less : goal.loop-entry-preserved-in-Less

@@ -1,5 +1,5 @@
 use Rattle.std.proofs.Common.{length}
-use Rattle.lp_exact.proofs.Rows.{Searched}
+use Rattle.lp_fraction_dict.proofs.Rows.{Searched}
 use Rattle.lp_dict.proofs.reading.number_in_row.Given as goal
 
 abbrev pub invariant-loop-entry : goal.invariant-loop-entry

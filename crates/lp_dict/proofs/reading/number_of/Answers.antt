@@ -1,5 +1,5 @@
 use Rattle.std.proofs.Common.{◌+◌, sym, ap, ◌∙◌, subst}
-use Rattle.lp_exact.specs.Rows.{IsRow, number_in}
+use Rattle.lp_fraction_dict.specs.Rows.{IsRow, number_in}
 use Rattle.lp_dict.proofs.Readings.{row_is, row_ordered, objective_is}
 use Rattle.lp_dict.proofs.reading.number_of.Goals as goal
 

@@ -1,5 +1,5 @@
 use Rattle.std.proofs.Common.{length, sym, ap, ◌∙◌}
-use Rattle.lp_whole.specs.Whole.{dictionary as dictionary_of}
+use Rattle.lp_integer_dict.specs.Whole.{integer_dictionary as dictionary_of}
 use Rattle.lp_dict.proofs.Finals.{priced_of_place, priced_behind}
 use Rattle.lp_dict.proofs.reading.priced.Goals as goal
 

@@ -1,6 +1,6 @@
 use Rattle.std.proofs.Common.{arith}
-use Rattle.lp_exact.proofs.Filling.{filled_more}
-use Rattle.lp_whole.specs.Whole.{dictionary as dictionary_of}
+use Rattle.lp_fraction_dict.proofs.Filling.{filled_more}
+use Rattle.lp_integer_dict.specs.Whole.{integer_dictionary as dictionary_of}
 use Rattle.lp_dict.proofs.turning.exact_row.Goals as goal
 
 pub loop-column-preserved : goal.loop-column-preserved

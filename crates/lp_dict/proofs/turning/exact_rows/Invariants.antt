@@ -1,7 +1,7 @@
-use Rattle.lp_exact.specs.Lines.{rows_of}
-use Rattle.lp_whole.specs.Whole.{dictionary as dictionary_of}
-use Rattle.lp_dict.specs.Turning.{AreFilled}
+use Rattle.lp_fraction_dict.specs.Lines.{entries_of_rows}
+use Rattle.lp_integer_dict.specs.Whole.{integer_dictionary as dictionary_of}
+use Rattle.lp_dict.specs.InnerConversions.{AreFilled}
 use Rattle.lp_dict.proofs.turning.exact_rows.Given as goal
 
 abbrev pub invariant-loop-row : goal.invariant-loop-row
-invariant-loop-row g l = AreFilled g.F.ExactField.value (dictionary_of l.rows) (rows_of l.made.items) l.row
+invariant-loop-row g l = AreFilled g.F.ExactField.value (dictionary_of l.rows) (entries_of_rows l.made.items) l.row

@@ -1,5 +1,5 @@
 use Rattle.std.proofs.Common.{◌≡◌, map, take}
-use Rattle.lp_dict.specs.Turning.{part_of}
+use Rattle.lp_dict.specs.InnerConversions.{part_of}
 use Rattle.lp_dict.proofs.turning.parts_of.Given as goal
 
 abbrev pub invariant-loop-entry : goal.invariant-loop-entry

@@ -1,6 +1,6 @@
 use Rattle.std.proofs.Common.{drop}
-use Rattle.lp_form.specs.Operations.{step_by}
-use Rattle.lp_form.specs.Merging.{Outcome, after, Changes}
+use Rattle.lp_form.specs.InnerOperations.{step_by}
+use Rattle.lp_form.specs.InnerMerging.{Outcome, after, Changes}
 use Rattle.lp_form.proofs.terms.changed.Given as goal
 
 abbrev pub invariant-loop-i : goal.invariant-loop-i

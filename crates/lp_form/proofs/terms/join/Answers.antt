@@ -1,6 +1,6 @@
 use Rattle.std.proofs.Common.{subst}
 use Rattle.std.specs.List.{All}
-use Rattle.lp_form.specs.Merging.{IsBeforeFirst}
+use Rattle.lp_form.specs.InnerMerging.{IsBeforeFirst}
 use Rattle.lp_form.proofs.Results.{put_behind}
 use Rattle.lp_form.proofs.terms.join.Goals as goal
 

@@ -1,5 +1,5 @@
 use Rattle.std.proofs.Common.{◌≤◌, ◌+◌, ◌-◌, length, drop}
-use Rattle.lp_form.specs.Merging.{Outcome, after, Merges}
+use Rattle.lp_form.specs.InnerMerging.{Outcome, after, Merges}
 use Rattle.lp_form.proofs.terms.merged.Given as goal
 
 abbrev pub invariant-loop-turn : goal.invariant-loop-turn

@@ -1,6 +1,6 @@
 use Rattle.std.proofs.Common.{sym, ap, ◌∙◌, subst}
 use Rattle.gq_number.specs.Number.{neg_ℚ}
-use Rattle.lp_exact.specs.Tableau.{IsPlace}
+use Rattle.lp_fraction_dict.specs.Tableau.{IsPlace}
 use Rattle.lp_dict.specs.Tableau.{dictionary}
 use Rattle.lp_range.proofs.Loops.{change_some, change_same, change_other}
 use Rattle.lp_range.proofs.costs.change_of.Goals as goal

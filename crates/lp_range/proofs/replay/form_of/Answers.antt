@@ -1,7 +1,7 @@
 use Rattle.std.proofs.Common.{subst}
 use Rattle.lp_core.specs.Steps.{standard_steps}
 use Rattle.lp_std.specs.Meaning.{HasNoForm}
-use Rattle.lp_exact.proofs.Kept.{get_within, get_index}
+use Rattle.lp_fraction_dict.proofs.Kept.{get_within, get_index}
 use Rattle.lp_core.specs.declared.program.Column.{Column}
 use Rattle.lp_core.specs.Proofs.{Crosses}
 use Rattle.lp_range.proofs.Loops.{fit_or_stop}

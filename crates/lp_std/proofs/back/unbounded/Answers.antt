@@ -6,7 +6,7 @@ use Rattle.lp_core.specs.StandardForm as form
 use Rattle.lp_core.specs.Steps.{levels_steps, row_levels_steps, ray_step, ray_steps}
 use Rattle.lp_std.specs.declared.types.Shift.{Shift}
 use Rattle.lp_std.specs.Meaning.{shift_value}
-use Rattle.lp_std.specs.Pieces.{first_stop, StopsAt}
+use Rattle.lp_std.specs.InnerSteps.{first_stop, StopsAt}
 use Rattle.lp_std.specs.Last.{last_value}
 use Rattle.lp_std.proofs.Stops.{stop_behind}
 use Rattle.lp_std.proofs.RowSteps.{stops_on, stops_in_front}

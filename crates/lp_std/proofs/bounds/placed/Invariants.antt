@@ -2,7 +2,7 @@ use Rattle.std.proofs.Common.{◌≡◌, ◌+◌, ◌++◌, take, drop, map}
 use Rattle.std.specs.Prelude.{sum_by}
 use Rattle.lp_core.specs.StandardForm as form
 use Rattle.lp_std.specs.Meaning.{shift_value}
-use Rattle.lp_std.specs.Pieces.{placed_value}
+use Rattle.lp_std.specs.InnerSteps.{placed_value}
 use Rattle.lp_std.proofs.bounds.placed.Given as goal
 
 abbrev pub invariant-loop-shift : goal.invariant-loop-shift

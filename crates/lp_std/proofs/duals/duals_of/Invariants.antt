@@ -1,7 +1,7 @@
 use Rattle.std.proofs.Common.{◌≡◌, ◌+◌, ◌++◌, map, drop}
 use Rattle.lp_core.specs.StandardForm as form
 use Rattle.lp_core.specs.Steps.{count_of_rows, dual_steps}
-use Rattle.lp_std.specs.Pieces.{first_stop, slack_multiplier}
+use Rattle.lp_std.specs.InnerSteps.{first_stop, slack_multiplier}
 use Rattle.lp_std.proofs.duals.duals_of.Given as goal
 
 abbrev pub invariant-loop-i : goal.invariant-loop-i

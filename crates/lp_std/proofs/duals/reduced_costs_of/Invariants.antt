@@ -3,7 +3,7 @@ use Rattle.std.specs.Prelude.{sum_by}
 use Rattle.lp_core.specs.declared.program.Column.{Column}
 use Rattle.lp_core.specs.StandardForm as form
 use Rattle.lp_core.specs.Steps.{reduced_steps}
-use Rattle.lp_std.specs.Pieces.{first_stop, placed_value, slack_multiplier}
+use Rattle.lp_std.specs.InnerSteps.{first_stop, placed_value, slack_multiplier}
 use Rattle.lp_std.proofs.duals.reduced_costs_of.Given as goal
 
 abbrev pub invariant-loop-j : goal.invariant-loop-j

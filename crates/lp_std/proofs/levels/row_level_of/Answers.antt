@@ -8,7 +8,7 @@ use Rattle.gq_field.specs.Fits.{sum_fits}
 use Rattle.lp_core.specs.declared.answer.StepName.TheVariants.{Recover}
 use Rattle.lp_core.specs.Sums.{row_sum}
 use Rattle.lp_core.specs.Steps.{product_fits, row_level_steps}
-use Rattle.lp_std.specs.Pieces.{first_stop}
+use Rattle.lp_std.specs.InnerSteps.{first_stop}
 use Rattle.lp_std.proofs.EntryWalks.{entry_goes, entry_stops, sum_more}
 use Rattle.lp_std.proofs.levels.row_level_of.Goals as goal
 

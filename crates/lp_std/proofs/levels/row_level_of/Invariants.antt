@@ -2,7 +2,7 @@ use Rattle.std.proofs.Common.{◌≡◌, pos, map, take, drop}
 use Rattle.gq_number.specs.Number.{whole}
 use Rattle.lp_core.specs.Sums.{row_sum}
 use Rattle.lp_core.specs.Steps.{row_level_steps}
-use Rattle.lp_std.specs.Pieces.{first_stop}
+use Rattle.lp_std.specs.InnerSteps.{first_stop}
 use Rattle.lp_std.proofs.levels.row_level_of.Given as goal
 
 abbrev pub invariant-loop-column : goal.invariant-loop-column

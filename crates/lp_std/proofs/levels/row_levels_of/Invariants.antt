@@ -5,7 +5,7 @@ use Rattle.gq_number.specs.Number.{whole}
 use Rattle.lp_core.specs.declared.program.Row.{Row}
 use Rattle.lp_core.specs.Sums.{row_sum}
 use Rattle.lp_core.specs.Steps.{row_level_steps}
-use Rattle.lp_std.specs.Pieces.{first_stop}
+use Rattle.lp_std.specs.InnerSteps.{first_stop}
 use Rattle.lp_std.proofs.Walked.{walk}
 use Rattle.lp_std.proofs.levels.row_levels_of.Given as goal
 

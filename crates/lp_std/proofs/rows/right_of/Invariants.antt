@@ -1,6 +1,6 @@
 use Rattle.std.proofs.Common.{◌≡◌, drop}
 use Rattle.lp_core.specs.Steps.{row_steps}
-use Rattle.lp_std.specs.Pieces.{first_stop, placed_value, right_after}
+use Rattle.lp_std.specs.InnerSteps.{first_stop, placed_value, right_after}
 use Rattle.lp_std.proofs.rows.right_of.Given as goal
 
 abbrev pub invariant-loop-column : goal.invariant-loop-column

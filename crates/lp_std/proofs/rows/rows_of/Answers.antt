@@ -5,7 +5,7 @@ use Rattle.lp_core.specs.declared.program.Row.{Row}
 use Rattle.std.proofs.lemmas.Result.{err_from_is_err_and}
 use Rattle.lp_core.specs.StandardForm as form
 use Rattle.lp_core.specs.Steps.{rows_steps}
-use Rattle.lp_std.specs.Pieces.{first_stop, placed_value}
+use Rattle.lp_std.specs.InnerSteps.{first_stop, placed_value}
 use Rattle.lp_std.proofs.RowSteps.{rows_go, rows_stop, rows_made, count_here, new_length, stops_on}
 use Rattle.lp_std.proofs.rows.rows_of.Goals as goal
 

@@ -1,7 +1,7 @@
 use Rattle.std.proofs.Common.{◌≡◌, ◌+◌, ◌++◌, drop, map, length}
 use Rattle.lp_core.specs.Steps.{rows_steps, count_of_rows}
 use Rattle.lp_std.specs.Meaning.{row_value}
-use Rattle.lp_std.specs.Pieces.{first_stop, placed_value, rows_over}
+use Rattle.lp_std.specs.InnerSteps.{first_stop, placed_value, rows_over}
 use Rattle.lp_std.proofs.rows.rows_of.Given as goal
 
 abbrev pub invariant-loop-i : goal.invariant-loop-i

@@ -1,7 +1,7 @@
 use Rattle.std.proofs.Common.{◌≡◌, None, subst}
 use Rattle.lp_core.specs.Steps.{row_steps}
 use Rattle.lp_std.specs.Meaning.{entries_value}
-use Rattle.lp_std.specs.Pieces.{first_stop, placed_value, right_after, spread_entries}
+use Rattle.lp_std.specs.InnerSteps.{first_stop, placed_value, right_after, spread_entries}
 use Rattle.lp_std.proofs.RowSteps.{shifted_row_is}
 use Rattle.lp_std.proofs.rows.shifted_row.Goals as goal
 

@@ -1,6 +1,6 @@
 use Rattle.std.proofs.Common.{◌≡◌, take}
 use Rattle.lp_std.specs.Meaning.{entries_value}
-use Rattle.lp_std.specs.Pieces.{placed_value, spread_entries}
+use Rattle.lp_std.specs.InnerSteps.{placed_value, spread_entries}
 use Rattle.lp_std.proofs.rows.spread_row.Given as goal
 
 abbrev pub invariant-loop-column : goal.invariant-loop-column

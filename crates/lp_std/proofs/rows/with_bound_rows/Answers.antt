@@ -2,7 +2,7 @@ use Rattle.std.proofs.Common.{◌≡◌, ◌+◌, ◌∙◌, drop, length, ap, a
 use Rattle.std.proofs.lemmas.Result.{err_from_is_err_and}
 use Rattle.lp_core.specs.StandardForm as form
 use Rattle.lp_core.specs.Steps.{bounds_steps}
-use Rattle.lp_std.specs.Pieces.{first_stop}
+use Rattle.lp_std.specs.InnerSteps.{first_stop}
 use Rattle.lp_std.proofs.RowSteps.{stops_on}
 use Rattle.lp_std.proofs.BoundSteps.{bounds_stop, bounds_go, bounds_count, bounds_length, bounds_made}
 use Rattle.lp_std.proofs.rows.with_bound_rows.Goals as goal

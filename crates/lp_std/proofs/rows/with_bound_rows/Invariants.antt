@@ -3,7 +3,7 @@ use Rattle.std.specs.Prelude.{sum_by}
 use Rattle.lp_core.specs.StandardForm as form
 use Rattle.lp_core.specs.Steps.{bounds_steps}
 use Rattle.lp_std.specs.Meaning.{row_value}
-use Rattle.lp_std.specs.Pieces.{first_stop, placed_value, bounds_over}
+use Rattle.lp_std.specs.InnerSteps.{first_stop, placed_value, bounds_over}
 use Rattle.lp_std.proofs.rows.with_bound_rows.Given as goal
 
 abbrev pub invariant-loop-j : goal.invariant-loop-j

@@ -13,17 +13,17 @@ use Rattle.gms_ast.specs.Trees.{Tree}
 use Rattle.gms_ast.specs.TreeView.{tree_of, control_tree}
 use Rattle.gms_check.specs.StatementUses.{index_list}
 use Rattle.gms_ast.proofs.TreeEquations.{tree_of-Ref, tree_of-Call, tree_of-Fold, tree_of-Guard, tree_of-And, tree_of-Plus, tree_of-Times, tree_of-Power, tree_of-Relate, tree_of-Or}
-use Rattle.gms_check.specs.Checking.{Checking, faulted, known_of, noted, seen, with_controlled, with_sets}
+use Rattle.gms_check.specs.InnerChecking.{Checking, faulted, known_of, noted, seen, with_controlled, with_sets}
 use Rattle.gms_check.specs.Linearity.{has_variable, have_variable, is_sum}
-use Rattle.gms_check.specs.PartLists.{chosen_list, in_no_place, placed_list, plain_list, related_list, signed_list}
+use Rattle.gms_check.specs.InnerPartLists.{chosen_list, in_no_place, placed_list, plain_list, related_list, signed_list}
 use Rattle.gms_check.specs.declared.standing.Standing.{Standing}
 use Rattle.gms_check.specs.declared.expression.Operation.TheVariants.{Multiplies, Divides}
 use Rattle.gms_check.specs.declared.error.ErrorKind.{ErrorKind}
 use Rattle.gms_check.specs.declared.error.ErrorKind.TheVariants.{WrongKind, Nonlinear, Function}
-use Rattle.gms_check.specs.Kinds.{part_count, takes}
+use Rattle.gms_check.specs.Kinds.{part_count, takes_arguments}
 use Rattle.gms_check.specs.Past.{Known}
 use Rattle.gms_check.specs.Standing.{as_condition, as_guarded, as_inner, as_number, as_part}
-use Rattle.gms_check.specs.Uses.{Uses, amount_uses, calling, control_uses, controlling, folding, logic, part_uses, reading, sets_of, steps, uses}
+use Rattle.gms_check.specs.Uses.{Uses, amount_uses, calling, control_uses, controlling, folding, logic, part_uses, reading, sets_of_control, steps, uses}
 use Rattle.gms_check.proofs.ControlTrees.{tree-where}
 use Rattle.gms_check.proofs.Depths.{indices-fall, indices-less_deep}
 use Rattle.gms_check.proofs.FoldSteps.{noted-body, noted-fold}
@@ -271,10 +271,10 @@ call-returns-clause-noted g t c =
     let standing = c.args.standing in
     let parts = plain_list c.args.args.now in
     let before = seen c.require-2.new.self in
-    let many = not (takes c.args.function (part_count parts)) in
+    let many = not (takes_arguments c.args.function (part_count parts)) in
     let curved = standing.variables && have_variable (known_of value s) parts in
     let faults : List (Bool × ErrorKind) = (not standing.numbers, WrongKind) ∷ (many, Function) ∷ [] in
-    let first : seen c.require-2.new.self ≡ faulted s at faults = chain-2 at s _ _ _ _ c.require.ensures (c.require-2.ensures ∙ ap (λ (b : Bool). faulted (seen c.require.new.self) at ((not b, Function) ∷ [])) (c.takes.ensures ∙ ap (takes c.args.function) (sym (count-parts (λ (part : Expr _). plain) tree_of c.args.args.now)))) in
+    let first : seen c.require-2.new.self ≡ faulted s at faults = chain-2 at s _ _ _ _ c.require.ensures (c.require-2.ensures ∙ ap (λ (b : Bool). faulted (seen c.require.new.self) at ((not b, Function) ∷ [])) (c.takes.ensures ∙ ap (takes_arguments c.args.function) (sym (count-parts (λ (part : Expr _). plain) tree_of c.args.args.now)))) in
     let controlled : before.controlled ≡ s.controlled = ap (λ (u : Checking). u.controlled) first in
     let known : known_of value before ≡ known_of value s = ap (λ (u : Checking). known_of value u) first in
     let variable : c.in_ok-variable.variable ≡ have_variable (known_of value s) parts = c.in_ok-variable.ensures.variable ∙ ap (λ (k : Known _). have_variable k parts) known in
@@ -306,7 +306,7 @@ control-returns-in_ok-_variable g t c =
     c.in_ok-_variable.ensures.noted ∙ ap (λ (u : Checking). noted value u (uses as_condition at u.controlled (tree_of c.deref.result.now))) first
     ∙ ap (λ (e : Expr _). with_controlled (noted value (noted value s one) (uses as_condition at (s.controlled ++ sets) (tree_of e))) sets) c.deref.ensures
     ∙ ap (λ (u : Checking). with_controlled u sets) (noted-then value s (noted value s one) _ one (uses as_condition at (s.controlled ++ sets) (tree_of condition.value)) refl refl)
-    ∙ ap (λ (control : Control _). with_controlled (noted value s (control_uses at s.controlled control)) (sets_of control)) (sym (tree-where c.args.control.now condition c.in-Some.is))
+    ∙ ap (λ (control : Control _). with_controlled (noted value s (control_uses at s.controlled control)) (sets_of_control control)) (sym (tree-where c.args.control.now condition c.in-Some.is))
 
 pub amounts-loop-index-preserved : goal.amounts-loop-index-preserved
 amounts-loop-index-preserved g t c =
@@ -422,7 +422,7 @@ expression-returns-in_ok-control-in-Fold-clause-noted g t c =
     let op = c.in-Fold.op in
     let standing = c.args.standing in
     let control = control_tree c.in-Fold.control in
-    let sets = sets_of control in
+    let sets = sets_of_control control in
     let body = tree_of c.deref-in-Fold.result.now in
     let under = seen c.control.new.self in
     let all : under.controlled ≡ s.controlled ++ sets = ap (λ (u : Checking). u.controlled) c.in_ok-control-in-Fold.ensures in

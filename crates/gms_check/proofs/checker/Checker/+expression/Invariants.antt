@@ -5,10 +5,10 @@ use Rattle.gms_labels.specs.declared.place.Place.{Place}
 use Rattle.gms_ast.specs.declared.expression.Expr.{Expr}
 use Rattle.gms_ast.specs.declared.expression.RelOp.{RelOp}
 use Rattle.gms_ast.specs.TreeView.{tree_of}
-use Rattle.gms_check.specs.Checking.{faulted, known_of, noted, seen}
+use Rattle.gms_check.specs.InnerChecking.{faulted, known_of, noted, seen}
 use Rattle.gms_check.specs.declared.error.ErrorKind.TheVariants.{WrongKind}
 use Rattle.gms_check.specs.Linearity.{has_variable}
-use Rattle.gms_check.specs.PartLists.{in_no_place, placed_list, signed_list}
+use Rattle.gms_check.specs.InnerPartLists.{in_no_place, placed_list, signed_list}
 use Rattle.gms_check.specs.Standing.{as_condition, as_number, as_part}
 use Rattle.gms_check.specs.StatementUses.{index_list}
 use Rattle.gms_check.specs.Uses.{amount_uses, steps, uses}

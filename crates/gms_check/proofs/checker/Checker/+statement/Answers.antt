@@ -6,10 +6,10 @@ use Rattle.gms_ast.specs.declared.program.Show.{Show}
 use Rattle.gms_ast.specs.declared.program.Stmt.{Stmt}
 use Rattle.gms_ast.specs.declared.expression.Index.{Index}
 use Rattle.gms_ast.specs.TreeView.{control_tree, tree_of}
-use Rattle.gms_check.specs.Checking.{noted, seen, with_controlled, with_sets}
+use Rattle.gms_check.specs.InnerChecking.{noted, seen, with_controlled, with_sets}
 use Rattle.gms_check.specs.Standing.{as_side}
 use Rattle.gms_check.specs.StatementUses.{index_list, left_uses, option_uses, show_uses, statement_uses, with_left}
-use Rattle.gms_check.specs.Uses.{condition_uses, control_uses, defining, index_sets, sets_of, uses, Uses}
+use Rattle.gms_check.specs.Uses.{condition_uses, control_uses, defining, index_sets, sets_of_control, uses, Uses}
 use Rattle.gms_check.proofs.ActUses.{uses-Abort, uses-Assign, uses-Define, uses-Loop, uses-Options}
 use Rattle.gms_check.proofs.FoldSteps.{controlled-counted}
 use Rattle.gms_check.proofs.Noting.{noted-then}
@@ -27,7 +27,7 @@ act-returns-in-Loop g t c =
     let value = g.F.ExactField.value in
     let s = seen c.args.self.now in
     on_ok_weaker c.repetition.result
-    (λ e. acted value s (seen c.repetition.new.self) c.args.act.now _ c.args.at _ c.in-Loop.is (uses-Loop s.facts.state c.args.at s.controlled c.in-Loop.control c.in-Loop.body) (e ∙ ap (λ body. noted value s (control_uses c.args.at s.controlled (control_tree c.in-Loop.control) ++ flat_map (λ (statement : Stmt _). statement_uses statement s.facts.state (s.controlled ++ sets_of (control_tree c.in-Loop.control))) body)) c.deref.ensures.value))
+    (λ e. acted value s (seen c.repetition.new.self) c.args.act.now _ c.args.at _ c.in-Loop.is (uses-Loop s.facts.state c.args.at s.controlled c.in-Loop.control c.in-Loop.body) (e ∙ ap (λ body. noted value s (control_uses c.args.at s.controlled (control_tree c.in-Loop.control) ++ flat_map (λ (statement : Stmt _). statement_uses statement s.facts.state (s.controlled ++ sets_of_control (control_tree c.in-Loop.control))) body)) c.deref.ensures.value))
     c.repetition.ensures
 
 pub act-returns-in-Options : goal.act-returns-in-Options
@@ -58,7 +58,7 @@ act-returns-in-Assign g t c =
 pub repetition-loop-statement-preserved : goal.repetition-loop-statement-preserved
 repetition-loop-statement-preserved g t c =
     let s = seen c.args.self.now in
-    body-more g.F.ExactField.value c.args.body.now c.loop-statement.statement-index c.statement-item.result s (seen c.loop-statement.self) (seen c.act.new.self) (control_uses c.args.at s.controlled (control_tree c.args.control.now)) (sets_of (control_tree c.args.control.now)) c.loop-statement-test.true c.statement-item.is c.loop-statement.invariant c.in_ok-act.ensures
+    body-more g.F.ExactField.value c.args.body.now c.loop-statement.statement-index c.statement-item.result s (seen c.loop-statement.self) (seen c.act.new.self) (control_uses c.args.at s.controlled (control_tree c.args.control.now)) (sets_of_control (control_tree c.args.control.now)) c.loop-statement-test.true c.statement-item.is c.loop-statement.invariant c.in_ok-act.ensures
 
 pub repetition-returns : goal.repetition-returns
 repetition-returns g t c =
@@ -66,9 +66,9 @@ repetition-returns g t c =
     let s = seen c.args.self.now in
     let u = seen c.loop-statement.self in
     let control = control_tree c.args.control.now in
-    let parts : List (Stmt g.row.F.Denot) → Uses g.row.F.Denot = λ body. control_uses c.args.at s.controlled control ++ flat_map (λ (statement : Stmt _). statement_uses statement s.facts.state (s.controlled ++ sets_of control)) body in
-    under-done value s u _ (parts c.args.body.now) (sets_of control)
-    (c.loop-statement.invariant ∙ ap (λ body. with_controlled (noted value s (parts body)) (sets_of control)) (take_all c.loop-statement.statement-index c.args.body.now c.loop-statement-test.false))
+    let parts : List (Stmt g.row.F.Denot) → Uses g.row.F.Denot = λ body. control_uses c.args.at s.controlled control ++ flat_map (λ (statement : Stmt _). statement_uses statement s.facts.state (s.controlled ++ sets_of_control control)) body in
+    under-done value s u _ (parts c.args.body.now) (sets_of_control control)
+    (c.loop-statement.invariant ∙ ap (λ body. with_controlled (noted value s (parts body)) (sets_of_control control)) (take_all c.loop-statement.statement-index c.args.body.now c.loop-statement-test.false))
     (ap (with_sets u) (c.truncate.ensures ∙ ap (λ n. take n u.controlled) (controlled-counted c.len-outer.result c.args.self.now.controlled s c.len-outer.ensures refl)))
 
 pub act-repetition-requires : goal.act-repetition-requires

@@ -1,6 +1,6 @@
 use Rattle.std.proofs.Common.{◌≡◌, ◌∙◌, ap, sym, refl, [], ◌∷◌, not, ◌&&◌, ◌||◌}
-use Rattle.gms_known.specs.Names.{is_set_name, is_unknown}
-use Rattle.gms_check.specs.Checking.{Checking, faulted, seen}
+use Rattle.gms_scope.specs.Names.{is_set_name, has_no_declaration}
+use Rattle.gms_check.specs.InnerChecking.{Checking, faulted, seen}
 use Rattle.gms_check.specs.Uses.{first_alias, second_alias}
 use Rattle.gms_check.specs.declared.error.ErrorKind.TheVariants.{UnknownName, Redeclared, WrongKind}
 use Rattle.gms_check.proofs.Noting.{chain-2, noted-by, noted-then, not-either, not-or, or-right, or-true}
@@ -14,8 +14,8 @@ returns g c =
     let s = seen c.args.self.now in
     let first = c.args.first in
     let second = c.args.second in
-    let new = is_unknown state first.name in
-    let other = is_unknown state second.name in
+    let new = has_no_declaration state first.name in
+    let other = has_no_declaration state second.name in
     let set = is_set_name state first.name in
     let other_set = is_set_name state second.name in
     let first_new : c.is_unknown-first_new.result ≡ new = c.is_unknown-first_new.ensures in

@@ -2,7 +2,7 @@ use Rattle.std.proofs.Common.{◌≡◌, ◌∙◌, ap, List, ℕ, ◌∷◌, �
 use Rattle.gms_ast.specs.TreeView.{tree_of}
 use Rattle.gms_store.specs.State.{State}
 use Rattle.gms_check.specs.declared.standing.Standing.{Standing}
-use Rattle.gms_check.specs.Checking.{Checking, noted, seen, with_sets}
+use Rattle.gms_check.specs.InnerChecking.{Checking, noted, seen, with_sets}
 use Rattle.gms_check.specs.StatementUses.{index_list, left_uses, right_standing, with_left}
 use Rattle.gms_check.specs.Uses.{assigning, index_sets, uses}
 use Rattle.gms_check.proofs.StatementParts.{under-done, under-more}

@@ -1,6 +1,6 @@
 use Rattle.std.proofs.Common.{◌≡◌, ◌∙◌, ap, sym, refl, Bool, [], ◌∷◌, not, ◌&&◌, ◌||◌}
-use Rattle.gms_check.specs.Checking.{Checking, faulted, seen}
-use Rattle.gms_known.specs.Names.{is_set_name, is_unknown}
+use Rattle.gms_check.specs.InnerChecking.{Checking, faulted, seen}
+use Rattle.gms_scope.specs.Names.{is_set_name, has_no_declaration}
 use Rattle.gms_check.specs.declared.error.ErrorKind.TheVariants.{UnknownName, WrongKind}
 use Rattle.gms_check.specs.Uses.{cardinal}
 use Rattle.gms_check.proofs.Noting.{alone, and-false, and-true, chain-2, not-and, noted-by}
@@ -12,7 +12,7 @@ returns-clause-noted g c =
     let facts = c.args.self.now.known in
     let s = seen c.args.self.now in
     let set = is_set_name facts.state c.args.set in
-    let unknown = is_unknown facts.state c.args.set in
+    let unknown = has_no_declaration facts.state c.args.set in
     let wrong = not c.args.standing.numbers || not set in
     let stands : c.if-standing.stands ≡ (c.args.standing.numbers && set) = elim c.if-standing.branch [
       | then-standing w ↦ and-true c.args.standing.numbers set _ _ w.stands-is w.is_set-stands.ensures w.if-standing.true

@@ -2,7 +2,7 @@ use Rattle.std.proofs.Common.{◌≡◌, ◌∙◌, ap, sym, Option}
 use Rattle.std.specs.Prelude.{option_map}
 use Rattle.gms_ast.specs.declared.expression.Expr.{Expr}
 use Rattle.gms_ast.specs.TreeView.{tree_of}
-use Rattle.gms_check.specs.Checking.{noted, seen}
+use Rattle.gms_check.specs.InnerChecking.{noted, seen}
 use Rattle.gms_check.specs.Uses.{condition_uses}
 use Rattle.gms_check.proofs.checker.Checker.condition.Goals as goal
 

@@ -1,6 +1,6 @@
 use Rattle.std.proofs.Common.{◌∙◌, ap, List, ℕ}
 use Rattle.std.proofs.lemmas.List.{take_all}
-use Rattle.gms_check.specs.Checking.{seen, with_controlled}
+use Rattle.gms_check.specs.InnerChecking.{seen, with_controlled}
 use Rattle.gms_check.proofs.Noting.{controlled-more}
 use Rattle.gms_check.proofs.checker.Checker.control_indices.Goals as goal
 

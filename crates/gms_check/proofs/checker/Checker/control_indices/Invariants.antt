@@ -1,5 +1,5 @@
 use Rattle.std.proofs.Common.{◌≡◌, take}
-use Rattle.gms_check.specs.Checking.{seen, with_controlled}
+use Rattle.gms_check.specs.InnerChecking.{seen, with_controlled}
 use Rattle.gms_check.proofs.checker.Checker.control_indices.Given as goal
 
 abbrev pub invariant-loop-set : goal.invariant-loop-set

@@ -1,8 +1,8 @@
 use Rattle.std.proofs.Common.{◌≡◌, ◌∙◌, ap, refl, ℕ, length, [], ◌∷◌, not}
 use Rattle.std.specs.Prelude.{nat_lt}
 use Rattle.std.specs.List.{list_any}
-use Rattle.gms_known.specs.Names.{is_index_set, is_unknown}
-use Rattle.gms_check.specs.Checking.{Checking, faulted, seen, with_controlled}
+use Rattle.gms_scope.specs.Names.{is_index_set, has_no_declaration}
+use Rattle.gms_check.specs.InnerChecking.{Checking, faulted, seen, with_controlled}
 use Rattle.gms_check.specs.Controls.{is_controlled_twice}
 use Rattle.gms_check.specs.Uses.{controlling}
 use Rattle.gms_check.specs.declared.error.ErrorKind.TheVariants.{UnknownName, WrongKind, WrongArity, ControlledTwice}
@@ -17,7 +17,7 @@ returns g c =
     let at = c.args.at in
     let sets = c.args.sets.now in
     let t = with_controlled s sets in
-    let unknown = list_any (is_unknown facts.state) sets in
+    let unknown = list_any (has_no_declaration facts.state) sets in
     let wrong = list_any (λ (set : ℕ). not (is_index_set facts.state set)) sets in
     let many = nat_lt 10 (length sets) in
     let twice = is_controlled_twice s.controlled sets in

@@ -1,10 +1,10 @@
 use Rattle.std.proofs.Common.{◌≡◌, ◌∙◌, ap, sym, refl, Bool, true, map, [], ◌∷◌, not, ◌&&◌, ◌||◌}
-use Rattle.gms_check.specs.Checking.{Checking, faulted, first_fault, known_of, seen}
+use Rattle.gms_check.specs.InnerChecking.{Checking, faulted, first_fault, known_of, seen}
 use Rattle.gms_labels.specs.declared.place.Place.{Place}
 use Rattle.gms_set.specs.declared.fault.SetError.{SetError}
 use Rattle.gms_set.specs.declared.fault.SetError.TheVariants.{BadRange, Repeated, Outside, Full}
 use Rattle.gms_check.specs.CompileErrors.{checked_kinds, has_error}
-use Rattle.gms_check.specs.Faults.{kind_of_fault}
+use Rattle.gms_check.specs.InnerFaults.{kind_of_fault}
 use Rattle.gms_check.specs.Past.{Known}
 use Rattle.gms_check.specs.Uses.{failing}
 use Rattle.gms_check.proofs.Noting.{noted-by}

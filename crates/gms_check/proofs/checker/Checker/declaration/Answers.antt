@@ -2,9 +2,9 @@ use Rattle.std.proofs.Common.{◌≡◌, ◌∙◌, ap, Bool, not, [], ◌∷◌
 use Rattle.std.specs.Prelude.{is_none}
 use Rattle.std.proofs.lemmas.Result.{on_ok_weaker}
 use Rattle.gms_check.specs.declared.error.ErrorKind.TheVariants.{Discrete}
-use Rattle.gms_check.specs.Checking.{Checking, faulted, noted, seen, with_facts}
+use Rattle.gms_check.specs.InnerChecking.{Checking, faulted, noted, seen, with_facts}
 use Rattle.gms_check.specs.DeclarationUses.{kind_uses}
-use Rattle.gms_check.specs.Trials.{taken_back}
+use Rattle.gms_check.specs.InnerTrials.{taken_back}
 use Rattle.gms_check.proofs.TrialDeclarations.{declaration-accepted, declaration-first, declaration-refused, kind-noted}
 use Rattle.gms_check.proofs.checker.Checker.declaration.Goals as goal
 

@@ -1,8 +1,8 @@
 use Rattle.std.proofs.Common.{◌∙◌, ◌+◌, ◌∷◌, ap, sym, drop}
 use Rattle.std.proofs.lemmas.List.{at_drop_more, drop_all}
 use Rattle.gms_ast.specs.declared.declaration.ModelDecl.{ModelDecl}
-use Rattle.gms_known.specs.Facts.{Facts}
-use Rattle.gms_check.specs.Checking.{seen, with_facts}
+use Rattle.gms_scope.specs.Facts.{Facts}
+use Rattle.gms_check.specs.InnerChecking.{seen, with_facts}
 use Rattle.gms_check.proofs.ModelLists.{models-step, models_checked}
 use Rattle.gms_check.proofs.Noting.{noted-none}
 use Rattle.gms_check.proofs.checker.Checker.declare_models.Goals as goal

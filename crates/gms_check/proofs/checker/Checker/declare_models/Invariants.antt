@@ -1,5 +1,5 @@
 use Rattle.std.proofs.Common.{◌≡◌, drop}
-use Rattle.gms_check.specs.Checking.{seen}
+use Rattle.gms_check.specs.InnerChecking.{seen}
 use Rattle.gms_check.proofs.ModelLists.{models_checked}
 use Rattle.gms_check.proofs.checker.Checker.declare_models.Given as goal
 

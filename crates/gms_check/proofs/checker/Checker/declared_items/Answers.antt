@@ -1,8 +1,8 @@
 use Rattle.std.proofs.Common.{◌≡◌, ◌∙◌, ◌+◌, ◌++◌, ap, sym, Bool, ℕ, List, [], ◌∷◌, drop, vec_items, if◌then◌else◌}
 use Rattle.std.proofs.lemmas.List.{append-nil, at_drop_more, drop_all}
 use Rattle.gms_ast.specs.declared.declaration.Decl.{Decl}
-use Rattle.gms_check.specs.Checking.{Checking, seen}
-use Rattle.gms_check.specs.Trials.{trial_names}
+use Rattle.gms_check.specs.InnerChecking.{Checking, seen}
+use Rattle.gms_check.specs.InnerTrials.{trial_names}
 use Rattle.gms_check.proofs.Noting.{noted-none}
 use Rattle.gms_check.proofs.TrialDeclarations.{items-step, items_checked, names-step}
 use Rattle.gms_check.proofs.checker.Checker.declared_items.Goals as goal

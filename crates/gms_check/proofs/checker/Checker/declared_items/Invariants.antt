@@ -1,6 +1,6 @@
 use Rattle.std.proofs.Common.{◌≡◌, ◌++◌, drop}
-use Rattle.gms_check.specs.Checking.{seen}
-use Rattle.gms_check.specs.Trials.{trial_names}
+use Rattle.gms_check.specs.InnerChecking.{seen}
+use Rattle.gms_check.specs.InnerTrials.{trial_names}
 use Rattle.gms_check.proofs.TrialDeclarations.{items_checked}
 use Rattle.gms_check.proofs.checker.Checker.declared_items.Given as goal
 

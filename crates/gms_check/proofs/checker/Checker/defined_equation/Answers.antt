@@ -1,8 +1,8 @@
 use Rattle.std.proofs.Common.{◌≡◌, ◌∙◌, ap, refl, [], ◌∷◌, ◌++◌}
-use Rattle.gms_known.specs.Facts.{marked}
-use Rattle.gms_known.specs.Names.{is_equation, kind_of}
-use Rattle.gms_check.specs.Checking.{faulted, known_of, seen}
-use Rattle.gms_check.specs.Faults.{index_faults}
+use Rattle.gms_scope.specs.Facts.{marked}
+use Rattle.gms_scope.specs.Names.{is_equation, declared_kind}
+use Rattle.gms_check.specs.InnerChecking.{faulted, known_of, seen}
+use Rattle.gms_check.specs.InnerFaults.{index_faults}
 use Rattle.gms_check.specs.StatementUses.{index_list}
 use Rattle.gms_check.specs.Uses.{defining}
 use Rattle.gms_check.specs.declared.error.ErrorKind.TheVariants.{DefinedTwice}
@@ -17,8 +17,8 @@ returns g c =
     let at = c.args.equation.at in
     let name = c.args.equation.name in
     let xs = index_list c.args.indices.now in
-    let stands : c.is_equation-stands.result ≡ is_equation (kind_of facts.state name) = c.is_equation-stands.ensures ∙ ap is_equation c.kind.ensures in
-    let faults = index_faults (known_of value s) name (is_equation (kind_of facts.state name)) xs in
+    let stands : c.is_equation-stands.result ≡ is_equation (declared_kind facts.state name) = c.is_equation-stands.ensures ∙ ap is_equation c.kind.ensures in
+    let faults = index_faults (known_of value s) name (is_equation (declared_kind facts.state name)) xs in
     noted-by value s _ at (defining name xs) (faults ++ (marked facts.defined name, DefinedTwice) ∷ []) refl
     (faulted-then at s _ _ faults ((marked facts.defined name, DefinedTwice) ∷ [])
     (c.in_ok-named.ensures ∙ ap (λ b. faulted s at (index_faults (known_of value s) name b xs)) stands)

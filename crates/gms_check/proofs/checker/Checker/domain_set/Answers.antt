@@ -1,7 +1,7 @@
 use Rattle.std.proofs.Common.{◌≡◌, ◌∙◌, ap, sym, refl, Bool, [], ◌∷◌, not, ◌&&◌, ◌||◌}
-use Rattle.gms_check.specs.Checking.{Checking, faulted, seen}
-use Rattle.gms_known.specs.Facts.{is_dynamic}
-use Rattle.gms_known.specs.Names.{is_index_set, is_unknown}
+use Rattle.gms_check.specs.InnerChecking.{Checking, faulted, seen}
+use Rattle.gms_scope.specs.Facts.{is_known_dynamic}
+use Rattle.gms_scope.specs.Names.{is_index_set, has_no_declaration}
 use Rattle.gms_check.specs.declared.error.ErrorKind.TheVariants.{UnknownName, WrongKind, DynamicDomain}
 use Rattle.gms_check.specs.Uses.{bounding}
 use Rattle.gms_check.proofs.Noting.{alone, chain-3, not-not, noted-by}
@@ -12,9 +12,9 @@ returns g c =
     let facts = c.args.self.now.known in
     let s = seen c.args.self.now in
     let at = c.args.named.at in
-    let unknown = is_unknown facts.state c.args.named.name in
+    let unknown = has_no_declaration facts.state c.args.named.name in
     let wrong = not (is_index_set facts.state c.args.named.name) in
-    let dynamic = is_dynamic facts c.args.named.name in
+    let dynamic = is_known_dynamic facts c.args.named.name in
     noted-by g.F.ExactField.value s _ at (bounding c.args.named.name) ((unknown, UnknownName) ∷ (wrong, WrongKind) ∷ (dynamic, DynamicDomain) ∷ []) (alone at unknown UnknownName ((wrong, WrongKind) ∷ (dynamic, DynamicDomain) ∷ []))
     (chain-3 at s _ _ _ _ _ _ c.require_known.ensures
     (c.require.ensures ∙ ap (λ b. faulted (seen c.require_known.new.self) at ((not b, WrongKind) ∷ [])) c.is_index_set-index_set.ensures)

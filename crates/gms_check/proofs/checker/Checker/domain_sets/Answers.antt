@@ -1,7 +1,7 @@
 use Rattle.std.proofs.Common.{◌≡◌, ◌∙◌, ap, sym, get_or, Option, Some, None}
 use Rattle.std.proofs.lemmas.List.{get_or_default}
 use Rattle.gms_ast.specs.declared.word.Named.{Named}
-use Rattle.gms_check.specs.Checking.{noted, seen}
+use Rattle.gms_check.specs.InnerChecking.{noted, seen}
 use Rattle.gms_check.specs.DeclarationUses.{domain_use}
 use Rattle.gms_check.proofs.Noting.{noted-more, noted-none}
 use Rattle.gms_check.proofs.checker.Checker.domain_sets.Goals as goal

@@ -1,5 +1,5 @@
 use Rattle.std.proofs.Common.{◌∙◌, ap, Bool, [], ◌∷◌, ◌&&◌}
-use Rattle.gms_check.specs.Checking.{faulted, seen}
+use Rattle.gms_check.specs.InnerChecking.{faulted, seen}
 use Rattle.gms_check.specs.declared.error.ErrorKind.TheVariants.{Nonlinear}
 use Rattle.gms_check.proofs.checker.Checker.fold_step.Goals as goal
 

@@ -4,7 +4,7 @@ use Rattle.std.proofs.lemmas.List.{drop_all, length-map}
 use Rattle.std.proofs.lemmas.Option.{slice_get-get_or}
 use Rattle.gms_ast.specs.declared.word.Named.{Named}
 use Rattle.gms_store.specs.Declarations.{names_of}
-use Rattle.gms_known.specs.Names.{positions}
+use Rattle.gms_scope.specs.Names.{positions}
 use Rattle.gms_check.specs.Names.{same_domain, same_position}
 use Rattle.gms_check.proofs.SameDomains.{same-at, set_in, unequal}
 use Rattle.gms_check.proofs.checker.Checker.is_domain_of.Goals as goal

@@ -1,6 +1,6 @@
 use Rattle.std.proofs.Common.{◌≡◌, drop, length}
 use Rattle.gms_store.specs.Declarations.{names_of}
-use Rattle.gms_known.specs.Names.{positions}
+use Rattle.gms_scope.specs.Names.{positions}
 use Rattle.gms_check.specs.Names.{same_domain}
 use Rattle.gms_check.proofs.checker.Checker.is_domain_of.Given as goal
 

@@ -6,8 +6,8 @@ use Rattle.gms_ast.specs.declared.expression.Suffix.TheVariants as suffix
 use Rattle.gms_ast.specs.Trees.{reference}
 use Rattle.gms_ast.specs.TreeView.{tree_of, index_tree, indices_of}
 use Rattle.gms_ast.proofs.TreeEquations.{tree_of-Ref}
-use Rattle.gms_known.specs.Names.{kind_of, positions}
-use Rattle.gms_check.specs.Checking.{known_of, seen}
+use Rattle.gms_scope.specs.Names.{declared_kind, positions}
+use Rattle.gms_check.specs.InnerChecking.{known_of, seen}
 use Rattle.gms_check.specs.Kinds.{is_left_amount, is_without_positions, may_shift}
 use Rattle.gms_check.proofs.IndexLists.{bare-indices}
 use Rattle.gms_check.proofs.checker.Checker.is_left_amount.Goals as goal
@@ -23,4 +23,4 @@ returns-then-matches g c =
       | in_default-matches w ↦ absurd (let a = w.matches-is in let b = c.if-matches.true in cc)
     ] in
     let shape : is_left_amount known (tree_of c.args.amount.now) ≡ is_left_amount known (reference r.at r.name suffix.None (indices_of (map index_tree r.indices.items))) = ap (λ (e : Expr _). is_left_amount known (tree_of e)) r.is ∙ ap (is_left_amount known) (tree_of-Ref r.at r.name r.suffix r.indices) ∙ ap (λ (s : Suffix). is_left_amount known (reference r.at r.name s (indices_of (map index_tree r.indices.items)))) none in
-    c.may_shift.ensures ∙ ap (λ b. may_shift (kind_of known.state r.name) (is_without_positions (positions known.state r.name) && b)) (c.is_empty.ensures ∙ ap (λ n. n == 0) counted ∙ bare-indices r.indices.items) ∙ sym shape
+    c.may_shift.ensures ∙ ap (λ b. may_shift (declared_kind known.state r.name) (is_without_positions (positions known.state r.name) && b)) (c.is_empty.ensures ∙ ap (λ n. n == 0) counted ∙ bare-indices r.indices.items) ∙ sym shape

@@ -7,8 +7,8 @@ use Rattle.gms_ast.specs.declared.declaration.Item.{Item}
 use Rattle.gms_ast.specs.declared.word.Named.{Named}
 use Rattle.gms_set.specs.Expansion.{expanded}
 use Rattle.gms_store.specs.Declarations.{names_of, positions_of}
-use Rattle.gms_known.specs.Facts.{Facts}
-use Rattle.gms_check.specs.Checking.{Checking, known_of, noted, seen}
+use Rattle.gms_scope.specs.Facts.{Facts}
+use Rattle.gms_check.specs.InnerChecking.{Checking, known_of, noted, seen}
 use Rattle.gms_check.specs.CompileErrors.{errors_of}
 use Rattle.gms_check.specs.DeclarationUses.{are_usable, domain_use, expansion_uses, has_all_parts, item_uses}
 use Rattle.gms_check.specs.Uses.{Uses, naming, placing}

@@ -1,6 +1,6 @@
 use Rattle.std.proofs.Common.{◌≡◌, ◌∙◌, ap, refl, List, ℕ, Bool, [], ◌∷◌, not}
 use Rattle.gms_ast.specs.TreeView.{tree_of}
-use Rattle.gms_check.specs.Checking.{Checking, faulted, known_of, noted, seen}
+use Rattle.gms_check.specs.InnerChecking.{Checking, faulted, known_of, noted, seen}
 use Rattle.gms_check.specs.Kinds.{is_left_amount}
 use Rattle.gms_check.specs.Standing.{as_number}
 use Rattle.gms_check.specs.Uses.{shifting, uses}

@@ -3,7 +3,7 @@ use Rattle.std.proofs.lemmas.List.{take_all}
 use Rattle.gms_ast.specs.declared.expression.Expr.{Expr}
 use Rattle.gms_ast.specs.declared.expression.Index.{Index, Set}
 use Rattle.gms_ast.specs.TreeView.{tree_of}
-use Rattle.gms_check.specs.Checking.{Checking, noted, seen}
+use Rattle.gms_check.specs.InnerChecking.{Checking, noted, seen}
 use Rattle.gms_check.specs.Standing.{as_number}
 use Rattle.gms_check.specs.StatementUses.{index_list}
 use Rattle.gms_check.specs.Uses.{shift_uses, shifting, uses}

@@ -1,5 +1,5 @@
 use Rattle.std.proofs.Common.{◌≡◌, take}
-use Rattle.gms_check.specs.Checking.{noted, seen}
+use Rattle.gms_check.specs.InnerChecking.{noted, seen}
 use Rattle.gms_check.specs.StatementUses.{index_list}
 use Rattle.gms_check.specs.Uses.{shift_uses}
 use Rattle.gms_check.proofs.checker.Checker.left_amounts.Given as goal

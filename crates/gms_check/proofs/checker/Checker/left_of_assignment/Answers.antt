@@ -2,7 +2,7 @@ use Rattle.std.proofs.Common.{◌≡◌, ◌∙◌, ap, List, [], ◌∷◌, opt
 use Rattle.std.proofs.lemmas.Result.{on_ok_weaker}
 use Rattle.gms_ast.specs.declared.expression.Index.{Index}
 use Rattle.gms_ast.specs.TreeView.{tree_of}
-use Rattle.gms_check.specs.Checking.{noted, seen, with_controlled}
+use Rattle.gms_check.specs.InnerChecking.{noted, seen, with_controlled}
 use Rattle.gms_check.specs.StatementUses.{index_list}
 use Rattle.gms_check.specs.Uses.{assigning, condition_uses, index_sets, shift_uses}
 use Rattle.gms_check.proofs.StatementParts.{parts-under}

@@ -1,7 +1,7 @@
 use Rattle.std.proofs.Common.{◌≡◌, [], ◌∷◌, option_map}
 use Rattle.std.proofs.lemmas.Result.{on_ok_weaker}
 use Rattle.gms_ast.specs.TreeView.{tree_of}
-use Rattle.gms_check.specs.Checking.{seen}
+use Rattle.gms_check.specs.InnerChecking.{seen}
 use Rattle.gms_check.specs.StatementUses.{index_list}
 use Rattle.gms_check.specs.Uses.{condition_uses, defining, index_sets, shift_uses}
 use Rattle.gms_check.proofs.StatementParts.{parts-under}

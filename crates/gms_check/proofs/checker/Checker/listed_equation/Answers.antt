@@ -1,6 +1,6 @@
 use Rattle.std.proofs.Common.{◌≡◌, ◌∙◌, ap, sym, refl, Bool, [], ◌∷◌, not, ◌&&◌, ◌||◌}
-use Rattle.gms_check.specs.Checking.{Checking, faulted, seen}
-use Rattle.gms_known.specs.Names.{is_equation, is_unknown, kind_of}
+use Rattle.gms_check.specs.InnerChecking.{Checking, faulted, seen}
+use Rattle.gms_scope.specs.Names.{is_equation, has_no_declaration, declared_kind}
 use Rattle.gms_check.specs.declared.error.ErrorKind.TheVariants.{UnknownName, WrongKind}
 use Rattle.gms_check.specs.Uses.{listing}
 use Rattle.gms_check.proofs.Noting.{alone, chain-2, noted-by}
@@ -11,7 +11,7 @@ returns g c =
     let facts = c.args.self.now.known in
     let s = seen c.args.self.now in
     let at = c.args.named.at in
-    let unknown = is_unknown facts.state c.args.named.name in
-    let wrong = not (is_equation (kind_of facts.state c.args.named.name)) in
+    let unknown = has_no_declaration facts.state c.args.named.name in
+    let wrong = not (is_equation (declared_kind facts.state c.args.named.name)) in
     noted-by g.F.ExactField.value s _ at (listing c.args.named.name) ((unknown, UnknownName) ∷ (wrong, WrongKind) ∷ []) (alone at unknown UnknownName ((wrong, WrongKind) ∷ []))
     (chain-2 at s _ _ _ _ c.require_known.ensures (c.require.ensures ∙ ap (λ b. faulted (seen c.require_known.new.self) at ((not b, WrongKind) ∷ [])) (c.is_equation-equation.ensures ∙ ap is_equation c.kind.ensures)))

@@ -1,7 +1,7 @@
 use Rattle.std.proofs.Common.{◌≡◌, ◌∙◌, ap, get_or, List, map, [], ◌∷◌}
 use Rattle.std.proofs.lemmas.List.{get_or_default, take_all}
 use Rattle.gms_ast.specs.declared.word.Named.{Named}
-use Rattle.gms_check.specs.Checking.{noted, seen}
+use Rattle.gms_check.specs.InnerChecking.{noted, seen}
 use Rattle.gms_check.specs.Uses.{listing, modelling}
 use Rattle.gms_check.proofs.Noting.{noted-mapped}
 use Rattle.gms_check.proofs.checker.Checker.model.Goals as goal

@@ -1,6 +1,6 @@
 use Rattle.std.proofs.Common.{◌≡◌, take, map, ◌∷◌}
 use Rattle.gms_ast.specs.declared.word.Named.{Named}
-use Rattle.gms_check.specs.Checking.{noted, seen}
+use Rattle.gms_check.specs.InnerChecking.{noted, seen}
 use Rattle.gms_check.specs.Uses.{listing, modelling}
 use Rattle.gms_check.proofs.checker.Checker.model.Given as goal
 

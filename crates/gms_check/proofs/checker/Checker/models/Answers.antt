@@ -3,8 +3,8 @@ use Rattle.std.specs.Prelude.{is_none, is_some}
 use Rattle.std.proofs.lemmas.List.{at_drop_more, drop_all}
 use Rattle.gms_ast.specs.declared.declaration.ModelDecl.{ModelDecl}
 use Rattle.gms_check.specs.declared.error.CompileError.{CompileError}
-use Rattle.gms_check.specs.Changes.{with_model_names, with_models}
-use Rattle.gms_check.specs.Checking.{Checking, seen}
+use Rattle.gms_check.specs.InnerChanges.{with_model_names, with_models}
+use Rattle.gms_check.specs.InnerChecking.{Checking, seen}
 use Rattle.gms_check.proofs.ModelLists.{listed-step, models_checked, models_listed}
 use Rattle.gms_check.proofs.Noting.{not-not}
 use Rattle.gms_check.proofs.checker.Checker.models.Goals as goal

@@ -1,8 +1,8 @@
 use Rattle.std.proofs.Common.{◌≡◌, ◌∙◌, ap, sym, Bool, List, ℕ, length, [], ◌∷◌, not, ◌||◌}
 use Rattle.std.specs.List.{list_any}
-use Rattle.gms_known.specs.Facts.{is_ordered}
-use Rattle.gms_known.specs.Names.{is_index_set, is_unknown, positions}
-use Rattle.gms_check.specs.Checking.{faulted, known_of, seen}
+use Rattle.gms_scope.specs.Facts.{is_known_ordered}
+use Rattle.gms_scope.specs.Names.{is_index_set, has_no_declaration, positions}
+use Rattle.gms_check.specs.InnerChecking.{faulted, known_of, seen}
 use Rattle.gms_check.specs.Controls.{lagged_sets}
 use Rattle.gms_check.specs.Domains.{has_unfit_label, has_unfit_set, index_count, is_wrong_count}
 use Rattle.gms_check.specs.StatementUses.{index_list}
@@ -23,16 +23,16 @@ returns g c =
     let xs = index_list c.args.indices.now in
     let sets : c.in_ok-sets.sets.items ≡ index_sets xs = c.in_ok-sets.ensures in
     let lagged : c.in_ok-lagged.lagged.items ≡ lagged_sets xs = c.in_ok-lagged.ensures in
-    let unknown : c.if-is_unknown.unknown ≡ (is_unknown facts.state name || list_any (is_unknown facts.state) (index_sets xs)) = elim c.if-is_unknown.branch [
+    let unknown : c.if-is_unknown.unknown ≡ (has_no_declaration facts.state name || list_any (has_no_declaration facts.state) (index_sets xs)) = elim c.if-is_unknown.branch [
       | then-is_unknown w ↦ or-true _ _ _ (w.unknown-is ∙ c.is_unknown.ensures) (sym c.is_unknown.ensures ∙ w.if-is_unknown.true)
-      | else-is_unknown w ↦ or-right _ _ _ (w.unknown-is ∙ w.has_unknown-unknown.ensures ∙ ap (list_any (is_unknown facts.state)) (w.deref.ensures.value ∙ sets)) (sym c.is_unknown.ensures ∙ w.if-is_unknown.false)
+      | else-is_unknown w ↦ or-right _ _ _ (w.unknown-is ∙ w.has_unknown-unknown.ensures ∙ ap (list_any (has_no_declaration facts.state)) (w.deref.ensures.value ∙ sets)) (sym c.is_unknown.ensures ∙ w.if-is_unknown.false)
     ] in
     let wrong : c.if-not-stands.wrong ≡ (not c.args.stands || list_any (λ (set : ℕ). not (is_index_set facts.state set)) (index_sets xs)) = elim c.if-not-stands.branch [
       | then-not-stands w ↦ or-true _ _ _ w.wrong-is (ap not w.if-not-stands.true)
       | else-not-stands w ↦ or-right _ _ _ (w.wrong-is ∙ w.has_wrong_set-wrong.ensures ∙ ap (list_any (λ (set : ℕ). not (is_index_set facts.state set))) (w.deref-else-not-stands.ensures.value ∙ sets)) (ap not w.if-not-stands.false)
     ] in
     let miscounted : c.is_wrong_count-miscounted.result ≡ is_wrong_count (length domain) (index_count xs) = c.is_wrong_count-miscounted.ensures ∙ ap (λ due. is_wrong_count due (length c.args.indices.now)) c.position_count.ensures ∙ ap (is_wrong_count (length domain)) (sym (count-indices c.args.indices.now)) in
-    let unordered : c.has_unordered-unordered.result ≡ list_any (λ (set : ℕ). not (is_ordered facts set)) (lagged_sets xs) = c.has_unordered-unordered.ensures ∙ ap (list_any (λ (set : ℕ). not (is_ordered facts set))) (c.deref-2.ensures.value ∙ lagged) in
+    let unordered : c.has_unordered-unordered.result ≡ list_any (λ (set : ℕ). not (is_known_ordered facts set)) (lagged_sets xs) = c.has_unordered-unordered.ensures ∙ ap (list_any (λ (set : ℕ). not (is_known_ordered facts set))) (c.deref-2.ensures.value ∙ lagged) in
     chain-6 at s _ _ _ _ _ _ _ _ _ _ _ _
     (c.require.ensures ∙ ap (λ b. faulted s at ((b, UnknownName) ∷ [])) (not-not c.if-is_unknown.unknown ∙ unknown))
     (c.require-2.ensures ∙ ap (λ b. faulted (seen c.require.new.self) at ((b, WrongKind) ∷ [])) (not-not c.if-not-stands.wrong ∙ wrong))

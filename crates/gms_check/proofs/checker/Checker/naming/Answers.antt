@@ -1,8 +1,8 @@
 use Rattle.std.proofs.Common.{◌≡◌, ◌∙◌, ap, sym, refl, length, [], ◌∷◌, not, ◌&&◌, ◌||◌}
 use Rattle.std.specs.Prelude.{nat_lt}
 use Rattle.gms_store.specs.Declarations.{names_of, positions_of}
-use Rattle.gms_known.specs.Names.{is_unknown}
-use Rattle.gms_check.specs.Checking.{faulted, known_of, seen}
+use Rattle.gms_scope.specs.Names.{has_no_declaration}
+use Rattle.gms_check.specs.InnerChecking.{faulted, known_of, seen}
 use Rattle.gms_check.specs.Names.{may_be_typed}
 use Rattle.gms_check.specs.Uses.{naming}
 use Rattle.gms_check.specs.declared.error.ErrorKind.TheVariants.{Redeclared, WrongArity}
@@ -17,7 +17,7 @@ returns g c =
     let at = c.args.named.at in
     let name = c.args.named.name in
     let domain = names_of c.args.domain.now in
-    let new = is_unknown s.facts.state name in
+    let new = has_no_declaration s.facts.state name in
     let typed = may_be_typed (known_of value s) c.args.kind name domain in
     let many = nat_lt 10 (length (positions_of c.args.kind domain)) in
     let allowed : c.if-new.allowed ≡ (new || typed) = elim c.if-new.branch [

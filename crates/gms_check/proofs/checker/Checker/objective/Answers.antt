@@ -1,9 +1,9 @@
 use Rattle.std.proofs.Common.{◌≡◌, ◌∙◌, ap, sym, refl, Bool, List, length, arith, ◌==◌, [], ◌∷◌, not, ◌&&◌, ◌||◌}
-use Rattle.gms_check.specs.Checking.{Checking, faulted, seen}
+use Rattle.gms_check.specs.InnerChecking.{Checking, faulted, seen}
 use Rattle.std.proofs.lemmas.Bool.Decides.{nat_tests}
 use Rattle.gms_store.specs.State.{State, symbol_at}
 use Rattle.gms_store.specs.Declarations.{is_free}
-use Rattle.gms_known.specs.Names.{is_unknown, kind_of, positions}
+use Rattle.gms_scope.specs.Names.{has_no_declaration, declared_kind, positions}
 use Rattle.gms_check.specs.declared.error.ErrorKind.TheVariants.{UnknownName, WrongKind, Objective}
 use Rattle.gms_check.specs.Kinds.{is_variable_kind, is_without_positions}
 use Rattle.gms_check.specs.Uses.{optimizing}
@@ -20,8 +20,8 @@ returns g c =
     let facts = c.args.self.now.known in
     let s = seen c.args.self.now in
     let at = c.args.objective.at in
-    let unknown = is_unknown facts.state c.args.objective.name in
-    let wrong = not (is_variable_kind (kind_of facts.state c.args.objective.name)) in
+    let unknown = has_no_declaration facts.state c.args.objective.name in
+    let wrong = not (is_variable_kind (declared_kind facts.state c.args.objective.name)) in
     let open_type = is_free (symbol_at facts.state c.args.objective.name).content in
     let bare = is_without_positions (positions facts.state c.args.objective.name) in
     let typed : is_free (symbol_at c.store.result.now c.args.objective.name).content ≡ open_type = ap (λ (state : State). is_free (symbol_at state c.args.objective.name).content) c.store.ensures in

@@ -3,8 +3,8 @@ use Rattle.std.specs.Prelude.{codes}
 use Rattle.std.specs.Str.{str_eq_ignore_ascii_case}
 use Rattle.gms_labels.specs.declared.place.Place.{Place}
 use Rattle.gms_check.specs.declared.error.ErrorKind.TheVariants.{OptionRange, UnknownName, UnknownSolver}
-use Rattle.gms_check.specs.Checking.{Checking, faulted, seen}
-use Rattle.gms_check.specs.OptionKinds.{is_known_option, is_within, kind_of_word, names_solver}
+use Rattle.gms_check.specs.InnerChecking.{Checking, faulted, seen}
+use Rattle.gms_check.specs.InnerOptionKinds.{is_known_option, is_within, kind_of_word, names_solver}
 use Rattle.gms_check.specs.OptionWords.{is_in_range, is_none_of, is_option}
 use Rattle.gms_check.specs.StatementUses.{setting_place}
 use Rattle.gms_check.specs.Uses.{option_value, option_word}

@@ -1,7 +1,7 @@
 use Rattle.std.proofs.Common.{◌∙◌, ap}
 use Rattle.std.specs.Prelude.{flat_map}
 use Rattle.std.proofs.lemmas.List.{take_all}
-use Rattle.gms_check.specs.Checking.{noted, seen}
+use Rattle.gms_check.specs.InnerChecking.{noted, seen}
 use Rattle.gms_check.specs.StatementUses.{option_uses}
 use Rattle.gms_check.proofs.Noting.{noted-more}
 use Rattle.gms_check.proofs.checker.Checker.options.Goals as goal

@@ -1,7 +1,7 @@
 use Rattle.std.proofs.Common.{◌≡◌, ◌∙◌, ap, sym, refl, Bool, List, ℕ, [], ◌∷◌, not, ◌&&◌, ◌||◌}
-use Rattle.gms_check.specs.Checking.{Checking, faulted, seen}
-use Rattle.gms_known.specs.Facts.{is_ordered}
-use Rattle.gms_known.specs.Names.{is_set_name, is_unknown}
+use Rattle.gms_check.specs.InnerChecking.{Checking, faulted, seen}
+use Rattle.gms_scope.specs.Facts.{is_known_ordered}
+use Rattle.gms_scope.specs.Names.{is_set_name, has_no_declaration}
 use Rattle.gms_check.specs.declared.error.ErrorKind.TheVariants.{UnknownName, WrongKind, Uncontrolled, NotOrdered}
 use Rattle.gms_check.specs.Past.{is_among}
 use Rattle.gms_check.specs.Uses.{cardinal, ordinal}
@@ -13,10 +13,10 @@ returns-clause-noted g c =
     let facts = c.args.self.now.known in
     let s = seen c.args.self.now in
     let at = c.args.at in
-    let unknown = is_unknown facts.state c.args.set in
+    let unknown = has_no_declaration facts.state c.args.set in
     let wrong = not c.args.standing.numbers || not (is_set_name facts.state c.args.set) in
     let free = not (is_among s.controlled c.args.set) in
-    let unordered = not (is_ordered facts c.args.set) in
+    let unordered = not (is_known_ordered facts c.args.set) in
     noted-by g.F.ExactField.value s _ at (ordinal c.args.standing s.controlled c.args.set) ((unknown, UnknownName) ∷ (wrong, WrongKind) ∷ (free, Uncontrolled) ∷ (unordered, NotOrdered) ∷ []) (alone at unknown UnknownName ((wrong, WrongKind) ∷ (free, Uncontrolled) ∷ (unordered, NotOrdered) ∷ []))
     (faulted-then at s _ _ ((unknown, UnknownName) ∷ (wrong, WrongKind) ∷ (free, Uncontrolled) ∷ []) ((unordered, NotOrdered) ∷ [])
     (faulted-then at s _ _ ((unknown, UnknownName) ∷ (wrong, WrongKind) ∷ []) ((free, Uncontrolled) ∷ [])

@@ -1,6 +1,6 @@
 use Rattle.std.proofs.Common.{◌≡◌, ◌∙◌, ap, refl, length, [], ◌∷◌, not}
 use Rattle.gms_ast.specs.declared.declaration.Item.{Item}
-use Rattle.gms_check.specs.Checking.{faulted, seen}
+use Rattle.gms_check.specs.InnerChecking.{faulted, seen}
 use Rattle.gms_check.specs.Domains.{is_wrong_count}
 use Rattle.gms_check.specs.Uses.{placing}
 use Rattle.gms_check.specs.declared.error.ErrorKind.TheVariants.{WrongArity}

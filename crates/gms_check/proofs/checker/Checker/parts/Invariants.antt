@@ -1,6 +1,6 @@
 use Rattle.std.proofs.Common.{◌≡◌, take, map, length}
 use Rattle.gms_ast.specs.declared.declaration.Item.{Item}
-use Rattle.gms_check.specs.Checking.{noted, seen}
+use Rattle.gms_check.specs.InnerChecking.{noted, seen}
 use Rattle.gms_check.specs.Uses.{placing}
 use Rattle.gms_check.proofs.checker.Checker.parts.Given as goal
 

@@ -1,7 +1,7 @@
 use Rattle.std.proofs.Common.{◌≡◌, ◌∙◌, ◌+◌, ap, sym, Bool, List, ℕ, get_or, drop, [], ◌∷◌, ◌++◌, ◌||◌}
 use Rattle.std.proofs.Math.Bool.{or_assoc}
 use Rattle.std.proofs.lemmas.List.{at_drop_more}
-use Rattle.gms_check.specs.Checking.{seen}
+use Rattle.gms_check.specs.InnerChecking.{seen}
 use Rattle.gms_check.specs.Controls.{is_controlled_twice}
 use Rattle.gms_check.specs.Past.{is_among}
 use Rattle.gms_check.proofs.Noting.{controlled-more, or-right, or-true}

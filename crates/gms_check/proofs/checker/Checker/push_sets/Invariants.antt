@@ -1,5 +1,5 @@
 use Rattle.std.proofs.Common.{◌≡◌, ◌||◌, drop, take}
-use Rattle.gms_check.specs.Checking.{seen, with_controlled}
+use Rattle.gms_check.specs.InnerChecking.{seen, with_controlled}
 use Rattle.gms_check.specs.Controls.{is_controlled_twice}
 use Rattle.gms_check.proofs.checker.Checker.push_sets.Given as goal
 

@@ -1,10 +1,10 @@
 use Rattle.std.proofs.Common.{◌≡◌, ◌∙◌, ap, sym, List, ℕ, length, [], ◌∷◌, ◌++◌, not, ◌&&◌, ◌||◌}
 use Rattle.std.specs.List.{list_any}
-use Rattle.gms_known.specs.Names.{is_unknown, kind_of, positions}
-use Rattle.gms_check.specs.Checking.{faulted, known_of, seen}
+use Rattle.gms_scope.specs.Names.{has_no_declaration, declared_kind, positions}
+use Rattle.gms_check.specs.InnerChecking.{faulted, known_of, seen}
 use Rattle.gms_check.specs.Controls.{lagged_sets, is_ordered}
 use Rattle.gms_check.specs.Domains.{has_unfit_label, has_unfit_set, index_count, is_wrong_count}
-use Rattle.gms_check.specs.Faults.{index_faults}
+use Rattle.gms_check.specs.InnerFaults.{index_faults}
 use Rattle.gms_check.specs.Kinds.{has_wrong_set}
 use Rattle.gms_check.specs.Linearity.{is_variable_by}
 use Rattle.gms_check.specs.Past.{is_among}
@@ -24,7 +24,7 @@ returns-clause-noted g c =
     let at = c.args.named.at in
     let name = c.args.named.name in
     let xs = index_list c.args.indices.now in
-    let may = may_stand c.args.standing (kind_of facts.state name) c.args.suffix in
+    let may = may_stand c.args.standing (declared_kind facts.state name) c.args.suffix in
     let faults = index_faults (known_of value s) name may xs in
     let free = list_any (λ (set : ℕ). not (is_among s.controlled set)) (index_sets xs) in
     let variable = is_variable_by (known_of value s) name c.args.suffix in
@@ -38,7 +38,7 @@ returns-clause-noted g c =
     ] in
     let refused : not c.if-standing.stands ≡ misplaced = ap not admitted ∙ not-or c.args.standing.variables (not c.is_variable-variable.result) ∙ ap (λ b. not c.args.standing.variables && b) (not-not c.is_variable-variable.result ∙ c.is_variable-variable.ensures) in
     noted-by value s _ at (reading c.args.standing s.controlled name c.args.suffix xs) (faults ++ (free, Uncontrolled) ∷ (misplaced, Endogenous) ∷ [])
-    (turned at ((is_unknown facts.state name || list_any (is_unknown facts.state) (index_sets xs), UnknownName) ∷ (not may || has_wrong_set (known_of value s) (index_sets xs), WrongKind) ∷ (is_wrong_count (length (positions facts.state name)) (index_count xs), WrongArity) ∷ (has_unfit_set (known_of value s) name (positions facts.state name) xs, DomainOfSet) ∷ (has_unfit_label (known_of value s) name (positions facts.state name) xs, DomainOfLabel) ∷ []) (list_any (λ (set : ℕ). not (is_ordered (known_of value s) set)) (lagged_sets xs), NotOrdered) (free, Uncontrolled) ((misplaced, Endogenous) ∷ []))
+    (turned at ((has_no_declaration facts.state name || list_any (has_no_declaration facts.state) (index_sets xs), UnknownName) ∷ (not may || has_wrong_set (known_of value s) (index_sets xs), WrongKind) ∷ (is_wrong_count (length (positions facts.state name)) (index_count xs), WrongArity) ∷ (has_unfit_set (known_of value s) name (positions facts.state name) xs, DomainOfSet) ∷ (has_unfit_label (known_of value s) name (positions facts.state name) xs, DomainOfLabel) ∷ []) (list_any (λ (set : ℕ). not (is_ordered (known_of value s) set)) (lagged_sets xs), NotOrdered) (free, Uncontrolled) ((misplaced, Endogenous) ∷ []))
     (faulted-then at s _ _ (faults ++ (free, Uncontrolled) ∷ []) ((misplaced, Endogenous) ∷ [])
     (faulted-then at s _ _ faults ((free, Uncontrolled) ∷ [])
     (c.in_ok-named.ensures ∙ ap (λ b. faulted s at (index_faults (known_of value s) name b xs)) stands)

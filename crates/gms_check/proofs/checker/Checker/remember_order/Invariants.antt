@@ -1,7 +1,7 @@
 use Rattle.std.proofs.Common.{◌≡◌, drop}
 use Rattle.gms_ast.specs.declared.declaration.DeclKind.TheVariants as declaring
-use Rattle.gms_check.specs.Changes.{with_order}
-use Rattle.gms_check.specs.Checking.{seen, with_facts}
+use Rattle.gms_check.specs.InnerChanges.{with_order}
+use Rattle.gms_check.specs.InnerChecking.{seen, with_facts}
 use Rattle.gms_check.proofs.checker.Checker.remember_order.Given as goal
 
 abbrev pub invariant-loop-item : goal.invariant-loop-item

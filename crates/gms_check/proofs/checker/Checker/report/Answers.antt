@@ -1,7 +1,7 @@
 use Rattle.std.proofs.Common.{◌∙◌, ap, Some}
 use Rattle.std.specs.Prelude.{Option}
 use Rattle.gms_check.specs.declared.error.CompileError.{CompileError}
-use Rattle.gms_check.specs.Checking.{seen}
+use Rattle.gms_check.specs.InnerChecking.{seen}
 use Rattle.gms_check.proofs.Sooner.{sooner-comm}
 use Rattle.gms_check.proofs.checker.Checker.report.Goals as goal
 

@@ -1,5 +1,5 @@
 use Rattle.std.proofs.Common.{◌≡◌, ◌∙◌, ap, refl, Bool, [], ◌∷◌, ◌&&◌, not}
-use Rattle.gms_check.specs.Checking.{faulted, seen}
+use Rattle.gms_check.specs.InnerChecking.{faulted, seen}
 use Rattle.gms_check.specs.declared.error.ErrorKind.TheVariants.{Nonlinear}
 use Rattle.gms_check.proofs.Noting.{and-false, and-true, not-not}
 use Rattle.gms_check.proofs.checker.Checker.require_linear.Goals as goal

@@ -1,4 +1,4 @@
-use Rattle.gms_check.specs.Checking.{seen}
+use Rattle.gms_check.specs.InnerChecking.{seen}
 use Rattle.gms_check.specs.StatementUses.{show_uses}
 use Rattle.gms_check.proofs.Noting.{noted-more}
 use Rattle.gms_check.proofs.checker.Checker.shows.Goals as goal

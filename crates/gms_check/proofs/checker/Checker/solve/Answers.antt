@@ -2,7 +2,7 @@ use Rattle.std.proofs.Common.{◌≡◌, ◌∙◌, ap, refl, Bool, [], ◌∷�
 use Rattle.std.specs.Prelude.{codes}
 use Rattle.std.specs.Str.{str_eq_ignore_ascii_case}
 use Rattle.gms_check.specs.declared.error.ErrorKind.TheVariants.{ModelType}
-use Rattle.gms_check.specs.Checking.{faulted, seen}
+use Rattle.gms_check.specs.InnerChecking.{faulted, seen}
 use Rattle.gms_check.specs.Uses.{method as using_word, optimizing, solving}
 use Rattle.gms_check.proofs.Noting.{noted-by, noted-then}
 use Rattle.gms_check.proofs.checker.Checker.solve.Goals as goal

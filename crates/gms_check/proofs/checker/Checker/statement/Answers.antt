@@ -1,8 +1,8 @@
 use Rattle.std.proofs.Common.{◌≡◌, ◌∙◌, ap, sym, List, [], ℕ, Option, None}
 use Rattle.std.specs.Prelude.{is_none}
 use Rattle.gms_check.specs.declared.error.CompileError.{CompileError}
-use Rattle.gms_check.specs.Changes.{facts_after}
-use Rattle.gms_check.specs.Checking.{Checking, seen}
+use Rattle.gms_check.specs.InnerChanges.{facts_after}
+use Rattle.gms_check.specs.InnerChecking.{Checking, seen}
 use Rattle.gms_check.proofs.checker.Checker.statement.Goals as goal
 
 pub look_at-requires : goal.look_at-requires

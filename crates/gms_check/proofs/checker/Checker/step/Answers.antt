@@ -1,4 +1,4 @@
-use Rattle.gms_check.specs.Checking.{seen}
+use Rattle.gms_check.specs.InnerChecking.{seen}
 use Rattle.gms_check.proofs.ProductSteps.{step-by}
 use Rattle.gms_check.proofs.checker.Checker.step.Goals as goal
 

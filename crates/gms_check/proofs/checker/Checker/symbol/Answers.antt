@@ -1,6 +1,6 @@
 use Rattle.std.proofs.Common.{◌≡◌, ◌∙◌, ap, sym, refl, Bool, [], ◌∷◌, not, ◌&&◌, ◌||◌}
-use Rattle.gms_check.specs.Checking.{Checking, faulted, known_of, seen}
-use Rattle.gms_known.specs.Names.{is_unknown, kind_of}
+use Rattle.gms_check.specs.InnerChecking.{Checking, faulted, known_of, seen}
+use Rattle.gms_scope.specs.Names.{has_no_declaration, declared_kind}
 use Rattle.gms_check.specs.declared.error.ErrorKind.TheVariants.{UnknownName, WrongKind, Endogenous}
 use Rattle.gms_check.specs.Linearity.{is_variable_by}
 use Rattle.gms_check.specs.Standing.{as_condition, may_stand}
@@ -13,8 +13,8 @@ returns g c =
     let facts = c.args.self.now.known in
     let s = seen c.args.self.now in
     let at = c.args.named.at in
-    let unknown = is_unknown facts.state c.args.named.name in
-    let wrong = not (may_stand as_condition (kind_of facts.state c.args.named.name) c.args.suffix) in
+    let unknown = has_no_declaration facts.state c.args.named.name in
+    let wrong = not (may_stand as_condition (declared_kind facts.state c.args.named.name) c.args.suffix) in
     let variable = is_variable_by (known_of g.F.ExactField.value s) c.args.named.name c.args.suffix in
     noted-by g.F.ExactField.value s _ at (showing c.args.named.name c.args.suffix) ((unknown, UnknownName) ∷ (wrong, WrongKind) ∷ (variable, Endogenous) ∷ []) (alone at unknown UnknownName ((wrong, WrongKind) ∷ (variable, Endogenous) ∷ []))
     (chain-3 at s _ _ _ _ _ _ c.require_known.ensures

@@ -1,8 +1,8 @@
 use Rattle.std.proofs.Common.{◌∙◌, ◌+◌, ap, sym, drop, List, ℕ}
 use Rattle.std.proofs.lemmas.List.{at_drop_more, drop_all}
-use Rattle.gms_known.specs.Facts.{Facts}
-use Rattle.gms_check.specs.Checking.{seen, with_facts}
-use Rattle.gms_check.specs.Trials.{taken_back}
+use Rattle.gms_scope.specs.Facts.{Facts}
+use Rattle.gms_check.specs.InnerChecking.{seen, with_facts}
+use Rattle.gms_check.specs.InnerTrials.{taken_back}
 use Rattle.gms_check.proofs.checker.Checker.take_out_all.Goals as goal
 
 pub loop-name-preserved : goal.loop-name-preserved

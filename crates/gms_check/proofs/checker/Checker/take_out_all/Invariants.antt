@@ -1,6 +1,6 @@
 use Rattle.std.proofs.Common.{◌≡◌, drop}
-use Rattle.gms_check.specs.Checking.{seen, with_facts}
-use Rattle.gms_check.specs.Trials.{taken_back}
+use Rattle.gms_check.specs.InnerChecking.{seen, with_facts}
+use Rattle.gms_check.specs.InnerTrials.{taken_back}
 use Rattle.gms_check.proofs.checker.Checker.take_out_all.Given as goal
 
 abbrev pub invariant-loop-name : goal.invariant-loop-name

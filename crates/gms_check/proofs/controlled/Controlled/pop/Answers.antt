@@ -1,7 +1,7 @@
 use Rattle.std.proofs.Common.{◌≡◌, ◌<◌, ◌≤◌, ◌∙◌, ◌+◌, ◌++◌, ◌∷◌, [], ap, sym, arith, length, ℕ}
 use Rattle.std.specs.Prelude.{slice_index_or}
 use Rattle.std.proofs.lemmas.List.{get_or_default, get_or_past, length-append}
-use Rattle.gms_known.specs.Order.{order_of}
+use Rattle.gms_scope.specs.Order.{order_of}
 use Rattle.gms_check.proofs.Controlling.{fewer-first, fewer-later}
 use Rattle.gms_check.proofs.controlled.Controlled.pop.Goals as goal
 

@@ -2,8 +2,8 @@ use Rattle.std.proofs.Common.{◌≡◌, ◌∙◌, ◌+◌, ◌∷◌, [], ap, 
 use Rattle.std.specs.Prelude.{slice_index_or}
 use Rattle.std.proofs.Math.ListN.{set}
 use Rattle.std.proofs.lemmas.List.{get_or_default, length-append}
-use Rattle.gms_known.specs.Order.{order_of}
-use Rattle.gms_known.proofs.Orders.{places-again, places-new}
+use Rattle.gms_scope.specs.Order.{order_of}
+use Rattle.gms_scope.proofs.Orders.{places-again, places-new}
 use Rattle.gms_check.proofs.controlled.Controlled.push.Goals as goal
 
 pub invariant_of-self-then-index-eq0 : goal.invariant_of-self-then-index-eq0

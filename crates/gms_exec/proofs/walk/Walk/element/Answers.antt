@@ -1,6 +1,6 @@
 use Rattle.std.proofs.Common.{◌≡◌, ◌∙◌, ap, sym, refl, ℕ, ◌+◌, ◌/◌, ◌%◌, List, [], ◌∷◌, ◌++◌, None, map, length, drop, get_or, arith}
 use Rattle.std.proofs.lemmas.List.{length_push}
-use Rattle.gms_tuple.specs.Products.{product}
+use Rattle.gms_tuple.specs.Products.{tuple_product}
 use Rattle.gms_eval.proofs.Sizes.{turn, made-start, made-more, made-as, made-end}
 use Rattle.gms_exec.specs.Showing.{labels_at}
 use Rattle.gms_exec.proofs.Positions.{made-here, made-last, elements-few, few-elements}
@@ -38,7 +38,7 @@ pub loop-position-preserved : goal.loop-position-preserved
 loop-position-preserved g c =
     let here : List ℕ = labels_at c.args.self.now.labels c.args.self.now.store.now (get_or c.args.self.now.positions.now c.loop-position.position-index None) in
     let size : ℕ = c.loop-position.size / c.count_at-labels.result in
-    let rest : ℕ = length (product (map (labels_at c.args.self.now.labels c.args.self.now.store.now) (drop (c.loop-position.position-index + 1) c.args.self.now.positions.now))) in
+    let rest : ℕ = length (tuple_product (map (labels_at c.args.self.now.labels c.args.self.now.store.now) (drop (c.loop-position.position-index + 1) c.args.self.now.positions.now))) in
     let m = made-here (labels_at c.args.self.now.labels c.args.self.now.store.now) c.args.self.now.positions.now c.loop-position.position-index None (get_or c.args.self.now.positions.now c.loop-position.position-index None) c.args.number c.loop-position.element c.loop-position.size c.loop-position.number c.loop-position-test.true refl c.loop-position.invariant.0 in
     let is : size ≡ rest = ap (λ k. c.loop-position.size / k) c.count_at-labels.ensures ∙ (turn m).quotient in
     let label : c.label_at-label.result ≡ get_or here (c.loop-position.number / rest) 0 = c.label_at-label.ensures ∙ ap (λ k. get_or here (c.loop-position.number / k) 0) is in

@@ -3,7 +3,7 @@ use Rattle.std.proofs.lemmas.Slice.{pushed}
 use Rattle.gms_grammar.specs.Grammar.{the}
 use Rattle.gms_grammar.specs.GamsGrammar.{ExpressionList}
 use Rattle.gms_ast.specs.Trees.{plain}
-use Rattle.gms_expressions.specs.Nodes.{view, plain_views}
+use Rattle.gms_expressions.specs.InnerNodes.{view, plain_views}
 use Rattle.gms_expressions.proofs.Signs.{handed_on}
 use Rattle.gms_expressions.proofs.Steps.{refuses_the, refuses_first, refuses_memory}
 use Rattle.gms_expressions.proofs.Nexts.{refuses_unopened, refuses_inside, falls}

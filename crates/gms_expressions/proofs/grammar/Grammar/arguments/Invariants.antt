@@ -1,6 +1,6 @@
 use Rattle.std.proofs.Common.{length, ◌-◌, ◌+◌}
-use Rattle.gms_expressions.specs.Nodes.{plain_views}
-use Rattle.gms_expressions.specs.Readings.{inside}
+use Rattle.gms_expressions.specs.InnerNodes.{plain_views}
+use Rattle.gms_expressions.specs.InnerReadings.{inside}
 use Rattle.gms_expressions.proofs.Lists.{Arguments}
 use Rattle.gms_expressions.proofs.grammar.Grammar.arguments.Given as goal
 

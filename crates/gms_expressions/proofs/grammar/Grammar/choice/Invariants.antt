@@ -4,7 +4,7 @@ use Rattle.gms_grammar.specs.Grammar.{the, ◌·◌}
 use Rattle.gms_grammar.specs.GamsGrammar.{Expression, Conjunction, token}
 use Rattle.gms_grammar.specs.declared.terminal.Terminal.TheVariants.{Or}
 use Rattle.gms_expressions.specs.ExpressionTrees.{expression, choices}
-use Rattle.gms_expressions.specs.Nodes.{chosen_views}
+use Rattle.gms_expressions.specs.InnerNodes.{chosen_views}
 use Rattle.gms_expressions.proofs.Chains.{Chain}
 use Rattle.gms_expressions.proofs.grammar.Grammar.choice.Given as goal
 

@@ -1,6 +1,6 @@
 use Rattle.std.proofs.Common.{◌∷◌, [], refl, sym, ap, ◌∙◌}
 use Rattle.std.proofs.lemmas.Slice.{pushed}
-use Rattle.gms_expressions.specs.ExpressionTrees.{relation_of, sum_of, relations}
+use Rattle.gms_expressions.specs.ExpressionTrees.{relation_of, sum_tree, relations}
 use Rattle.gms_ast.specs.Trees.{related, part, relation}
 use Rattle.gms_ast.specs.TreeView.{tree_of}
 use Rattle.gms_ast.specs.declared.expression.RelOp.TheVariants.{Eq}
@@ -9,15 +9,15 @@ use Rattle.gms_grammar.specs.Grammar.{the}
 use Rattle.gms_grammar.specs.GamsGrammar.{Comparison, Sum}
 use Rattle.gms_grammar.specs.declared.terminal.Terminal.TheVariants.{Relation, RelationWord, Equals}
 use Rattle.gms_ast.specs.Numbers.{in_numbers}
-use Rattle.gms_expressions.specs.Nodes.{related_views, view}
+use Rattle.gms_expressions.specs.InnerNodes.{related_views, view}
 use Rattle.gms_expressions.proofs.Made.{numbers_in_parts, views_push}
 use Rattle.gms_expressions.proofs.Signs.{handed_on}
 use Rattle.gms_expressions.proofs.Steps.{refuses_the, refuses_first, refuses_memory}
 use Rattle.gms_expressions.proofs.Nexts.{unled_next, falls}
 use Rattle.gms_expressions.proofs.Loops.{loop_memory}
 use Rattle.gms_expressions.proofs.Chains.{chain_first, chain_alone, chain_start, chain_on, chain_got, chain_refuses, in_sense}
-use Rattle.gms_grammar.specs.Terminals.{is_among}
-use Rattle.gms_expressions.specs.Readings.{seen_from}
+use Rattle.gms_grammar.specs.Terminals.{is_terminal_among}
+use Rattle.gms_expressions.specs.InnerReadings.{seen_from}
 use Rattle.gms_expressions.proofs.Grows.{some_led, none_led}
 use Rattle.gms_expressions.proofs.Going.{went_by}
 use Rattle.gms_expressions.proofs.grammar.Grammar.comparison.Goals as goal
@@ -26,13 +26,13 @@ pub returns-in_err-first : goal.returns-in_err-first
 returns-in_err-first g c = handed_on _ _ c.from_residual.result _ c.from_residual.ensures.1 (refuses_the Comparison (refuses_first c.in_err-first.ensures))
 
 pub returns-then-not-is_any_next : goal.returns-then-not-is_any_next
-returns-then-not-is_any_next g c = chain_alone {others = relations} {make = relation} (chain_first Comparison (related Eq) refl c.in_ok-first.ensures (λ sense b. refl)) (unled_next (is_among (Relation ∷ RelationWord ∷ Equals ∷ [])) (the Sum) (seen_from c.args.self.now.reader c.in_ok-first.next) (none_led c.is_any_next.ensures c.if-not-is_any_next.true)) (λ sense. refl)
+returns-then-not-is_any_next g c = chain_alone {others = relations} {make = relation} (chain_first Comparison (related Eq) refl c.in_ok-first.ensures (λ sense b. refl)) (unled_next (is_terminal_among (Relation ∷ RelationWord ∷ Equals ∷ [])) (the Sum) (seen_from c.args.self.now.reader c.in_ok-first.next) (none_led c.is_any_next.ensures c.if-not-is_any_next.true)) (λ sense. refl)
 
 pub returns-in_err-push : goal.returns-in_err-push
 returns-in_err-push g c = handed_on _ _ c.from_residual-in_err-push.result _ c.from_residual-in_err-push.ensures.1 (refuses_memory (went_by c.in_ok-first.ensures.gives) refl)
 
 pub loop-word-init : goal.loop-word-init
-loop-word-init g c = chain_start (chain_first Comparison (related Eq) refl c.in_ok-first.ensures (λ sense b. refl)) (some_led (is_among (Relation ∷ RelationWord ∷ Equals ∷ [])) (the Sum) (seen_from c.args.self.now.reader c.in_ok-first.next) c.is_any_next.ensures c.if-not-is_any_next.false) _ (ap (related_views g.F.ExactField.value) (pushed ((Eq, c.in_ok-first.first) ∷ []) c.new-parts.ensures.items c.in_ok-push.was c.push.ensures.items))
+loop-word-init g c = chain_start (chain_first Comparison (related Eq) refl c.in_ok-first.ensures (λ sense b. refl)) (some_led (is_terminal_among (Relation ∷ RelationWord ∷ Equals ∷ [])) (the Sum) (seen_from c.args.self.now.reader c.in_ok-first.next) c.is_any_next.ensures c.if-not-is_any_next.false) _ (ap (related_views g.F.ExactField.value) (pushed ((Eq, c.in_ok-first.first) ∷ []) c.new-parts.ensures.items c.in_ok-push.was c.push.ensures.items))
 
 pub returns-in_err-part : goal.returns-in_err-part
 returns-in_err-part g c = handed_on _ _ c.from_residual-in_err-part.result _ c.from_residual-in_err-part.ensures.1 (chain_refuses c.loop-word.invariant c.in-Some.ensures refl c.in_err-part.ensures)
@@ -44,7 +44,7 @@ pub loop-word-smaller : goal.loop-word-smaller
 loop-word-smaller g c = falls c.in-Some.ensures _ c.in_ok-part.ensures.further
 
 pub loop-word-preserved : goal.loop-word-preserved
-loop-word-preserved g c = chain_on c.loop-word.invariant c.in-Some.ensures refl c.in_ok-part.ensures (related c.relation_of.result) (λ sense b. ap (λ m. part (related m) (in_sense c.args.self.now.reader.source.now sum_of sense c.in_ok-part.ensures.tree) (in_sense c.args.self.now.reader.source.now relations sense b)) (sym (c.relation_of.ensures ∙ ap (relation_of c.in-Some.word.kind) c.text.ensures))) _ (views_push (λ p. (related p.0, view g.F.ExactField.value p.1)) _ _ c.in_ok-push-2.ensures.items)
+loop-word-preserved g c = chain_on c.loop-word.invariant c.in-Some.ensures refl c.in_ok-part.ensures (related c.relation_of.result) (λ sense b. ap (λ m. part (related m) (in_sense c.args.self.now.reader.source.now sum_tree sense c.in_ok-part.ensures.tree) (in_sense c.args.self.now.reader.source.now relations sense b)) (sym (c.relation_of.ensures ∙ ap (relation_of c.in-Some.word.kind) c.text.ensures))) _ (views_push (λ p. (related p.0, view g.F.ExactField.value p.1)) _ _ c.in_ok-push-2.ensures.items)
 
 pub returns : goal.returns
 returns g c = chain_got c.loop-word.invariant c.in_default.ensures (λ sense. refl) (ap (in_numbers g.F.ExactField.value) (tree_of-Relate c.loop-word.parts) ∙ ap relation (numbers_in_parts g.F.ExactField.value (λ p. related p.0) (λ p. tree_of p.1) c.loop-word.parts.items))

@@ -8,7 +8,7 @@ use Rattle.gms_grammar.specs.Grammar.{the}
 use Rattle.gms_grammar.specs.GamsGrammar.{Conjunction, Negation}
 use Rattle.gms_grammar.specs.declared.terminal.Terminal.TheVariants.{And}
 use Rattle.gms_ast.specs.Numbers.{in_numbers}
-use Rattle.gms_expressions.specs.Nodes.{plain_views, view}
+use Rattle.gms_expressions.specs.InnerNodes.{plain_views, view}
 use Rattle.gms_expressions.proofs.Made.{numbers_in_parts, views_push}
 use Rattle.gms_expressions.proofs.Signs.{handed_on}
 use Rattle.gms_expressions.proofs.Steps.{refuses_the, refuses_first, refuses_memory}
@@ -16,7 +16,7 @@ use Rattle.gms_expressions.proofs.Nexts.{unled_next, falls}
 use Rattle.gms_expressions.proofs.Loops.{loop_memory}
 use Rattle.gms_expressions.proofs.Chains.{chain_first, chain_alone, chain_start, chain_on, chain_got, chain_refuses}
 use Rattle.gms_grammar.specs.Terminals.{is}
-use Rattle.gms_expressions.specs.Readings.{seen_from}
+use Rattle.gms_expressions.specs.InnerReadings.{seen_from}
 use Rattle.gms_expressions.proofs.Grows.{some_led, none_led}
 use Rattle.gms_expressions.proofs.Going.{went_by}
 use Rattle.gms_expressions.proofs.grammar.Grammar.conjunction.Goals as goal

@@ -4,7 +4,7 @@ use Rattle.gms_grammar.specs.Grammar.{the, ◌·◌}
 use Rattle.gms_grammar.specs.GamsGrammar.{Conjunction, Negation, token}
 use Rattle.gms_grammar.specs.declared.terminal.Terminal.TheVariants.{And}
 use Rattle.gms_expressions.specs.ExpressionTrees.{conjunction, conjuncts}
-use Rattle.gms_expressions.specs.Nodes.{plain_views}
+use Rattle.gms_expressions.specs.InnerNodes.{plain_views}
 use Rattle.gms_expressions.proofs.Chains.{Chain}
 use Rattle.gms_expressions.proofs.grammar.Grammar.conjunction.Given as goal
 

@@ -1,9 +1,9 @@
 use Rattle.std.proofs.Common.{refl, sym, ap, ◌∙◌, arith}
 use Rattle.gms_grammar.specs.GamsGrammar.{Control}
 use Rattle.gms_ast.specs.Trees.{over, over_where}
-use Rattle.gms_expressions.specs.Nodes.{view}
+use Rattle.gms_expressions.specs.InnerNodes.{view}
 use Rattle.gms_ast.specs.Numbers.{control_in_numbers}
-use Rattle.gms_expressions.specs.Readings.{seen_from}
+use Rattle.gms_expressions.specs.InnerReadings.{seen_from}
 use Rattle.gms_expressions.proofs.Signs.{handed_on}
 use Rattle.gms_expressions.proofs.Steps.{refuses_the, refuses_first, refuses_second, refuses_some, refuses_memory}
 use Rattle.gms_expressions.proofs.Sums.{leads_condition}

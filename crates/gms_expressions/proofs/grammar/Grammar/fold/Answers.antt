@@ -3,7 +3,7 @@ use Rattle.gms_grammar.specs.Grammar.{the, ◌·◌}
 use Rattle.gms_grammar.specs.GamsGrammar.{Fold, Control, Expression, token}
 use Rattle.gms_grammar.specs.declared.terminal.Terminal.TheVariants.{Comma}
 use Rattle.gms_expressions.specs.ExpressionTrees.{fold_op_of}
-use Rattle.gms_expressions.specs.Readings.{IsControl}
+use Rattle.gms_expressions.specs.InnerReadings.{IsControl}
 use Rattle.gms_expressions.proofs.Signs.{handed_on}
 use Rattle.gms_expressions.proofs.Steps.{refuses_the, refuses_first, refuses_second, refuses_memory, gives_both}
 use Rattle.gms_expressions.proofs.Nexts.{gives_next, refuses_lacking, refuses_unopened, refuses_inside, refuses_unclosed}

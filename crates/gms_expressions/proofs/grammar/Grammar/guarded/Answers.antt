@@ -1,7 +1,7 @@
 use Rattle.std.proofs.Common.{refl, sym, ap, ◌∙◌}
 use Rattle.gms_grammar.specs.GamsGrammar.{Guarded, Condition}
 use Rattle.gms_ast.specs.Trees.{plain, guarded}
-use Rattle.gms_expressions.specs.Nodes.{view}
+use Rattle.gms_expressions.specs.InnerNodes.{view}
 use Rattle.gms_expressions.specs.ExpressionTrees.{condition}
 use Rattle.gms_expressions.proofs.Parts.{in_node}
 use Rattle.gms_expressions.proofs.Signs.{handed_on, got_the, got_behind}

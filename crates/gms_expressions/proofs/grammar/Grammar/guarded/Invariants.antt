@@ -3,8 +3,8 @@ use Rattle.gms_grammar.specs.Reading.{leads}
 use Rattle.gms_grammar.specs.GamsGrammar.{productions, token}
 use Rattle.gms_grammar.specs.GamsLookAhead.{look_ahead}
 use Rattle.gms_grammar.specs.declared.terminal.Terminal.TheVariants.{Dollar}
-use Rattle.gms_expressions.specs.Nodes.{view, plain_views}
-use Rattle.gms_expressions.specs.Readings.{seen_from}
+use Rattle.gms_expressions.specs.InnerNodes.{view, plain_views}
+use Rattle.gms_expressions.specs.InnerReadings.{seen_from}
 use Rattle.gms_expressions.proofs.Sums.{Guards}
 use Rattle.gms_expressions.proofs.grammar.Grammar.guarded.Given as goal
 

@@ -4,7 +4,7 @@ use Rattle.gms_grammar.specs.Grammar.{the, ◌·◌}
 use Rattle.gms_grammar.specs.Terminals.{is}
 use Rattle.gms_grammar.specs.declared.terminal.Terminal.TheVariants.{LeftParen, RightParen}
 use Rattle.gms_grammar.specs.GamsGrammar.{IndexList, token, bracketed}
-use Rattle.gms_expressions.specs.Readings.{IsIndex, AreIndices, seen_from}
+use Rattle.gms_expressions.specs.InnerReadings.{IsIndex, AreIndices, seen_from}
 use Rattle.gms_expressions.proofs.Signs.{handed_on}
 use Rattle.gms_expressions.proofs.Steps.{refuses_the, refuses_first, refuses_some, refuses_memory}
 use Rattle.gms_expressions.proofs.Nexts.{refuses_unopened, refuses_inside, falls, unled_next}

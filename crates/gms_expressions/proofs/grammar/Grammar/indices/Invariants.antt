@@ -1,5 +1,5 @@
 use Rattle.std.proofs.Common.{length, ◌-◌, ◌+◌}
-use Rattle.gms_expressions.specs.Readings.{inside}
+use Rattle.gms_expressions.specs.InnerReadings.{inside}
 use Rattle.gms_expressions.proofs.Indexing.{SomeIndices}
 use Rattle.gms_expressions.proofs.grammar.Grammar.indices.Given as goal
 

@@ -4,7 +4,7 @@ use Rattle.gms_grammar.specs.GamsGrammar.{LagAmount, Expression, token, name, br
 use Rattle.gms_grammar.specs.declared.terminal.Terminal.TheVariants.{Number, Name, Suffix, LeftParen}
 use Rattle.gms_grammar.specs.Reading.{in_neither}
 use Rattle.gms_expressions.specs.ExpressionTrees.{lag_amount}
-use Rattle.gms_expressions.specs.Readings.{seen_from}
+use Rattle.gms_expressions.specs.InnerReadings.{seen_from}
 use Rattle.gms_expressions.proofs.Parts.{in_node, in_right}
 use Rattle.gms_expressions.proofs.Signs.{answered, got_the, got_left, got_right}
 use Rattle.gms_expressions.proofs.Steps.{refuses_at, refuses_the, refuses_left, refuses_right}

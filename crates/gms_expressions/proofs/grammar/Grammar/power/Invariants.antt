@@ -4,7 +4,7 @@ use Rattle.gms_grammar.specs.Grammar.{the, ◌·◌, opt}
 use Rattle.gms_grammar.specs.GamsGrammar.{PowerTerm, Guarded, token}
 use Rattle.gms_grammar.specs.declared.terminal.Terminal.TheVariants.{Power, Sign}
 use Rattle.gms_expressions.specs.ExpressionTrees.{power_of, exponents}
-use Rattle.gms_expressions.specs.Nodes.{placed_views}
+use Rattle.gms_expressions.specs.InnerNodes.{placed_views}
 use Rattle.gms_expressions.proofs.Chains.{Chain}
 use Rattle.gms_expressions.proofs.grammar.Grammar.power.Given as goal
 

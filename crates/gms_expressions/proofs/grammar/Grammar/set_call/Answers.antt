@@ -3,7 +3,7 @@ use Rattle.gms_ast.specs.Trees.{place_in_set, size_of_set}
 use Rattle.gms_grammar.specs.GamsGrammar.{name}
 use Rattle.gms_expressions.specs.ExpressionTrees.{is_word}
 use Rattle.gms_ast.specs.Numbers.{in_numbers}
-use Rattle.gms_expressions.specs.Readings.{IsName}
+use Rattle.gms_expressions.specs.InnerReadings.{IsName}
 use Rattle.gms_expressions.proofs.Leaves.{tree_of-Ord, tree_of-Card}
 use Rattle.gms_expressions.proofs.Signs.{handed_on}
 use Rattle.gms_expressions.proofs.Steps.{refuses_first, refuses_second}

@@ -1,6 +1,6 @@
 use Rattle.std.proofs.Common.{◌∷◌, [], false, refl, sym, ap, ap₂, ◌∙◌}
 use Rattle.std.proofs.lemmas.Slice.{pushed}
-use Rattle.gms_expressions.specs.ExpressionTrees.{product_of, terms}
+use Rattle.gms_expressions.specs.ExpressionTrees.{product_tree, terms}
 use Rattle.gms_ast.specs.Trees.{signed, part, sum}
 use Rattle.gms_ast.specs.TreeView.{tree_of}
 use Rattle.gms_ast.proofs.TreeEquations.{tree_of-Plus}
@@ -8,7 +8,7 @@ use Rattle.gms_grammar.specs.Grammar.{the}
 use Rattle.gms_grammar.specs.GamsGrammar.{Sum, Product}
 use Rattle.gms_grammar.specs.declared.terminal.Terminal.TheVariants.{Sign}
 use Rattle.gms_ast.specs.Numbers.{in_numbers}
-use Rattle.gms_expressions.specs.Nodes.{signed_views, view}
+use Rattle.gms_expressions.specs.InnerNodes.{signed_views, view}
 use Rattle.gms_expressions.proofs.Made.{numbers_in_parts, views_push}
 use Rattle.gms_expressions.proofs.Signs.{handed_on}
 use Rattle.gms_expressions.proofs.Steps.{refuses_the, refuses_first, refuses_second, refuses_memory}
@@ -17,7 +17,7 @@ use Rattle.gms_expressions.proofs.Nexts.{unled_next, falls}
 use Rattle.gms_expressions.proofs.Loops.{loop_memory}
 use Rattle.gms_expressions.proofs.Chains.{chain_alone, chain_start, chain_on, chain_got, chain_refuses, place_read, in_sense}
 use Rattle.gms_grammar.specs.Terminals.{is}
-use Rattle.gms_expressions.specs.Readings.{seen_from}
+use Rattle.gms_expressions.specs.InnerReadings.{seen_from}
 use Rattle.gms_expressions.proofs.Grows.{some_led, none_led}
 use Rattle.gms_expressions.proofs.Going.{went_by}
 use Rattle.gms_expressions.proofs.grammar.Grammar.sum.Goals as goal
@@ -47,7 +47,7 @@ pub loop-sign-smaller : goal.loop-sign-smaller
 loop-sign-smaller g c = falls c.in-Some.ensures _ c.in_ok-part.ensures.further
 
 pub loop-sign-preserved : goal.loop-sign-preserved
-loop-sign-preserved g c = chain_on c.loop-sign.invariant c.in-Some.ensures refl c.in_ok-part.ensures (signed c.place-in-Some.result c.is_minus.result) (λ sense b. ap₂ (λ p m. part (signed p m) (in_sense c.args.self.now.reader.source.now product_of sense c.in_ok-part.ensures.tree) (in_sense c.args.self.now.reader.source.now terms sense b)) (place_read (the Product) refl c.in_ok-part.ensures.gives ∙ sym c.place-in-Some.ensures) (sym c.is_minus.ensures)) _ (views_push (λ p. (signed p.0 p.1, view g.F.ExactField.value p.2)) _ _ c.in_ok-push-2.ensures.items)
+loop-sign-preserved g c = chain_on c.loop-sign.invariant c.in-Some.ensures refl c.in_ok-part.ensures (signed c.place-in-Some.result c.is_minus.result) (λ sense b. ap₂ (λ p m. part (signed p m) (in_sense c.args.self.now.reader.source.now product_tree sense c.in_ok-part.ensures.tree) (in_sense c.args.self.now.reader.source.now terms sense b)) (place_read (the Product) refl c.in_ok-part.ensures.gives ∙ sym c.place-in-Some.ensures) (sym c.is_minus.ensures)) _ (views_push (λ p. (signed p.0 p.1, view g.F.ExactField.value p.2)) _ _ c.in_ok-push-2.ensures.items)
 
 pub returns : goal.returns
 returns g c = chain_got c.loop-sign.invariant c.in_default.ensures (λ sense. refl) (ap (in_numbers g.F.ExactField.value) (tree_of-Plus c.loop-sign.parts) ∙ ap sum (numbers_in_parts g.F.ExactField.value (λ p. signed p.0 p.1) (λ p. tree_of p.2) c.loop-sign.parts.items))

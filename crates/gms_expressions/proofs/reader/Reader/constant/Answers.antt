@@ -1,7 +1,7 @@
 use Rattle.std.proofs.Common.{true, false, refl, sym, ap, ◌∙◌}
 use Rattle.gms_grammar.specs.declared.terminal.Terminal.TheVariants.{Infinity, NotAvailable, YesNo}
 use Rattle.gms_lex.specs.TokenTexts.{token_text}
-use Rattle.gms_expressions.specs.Nodes.{view}
+use Rattle.gms_expressions.specs.InnerNodes.{view}
 use Rattle.gms_ast.specs.Numbers.{in_numbers}
 use Rattle.gms_expressions.proofs.Leaves.{tree_of-Number}
 use Rattle.gms_expressions.proofs.Signs.{handed_on}

@@ -4,7 +4,7 @@ use Rattle.gms_grammar.specs.Grammar.{the, ◌·◌, right}
 use Rattle.gms_grammar.specs.Terminals.{is}
 use Rattle.gms_grammar.specs.declared.terminal.Terminal.TheVariants.{LeftParen, RightParen}
 use Rattle.gms_grammar.specs.GamsGrammar.{NameList, token, name, bracketed}
-use Rattle.gms_expressions.specs.Readings.{AreNames, AreSets, seen_from}
+use Rattle.gms_expressions.specs.InnerReadings.{AreNames, AreSets, seen_from}
 use Rattle.gms_expressions.proofs.Signs.{handed_on}
 use Rattle.gms_expressions.proofs.Steps.{refuses_right, refuses_either, refuses_memory}
 use Rattle.gms_expressions.proofs.Nexts.{refuses_unopened, refuses_inside, unled_next}

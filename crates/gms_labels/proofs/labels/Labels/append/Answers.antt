@@ -1,13 +1,13 @@
 use Rattle.std.proofs.Common.{◌≡◌, ◌∙◌, ◌∷◌, ◌++◌, ◌<◌, [], List, None, length, ap}
 use Rattle.std.specs.Str.{bytes_eq}
 use Rattle.indexmap.specs.IndexMap.{insert_entry}
-use Rattle.gms_labels.specs.Labels.{folded, place_of}
+use Rattle.gms_labels.specs.Labels.{lower_case, place_of}
 use Rattle.gms_labels.specs.Table.{Entry, texts_of}
 use Rattle.gms_labels.proofs.Entries.{insert-new, texts_of-push, IsKept-push}
 use Rattle.gms_labels.proofs.labels.Labels.append.Goals as goal
 
 -- the entries after the call
-entries-are : (c : goal.Joined-branch-3) → c.insert.new.self.entries ≡ c.self.inside.texts.entries ++ (folded c.args.text.now, c.in_ok-written.written) ∷ []
+entries-are : (c : goal.Joined-branch-3) → c.insert.new.self.entries ≡ c.self.inside.texts.entries ++ (lower_case c.args.text.now, c.in_ok-written.written) ∷ []
 entries-are c =
     let entries : List Entry = c.self.inside.texts.entries in
     let none : place_of (texts_of entries) c.args.text.now ≡ None = rw c.self.view_is c.requires.new in
@@ -22,7 +22,7 @@ invariant_of-self-2 c =
 
 pub returns-clause-ok : goal.returns-clause-ok
 returns-clause-ok c =
-    rw (entries-are c, ← c.self.view_is) (texts_of-push c.self.inside.texts.entries (folded c.args.text.now) c.in_ok-written.written c.args.text.now c.in_ok-written.ensures.ok)
+    rw (entries-are c, ← c.self.view_is) (texts_of-push c.self.inside.texts.entries (lower_case c.args.text.now) c.in_ok-written.written c.args.text.now c.in_ok-written.ensures.ok)
 
 pub returns-clause-labels : goal.returns-clause-labels
 returns-clause-labels c = (invariant_of-self-2 c).labels

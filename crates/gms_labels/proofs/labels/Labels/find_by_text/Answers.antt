@@ -2,18 +2,18 @@ use Rattle.std.proofs.Common.{◌≡◌, ◌+◌, ◌<◌, ◌↔◌, ◌⊎◌,
 use Rattle.std.proofs.lemmas.Bool.{cases_lt}
 use Rattle.std.proofs.lemmas.Option.{get_or_from_slice_get}
 use Rattle.std.proofs.lemmas.Slice.Eq.{bytes_eq-Decides}
-use Rattle.gms_labels.specs.Labels.{folded, is_same}
+use Rattle.gms_labels.specs.Labels.{lower_case, is_same}
 use Rattle.gms_labels.proofs.Places.{place_of-missed}
 use Rattle.gms_labels.proofs.labels.Labels.find_by_text.Goals as goal
 
 -- a comparison that fails tells another label
-is_other : (text label : List ℕ) (result : Bool) → result ≡ false → (IsTrue result ↔ (folded text ≡ folded label)) → is_same text label ≡ false
+is_other : (text label : List ℕ) (result : Bool) → result ≡ false → (IsTrue result ↔ (lower_case text ≡ lower_case label)) → is_same text label ≡ false
 is_other text label result fails test = by (is_same text label) refl
   where
     by : (b : Bool) → is_same text label ≡ b → b ≡ false
     by false _ = refl
     by true same =
-        let passes : IsTrue result = test.1 ((bytes_eq-Decides (folded text) (folded label)).0 same) in
+        let passes : IsTrue result = test.1 ((bytes_eq-Decides (lower_case text) (lower_case label)).0 same) in
         absurd cc
 
 -- one more label was compared

@@ -7,10 +7,10 @@ use Rattle.gq_frac.specs.declared.frac.Frac.{Frac}
 use Rattle.gq_frac.specs.Frac.{frac_value}
 use Rattle.lp_core.specs.declared.answer.Answer.{Answer}
 use Rattle.lp_core.specs.Numbers.{answer_numbers}
-use Rattle.gms_eval.specs.Gives.{shown_by}
+use Rattle.gms_eval.specs.Gives.{fault_of_stop}
 use Rattle.gms_event.specs.declared.event.Shown.{Shown}
 use Rattle.gms_event.specs.EventView.{event_in, shown_in}
-use Rattle.gms_list.specs.Conditions.{IsListable, IsListableSolve, IsProved}
+use Rattle.gms_list.specs.Conditions.{IsListable, IsListableSolve, HasProof}
 use Rattle.gms_list.specs.ListingText.{event_text, items_text, stop_text}
 use Rattle.gms_list.proofs.Walks.{reshaped}
 use Rattle.gms_list.proofs.EventTexts.{solve_shown, solve_missing, holds_of}
@@ -33,7 +33,7 @@ push_solve-requires c =
     let found : slice_get c.args.answers.now c.in-Solve.answer ≡ Some c.in-Some.answer.now = slice_get_read c.args.answers.now (length c.args.answers.now) c.in-Solve.answer c.in-Some.answer.now refl there c.in-Some.ensures.lookup.1 in
     record {
       formed = listable.formed;
-      proved = holds_of (λ (a : Answer Frac). IsProved frac_value c.in-Solve.lp a.end) (slice_get c.args.answers.now c.in-Solve.answer) c.in-Some.answer.now found listable.stands;
+      proved = holds_of (λ (a : Answer Frac). HasProof frac_value c.in-Solve.lp a.end) (slice_get c.args.answers.now c.in-Solve.answer) c.in-Some.answer.now found listable.stands;
     }
 
 pub returns-in-Display : goal.returns-in-Display
@@ -53,7 +53,7 @@ returns-in-Abort c =
 pub returns-in-Fault : goal.returns-in-Fault
 returns-in-Fault c =
     reshaped _ _ _ _ c.push_stop.result
-    (ap (λ stop. stop_text c.args.p.now.names c.args.p.now.labels (shown_by frac_value stop)) c.deref.ensures
+    (ap (λ stop. stop_text c.args.p.now.names c.args.p.now.labels (fault_of_stop frac_value stop)) c.deref.ensures
     ∙ ap (λ e. event_text c.args.p.now.names c.args.p.now.labels (2 ^ 127 - 1) (map (answer_numbers frac_value) c.args.answers.now) (event_in frac_value e)) (sym c.in-Fault.is))
     c.push_stop.ensures
 

@@ -2,7 +2,7 @@ use Rattle.std.proofs.Common.{◌≡◌, ◌==◌, ◌∙◌, ◌++◌, [], true
 use Rattle.std.proofs.lemmas.Bool.Decides.{nat_tests}
 use Rattle.std.proofs.lemmas.List.{append-nil}
 use Rattle.lp_core.specs.Numbers.{lp_numbers, column_numbers}
-use Rattle.gms_list.specs.Walks.{solution_in}
+use Rattle.gms_list.specs.InnerSolves.{solution_in}
 use Rattle.gms_list.specs.SolveText.{column_point}
 use Rattle.gms_list.proofs.Shapes.{point_same, bound_mapped}
 use Rattle.gms_list.proofs.Walks.{reshaped, chosen, other}

@@ -2,14 +2,14 @@ use Rattle.std.proofs.Common.{◌≡◌, ◌∙◌, ap, ap₂, map, ℕ, List, f
 use Rattle.gq_extended.specs.Meaning.{extended}
 use Rattle.gq_extended.specs.Extended.{Extended}
 use Rattle.gms_event.specs.EventView.{shown_in}
-use Rattle.gms_list.specs.ListingText.{entry_text, width_of, Entries}
+use Rattle.gms_list.specs.ListingText.{entry_text, tuple_width, TupleValues}
 use Rattle.gms_list.proofs.Walks.{untouched, reshaped}
 use Rattle.gms_list.proofs.listing.Listing.push_entries.Goals as goal
 
-lines_with : (labels : List (List ℕ)) (decimals width : ℕ) (seen entries : Entries) → seen ≡ entries → width ≡ width_of labels seen →
-    flat_map (entry_text labels width decimals) seen ≡ flat_map (entry_text labels (width_of labels entries) decimals) entries
+lines_with : (labels : List (List ℕ)) (decimals width : ℕ) (seen entries : TupleValues) → seen ≡ entries → width ≡ tuple_width labels seen →
+    flat_map (entry_text labels width decimals) seen ≡ flat_map (entry_text labels (tuple_width labels entries) decimals) entries
 lines_with labels decimals width seen entries e f =
-    ap (λ w. flat_map (entry_text labels w decimals) seen) f ∙ ap (λ es. flat_map (entry_text labels (width_of labels es) decimals) es) e
+    ap (λ w. flat_map (entry_text labels w decimals) seen) f ∙ ap (λ es. flat_map (entry_text labels (tuple_width labels es) decimals) es) e
 
 pub returns-in_err-width : goal.returns-in_err-width
 returns-in_err-width g c = untouched _ _ c.from_residual.result c.from_residual.ensures.0

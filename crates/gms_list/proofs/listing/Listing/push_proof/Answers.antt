@@ -1,6 +1,6 @@
 use Rattle.std.proofs.Common.{◌∙◌, ◌≢◌, ap, sym, codes, map, refl, length, subst, true, false, None, List}
-use Rattle.lp_check.specs.BoundSteps.{bound_of}
-use Rattle.gms_list.specs.Conditions.{IsProved}
+use Rattle.lp_check.specs.BoundSteps.{objective_bound}
+use Rattle.gms_list.specs.Conditions.{HasProof}
 use Rattle.gms_list.proofs.Walks.{walk, step, broke, last, untouched}
 use Rattle.gms_list.proofs.ProofLines.{optimal_ends, infeasible_ends, unbounded_ends, interrupted_ends, refused_ends}
 use Rattle.gms_list.proofs.ProvedEnds.{optimal_duals, infeasible_duals}
@@ -10,13 +10,13 @@ use Rattle.gms_list.proofs.listing.Listing.push_proof.Goals as goal
 
 pub push_optimal-requires-clause-sized : goal.push_optimal-requires-clause-sized
 push_optimal-requires-clause-sized g c =
-    let proved = subst (IsProved g.F.ExactField.value c.args.lp.now) c.in-Optimal.is c.requires.proved in
+    let proved = subst (HasProof g.F.ExactField.value c.args.lp.now) c.in-Optimal.is c.requires.proved in
     ap length c.as_slice-in-Optimal.ensures ∙ (optimal_duals g.F.ExactField.value c.args.lp.now c.in-Optimal.levels c.in-Optimal.row_levels c.in-Optimal.duals c.in-Optimal.reduced proved).0
 
 pub push_optimal-requires-clause-there : goal.push_optimal-requires-clause-there
 push_optimal-requires-clause-there g c =
-    let proved = subst (IsProved g.F.ExactField.value c.args.lp.now) c.in-Optimal.is c.requires.proved in
-    subst (λ ds. bound_of g.F.ExactField.value true c.args.lp.now (map g.F.ExactField.value ds) ≢ None) (sym c.as_slice-in-Optimal.ensures) (optimal_duals g.F.ExactField.value c.args.lp.now c.in-Optimal.levels c.in-Optimal.row_levels c.in-Optimal.duals c.in-Optimal.reduced proved).1
+    let proved = subst (HasProof g.F.ExactField.value c.args.lp.now) c.in-Optimal.is c.requires.proved in
+    subst (λ ds. objective_bound g.F.ExactField.value true c.args.lp.now (map g.F.ExactField.value ds) ≢ None) (sym c.as_slice-in-Optimal.ensures) (optimal_duals g.F.ExactField.value c.args.lp.now c.in-Optimal.levels c.in-Optimal.row_levels c.in-Optimal.duals c.in-Optimal.reduced proved).1
 
 pub returns-in_err-push-in-Optimal : goal.returns-in_err-push-in-Optimal
 returns-in_err-push-in-Optimal g c =
@@ -32,13 +32,13 @@ returns-in_ok-push-in-Optimal g c =
 
 pub push_infeasible-requires-clause-sized : goal.push_infeasible-requires-clause-sized
 push_infeasible-requires-clause-sized g c =
-    let proved = subst (IsProved g.F.ExactField.value c.args.lp.now) c.in-Infeasible.is c.requires.proved in
+    let proved = subst (HasProof g.F.ExactField.value c.args.lp.now) c.in-Infeasible.is c.requires.proved in
     λ none. ap length c.as_slice-in-Infeasible.ensures ∙ (infeasible_duals g.F.ExactField.value c.args.lp.now c.in-Infeasible.duals c.in-Infeasible.crossed proved none).0
 
 pub push_infeasible-requires-clause-there : goal.push_infeasible-requires-clause-there
 push_infeasible-requires-clause-there g c =
-    let proved = subst (IsProved g.F.ExactField.value c.args.lp.now) c.in-Infeasible.is c.requires.proved in
-    λ none. subst (λ ds. bound_of g.F.ExactField.value false c.args.lp.now (map g.F.ExactField.value ds) ≢ None) (sym c.as_slice-in-Infeasible.ensures) (infeasible_duals g.F.ExactField.value c.args.lp.now c.in-Infeasible.duals c.in-Infeasible.crossed proved none).1
+    let proved = subst (HasProof g.F.ExactField.value c.args.lp.now) c.in-Infeasible.is c.requires.proved in
+    λ none. subst (λ ds. objective_bound g.F.ExactField.value false c.args.lp.now (map g.F.ExactField.value ds) ≢ None) (sym c.as_slice-in-Infeasible.ensures) (infeasible_duals g.F.ExactField.value c.args.lp.now c.in-Infeasible.duals c.in-Infeasible.crossed proved none).1
 
 pub returns-in_err-push-in-Infeasible : goal.returns-in_err-push-in-Infeasible
 returns-in_err-push-in-Infeasible g c =

@@ -4,7 +4,7 @@ use Rattle.std.proofs.lemmas.Slice.{pushed}
 use Rattle.gms_grammar.specs.Grammar.{the}
 use Rattle.gms_grammar.specs.GamsGrammar.{LoopStatement, LoopBody, Assignment}
 use Rattle.gms_grammar.specs.declared.terminal.Terminal.TheVariants.{Display, Option, Solve, Abort, Loop}
-use Rattle.gms_parse.specs.Readings.{seen_from}
+use Rattle.gms_parse.specs.InnerReadings.{seen_from}
 use Rattle.gms_parse.proofs.Steps.{refuses_the, refuses_first, refuses_second, refuses_memory, refuses_at}
 use Rattle.gms_parse.proofs.Nexts.{refuses_lacking, gives_exact, refuses_unopened, falls, starts_somewhere}
 use Rattle.gms_parse.proofs.Ends.{led_within}

@@ -1,6 +1,6 @@
 use Rattle.std.proofs.Common.{length, ◌-◌, ◌+◌, ◌*◌}
-use Rattle.gms_parse.specs.Walks.{Walk}
-use Rattle.gms_parse.specs.Readings.{Starts, Tableless}
+use Rattle.gms_parse.specs.Walks.{ReaderState}
+use Rattle.gms_parse.specs.InnerReadings.{Starts, Tableless}
 use Rattle.gms_parse.proofs.Looped.{Bodying}
 use Rattle.gms_parse.proofs.reader.Reader.+loops.Given as goal
 
@@ -20,7 +20,7 @@ abbrev pub decreases-loop_body : goal.decreases-loop_body
 decreases-loop_body g l = (100 - l.self.now.unclosed) * 5 + 4
 
 abbrev pub invariant-loop_body-loop-behind : goal.invariant-loop_body-loop-behind
-invariant-loop_body-loop-behind g l = (walk : Walk) → Starts l.self l.fn.tables walk → Tableless walk → Bodying g.F.ExactField.limit g.F.ExactField.value l.self l.at walk l.tables l.body.items l.next
+invariant-loop_body-loop-behind g l = (walk : ReaderState) → Starts l.self l.fn.tables walk → Tableless walk → Bodying g.F.ExactField.limit g.F.ExactField.value l.self l.at walk l.tables l.body.items l.next
 
 abbrev pub decreases-loop_body-loop-behind : goal.decreases-loop_body-loop-behind
 decreases-loop_body-loop-behind g l = length l.self.tokens.now - l.next

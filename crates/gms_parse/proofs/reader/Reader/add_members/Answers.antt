@@ -2,7 +2,7 @@ use Rattle.std.proofs.Common.{◌≡◌, ℕ, ◌<◌, true, false, inl, List, [
 use Rattle.std.proofs.lemmas.List.{get_or-map, length-map}
 use Rattle.gms_set.specs.Ranges.{is_range, members}
 use Rattle.gms_expressions.proofs.Signs.{handed_on}
-use Rattle.gms_parse.specs.Meanings.{text_of_label}
+use Rattle.gms_parse.specs.InnerMeanings.{text_of_label}
 use Rattle.gms_parse.proofs.Members.{member_short}
 use Rattle.gms_parse.proofs.Ranges.{label_spelled, entering_start, entering_next, texts_are, members_entered, no_members, member_refused, range_error}
 use Rattle.gms_parse.proofs.reader.Reader.add_members.Goals as goal

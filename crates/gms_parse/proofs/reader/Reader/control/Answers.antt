@@ -1,7 +1,7 @@
 use Rattle.std.proofs.Common.{refl}
 use Rattle.gms_grammar.specs.GamsGrammar.{Control}
 use Rattle.gms_expressions.proofs.Signs.{handed_on}
-use Rattle.gms_parse.specs.Meanings.{IsControl}
+use Rattle.gms_parse.specs.InnerMeanings.{IsControl}
 use Rattle.gms_parse.proofs.Formulas.{formula_got, formula_refused}
 use Rattle.gms_parse.proofs.reader.Reader.control.Goals as goal
 

@@ -3,7 +3,7 @@ use Rattle.std.proofs.lemmas.Slice.{pushed}
 use Rattle.gms_grammar.specs.Grammar.{the}
 use Rattle.gms_grammar.specs.GamsGrammar.{Domain, DomainList}
 use Rattle.gms_expressions.proofs.Signs.{handed_on}
-use Rattle.gms_parse.specs.Meanings.{IsPosition}
+use Rattle.gms_parse.specs.InnerMeanings.{IsPosition}
 use Rattle.gms_parse.proofs.Steps.{refuses_the, refuses_first, refuses_memory, gives_the}
 use Rattle.gms_parse.proofs.Nexts.{falls, opened, open_starts, refuses_unopened, refuses_inside, refuses_unclosed, refuses_within, got_inside, starts_somewhere}
 use Rattle.gms_parse.proofs.Listing.{AreAll, listing_start, listing_on, listing_got, listing_refuses, separated_starts}

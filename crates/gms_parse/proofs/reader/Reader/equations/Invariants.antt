@@ -1,15 +1,15 @@
 use Rattle.std.proofs.Common.{ℕ, length, ◌-◌, [], ◌∷◌}
 use Rattle.gms_grammar.specs.GamsGrammar.{name}
-use Rattle.gms_grammar.specs.Terminals.{is_among}
+use Rattle.gms_grammar.specs.Terminals.{is_terminal_among}
 use Rattle.gms_grammar.specs.declared.terminal.Terminal.TheVariants.{Comma, Break}
-use Rattle.gms_parse.specs.Walks.{Walk}
-use Rattle.gms_parse.specs.Readings.{Starts}
-use Rattle.gms_parse.specs.Meanings.{IsNamed}
+use Rattle.gms_parse.specs.Walks.{ReaderState}
+use Rattle.gms_parse.specs.InnerReadings.{Starts}
+use Rattle.gms_parse.specs.InnerMeanings.{IsNamed}
 use Rattle.gms_parse.proofs.Listing.{Listing}
 use Rattle.gms_parse.proofs.reader.Reader.equations.Given as goal
 
 abbrev pub invariant-loop-behind : goal.invariant-loop-behind
-invariant-loop-behind l = (limit : ℕ) (walk : Walk) → Starts l.self l.fn.tables walk → Listing limit (IsNamed l.self.source.now) (is_among (Comma ∷ Break ∷ [])) name l.self l.at walk l.tables l.equations.items l.next
+invariant-loop-behind l = (limit : ℕ) (walk : ReaderState) → Starts l.self l.fn.tables walk → Listing limit (IsNamed l.self.source.now) (is_terminal_among (Comma ∷ Break ∷ [])) name l.self l.at walk l.tables l.equations.items l.next
 
 abbrev pub decreases-loop-behind : goal.decreases-loop-behind
 decreases-loop-behind l = length l.self.tokens.now - l.next

@@ -1,8 +1,8 @@
 use Rattle.std.proofs.Common.{sym, subst}
 use Rattle.gms_grammar.specs.Grammar.{the}
 use Rattle.gms_parse.specs.declared.declaration.Form.{Form}
-use Rattle.gms_parse.specs.Readings.{AnswersPart}
-use Rattle.gms_parse.specs.Meanings.{IsDeclared, item_part}
+use Rattle.gms_parse.specs.InnerReadings.{AnswersPart}
+use Rattle.gms_parse.specs.InnerMeanings.{IsDeclared, item_part}
 use Rattle.gms_parse.proofs.reader.Reader.item.Goals as goal
 
 pub returns-in-Set : goal.returns-in-Set

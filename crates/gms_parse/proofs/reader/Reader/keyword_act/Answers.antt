@@ -1,6 +1,6 @@
 use Rattle.std.proofs.Common.{refl, sym, ◌∙◌}
 use Rattle.gms_grammar.specs.declared.terminal.Terminal.TheVariants.{Set, Parameter, Scalar, Table, Equation, Model, Alias}
-use Rattle.gms_parse.specs.Readings.{seen_from}
+use Rattle.gms_parse.specs.InnerReadings.{seen_from}
 use Rattle.gms_parse.proofs.Choices.{at_once, in_first, in_other, in_node, way_within, through}
 use Rattle.gms_parse.proofs.Keyworded.{variable_within, other_within}
 use Rattle.gms_parse.proofs.reader.Reader.keyword_act.Goals as goal

@@ -1,14 +1,14 @@
 use Rattle.std.proofs.Common.{length, ◌-◌}
 use Rattle.gms_grammar.specs.Grammar.{the}
-use Rattle.gms_parse.specs.Walks.{Walk}
-use Rattle.gms_parse.specs.Readings.{Has, Starless, Tableless}
-use Rattle.gms_parse.specs.Meanings.{IsListed, listed_part}
+use Rattle.gms_parse.specs.Walks.{ReaderState}
+use Rattle.gms_parse.specs.InnerReadings.{Has, Starless, Tableless}
+use Rattle.gms_parse.specs.InnerMeanings.{IsListed, listed_part}
 use Rattle.gms_parse.proofs.Items.{separators}
 use Rattle.gms_parse.proofs.Listing.{Listing}
 use Rattle.gms_parse.proofs.reader.Reader.list.Given as goal
 
 abbrev pub invariant-loop-behind : goal.invariant-loop-behind
-invariant-loop-behind g l = (walk : Walk) → Has l.self l.fn.tables walk → Starless walk → Tableless walk → Listing g.F.ExactField.limit (IsListed g.F.ExactField.value l.self.source.now l.list) separators (the (listed_part l.list)) l.self l.start walk l.tables l.items.items l.next
+invariant-loop-behind g l = (walk : ReaderState) → Has l.self l.fn.tables walk → Starless walk → Tableless walk → Listing g.F.ExactField.limit (IsListed g.F.ExactField.value l.self.source.now l.list) separators (the (listed_part l.list)) l.self l.start walk l.tables l.items.items l.next
 
 abbrev pub decreases-loop-behind : goal.decreases-loop-behind
 decreases-loop-behind g l = length l.self.tokens.now - l.next

@@ -1,8 +1,8 @@
 use Rattle.std.proofs.Common.{sym, subst}
 use Rattle.gms_grammar.specs.Grammar.{the}
 use Rattle.gms_parse.specs.declared.data.ListOf.{ListOf}
-use Rattle.gms_parse.specs.Readings.{AnswersData}
-use Rattle.gms_parse.specs.Meanings.{IsListed, listed_part}
+use Rattle.gms_parse.specs.InnerReadings.{AnswersData}
+use Rattle.gms_parse.specs.InnerMeanings.{IsListed, listed_part}
 use Rattle.gms_parse.proofs.reader.Reader.listed_item.Goals as goal
 
 pub returns-in-Elements : goal.returns-in-Elements

@@ -2,7 +2,7 @@ use Rattle.gms_expressions.proofs.Signs.{handed_on}
 use Rattle.std.proofs.Common.{refl, sym, ◌∙◌}
 use Rattle.gms_grammar.specs.Grammar.{the}
 use Rattle.gms_grammar.specs.GamsGrammar.{NamedStatement}
-use Rattle.gms_parse.specs.Readings.{seen_from}
+use Rattle.gms_parse.specs.InnerReadings.{seen_from}
 use Rattle.gms_parse.proofs.Ends.{led_within}
 use Rattle.gms_parse.proofs.Steps.{refuses_memory}
 use Rattle.gms_parse.proofs.Segments.{leads_named, named_none, named_refused, named_got}

@@ -2,7 +2,7 @@ use Rattle.gms_expressions.proofs.Signs.{handed_on}
 use Rattle.std.proofs.Common.{refl, sym, ◌∙◌}
 use Rattle.gms_grammar.specs.Grammar.{the}
 use Rattle.gms_grammar.specs.GamsGrammar.{Segment, KeywordStatement}
-use Rattle.gms_parse.specs.Readings.{seen_from}
+use Rattle.gms_parse.specs.InnerReadings.{seen_from}
 use Rattle.gms_parse.proofs.Steps.{refuses_the, refuses_first, refuses_memory}
 use Rattle.gms_parse.proofs.Nexts.{somewhere, starts_somewhere}
 use Rattle.gms_parse.proofs.Segments.{led_keyword, fewer, segment_start, segment_on, segment_refuses, segment_got}

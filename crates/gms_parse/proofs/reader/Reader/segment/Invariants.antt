@@ -1,11 +1,11 @@
 use Rattle.std.proofs.Common.{length, ◌-◌}
-use Rattle.gms_parse.specs.Walks.{Walk}
-use Rattle.gms_parse.specs.Readings.{Starts, Tableless}
+use Rattle.gms_parse.specs.Walks.{ReaderState}
+use Rattle.gms_parse.specs.InnerReadings.{Starts, Tableless}
 use Rattle.gms_parse.proofs.Segments.{Segmenting}
 use Rattle.gms_parse.proofs.reader.Reader.segment.Given as goal
 
 abbrev pub invariant-loop-tables : goal.invariant-loop-tables
-invariant-loop-tables g l = (walk : Walk) → Starts l.self l.fn.tables walk → Tableless walk → Segmenting g.F.ExactField.limit g.F.ExactField.value l.self l.at walk l.fn.statements.items l.tables l.statements.items l.next
+invariant-loop-tables g l = (walk : ReaderState) → Starts l.self l.fn.tables walk → Tableless walk → Segmenting g.F.ExactField.limit g.F.ExactField.value l.self l.at walk l.fn.statements.items l.tables l.statements.items l.next
 
 abbrev pub decreases-loop-tables : goal.decreases-loop-tables
 decreases-loop-tables g l = length l.self.tokens.now - l.next

@@ -2,7 +2,7 @@ use Rattle.std.proofs.Common.{refl}
 use Rattle.gms_ast.specs.StatementView.{shown_target}
 use Rattle.gms_grammar.specs.GamsGrammar.{Target}
 use Rattle.gms_expressions.proofs.Signs.{handed_on}
-use Rattle.gms_parse.specs.Meanings.{IsTarget}
+use Rattle.gms_parse.specs.InnerMeanings.{IsTarget}
 use Rattle.gms_parse.proofs.Formulas.{formula_got, formula_refused}
 use Rattle.gms_parse.proofs.Targets.{target_is}
 use Rattle.gms_parse.proofs.reader.Reader.target.Goals as goal

@@ -2,7 +2,7 @@ use Rattle.std.proofs.Common.{ap₂, ◌∙◌}
 use Rattle.gms_expressions.specs.declared.fault.SyntaxError.{SyntaxError}
 use Rattle.gms_parse.specs.declared.fault.SourceError.TheVariants.{Syntax}
 use Rattle.gms_parse.specs.declared.fault.SourceFaultOrMemory.TheVariants.{Fault}
-use Rattle.gms_parse.specs.Readings.{seen_from}
+use Rattle.gms_parse.specs.InnerReadings.{seen_from}
 use Rattle.gms_parse.proofs.Entering.{left_out_told, unexpected_told}
 use Rattle.gms_parse.proofs.reader.Reader.unexpected.Goals as goal
 use Rattle.gms_parse.proofs.reader.Reader.unexpected.Goals.{in-NotInProfile, in_default}

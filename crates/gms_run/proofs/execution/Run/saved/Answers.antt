@@ -4,8 +4,8 @@ use Rattle.std.specs.Prelude.{IfOk}
 use Rattle.std.specs.declared.alloc.Global.{Global}
 use Rattle.std.proofs.lemmas.List.{length-map}
 use Rattle.gms_store.specs.declared.settings.Settings.{Settings}
-use Rattle.gms_saved.specs.SavedState.{saved_text}
-use Rattle.gms_words.specs.CommandLine.{asked_by}
+use Rattle.gms_save_text.specs.SavedState.{saved_text}
+use Rattle.gms_command.specs.CommandLine.{asked_by}
 use Rattle.gms_run.specs.Listings.{save_file}
 use Rattle.gms_run.proofs.Saving.{keeps_state}
 use Rattle.gms_run.proofs.execution.Run.saved.Goals as goal

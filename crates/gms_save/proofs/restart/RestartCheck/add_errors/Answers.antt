@@ -1,5 +1,5 @@
 use Rattle.std.proofs.Common.{refl, arith}
-use Rattle.gms_save.specs.RestartChecks.{error_by}
+use Rattle.gms_save.specs.InnerRestartChecks.{error_by}
 use Rattle.gms_save.proofs.Joints.{each-first, each-more, each-all}
 use Rattle.gms_save.proofs.restart.RestartCheck.add_errors.Goals as goal
 

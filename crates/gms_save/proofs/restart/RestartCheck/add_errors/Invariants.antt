@@ -1,6 +1,6 @@
 use Rattle.std.proofs.Common.{◌≡◌, take}
 use Rattle.gms_save.specs.JointErrors.{each_sooner}
-use Rattle.gms_save.specs.RestartChecks.{error_by}
+use Rattle.gms_save.specs.InnerRestartChecks.{error_by}
 use Rattle.gms_save.proofs.restart.RestartCheck.add_errors.Given as goal
 
 abbrev pub invariant-loop-place : goal.invariant-loop-place

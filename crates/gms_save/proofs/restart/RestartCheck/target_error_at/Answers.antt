@@ -1,4 +1,4 @@
-use Rattle.gms_save.specs.RestartChecks.{fixed_by}
+use Rattle.gms_save.specs.InnerRestartChecks.{fixed_by}
 use Rattle.gms_save.proofs.Restarts.{first-where}
 use Rattle.gms_save.proofs.restart.RestartCheck.target_error_at.Goals as goal
 

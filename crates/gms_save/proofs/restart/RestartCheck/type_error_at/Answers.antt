@@ -1,4 +1,4 @@
-use Rattle.gms_save.specs.RestartChecks.{variable_in}
+use Rattle.gms_save.specs.InnerRestartChecks.{variable_in}
 use Rattle.gms_save.proofs.Restarts.{first-where}
 use Rattle.gms_save.proofs.restart.RestartCheck.type_error_at.Goals as goal
 

@@ -2,7 +2,7 @@ use Rattle.std.proofs.Common.{◌≡◌, ◌∙◌, ◌++◌, ◌∷◌, [], fal
 use Rattle.std.proofs.lemmas.Bool.{not-true}
 use Rattle.gms_tuple.specs.TupleSet.{has}
 use Rattle.gms_set.specs.Expansion.{tuples_of}
-use Rattle.gms_set.specs.Seen.{AreSeen}
+use Rattle.gms_set.specs.InnerGiven.{AreSeen}
 use Rattle.gms_set.proofs.Repeats.{tuples_of-push, distinct-more}
 use Rattle.gms_set.proofs.expansion.Expansion.add_tuple.Goals as goal
 

@@ -1,7 +1,7 @@
 use Rattle.std.proofs.Common.{◌≡◌, ◌∙◌, ap, subst, None}
 use Rattle.std.specs.FinMap as finite
 use Rattle.gms_tuple.specs.TupleOrder.{tuple_cmp}
-use Rattle.gms_store.specs.Parts.{StandsAt}
+use Rattle.gms_store.specs.InnerParts.{StandsAt}
 use Rattle.gms_store.proofs.Parts.{get-behind, get-tree}
 use Rattle.gms_store.proofs.values.Values.get.Goals as goal
 

@@ -1,6 +1,6 @@
 use Rattle.std.proofs.Common.{◌∙◌, ap, subst}
 use Rattle.std.specs.FinMap as finite
-use Rattle.gms_store.specs.Parts.{StandsAt}
+use Rattle.gms_store.specs.InnerParts.{StandsAt}
 use Rattle.gms_store.proofs.Parts.{get-behind}
 use Rattle.gms_store.proofs.values.Values.get_near.Goals as goal
 

@@ -2,7 +2,7 @@ use Rattle.std.proofs.Common.{◌≡◌, ◌∙◌, ◌++◌, ◌∷◌, [], ap,
 use Rattle.std.specs.Map.{keys_of}
 use Rattle.std.specs.FinMap as finite
 use Rattle.gms_tuple.specs.TupleOrder.{tuple_cmp, IsOrdered}
-use Rattle.gms_store.specs.Parts.{in_two_parts}
+use Rattle.gms_store.specs.InnerParts.{in_two_parts}
 use Rattle.gms_store.proofs.Maps.{Writes}
 use Rattle.gms_store.proofs.Parts.{pushed, put_behind, keys_put, tree_written}
 use Rattle.gms_store.proofs.values.Values.insert.Goals as goal

@@ -1,6 +1,6 @@
 use Rattle.std.proofs.Common.{ap, ◌∙◌}
-use Rattle.gms_table.specs.Given.{is_given}
-use Rattle.gms_table.specs.Cells.{has_cell}
+use Rattle.gms_table.specs.InnerGiven.{is_given}
+use Rattle.gms_table.specs.InnerCells.{has_cell}
 use Rattle.gms_table.proofs.CellLemmas.{cells_tie, has_cell-by_compare}
 use Rattle.gms_table.proofs.given.Entries.has.Goals as goal
 

@@ -1,6 +1,6 @@
 use Rattle.std.proofs.Common.{◌≡◌, ◌++◌, ◌∙◌, List, ℕ, take, drop, sym, ap, length, arith, append_assoc}
 use Rattle.std.proofs.lemmas.List.{take-append-drop, length-append}
-use Rattle.gms_tuple.specs.Trees.{listed}
+use Rattle.gms_tuple.specs.InnerTrees.{listed}
 use Rattle.gms_tuple.proofs.Forks.{length-block}
 use Rattle.gms_tuple.proofs.tree.Tree.+build.Goals as goal
 

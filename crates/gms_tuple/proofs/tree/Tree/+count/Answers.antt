@@ -4,7 +4,7 @@ use Rattle.std.proofs.lemmas.Option.{slice_get_read, get_or_from_slice_get}
 use Rattle.gms_tuple.specs.declared.tree.Fork.{Fork}
 use Rattle.gms_tuple.specs.TupleOrder.{IsOrdered}
 use Rattle.gms_tuple.specs.TupleSet.{is_within}
-use Rattle.gms_tuple.specs.Trees.{listed, tuples, IsFork, IsCounted}
+use Rattle.gms_tuple.specs.InnerTrees.{listed, tuples, IsFork, IsCounted}
 use Rattle.gms_tuple.proofs.Forks.{length-block, own-ordered, ordered-left, is_within-closed, first-fails}
 use Rattle.gms_tuple.proofs.tree.Tree.+count.Goals as goal
 

@@ -1,7 +1,7 @@
 use Rattle.std.proofs.Common.{◌≡◌, ◌-◌, ◌+◌, ◌≤◌, ◌++◌, ◌∙◌, OnOk, sym, ap, subst, length, insert, arith}
 use Rattle.std.proofs.lemmas.Result.{on_ok_weaker}
 use Rattle.gms_tuple.specs.declared.tree.Fork.{Fork}
-use Rattle.gms_tuple.specs.Trees.{listed}
+use Rattle.gms_tuple.specs.InnerTrees.{listed}
 use Rattle.gms_tuple.proofs.Forks.{insert-left, insert-own, insert-right}
 use Rattle.gms_tuple.proofs.tree.Tree.+insert.Goals as goal
 use Rattle.gms_tuple.proofs.tree.Tree.+insert.Goals.{in-Less, in-Equal, in-Greater}

@@ -1,6 +1,6 @@
 use Rattle.std.proofs.Common.{◌≡◌, ◌-◌, ◌+◌, ◌++◌, ◌∙◌, sym, ap, length, remove, arith}
 use Rattle.gms_tuple.specs.declared.tree.Fork.{Fork}
-use Rattle.gms_tuple.specs.Trees.{listed}
+use Rattle.gms_tuple.specs.InnerTrees.{listed}
 use Rattle.gms_tuple.proofs.Forks.{remove-left, remove-own, remove-right, length-removed}
 use Rattle.gms_tuple.proofs.tree.Tree.+remove.Goals as goal
 use Rattle.gms_tuple.proofs.tree.Tree.+remove.Goals.{then-place-before, else-place-before+then-place-upto, else-place-before+else-place-upto}

@@ -1,6 +1,6 @@
 -- The digits of a tenth, and the last one after them.
 use Rattle.std.proofs.Common.{◌<◌, sym, subst, arith}
-use Rattle.gq_text.specs.Appends.{AppendsDigits}
+use Rattle.gq_text.specs.InnerAppends.{AppendsDigits}
 use Rattle.gq_text.proofs.Pushes.{tenth_small, digit_behind}
 use Rattle.gq_text.proofs.digits.Digits.+push_word.Goals as goal
 

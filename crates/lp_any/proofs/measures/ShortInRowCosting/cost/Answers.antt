@@ -1,6 +1,6 @@
 use Rattle.std.proofs.Common.{subst, ◌∙◌}
-use Rattle.lp_exact.proofs.Improving.{priced_there}
-use Rattle.lp_exact.specs.Pivots.{IsLeaving}
+use Rattle.lp_fraction_dict.proofs.Improving.{priced_there}
+use Rattle.lp_fraction_dict.specs.Pivots.{IsLeaving}
 use Rattle.lp_dict.specs.Tableau.{dictionary}
 use Rattle.lp_any.specs.Measures.{RowAt}
 use Rattle.lp_any.proofs.Measured.{by_row, same_in_row}

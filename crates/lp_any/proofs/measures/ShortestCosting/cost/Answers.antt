@@ -1,5 +1,5 @@
 use Rattle.std.proofs.Common.{ap, subst, ◌∙◌}
-use Rattle.lp_exact.specs.Pivots.{IsLeaving}
+use Rattle.lp_fraction_dict.specs.Pivots.{IsLeaving}
 use Rattle.lp_dict.specs.Tableau.{dictionary}
 use Rattle.lp_any.specs.Measures.{LengthAt, length_of}
 use Rattle.lp_any.proofs.Measured.{by_row}

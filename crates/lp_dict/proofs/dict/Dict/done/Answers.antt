@@ -1,6 +1,6 @@
 use Rattle.std.proofs.Common.{map, ap, ◌∙◌}
 use Rattle.lp_dict.specs.Tableau.{dictionary}
-use Rattle.lp_exact.proofs.Finals.{read_is}
+use Rattle.lp_fraction_dict.proofs.Finals.{read_is}
 use Rattle.lp_dict.proofs.dict.Dict.done.Goals as goal
 
 pub returns-clause-read : goal.returns-clause-read

@@ -1,6 +1,6 @@
 use Rattle.std.proofs.Common.{arith, ◌≤◌}
 use Rattle.std.proofs.lemmas.Bool.{both_ways}
-use Rattle.lp_exact.proofs.Improving.{improves_tells}
+use Rattle.lp_fraction_dict.proofs.Improving.{improves_tells}
 use Rattle.lp_dict.specs.Tableau.{dictionary}
 use Rattle.lp_dict.proofs.dict.Dict.improves.Goals as goal
 

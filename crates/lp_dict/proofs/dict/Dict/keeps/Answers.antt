@@ -1,6 +1,6 @@
 use Rattle.std.proofs.Common.{◌+◌, ◌^◌, ◌<◌, ◌≤◌, length, subst}
 use Rattle.lp_core.specs.Dictionary.{Dictionary}
-use Rattle.lp_exact.specs.Pivots.{IsProper}
+use Rattle.lp_fraction_dict.specs.Pivots.{IsProper}
 use Rattle.lp_dict.specs.declared.body.Body.TheVariants as body
 use Rattle.lp_dict.specs.Tableau.{Tableau, dictionary}
 use Rattle.lp_dict.proofs.Kept.{kept_is}

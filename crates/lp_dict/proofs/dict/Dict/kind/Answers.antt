@@ -1,5 +1,5 @@
 use Rattle.lp_dict.specs.Tableau.{dictionary}
-use Rattle.lp_exact.proofs.Finals.{read_in_one, none_from}
+use Rattle.lp_fraction_dict.proofs.Finals.{read_in_one, none_from}
 use Rattle.lp_dict.proofs.dict.Dict.kind.Goals as goal
 
 pub returns-then-is_basic : goal.returns-then-is_basic

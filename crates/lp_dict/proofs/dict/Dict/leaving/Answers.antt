@@ -1,7 +1,7 @@
 use Rattle.std.proofs.Common.{subst}
 use Rattle.std.specs.Prelude.{IfOk}
 use Rattle.lp_core.specs.Steps.{AllFit, ratio_steps}
-use Rattle.lp_exact.specs.Pivots.{IsLeaving}
+use Rattle.lp_fraction_dict.specs.Pivots.{IsLeaving}
 use Rattle.lp_dict.specs.declared.body.Body.TheVariants as body
 use Rattle.lp_dict.specs.Tableau.{dictionary}
 use Rattle.lp_dict.proofs.Kept.{kept_is, upcoming_is}

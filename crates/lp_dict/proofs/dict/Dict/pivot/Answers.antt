@@ -1,7 +1,7 @@
 use Rattle.std.proofs.Common.{◌≡◌, ℕ, ◌+◌, ◌-◌, ◌^◌, pos, min, List, Some, sym, subst}
 use Rattle.std.specs.Prelude.{slice_get, ◌↔◌}
 use Rattle.gq_number.specs.Number.{Number, whole}
-use Rattle.lp_core.specs.Sums.{number_of}
+use Rattle.lp_core.specs.Sums.{value_of_column}
 use Rattle.lp_core.specs.StandardForm.{Standard}
 use Rattle.lp_core.specs.Dictionary.{Meets, IsLegal, exchanged}
 use Rattle.lp_core.specs.Steps.{AllFit, exchange_steps}
@@ -35,7 +35,7 @@ returns-clause-fits g c =
 pub returns-clause-same_points : goal.returns-clause-same_points
 returns-clause-same_points g c =
     let legal = subst (λ (t : Tableau _). (k : ℕ) × IsLegal (dictionary g.F.ExactField.value t) c.args.p k) (sym c.self.view_is) c.requires in
-    subst (λ (t : Tableau _). (x : List Number) (objective : Number) → (c.args.p.leave ≡ 0 → number_of x 0 ≡ whole (pos 0)) → Meets (dictionary g.F.ExactField.value t) x objective ↔ Meets (kept g.F.ExactField.value c.in_ok-body.body) x objective) c.self.view_is
+    subst (λ (t : Tableau _). (x : List Number) (objective : Number) → (c.args.p.leave ≡ 0 → value_of_column x 0 ≡ whole (pos 0)) → Meets (dictionary g.F.ExactField.value t) x objective ↔ Meets (kept g.F.ExactField.value c.in_ok-body.body) x objective) c.self.view_is
     (same_points (kept g.F.ExactField.value c.self.inside.body) c.args.p c.self.invariant.proper legal (kept g.F.ExactField.value c.in_ok-body.body) c.in_ok-body.ensures.follows.is_exchanged)
 
 pub returns-clause-of_form : goal.returns-clause-of_form

@@ -1,5 +1,5 @@
 use Rattle.std.proofs.Common.{Some, sym, subst}
-use Rattle.lp_exact.specs.Reading.{IsDone}
+use Rattle.lp_fraction_dict.specs.Reading.{IsDone}
 use Rattle.lp_dict.specs.declared.body.Body.TheVariants as body
 use Rattle.lp_dict.specs.Tableau.{dictionary}
 use Rattle.lp_dict.proofs.Kept.{kept_is}

@@ -1,6 +1,6 @@
 use Rattle.std.proofs.Common.{subst}
 use Rattle.lp_core.specs.Dictionary.{Dictionary}
-use Rattle.lp_exact.specs.Tableau.{IsPlace}
+use Rattle.lp_fraction_dict.specs.Tableau.{IsPlace}
 use Rattle.lp_dict.specs.declared.body.Body.TheVariants as body
 use Rattle.lp_dict.proofs.Kept.{kept_is}
 use Rattle.lp_dict.proofs.dict.Dict.row_of.Goals as goal

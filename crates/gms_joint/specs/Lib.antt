@@ -1,4 +1,0 @@
-pub mod JointRun
-pub mod Labels
-pub mod LastStates
-pub mod Reached

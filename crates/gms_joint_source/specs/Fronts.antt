@@ -1,0 +1,55 @@
+-- Joint sources: a saved source, and a file that continues it; what their tokens and their
+-- derivation begin with (GAMS User's Guide, "Save and Restart", "GAMS Programs").
+use Rattle.std.specs.Prelude.{◌≡◌, ℕ, ◌+◌, ◌≤◌, ◌==◌, List, [], ◌∷◌, ◌++◌, length, filter, All}
+use Rattle.gms_lines.specs.declared.kind.Kind.TheVariants.{Break, Symbol}
+use Rattle.gms_lines.specs.declared.kind.Sym.TheVariants.{Semicolon}
+use Rattle.gms_lex.specs.declared.token.Token.{Token}
+use Rattle.gms_lex.specs.Tokens.{end_token}
+use Rattle.gms_grammar.specs.declared.terminal.Terminal.{Terminal}
+use Rattle.gms_grammar.specs.declared.terminal.Terminal.TheVariants.{End}
+use Rattle.gms_grammar.specs.Grammar.{the, DerivationTree, leaf, pair, more, node, yield, IsTree}
+use Rattle.gms_grammar.specs.GamsGrammar.{Program, productions}
+use Rattle.gms_expressions.specs.Outcomes.{kinded_tokens}
+
+-- the joint source: the saved source, a line end, a line with `;`, and the file
+abbrev pub joint_source : List ℕ → List ℕ → List ℕ
+joint_source saved file = saved ++ (10 ∷ 59 ∷ 10 ∷ file)
+
+-- the line of a joint source at which the file begins
+abbrev pub first_line : List ℕ → ℕ
+first_line saved = length (filter (λ byte. byte == 10) saved) + 3
+
+-- The tokens of a joint source are those of the saved source without its end, line ends that are
+-- tokens, a `;`, and others, which begin where the file does or below.
+pub record HaveFront (saved : List ℕ) (tokens joint : List Token) : Type 0 where
+  pub own : List Token
+  pub tokens_are : tokens ≡ own ++ end_token saved ∷ []
+  pub ends : List Token
+  pub semicolon : Token
+  pub others : List Token
+  pub joint_are : joint ≡ own ++ ends ++ semicolon ∷ others
+  pub are_ends : All (λ (token : Token). token.kind ≡ Break) ends
+  pub is_semicolon : semicolon.kind ≡ Symbol Semicolon
+  pub below : All (λ (token : Token). length saved + 3 ≤ token.start) others
+
+-- The tokens of a source are those of a program, which this tree derives, and the end.
+pub record DerivesSource (source : List ℕ) (tokens : List Token) (tree : DerivationTree (Terminal × Token)) : Type 0 where
+  pub end : Token
+  pub is_tree : IsTree productions (the Program) tree
+  pub yields : kinded_tokens source tokens ≡ yield tree ++ (End, end) ∷ []
+
+-- semicolons with what follows each, and more of them
+abbrev pub attach : {T : Type 0} → DerivationTree T → DerivationTree T → DerivationTree T
+attach (more first others) tree = more first (attach others tree)
+attach _ tree = tree
+
+-- The derivation of a program begins with that of another: the same segments, of which each except
+-- the first follows a `;`, are followed by a `;` and more of them.
+pub record BeginsWith (whole first : DerivationTree (Terminal × Token)) : Type 0 where
+  pub segment : DerivationTree (Terminal × Token)
+  pub others : DerivationTree (Terminal × Token)
+  pub first_is : first ≡ node (pair segment others)
+  pub semicolon : Terminal × Token
+  pub next : DerivationTree (Terminal × Token)
+  pub last : DerivationTree (Terminal × Token)
+  pub whole_is : whole ≡ node (pair segment (attach others (more (pair (leaf semicolon) next) last)))

@@ -1,0 +1,14 @@
+//! Laws of programs of joint sources.
+ghost use Rattle.std.specs.Prelude.{ℕ, List};
+ghost use Rattle.gms_parse.specs.Outcomes.{ProgramView, HasProgram};
+ghost use Rattle.gms_joint_source.specs.Fronts.{joint_source};
+ghost use Rattle.gms_joint_source.specs.Programs.{IsProgramPrefix};
+
+/// If a saved source and a joint source are programs, the joint program begins with the saved one.
+/// Its names and labels are those of the saved program, perhaps followed by more, so that each
+/// saved name and label has the same number in both. Its statements are those of the saved program
+/// followed by others, whatever the saved source ends in (GAMS User's Guide, "Save and Restart").
+pub fn joint_program_laws()
+    ensures front { (limit : ℕ) (saved file : List ℕ) (first whole : ProgramView) →
+        HasProgram limit saved first → HasProgram limit (joint_source saved file) whole → IsProgramPrefix first whole }
+{}

@@ -1,0 +1,30 @@
+//! Laws of joint sources.
+ghost use Rattle.std.specs.Prelude.{◌≡◌, ℕ, List, [], ◌++◌};
+ghost use Rattle.gms_lines.specs.Lines.{code_text};
+ghost use Rattle.gms_lex.specs.declared.token.Token.{Token};
+ghost use Rattle.gms_lex.specs.Tokens.{IsTokens};
+ghost use Rattle.gms_grammar.specs.declared.terminal.Terminal.{Terminal};
+ghost use Rattle.gms_grammar.specs.Grammar.{DerivationTree};
+ghost use Rattle.gms_expressions.specs.Outcomes.{kinded_tokens};
+ghost use Rattle.gms_joint_source.specs.Fronts.{joint_source, HaveFront, DerivesSource, BeginsWith};
+
+/// A joint source begins as its saved source does, whatever that ends in: a table, a comment, a
+/// list of data, or a statement without its `;` (GAMS User's Guide, "Save and Restart", "GAMS
+/// Programs").
+///
+/// Its tokens begin with those of the saved source, which are the same to the grammar in both, and
+/// a `;` follows them. If the saved source ends within a list of data, line ends may precede the
+/// `;` as tokens; if it is a program, there are none. If both are programs, the derivation of the
+/// joint source begins with that of the saved source.
+pub fn joint_token_laws()
+    ensures tokens { (saved file : List ℕ) (tokens joint : List Token) →
+        IsTokens saved tokens → IsTokens (joint_source saved file) joint → HaveFront saved tokens joint }
+    ensures seen { (saved file : List ℕ) (tokens joint : List Token) → IsTokens saved tokens →
+        (front : HaveFront saved tokens joint) → kinded_tokens (joint_source saved file) front.own ≡ kinded_tokens saved front.own }
+    ensures no_ends { (saved file : List ℕ) (tokens joint : List Token) (tree : DerivationTree (Terminal × Token)) →
+        IsTokens saved tokens → IsTokens (joint_source saved file) joint → DerivesSource saved tokens tree →
+        (front : HaveFront saved tokens joint) → front.ends ≡ [] }
+    ensures derivation { (saved file : List ℕ) (tokens joint : List Token) (first whole : DerivationTree (Terminal × Token)) →
+        IsTokens saved tokens → IsTokens (joint_source saved file) joint →
+        DerivesSource saved tokens first → DerivesSource (joint_source saved file) joint whole → BeginsWith whole first }
+{}

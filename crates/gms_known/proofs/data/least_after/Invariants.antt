@@ -1,6 +1,0 @@
-use Rattle.std.proofs.Common.{◌≡◌, drop}
-use Rattle.gms_known.specs.Data.{least_after}
-use Rattle.gms_known.proofs.data.least_after.Given as goal
-
-abbrev pub invariant-loop-label : goal.invariant-loop-label
-invariant-loop-label l = least_after l.least (drop l.label-index l.labels) ≡ least_after l.fn.least l.labels

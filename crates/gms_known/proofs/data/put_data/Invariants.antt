@@ -1,6 +1,0 @@
-use Rattle.std.proofs.Common.{◌≡◌, take}
-use Rattle.gms_known.specs.Data.{given_to}
-use Rattle.gms_known.proofs.data.put_data.Given as goal
-
-abbrev pub invariant-loop-tuple : goal.invariant-loop-tuple
-invariant-loop-tuple g l = l.store ≡ given_to g.F.ExactField.value l.name l.fn.store (take l.tuple-index l.given)

@@ -1,3 +1,0 @@
-pub mod ColumnLemmas
-pub mod StretchLemmas
-pub mod WithinLemmas

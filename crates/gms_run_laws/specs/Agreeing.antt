@@ -1,0 +1,57 @@
+-- States of which one has all that another declares, and runs of the same statements from both
+-- (GAMS User's Guide, "Save and Restart").
+use Rattle.std.specs.Prelude.{◌≡◌, ◌≤◌, ◌+◌, ℕ, Bool, true, not, List, [], ◌∷◌, ◌++◌, length, flat_map}
+use Rattle.gq_number.specs.Number.{Number}
+use Rattle.gms_ast.specs.declared.program.Stmt.{Stmt}
+use Rattle.gms_store.specs.Declarations.{is_undeclared}
+use Rattle.gms_store.specs.Overlays.{overlaid}
+use Rattle.gms_store.specs.State.{State, base_of, symbol_at, symbol_of}
+use Rattle.gms_rows.specs.ModelPoints.{definitions_of_model}
+use Rattle.gms_exec.specs.Run.{Course, World}
+use Rattle.lp_core.specs.declared.answer.Answer.{Answer}
+use Rattle.gms_run_laws.specs.Names.{Each, models_solved, statement_names}
+
+-- Names that pass a test have the same symbols in two states, and so have the sets that they stand
+-- for.
+pub record AgreeOn (test : ℕ → Bool) (one other : State) : Type 0 where
+  pub own : (n : ℕ) → test n ≡ true → symbol_at other n ≡ symbol_at one n
+  pub stands : (n : ℕ) → test n ≡ true → symbol_of other n ≡ symbol_of one n
+
+-- whether a state declares a name
+abbrev pub declares : State → ℕ → Bool
+declares state name = not (is_undeclared (symbol_at state name).content)
+
+-- What each declared name of a state stands for is declared too.
+abbrev pub IsClosed : State → Type 0
+IsClosed state = (n : ℕ) → declares state n ≡ true → declares state (base_of state n) ≡ true
+
+-- A state has all names of another, and what the other declares is the same in both; so are the
+-- settings.
+pub record HasAll (state other : State) : Type 0 where
+  pub many : length other.symbols ≤ length state.symbols
+  pub same : overlaid state other ≡ state
+
+-- Statements name only what a state declares, also in the definitions of the models that they solve
+-- in a world.
+abbrev pub NameDeclared : {F : Type 0} → World F → State → List (Stmt F) → Type 0
+NameDeclared world state statements = Each (declares state) (flat_map (statement_names world) statements)
+
+-- models have the same definitions in two lists of statements
+abbrev pub DefineAlike : {F : Type 0} → List (Stmt F) → List (Stmt F) → List ℕ → Type 0
+DefineAlike statements others [] = Unit {0}
+DefineAlike statements others (model ∷ models) =
+    (definitions_of_model others model ≡ definitions_of_model statements model) × DefineAlike statements others models
+
+-- The models that statements solve have the same definitions in two worlds, which have the same
+-- solvers.
+pub record SolveAlike {F : Type 0} (world other : World F) (statements : List (Stmt F)) : Type 0 where
+  pub solvers : other.solvers ≡ world.solvers
+  pub models : DefineAlike world.program.statements.items other.program.statements.items (flat_map models_solved statements)
+
+-- A run ends where another run with `count` answers ends: its state has all of the other's, and
+-- other names are unchanged; its remaining answers are the other's, followed by these.
+pub record EndsAlike (state : State) (behind : List (Answer Number)) (count : ℕ) (course other : Course) : Type 0 where
+  pub ends : other.state ≡ overlaid state course.state
+  pub left : other.left ≡ course.left ++ behind
+  pub taken : other.taken ≡ course.taken
+  pub total : course.taken + length course.left ≡ count

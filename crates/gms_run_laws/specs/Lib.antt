@@ -1,0 +1,7 @@
+pub mod Agreeing
+pub mod Names
+pub mod JointRun
+pub mod Labels
+pub mod LastStates
+pub mod Reached
+pub mod GoingOn

@@ -1,0 +1,45 @@
+//! What the runs of the same statements in two states and two worlds have in common.
+ghost use Rattle.std.specs.Prelude.{◌≡◌, ◌++◌, ℕ, Bool, List, length, None};
+ghost use Rattle.gq_number.specs.Number.{Number};
+ghost use Rattle.gms_ast.specs.declared.program.Stmt.{Stmt};
+ghost use Rattle.gms_ast.specs.Trees.{Tree};
+ghost use Rattle.gms_labels.specs.declared.place.Place.{Place};
+ghost use Rattle.gms_store.specs.State.{State};
+ghost use Rattle.gms_eval.specs.Bindings.{Pairs};
+ghost use Rattle.gms_eval.specs.Value.{value};
+ghost use Rattle.gms_rows.specs.Affine.{affine};
+ghost use Rattle.gms_exec.specs.Run.{World, run_from};
+ghost use Rattle.gms_run_laws.specs.Agreeing.{AgreeOn, EndsAlike, HasAll, IsClosed, NameDeclared, SolveAlike};
+ghost use Rattle.gms_run_laws.specs.Names.{Each, names_in_tree};
+ghost use Rattle.lp_core.specs.declared.answer.Answer.{Answer};
+
+use gq_field::ExactField;
+
+/// The meaning of an expression depends on the names in it alone. In two states in which each of
+/// them is the same it has the same value under every binding, or the same fault; and the same
+/// form, if it is linear in the variables.
+///
+/// GAMS User's Guide, "Data Manipulations with Parameters", "Equations".
+pub fn value_laws<F: ExactField>()
+    ensures value { (test : ℕ → Bool) (one other : State) (e : Tree F) (binding : Pairs) →
+        AgreeOn test one other → Each test (names_in_tree e) → value F.value F.limit other binding e ≡ value F.value F.limit one binding e }
+    ensures form { (test : ℕ → Bool) (one other : State) (e : Tree F) (at : Place) (binding : Pairs) →
+        AgreeOn test one other → Each test (names_in_tree e) → affine F.value F.limit other at binding e ≡ affine F.value F.limit one at binding e }
+{}
+
+/// Statements that name only what a state declares do the same in each state that has all of it, if
+/// the state is closed (an alias stands for a declared set), and if the solvers and the definitions
+/// of the models that they solve are the same; they change no other name. If both runs of them end,
+/// the second ends in the state that it began with, overlaid with the state in which the first
+/// ends; it took as many answers; and its remaining answers are those of the first run, followed by
+/// the answers that it had in addition.
+///
+/// GAMS User's Guide, "Save and Restart", "GAMS Programs".
+pub fn frame_laws<F: ExactField>()
+    ensures { (world other : World F) (first state : State) (answers behind : List (Answer Number)) (statements : List (Stmt F)) →
+        SolveAlike world other statements → NameDeclared world first statements → IsClosed first → HasAll state first →
+        (run_from F.value F.limit world first answers statements).halted ≡ None →
+        (run_from F.value F.limit other state (answers ++ behind) statements).halted ≡ None →
+        EndsAlike state behind (length answers) (run_from F.value F.limit world first answers statements)
+        (run_from F.value F.limit other state (answers ++ behind) statements) }
+{}

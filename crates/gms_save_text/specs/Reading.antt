@@ -1,0 +1,101 @@
+-- What readers find in good texts. A reader may accept other texts too: what was read is written
+-- again, and compared with the text.
+use Rattle.std.specs.Prelude.{◌≡◌, ◌≢◌, ◌⊎◌, codes, ℕ, ◌<◌, ◌≤◌, ◌^◌, not, ◌==◌, true, List, [], ◌∷◌, ◌++◌, length, MatchOption, Option, None, Some, Result, Ok, Err}
+use Rattle.std.specs.Borrow.{Bor}
+use Rattle.std.specs.List.{fold, prefix_len, AllByRecursion}
+use Rattle.gms_store.specs.declared.kind.SymbolKind.{SymbolKind}
+use Rattle.gms_store.specs.declared.kind.SymbolKind.TheVariants as kind
+use Rattle.gms_store.specs.declared.settings.Settings.{Settings}
+use Rattle.gms_store.specs.State.{Content, set_of, parameter_of, variable_of, equation_of, Symbol, State, after_membership, after_value, after_attributes, value_in, attributes_in, given_in, differs_in, statuses_in, fits_at}
+use Rattle.gms_tuple.specs.TupleOrder.{IsOrdered}
+use Rattle.gms_save_text.specs.declared.fault.ReadFault.{ReadFault}
+use Rattle.gms_save_text.specs.declared.fault.ReadFault.TheVariants.{Memory, Shape}
+use Rattle.gms_save_text.specs.Validity.{emptied}
+
+-- no byte of a text is this one
+abbrev pub HasNone : ℕ → List ℕ → Type 0
+HasNone byte [] = Unit {0}
+HasNone byte (b ∷ bs) = (b ≢ byte) × HasNone byte bs
+
+-- how many bytes a text has before the first of these bytes
+abbrev pub bytes_before : ℕ → List ℕ → ℕ
+bytes_before byte text = prefix_len (λ other. not (other == byte)) text
+
+-- what a reader finds has a property; out of memory makes no claim, and there is no other error
+abbrev pub Finds : {A : Type 0} → Result A ReadFault → (A → Type 0) → Type 0
+Finds (Ok x) Is = Is x
+Finds (Err Memory) Is = Unit {0}
+Finds (Err Shape) Is = ⊥
+
+-- the rest of a text after a piece: none if there was none before, or if the text does not begin
+-- with the piece
+abbrev pub IsPast : List ℕ → Option (Bor (List ℕ)) → Option (Bor (List ℕ)) → Type 0
+IsPast piece None left = left ≡ None
+IsPast piece (Some text) left = MatchOption left ((rest : List ℕ) → text.now ≢ piece ++ rest) (λ rest. text.now ≡ piece ++ rest.now)
+
+-- the word for no bound: -INF or +INF
+abbrev pub IsWordForNone : List ℕ → Type 0
+IsWordForNone word = (word ≡ codes "-INF") ⊎ (word ≡ codes "+INF")
+
+-- ---- entries
+
+-- a tuple that can be read: it has `arity` labels, at most 10, and each is below 2^32
+pub record IsReadableTuple (arity : ℕ) (t : List ℕ) : Type 0 where
+  pub count : length t ≡ arity
+  pub few : arity ≤ 10
+  pub small : AllByRecursion (λ label. label < 2 ^ 32) t
+
+-- an entry that can be read: its tuple can, its numbers fit, and it differs from an absent one
+pub record IsReadable (limit arity : ℕ) (content : Content) (t : List ℕ) : Type 0 where
+  pub tuple : IsReadableTuple arity t
+  pub fit : fits_at limit content t ≡ true
+  pub differs : differs_in content t ≡ true
+
+-- a content is of this kind, and has entries
+abbrev pub HasEntriesOfKind : SymbolKind → Content → Type 0
+HasEntriesOfKind kind.Set (set_of members) = Unit {0}
+HasEntriesOfKind kind.Parameter (parameter_of entries) = Unit {0}
+HasEntriesOfKind kind.Variable (variable_of type entries) = Unit {0}
+HasEntriesOfKind kind.Equation (equation_of entries) = Unit {0}
+HasEntriesOfKind kind content = ⊥
+
+-- the word before a name of this kind, with a blank after it
+abbrev pub kind_word : SymbolKind → List ℕ
+kind_word kind.Set = codes "set "
+kind_word kind.Parameter = codes "parameter "
+kind_word kind.Variable = codes "variable "
+kind_word kind.Equation = codes "equation "
+kind_word kind.Model = codes "model "
+kind_word kind.Undeclared = []
+
+-- the state after the entry of a content at a tuple was written at a name
+abbrev pub after_entry : State → ℕ → Content → List ℕ → State
+after_entry state name (set_of members) t = after_membership state name t true
+after_entry state name (parameter_of entries) t = after_value state name t (value_in (parameter_of entries) t)
+after_entry state name content t = after_attributes state name t (attributes_in content t)
+
+-- the same at tuples in sequence
+abbrev pub filled : State → ℕ → Content → List (List ℕ) → State
+filled state name content tuples = fold (λ state t. after_entry state name content t) state tuples
+
+-- ---- names
+
+-- A content that can be read at a name: the name is declared so, without data; the content's
+-- entries are in order, and each can be read.
+pub record IsReadablePart (limit : ℕ) (symbol : Symbol) (content : Content) : Type 0 where
+  pub declared : symbol.content ≡ emptied content
+  pub ordered : IsOrdered (given_in content)
+  pub entries : AllByRecursion (IsReadable limit (length symbol.domain) content) (given_in content)
+  -- its statuses fit into a byte
+  pub model : (statuses_in content).0 < 2 ^ 8
+  pub solver : (statuses_in content).1 < 2 ^ 8
+
+-- the symbols of a state can be read at the names of another
+abbrev pub AreReadable : ℕ → List Symbol → List Symbol → Type 0
+AreReadable limit [] [] = Unit {0}
+AreReadable limit (declared ∷ names) (symbol ∷ symbols) = (declared.domain ≡ symbol.domain) × IsReadablePart limit declared symbol.content × AreReadable limit names symbols
+AreReadable limit names symbols = ⊥
+
+-- the settings with the first solver
+abbrev pub unplaced : Settings → Settings
+unplaced settings = record settings { solver = 0 }

@@ -1,0 +1,87 @@
+-- Which states are saved ones of what a program declares (GAMS User's Guide, "Save and Restart",
+-- "Set Definition", "Variables", "The Option Statement"). These checks of a saved state are this
+-- project's own rule.
+use Rattle.std.specs.Prelude.{◌≡◌, ℕ, ◌≤◌, Bool, true, false, ◌&&◌, ◌||◌, ◌==◌, nat_lt, nat_le, List, [], ◌∷◌, length, map, Option, Some, None, All}
+use Rattle.std.specs.List.{list_all, list_any}
+use Rattle.std.specs.Char.{is_ascii_alphabetic, is_ascii_alphanumeric}
+use Rattle.std.specs.FinMap as finite
+use Rattle.gms_tuple.specs.TupleOrder.{IsOrdered}
+use Rattle.gms_tuple.specs.TupleSet.{has}
+use Rattle.gms_store.specs.declared.settings.Settings.{Settings}
+use Rattle.gms_store.specs.Statuses.{all_statuses, model_number, solver_number}
+use Rattle.gms_store.specs.State.{Content, set_of, parameter_of, variable_of, equation_of, model_with, Symbol, State, symbol_at, with_content, given_in, differs_in, fits_at, members_of, members_in, statuses_in}
+
+-- ---- what is declared
+
+-- a content without data
+abbrev pub emptied : Content → Content
+emptied (set_of members) = set_of []
+emptied (parameter_of entries) = parameter_of finite.empty
+emptied (variable_of type entries) = variable_of type finite.empty
+emptied (equation_of entries) = equation_of finite.empty
+emptied (model_with model solver) = model_with 0 0
+emptied content = content
+
+-- the symbols of a state without data: what each name is declared as, the sets of its positions,
+-- the types of variables and the bases of aliases
+abbrev pub declared_symbols : State → List Symbol
+declared_symbols state = map (λ (symbol : Symbol). with_content symbol (emptied symbol.content)) state.symbols
+
+-- ---- tuples
+
+-- whether a label fits a position: it is a member of the position's set, if it has one
+abbrev pub stands_at : State → Option ℕ → ℕ → Bool
+stands_at state None label = true
+stands_at state (Some set) label = has (members_of state set) (label ∷ [])
+
+-- whether the labels of a tuple are below `labels`, and each fits its position; positions and
+-- labels are equally many
+abbrev pub stands_in : ℕ → State → List (Option ℕ) → List ℕ → Bool
+stands_in labels state [] [] = true
+stands_in labels state (set ∷ domain) (label ∷ tuple) = nat_lt label labels && (stands_at state set label && stands_in labels state domain tuple)
+stands_in labels state domain tuple = false
+
+-- ---- statuses, settings, solvers
+
+-- whether two statuses are those of a model before a solve, or after one
+abbrev pub are_statuses : ℕ → ℕ → Bool
+are_statuses model solver = list_any (λ status. model_number status == model && solver_number status == solver) all_statuses
+
+-- whether settings are in the ranges that their options allow
+abbrev pub are_in_range : Settings → Bool
+are_in_range settings =
+    nat_le settings.limrow 2147483647 && (nat_le settings.limcol 2147483647 && (nat_le settings.iterlim 2147483647 && nat_le settings.decimals 8))
+
+-- whether a byte may occur in the name of a solver: a letter, a digit or `_`
+abbrev pub is_solver_byte : ℕ → Bool
+is_solver_byte byte = is_ascii_alphanumeric byte || byte == 95
+
+-- whether a text is the name of a solver, or `none`: a letter, and at most 62 letters, digits and
+-- `_` after it
+abbrev pub is_solver_name : List ℕ → Bool
+is_solver_name [] = false
+is_solver_name (first ∷ rest) = is_ascii_alphabetic first && (list_all is_solver_byte rest && nat_le (length rest) 62)
+
+-- ---- names
+
+-- The tuples with data of a name are in order and in its domain; their numbers fit; they are those
+-- whose entry differs from an absent one; and a model has statuses.
+pub record IsGivenWell (limit labels : ℕ) (state : State) (symbol : Symbol) : Type 0 where
+  pub ordered : IsOrdered (given_in symbol.content)
+  -- a tuple has at most 10 labels
+  pub few : All (λ t. length t ≤ 10) (given_in symbol.content)
+  pub stand : All (λ t. stands_in labels state symbol.domain t ≡ true) (given_in symbol.content)
+  pub fit : (t : List ℕ) → fits_at limit symbol.content t ≡ true
+  pub differs : (t : List ℕ) → has (given_in symbol.content) t ≡ differs_in symbol.content t
+  pub statuses : are_statuses (statuses_in symbol.content).0 (statuses_in symbol.content).1 ≡ true
+
+-- A state is a saved one of a program with these declarations, `labels` labels and these assigned
+-- sets, whose data give the other sets their members. It declares the same, each name has only
+-- valid data, the members of a set that is not assigned are those of the data, and the settings and
+-- the name of the solver are possible ones.
+pub record IsSavedOf (limit labels : ℕ) (declared loaded : State) (assigned : ℕ → Bool) (state : State) (solver : List ℕ) : Type 0 where
+  pub declares : declared_symbols state ≡ declared_symbols declared
+  pub given : (name : ℕ) → IsGivenWell limit labels state (symbol_at state name)
+  pub static : (name : ℕ) → assigned name ≡ false → members_in (symbol_at state name).content ≡ members_in (symbol_at loaded name).content
+  pub ranges : are_in_range state.settings ≡ true
+  pub named : is_solver_name solver ≡ true

@@ -1,0 +1,79 @@
+//! Reading the entries of a name into a state.
+ghost use Rattle.std.specs.Prelude.{◌≡◌, ◌++◌, ℕ, List, length, flat_map, OnOk};
+ghost use Rattle.std.specs.List.{AllByRecursion};
+ghost use Rattle.gms_store.specs.State.{Content};
+ghost use Rattle.gms_save_text.specs.SavedState.{entry_line};
+ghost use Rattle.gms_save_text.specs.Validity.{declared_symbols};
+ghost use Rattle.gms_save_text.specs.Reading.{Finds, HasEntriesOfKind, IsReadable, after_entry, filled};
+
+use crate::fault::ReadFault;
+use crate::reading::{strip, tuple_at};
+use crate::values::{attributes_line, value_line};
+use gms_store::{Store, SymbolKind};
+use gq_field::ExactField;
+use std::alloc::Global;
+
+/// A name of which entries are read: its number, its kind, and how many positions it has.
+#[derive(Clone, Copy)]
+pub(crate) struct Named {
+    /// Its number.
+    pub name: u32,
+    /// What it is declared as.
+    pub kind: SymbolKind,
+    /// How many positions it has.
+    pub arity: usize,
+}
+
+/// Writes the entry of the first line of a text into a state, and answers the text after it.
+fn read_entry<'t, F: ExactField>(
+    alloc: Global,
+    store: &mut Store<F>,
+    named: Named,
+    text: &'t [u8],
+) -> Result<&'t [u8], ReadFault>
+    ensures entry { (content : Content) (t rest : List ℕ) → HasEntriesOfKind named.kind content → IsReadable F.limit named.arity content t →
+        text.now ≡ entry_line content t ++ rest →
+        Finds result (λ r. (r.now ≡ rest) × (store.new ≡ after_entry store.old named.name content t)) }
+    ensures declared { OnOk result (declared_symbols store.new ≡ declared_symbols store.old) }
+{
+    let (tuple, behind) = tuple_at(alloc, text, named.arity)?;
+    match named.kind {
+        SymbolKind::Set => {
+            let rest = strip(behind, b".\n")?;
+            store.set_member(alloc, named.name, &tuple, true)?;
+            Ok(rest)
+        }
+        SymbolKind::Parameter => {
+            let (value, rest) = value_line(behind)?;
+            store.put(alloc, named.name, &tuple, value)?;
+            Ok(rest)
+        }
+        _ => {
+            let (attributes, rest) = attributes_line(behind)?;
+            store.put_attributes(alloc, named.name, &tuple, attributes)?;
+            Ok(rest)
+        }
+    }
+}
+
+/// Writes the entries of the first `count` lines of a text into a state, and answers the text after
+/// them.
+pub(crate) fn read_entries<'t, F: ExactField>(
+    alloc: Global,
+    store: &mut Store<F>,
+    named: Named,
+    count: usize,
+    text: &'t [u8],
+) -> Result<&'t [u8], ReadFault>
+    ensures entries { (content : Content) (tuples : List (List ℕ)) (rest : List ℕ) → HasEntriesOfKind named.kind content →
+        AllByRecursion (IsReadable F.limit named.arity content) tuples → length tuples ≡ count →
+        text.now ≡ flat_map (entry_line content) tuples ++ rest →
+        Finds result (λ r. (r.now ≡ rest) × (store.new ≡ filled store.old named.name content tuples)) }
+    ensures declared { OnOk result (declared_symbols store.new ≡ declared_symbols store.old) }
+{
+    let mut left = text;
+    for _entry in 0..count {
+        left = read_entry(alloc, store, named, left)?;
+    }
+    Ok(left)
+}

@@ -1,6 +1,0 @@
-use Rattle.std.proofs.Common.{◌∙◌, sym}
-use Rattle.gms_saved.proofs.Standings.{member_at}
-use Rattle.gms_saved.proofs.validity.is_near.Goals as goal
-
-pub returns : goal.returns
-returns c = λ same. member_at c.args.members.now _ _ c.args.tuple.now c.get-2.ensures (sym c.eq.ensures ∙ same)

@@ -1,0 +1,64 @@
+-- How the models that are declared are stored.
+use Rattle.std.specs.Prelude.{◌≡◌, ◌<◌, ◌≤◌, ℕ, suc, zero, Bool, true, false, ◌==◌, List, [], ◌∷◌, length, map, take, slice_index_or, if◌then◌else◌}
+use Rattle.std.specs.List.{list_any}
+use Rattle.gms_scope.specs.declared.model.Equations.{Equations}
+use Rattle.gms_scope.specs.declared.model.Equations.TheVariants.{All, Listed}
+use Rattle.gms_scope.specs.declared.model.Model.{Model}
+use Rattle.gms_scope.specs.declared.model.Models.{Models}
+use Rattle.gms_scope.specs.Facts.{is_missing}
+use Rattle.gms_scope.specs.Order.{order_of}
+
+-- the equations of a model, where `declared` are all that are declared
+abbrev pub equations_within : List ℕ → Equations → List ℕ
+equations_within declared (All count) = take count declared
+equations_within declared (Listed equations) = equations.items
+
+-- the names of models
+abbrev pub model_names : List Model → List ℕ
+model_names models = map (λ (model : Model). model.name) models
+
+-- the model at a place; past the last one a model without equations
+abbrev pub model_at : List Model → ℕ → Model
+model_at models place = slice_index_or models place (record { name = 0; equations = All 0; defined = 0 })
+
+-- a model with another count of defined equations
+abbrev pub recounted : Model → ℕ → Model
+recounted model count = record { name = model.name; equations = model.equations; defined = count }
+
+-- the models with their equations, where `declared` are all that are declared
+abbrev pub models_within : List ℕ → List Model → List (ℕ × List ℕ)
+models_within declared models = map (λ (model : Model). (model.name, equations_within declared model.equations)) models
+
+-- the models with their equations
+abbrev pub models_in : Models → List (ℕ × List ℕ)
+models_in models = models_within models.equations.items models.models.items
+
+-- the first `count` declared equations exist
+abbrev pub AreEquationsDeclared : List ℕ → Equations → Type 0
+AreEquationsDeclared declared (All count) = count ≤ length declared
+AreEquationsDeclared declared (Listed equations) = Unit {0}
+
+-- each model's equations exist
+abbrev pub AreAllThere : List ℕ → List Model → Type 0
+AreAllThere declared [] = Unit {0}
+AreAllThere declared (model ∷ models) = AreEquationsDeclared declared model.equations × AreAllThere declared models
+
+-- each name's first place is stored, and the equations of models exist
+pub record AreModelsListed (models : Models) : Type 0 where
+  pub places : (name : ℕ) → slice_index_or models.places.items name 0 ≡ order_of (model_names models.models.items) name
+  pub there : AreAllThere models.equations.items models.models.items
+
+-- the first `model.defined` equations of a model are defined
+pub record IsCountedModel (defined : List Bool) (declared : List ℕ) (model : Model) : Type 0 where
+  pub most : model.defined ≤ length (equations_within declared model.equations)
+  pub known : list_any (is_missing defined) (take model.defined (equations_within declared model.equations)) ≡ false
+
+-- the counts of these models are right
+abbrev pub AreCounted : List Bool → List ℕ → List Model → Type 0
+AreCounted defined declared [] = Unit {0}
+AreCounted defined declared (model ∷ models) =
+    IsCountedModel defined declared model × AreCounted defined declared models
+
+-- the counts of all models are right
+abbrev pub AreModelsCounted : List Bool → Models → Type 0
+AreModelsCounted defined models = AreCounted defined models.equations.items models.models.items

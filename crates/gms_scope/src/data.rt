@@ -1,0 +1,144 @@
+//! The data of a declaration: the positions for which they are given, and the order of their
+//! labels.
+ghost use Rattle.std.specs.Prelude.{◌≡◌, ℕ, List, true, flat_map, length, IfOk, OnOk};
+ghost use Rattle.gms_tuple.specs.TupleSet.{has};
+ghost use Rattle.gms_store.specs.State.{given_of, symbol_of};
+ghost use Rattle.gms_store.specs.Declarations.{names_of, positions_of};
+ghost use Rattle.gms_scope.specs.Data.{with_no_data, given_to, is_ascending, labels_of_items, least_after};
+
+use gms_ast::{DeclKind, Item, Named, Sequence};
+use gms_store::Store;
+use gms_tuple::Tuple;
+use gq_extended::Ext;
+use gq_field::ExactField;
+use std::alloc::{AllocError, Global};
+
+/// Elements with their values.
+pub type Data<F> = Vec<(Tuple, Option<Ext<F>>)>;
+
+/// The set of each position of a name that is declared: a set has one position, of any label, if
+/// none is written (GAMS User's Guide, "Set Definition").
+pub fn positions(
+    alloc: Global,
+    kind: DeclKind,
+    domain: &[Option<Named>],
+) -> Result<Vec<Option<u32>>, AllocError>
+    ensures { IfOk result (λ positions. positions.items ≡ positions_of kind (names_of domain.now)) }
+{
+    if kind != DeclKind::Set || !domain.is_empty() {
+        return names(alloc, domain);
+    }
+    let mut positions = Vec::new(alloc);
+    positions.push(None)?;
+    Ok(positions)
+}
+
+/// The sets of a domain, by the numbers of their names.
+fn names(alloc: Global, domain: &[Option<Named>]) -> Result<Vec<Option<u32>>, AllocError>
+    ensures { IfOk result (λ sets. sets.items ≡ names_of domain.now) }
+{
+    let mut sets = Vec::new(alloc);
+    for position in domain {
+        sets.push(position.map(|named| named.name))?;
+    }
+    Ok(sets)
+}
+
+/// Puts the data of a name into a state: a set gets the elements, a parameter the values at them
+/// (GAMS User's Guide, "Data Entry: Parameters, Scalars and Tables").
+pub fn put_data<F: ExactField>(
+    alloc: Global,
+    store: &mut Store<F>,
+    name: u32,
+    given: &[(Tuple, Option<Ext<F>>)],
+) -> Result<(), AllocError>
+    ensures { OnOk result (store.new ≡ given_to F.value name store.old given.now) }
+{
+    for (tuple, value) in given {
+        match value {
+            Some(value) => store.put(alloc, name, tuple, *value)?,
+            None => store.set_member(alloc, name, tuple, true)?,
+        }
+    }
+    Ok(())
+}
+
+/// Removes all data of a name from a state.
+pub(crate) fn take_out_data<F: ExactField>(
+    alloc: Global,
+    store: &mut Store<F>,
+    name: u32,
+) -> Result<(), AllocError>
+    ensures { OnOk result (store.new ≡ with_no_data store.old name) }
+{
+    let tuples = given_tuples(alloc, store, name)?;
+    for tuple in &tuples {
+        store.set_member(alloc, name, tuple, false)?;
+        store.put(alloc, name, tuple, Ext::Number(F::zero()))?;
+    }
+    Ok(())
+}
+
+/// The tuples with data of a name.
+fn given_tuples<F: ExactField>(
+    alloc: Global,
+    store: &Store<F>,
+    name: u32,
+) -> Result<Vec<Tuple>, AllocError>
+    ensures given { IfOk result (λ tuples. tuples.items ≡ given_of store.now name) }
+    ensures arity { (t : List ℕ) → has (given_of store.now name) t ≡ true → length t ≡ length (symbol_of store.now name).domain }
+{
+    let given = store.given(name);
+    let mut tuples = Vec::new(alloc);
+    for place in 0..given.len() {
+        let tuple = given.get(place).copy(alloc)?;
+        tuples.push(tuple)?;
+    }
+    Ok(tuples)
+}
+
+/// Whether the labels of items ascend, in the order in which they are written, ranges written out
+/// (GAMS User's Guide, "Sets as Sequences: Ordered Sets").
+pub fn are_ascending<F>(items: &[Item<F>]) -> bool
+    ensures { result ≡ is_ascending (labels_of_items items.now) }
+{
+    let mut least = 0;
+    for item in items {
+        match least_after_parts(least, item.parts.as_slice()) {
+            Some(next) => least = next,
+            None => return false,
+        }
+    }
+    true
+}
+
+/// The least number that may follow the labels of some parts that ascend from a least number;
+/// `None` if they do not ascend.
+fn least_after_parts(least: u64, parts: &[Sequence<u32>]) -> Option<u64>
+    ensures { result ≡ least_after least (flat_map (λ labels. labels) parts.now) }
+{
+    let mut least = least;
+    for part in parts {
+        match least_after(least, part.as_slice()) {
+            Some(next) => least = next,
+            None => return None,
+        }
+    }
+    Some(least)
+}
+
+/// The least number that may follow some labels that ascend from a least number; `None` if they do
+/// not ascend.
+fn least_after(least: u64, labels: &[u32]) -> Option<u64>
+    ensures { result ≡ least_after least labels.now }
+{
+    let mut least = least;
+    for label in labels {
+        let label = u64::from(*label);
+        if label < least {
+            return None;
+        }
+        least = label + 1;
+    }
+    Some(least)
+}

@@ -1,5 +1,0 @@
-use Rattle.lp_exact.proofs.Greatest.{BestOf}
-use Rattle.lp_exact.proofs.coefficients.greatest_above.Given as goal
-
-abbrev pub invariant-loop-entry : goal.invariant-loop-entry
-invariant-loop-entry g l = BestOf g.F.ExactField.value l.row l.entry-index l.best

@@ -1,9 +1,0 @@
-use Rattle.std.proofs.Common.{length}
-use Rattle.lp_exact.proofs.Rows.{Searched}
-use Rattle.lp_exact.proofs.row.number_at.Given as goal
-
-abbrev pub invariant-loop-entry : goal.invariant-loop-entry
-invariant-loop-entry g l = Searched g.F.ExactField.value l.row l.rest l.column
-
-abbrev pub decreases-loop-entry : goal.decreases-loop-entry
-decreases-loop-entry g l = length l.rest

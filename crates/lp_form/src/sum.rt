@@ -1,0 +1,168 @@
+//! A sum of affine forms and the calls on it.
+ghost use Rattle.std.specs.Prelude.{◌≡◌, [], pos, length, IfOk, IfErr, OnOk};
+ghost use Rattle.std.specs.Result.{result_map_both};
+ghost use Rattle.gq_number.specs.Number.{whole};
+ghost use Rattle.lp_form.specs.declared.key.Key.{Key};
+ghost use Rattle.lp_form.specs.Affine.{IsForm};
+ghost use Rattle.lp_form.specs.Forms.{coefficient, sum_form_step, of_two, IsEntrywiseAnswer};
+ghost use Rattle.lp_form.specs.Keys.{AreOrdered};
+ghost use Rattle.lp_form.specs.Sums.{IsUnchangedByFault, Sums};
+ghost use Rattle.lp_form.specs.Shown.{shown};
+
+use crate::entries::Entries;
+use crate::fault::FormFault;
+use crate::form::Form;
+use crate::key::Key;
+use gq_field::ExactField;
+use std::alloc::{AllocError, Global};
+use std::marker::Model;
+use std::mem;
+
+/// A sum with at most this many entries is stored as a form, whatever is added.
+const FEW: usize = 16;
+
+/// A sum of affine forms. Its view is the form that it equals.
+///
+/// Adding a form takes steps as the number of its entries times the logarithm of the sum's. If all
+/// its entries follow those of the sum, it takes steps as the number of its entries.
+#[derive(Drop)]
+pub struct FormSum<F: ExactField> {
+    kept: Kept<F>,
+}
+
+/// How a sum is stored.
+#[derive(Drop)]
+enum Kept<F: ExactField> {
+    /// As a form, while each added entry follows those before it.
+    List(Form<F>),
+    /// In a map from the keys.
+    Map(Entries<F>),
+}
+
+impl<F: ExactField> Model for FormSum<F> {
+    ghost use Rattle.lp_form.specs.Affine.{Affine};
+    ghost use Rattle.lp_form.specs.Shown.{shown};
+
+    ghost Value = { Affine F };
+
+    ghost view = { λ s. shown s.kept };
+}
+
+impl<F: ExactField> FormSum<F> {
+    /// The sum of no forms.
+    pub fn new(alloc: Global) -> FormSum<F>
+        ensures constant { F.value result.constant ≡ whole (pos 0) }
+        ensures keys { result.keys ≡ [] }
+    {
+        FormSum {
+            kept: Kept::List(Form::constant(alloc, F::zero())),
+        }
+    }
+
+    /// The number of a key, which is 0 if the sum does not have the key.
+    pub fn get(&self, k: &Key) -> F
+        ensures { F.value result ≡ coefficient F.value self.now k.now }
+    {
+        match &self.kept {
+            Kept::List(form) => form.get(k),
+            Kept::Map(entries) => entries.get(k),
+        }
+    }
+
+    /// The constant.
+    pub fn offset(&self) -> F
+        ensures constant { result ≡ self.now.constant }
+        ensures form { IsForm F.value self.now }
+    {
+        match &self.kept {
+            Kept::List(form) => {
+                let _ = form.keys();
+                form.offset()
+            }
+            Kept::Map(entries) => entries.offset(),
+        }
+    }
+
+    /// Adds a form: its constant, and its number at each key.
+    ///
+    /// After a step that does not fit the sum is as it was.
+    pub fn add_assign(&mut self, alloc: Global, o: &Form<F>) -> Result<(), FormFault>
+        ensures value { IsEntrywiseAnswer F.value (of_two (sum_form_step F.limit) F.value self.old o.now)
+            (result_map_both (λ _. self.new) (λ fault. fault) result) }
+        ensures unchanged { IfErr result (IsUnchangedByFault self.old self.new) }
+    {
+        if let Kept::List(form) = &mut self.kept {
+            if is_cheap(form, o) {
+                return form.add_assign(alloc, o);
+            }
+        }
+        self.add_among(alloc, o)
+    }
+
+    /// The form that the sum equals: the same constant, and the same number at each key.
+    pub fn into_form(self, alloc: Global) -> Result<Form<F>, AllocError>
+        ensures constant { IfOk result (λ form. F.value form.constant ≡ F.value self.constant) }
+        ensures numbers { IfOk result (λ form. (key : Key) → coefficient F.value form key ≡ coefficient F.value self key) }
+    {
+        let FormSum { kept } = self;
+        match kept {
+            Kept::List(form) => Ok(form),
+            Kept::Map(entries) => entries.into_form(alloc),
+        }
+    }
+
+    /// Adds a form whose entries belong among those of the sum.
+    fn add_among(&mut self, alloc: Global, o: &Form<F>) -> Result<(), FormFault>
+        ensures value { IsEntrywiseAnswer F.value (of_two (sum_form_step F.limit) F.value self.old o.now)
+            (result_map_both (λ _. self.new) (λ fault. fault) result) }
+        ensures unchanged { IfErr result (IsUnchangedByFault self.old self.new) }
+    {
+        let Ok(constant) = self.offset().add(o.offset()) else {
+            return Err(FormFault::Limit(None));
+        };
+        let keys = o.keys();
+        let sums = self.sums(alloc, keys, o.numbers())?;
+        let kept = mem::replace(&mut self.kept, Kept::List(Form::constant(alloc, F::zero())));
+        let mut entries = entries_of(alloc, kept)?;
+        entries.put_all(alloc, keys, sums.as_slice())?;
+        entries.set_offset(constant);
+        self.kept = Kept::Map(entries);
+        Ok(())
+    }
+
+    /// The numbers of the sum at some keys after adding these numbers.
+    fn sums(&self, alloc: Global, keys: &[Key], numbers: &[F]) -> Result<Vec<F>, FormFault>
+        requires ordered { AreOrdered keys.now }
+        requires paired { length numbers.now ≡ length keys.now }
+        ensures { Sums F.value F.limit (coefficient F.value self.now) keys.now numbers.now (result_map_both (λ sums. sums.items) (λ fault. fault) result) }
+    {
+        let mut sums = Vec::new(alloc);
+        for (i, key) in keys.iter().enumerate() {
+            let Ok(sum) = self.get(key).add(numbers[i]) else {
+                let at = key.copy(alloc)?;
+                return Err(FormFault::Limit(Some(at)));
+            };
+            sums.push(sum)?;
+        }
+        Ok(sums)
+    }
+}
+
+/// Whether adding a form to another is cheap: all its keys follow the other's, or the other has
+/// few.
+fn is_cheap<F: ExactField>(form: &Form<F>, o: &Form<F>) -> bool {
+    match (form.keys().last(), o.keys().first()) {
+        (Some(last), Some(key)) => form.keys().len() < FEW || last.cmp(key).is_lt(),
+        _ => true,
+    }
+}
+
+/// The entries of a sum, in a map.
+fn entries_of<F: ExactField>(alloc: Global, kept: Kept<F>) -> Result<Entries<F>, AllocError>
+    ensures { IfOk result (λ entries. (key : Key) → coefficient F.value entries key ≡ coefficient F.value (shown kept) key) }
+{
+    match kept {
+        Kept::List(form) => Entries::of_form(alloc, &form),
+        Kept::Map(entries) => Ok(entries),
+    }
+}

@@ -1,0 +1,46 @@
+-- Lists with a number for each variable, as they are read from rows; what the functions promise.
+use Rattle.std.specs.Prelude.{◌≡◌, ◌≢◌, ◌⊎◌, ℕ, ◌+◌, ◌<◌, pos, List, [], map, length, take, slice_get, slice_index_or, Option, Some, None}
+use Rattle.gq_number.specs.Number.{Number, whole, neg_ℚ}
+use Rattle.lp_core.specs.declared.answer.Rule.TheVariants.{Legal}
+use Rattle.lp_core.specs.Ends.{IsUnlimited}
+use Rattle.lp_core.specs.Sums.{value_of_column}
+use Rattle.lp_core.specs.Dictionary.{Dictionary, InPhaseOne, OpeningIsDue, Improves}
+use Rattle.lp_core.specs.StandardForm.{Last}
+use Rattle.lp_core.specs.Pivots.{NothingImproves, last_of, last_along}
+use Rattle.lp_fraction_dict.specs.declared.row.Entry.{Entry}
+use Rattle.lp_fraction_dict.specs.Rows.{number_in}
+
+-- The search ends: nothing improves; or this variable improves and no row limits it; or the search
+-- is broken off in phase 2 though a variable improves.
+abbrev pub IsDone : Dictionary → Option ℕ → Type 0
+IsDone d None = NothingImproves d ⊎ (¬ (InPhaseOne d) × ¬ (OpeningIsDue d) × ((q : ℕ) × Improves d q))
+IsDone d (Some q) = ¬ (InPhaseOne d) × IsUnlimited Legal d q
+
+-- what is read at a dictionary: with the ray along which this variable rises, or without a ray
+abbrev pub last_with : Dictionary → Option ℕ → Last
+last_with d None = last_of d
+last_with d (Some q) = last_along d q
+
+module _ {F : Type 0} (value : F → Number) where
+  -- a list of `count` zeros
+  pub record AreNumbers (count : ℕ) (list : List F) : Type 0 where
+    pub sized : length list ≡ count
+    pub zeros : (v : ℕ) → value_of_column (map value list) v ≡ whole (pos 0)
+
+  -- at each variable of the first n rows the number of its row at a column, elsewhere 0
+  pub record AreByVariable (rows : List (List (Entry F))) (basic : List ℕ) (count column n : ℕ) (list : List F) : Type 0 where
+    pub sized : length list ≡ count
+    pub here : (k v : ℕ) → k < n → slice_get basic k ≡ Some v → value_of_column (map value list) v ≡ number_in value (slice_index_or rows k []) column
+    pub elsewhere : (v : ℕ) → ((k : ℕ) → k < n → slice_get basic k ≢ Some v) → value_of_column (map value list) v ≡ whole (pos 0)
+
+  -- at each variable its number in the first n entries of a row
+  pub record AreByColumn (row : List (Entry F)) (count n : ℕ) (list : List F) : Type 0 where
+    pub sized : length list ≡ count
+    pub each : (v : ℕ) → v < count → value_of_column (map value list) v ≡ number_in value (take n row) (v + 1)
+
+  -- the changes of all variables: the negated coefficients of one variable in their rows, and 1 for
+  -- the variable itself
+  pub record AreChanges (numbers : List F) (enter : ℕ) (list : List F) : Type 0 where
+    pub sized : length list ≡ length numbers
+    pub enters : value_of_column (map value list) enter ≡ whole (pos 1)
+    pub others : (v : ℕ) → v ≢ enter → value_of_column (map value list) v ≡ neg_ℚ (value_of_column (map value numbers) v)

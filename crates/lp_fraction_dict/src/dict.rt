@@ -1,0 +1,364 @@
+//! The dictionary and what is read from it.
+ghost use Rattle.std.specs.Prelude.{◌≡◌, ◌<◌, ◌≤◌, ◌+◌, ◌↔◌, ℕ, pos, List, map, slice_get, IsTrue, Some, Contains, MatchOption, IfOk, IfErr};
+ghost use Rattle.gq_number.specs.Number.{Number, whole};
+ghost use Rattle.lp_core.specs.Sums.{value_of_column};
+ghost use Rattle.lp_core.specs.Dictionary.{basic_at, constant_at, entry_at, OpeningIsDue, IsPriced, Improves, IsLeast, IsOpening, IsLegal, Meets, first_dictionary, exchanged};
+ghost use Rattle.lp_core.specs.Counts.{counted};
+ghost use Rattle.lp_core.specs.Steps.{AllFit, ratio_steps, exchange_steps};
+ghost use Rattle.lp_core.specs.Pivots.{last_of};
+ghost use Rattle.lp_core.specs.LargestCoefficient.{HasGreatest};
+ghost use Rattle.lp_core.specs.declared.program.Lp.{Lp};
+ghost use Rattle.lp_core.specs.WellFormed.{IsWellFormed};
+ghost use Rattle.lp_core.specs.StandardForm.{Standard as StandardNumbers, standard_form};
+ghost use Rattle.lp_std.specs.Meaning.{standard_value};
+ghost use Rattle.lp_std.specs.Last.{IsDictionaryOf};
+ghost use Rattle.lp_fraction_dict.specs.Rows.{IsRow};
+ghost use Rattle.lp_fraction_dict.specs.Lines.{entries_of_rows};
+ghost use Rattle.lp_fraction_dict.specs.Tableau.{fraction_tableau, fraction_dictionary, IsTableau, IsPlace};
+ghost use Rattle.lp_fraction_dict.specs.InnerPricing.{IsFirstAbove};
+ghost use Rattle.lp_fraction_dict.specs.Reading.{IsDone, last_with};
+ghost use Rattle.lp_fraction_dict.specs.Pivots.{IsLeaving, IsLimit, StopsAtStep};
+
+use crate::choice::{is_above_zero, least_constant, least_ratio};
+use crate::coefficients::greatest_above;
+use crate::exchange::{forget_leaving, turn};
+use crate::first::{is_some_below, numbers_from, objective_row, rows_with_slacks};
+use crate::last::{by_column, by_variable, changes};
+use crate::row::{Entry, number_at, number_of_row};
+use gq_field::ExactField;
+use lp_core::{Pivot, StepName};
+use lp_std::{Standard, Stop};
+use std::alloc::{AllocError, Global};
+use std::marker::Model;
+
+/// A dictionary by fractions: an equation for each basic variable, and the objective (Chvatal,
+/// Linear Programming, chapters 2 and 3).
+///
+/// Each row stores only what is not 0, as reduced fractions. Variable 0 is the artificial variable
+/// of phase 1.
+#[derive(Drop)]
+pub struct ExactDict<F: ExactField> {
+    variables: u32,
+    basic: Vec<u32>,
+    rows: Vec<Vec<Entry<F>>>,
+    objective: Vec<Entry<F>>,
+    upcoming: u64,
+}
+
+impl<F: ExactField> Model for ExactDict<F> {
+    ghost use Rattle.std.specs.Prelude.{map};
+    ghost use Rattle.lp_fraction_dict.specs.Lines.{entries_of_rows};
+    ghost use Rattle.lp_fraction_dict.specs.Tableau.{FractionTableau, IsTableau};
+
+    ghost Value = { FractionTableau F };
+
+    ghost view = { λ d. record { variables = d.variables; basic = d.basic.items; rows = entries_of_rows d.rows.items; objective = d.objective.items; upcoming = d.upcoming } };
+
+    ghost invariant = { λ d. IsTableau F.value (record { variables = d.variables; basic = d.basic.items; rows = entries_of_rows d.rows.items; objective = d.objective.items; upcoming = d.upcoming }) };
+}
+
+/// The place of a variable among the basic ones.
+fn place_of(basic: &[u32], variable: u32) -> Option<usize>
+    ensures { IsPlace basic.now variable result }
+{
+    for (i, other) in basic.iter().enumerate() {
+        if *other == variable {
+            return Some(i);
+        }
+    }
+    None
+}
+
+/// The variable of the first entry from variable 1 on whose number is above 0.
+fn first_above<F: ExactField>(row: &[Entry<F>]) -> Option<u32>
+    requires { (high : ℕ) × IsRow F.value 0 high row.now }
+    ensures { IsFirstAbove F.value row.now result }
+{
+    for entry in row {
+        if entry.column >= 2 && is_above_zero(entry.number) {
+            return Some(entry.column - 1);
+        }
+    }
+    None
+}
+
+impl<F: ExactField> ExactDict<F> {
+    /// The dictionary with these rows and this objective, which have to be in order. `upcoming` is
+    /// the number of the next pivot in the names of its steps.
+    pub fn of_rows(
+        variables: u32,
+        basic: Vec<u32>,
+        rows: Vec<Vec<Entry<F>>>,
+        objective: Vec<Entry<F>>,
+        upcoming: u64,
+    ) -> ExactDict<F>
+        requires { IsTableau F.value (fraction_tableau variables basic.items (entries_of_rows rows.items) objective.items upcoming) }
+        ensures { result ≡ fraction_tableau variables basic.items (entries_of_rows rows.items) objective.items upcoming }
+    {
+        ExactDict {
+            variables,
+            basic,
+            rows,
+            objective,
+            upcoming,
+        }
+    }
+
+    /// The invariant of each such dictionary, a law: a row for each basic variable, all entries in
+    /// order, and the dictionary is one of a program.
+    pub fn keeps(&self)
+        ensures { IsTableau F.value self.now }
+    {
+        let _ = &self.rows;
+    }
+
+    /// The greatest number of a variable: the variables are 0 and those up to it.
+    pub fn variables(&self) -> u32
+        ensures { result ≡ self.now.variables }
+    {
+        self.variables
+    }
+
+    /// The basic variable of each row.
+    pub fn basic(&self) -> &[u32]
+        ensures { result.now ≡ self.now.basic }
+    {
+        self.basic.as_slice()
+    }
+
+    /// The entries of each row, by ascending column.
+    pub fn rows(&self) -> &[Vec<Entry<F>>]
+        ensures { entries_of_rows result.now ≡ self.now.rows }
+    {
+        self.rows.as_slice()
+    }
+
+    /// The entries of the objective, by ascending column.
+    pub fn objective(&self) -> &[Entry<F>]
+        ensures { result.now ≡ self.now.objective }
+    {
+        self.objective.as_slice()
+    }
+
+    /// The first dictionary of the standard form of a well-formed program: its slacks are basic. If
+    /// some right side is below 0, variable 0 occurs in each row, and the opening pivot is
+    /// required. The only error is out of memory.
+    pub fn of(alloc: Global, s: &Standard<F>) -> Result<ExactDict<F>, AllocError>
+        requires { (lp : Lp F) × IsWellFormed F.value lp × (standard_value F.value s.now ≡ standard_form F.value lp) }
+        ensures first { IfOk result (λ d. fraction_dictionary F.value d ≡ first_dictionary (standard_value F.value s.now)) }
+        ensures of_form { IfOk result (λ d. IsDictionaryOf (standard_value F.value s.now) (fraction_dictionary F.value d)) }
+        ensures upcoming { IfOk result (λ d. d.upcoming ≡ 1) }
+    {
+        let rows = s.rows.as_slice();
+        let slack = s.objective.len() as u32 + 1;
+        let needed = is_some_below(rows);
+        Ok(ExactDict {
+            variables: slack - 1 + rows.len() as u32,
+            basic: numbers_from(alloc, slack, rows.len())?,
+            rows: rows_with_slacks(alloc, rows, needed, slack)?,
+            objective: objective_row(alloc, s)?,
+            upcoming: 1,
+        })
+    }
+
+    /// Whether a variable is basic.
+    pub fn is_basic(&self, v: u32) -> bool
+        ensures { IsTrue result ↔ Contains self.now.basic v }
+    {
+        place_of(self.basic.as_slice(), v).is_some()
+    }
+
+    /// The constant of a variable's row; 0 for a variable that is not basic.
+    pub fn amount(&self, v: u32) -> F
+        ensures basic { (k : ℕ) → slice_get self.now.basic k ≡ Some v → F.value result ≡ constant_at (fraction_dictionary F.value self.now) k }
+        ensures other { ¬ (Contains self.now.basic v) → F.value result ≡ whole (pos 0) }
+    {
+        match place_of(self.basic.as_slice(), v) {
+            Some(place) => number_of_row(self.rows.as_slice(), place, 0),
+            None => F::zero(),
+        }
+    }
+
+    /// The number of a variable in the row of a basic one; 0 if the first is not basic, and if the
+    /// second is basic or no variable.
+    pub fn entry(&self, basic: u32, other: u32) -> F
+        ensures row { (k : ℕ) → slice_get self.now.basic k ≡ Some basic → ¬ (Contains self.now.basic other) → F.value result ≡ entry_at (fraction_dictionary F.value self.now) k other }
+        ensures not_basic { ¬ (Contains self.now.basic basic) → F.value result ≡ whole (pos 0) }
+        ensures both_basic { Contains self.now.basic other → F.value result ≡ whole (pos 0) }
+        ensures no_variable { self.now.variables < other → F.value result ≡ whole (pos 0) }
+    {
+        if other > self.variables {
+            return F::zero();
+        }
+        if self.is_basic(other) {
+            return F::zero();
+        }
+        match place_of(self.basic.as_slice(), basic) {
+            Some(place) => number_of_row(self.rows.as_slice(), place, other + 1),
+            None => F::zero(),
+        }
+    }
+
+    /// The number of a variable in the priced row: that of variable 0 in phase 1, then the
+    /// objective. It is 0 for a basic variable, and for a number that is no variable.
+    pub fn coefficient(&self, v: u32) -> F
+        ensures priced { (k : ℕ) → IsPriced (fraction_dictionary F.value self.now) k → ¬ (Contains self.now.basic v) → F.value result ≡ entry_at (fraction_dictionary F.value self.now) k v }
+        ensures basic { Contains self.now.basic v → F.value result ≡ whole (pos 0) }
+        ensures no_variable { self.now.variables < v → F.value result ≡ whole (pos 0) }
+    {
+        if v > self.variables {
+            return F::zero();
+        }
+        if self.is_basic(v) {
+            return F::zero();
+        }
+        match place_of(self.basic.as_slice(), 0) {
+            Some(place) => number_of_row(self.rows.as_slice(), place, v + 1),
+            None => number_at(self.objective.as_slice(), v + 1),
+        }
+    }
+
+    /// The opening pivot of Bland's choice, if one is required: variable 0 enters, and of the
+    /// variables with the least constant, which is below 0, the least leaves.
+    pub fn opening(&self) -> Option<Pivot>
+        ensures { MatchOption result (¬ (OpeningIsDue (fraction_dictionary F.value self.now)))
+            (λ p. ((k : ℕ) × IsOpening (fraction_dictionary F.value self.now) p k) × ((i : ℕ) → IsLeast (fraction_dictionary F.value self.now) i → p.leave ≤ basic_at (fraction_dictionary F.value self.now) i)) }
+    {
+        match least_constant(self.rows.as_slice(), self.basic.as_slice()) {
+            Some(candidate) => Some(Pivot {
+                enter: 0,
+                leave: candidate.variable,
+            }),
+            None => None,
+        }
+    }
+
+    /// The least variable that improves; none exactly where there is none.
+    pub fn entering(&self) -> Option<u32>
+        requires { ¬ (OpeningIsDue (fraction_dictionary F.value self.now)) }
+        ensures { MatchOption result ((v : ℕ) → ¬ (Improves (fraction_dictionary F.value self.now) v))
+            (λ q. Improves (fraction_dictionary F.value self.now) q × ((v : ℕ) → Improves (fraction_dictionary F.value self.now) v → q ≤ v)) }
+    {
+        match place_of(self.basic.as_slice(), 0) {
+            Some(place) => first_above(self.rows[place].as_slice()),
+            None => first_above(self.objective.as_slice()),
+        }
+    }
+
+    /// The variable that improves with the greatest coefficient in the priced row, and of several
+    /// such the least. None exactly if nothing improves. It passes over that row once.
+    pub fn greatest(&self) -> Option<u32>
+        requires { ¬ (OpeningIsDue (fraction_dictionary F.value self.now)) }
+        ensures { MatchOption result ((v : ℕ) → ¬ (Improves (fraction_dictionary F.value self.now) v)) (HasGreatest (fraction_dictionary F.value self.now)) }
+    {
+        match place_of(self.basic.as_slice(), 0) {
+            Some(place) => greatest_above(self.rows[place].as_slice()),
+            None => greatest_above(self.objective.as_slice()),
+        }
+    }
+
+    /// The least of the variables that tie for leaving when `enter` enters. None exactly if no row
+    /// limits it.
+    ///
+    /// `Limit` has the first ratio that does not fit. No other stop occurs.
+    pub fn leaving(&self, enter: u32) -> Result<Option<u32>, Stop>
+        requires { Improves (fraction_dictionary F.value self.now) enter }
+        ensures fits { IfOk result (λ _. AllFit (ratio_steps F.limit self.now.upcoming (fraction_dictionary F.value self.now) enter)) }
+        ensures choice { IfOk result (IsLeaving (fraction_dictionary F.value self.now) enter) }
+        ensures limit { IfErr result (IsLimit (ratio_steps F.limit self.now.upcoming (fraction_dictionary F.value self.now) enter)) }
+    {
+        match least_ratio(self.rows.as_slice(), self.basic.as_slice(), enter + 1) {
+            Ok(best) => match best {
+                Some(candidate) => Ok(Some(candidate.variable)),
+                None => Ok(None),
+            },
+            Err(place) => Err(Stop::Limit(StepName::Ratio {
+                pivot: self.upcoming,
+                row: place as u32 + 1,
+            })),
+        }
+    }
+
+    /// The dictionary after a legal pivot, in which `p.enter` is basic in the row of `p.leave`.
+    /// Variable 0 is dropped when it leaves. Rows without the entering variable are unchanged.
+    ///
+    /// `Limit` has the first step that does not fit: first those of the leaving variable's row,
+    /// then those of the other rows in order, and those of the objective at the end. `Memory` means
+    /// out of memory. After either the dictionary is lost. `Crossed` does not occur.
+    pub fn pivot(self, alloc: Global, p: Pivot) -> Result<ExactDict<F>, Stop>
+        requires { (k : ℕ) × IsLegal (fraction_dictionary F.value self) p k }
+        ensures exchanged { IfOk result (λ after. (k : ℕ) → slice_get self.basic k ≡ Some p.leave →
+            fraction_dictionary F.value after ≡ exchanged (fraction_dictionary F.value self) p.enter k) }
+        ensures fits { IfOk result (λ _. (k : ℕ) → slice_get self.basic k ≡ Some p.leave →
+            AllFit (exchange_steps F.limit self.upcoming (fraction_dictionary F.value self) p.enter k)) }
+        ensures same_points { IfOk result (λ after. (x : List Number) (objective : Number) →
+            (p.leave ≡ 0 → value_of_column x 0 ≡ whole (pos 0)) →
+            Meets (fraction_dictionary F.value self) x objective ↔ Meets (fraction_dictionary F.value after) x objective) }
+        ensures of_form { IfOk result (λ after. (s : StandardNumbers) →
+            IsDictionaryOf s (fraction_dictionary F.value self) → IsDictionaryOf s (fraction_dictionary F.value after)) }
+        ensures not_due { IfOk result (λ after. ¬ (OpeningIsDue (fraction_dictionary F.value after))) }
+        ensures upcoming { IfOk result (λ after. after.upcoming ≡ counted (self.upcoming + 1)) }
+        ensures limit { IfErr result (λ stop. (k : ℕ) → slice_get self.basic k ≡ Some p.leave →
+            StopsAtStep (exchange_steps F.limit self.upcoming (fraction_dictionary F.value self) p.enter k) stop) }
+    {
+        let ExactDict {
+            variables,
+            mut basic,
+            mut rows,
+            mut objective,
+            upcoming,
+        } = self;
+        let Some(place) = place_of(basic.as_slice(), p.leave) else {
+            unreachable!();
+        };
+        if let Err(fault) = turn(alloc, &mut rows, &mut objective, place, p.enter + 1) {
+            return Err(fault.stop(upcoming));
+        }
+        forget_leaving(p.leave, &mut rows, &mut objective);
+        basic[place] = p.enter;
+        Ok(ExactDict {
+            variables,
+            basic,
+            rows,
+            objective,
+            upcoming: upcoming.saturating_add(1),
+        })
+    }
+
+    /// The value of each variable when the nonbasic ones are 0. The only error is out of memory.
+    pub fn values(&self, alloc: Global) -> Result<Vec<F>, AllocError>
+        ensures { IfOk result (λ list. map F.value list.items ≡ (last_of (fraction_dictionary F.value self.now)).values) }
+    {
+        let count = self.variables as usize + 1;
+        by_variable(alloc, self.rows.as_slice(), self.basic.as_slice(), count, 0)
+    }
+
+    /// The coefficient of each variable in the priced row; 0 for a basic one. The only error is out
+    /// of memory.
+    pub fn costs(&self, alloc: Global) -> Result<Vec<F>, AllocError>
+        ensures { IfOk result (λ list. map F.value list.items ≡ (last_of (fraction_dictionary F.value self.now)).costs) }
+    {
+        let count = self.variables as usize + 1;
+        let Some(place) = place_of(self.basic.as_slice(), 0) else {
+            return by_column(alloc, self.objective.as_slice(), count);
+        };
+        let mut costs = by_column(alloc, self.rows[place].as_slice(), count)?;
+        costs[0] = F::zero();
+        Ok(costs)
+    }
+
+    /// The change of each variable when this one rises by 1; empty without one. The only error is
+    /// out of memory.
+    pub fn ray(&self, alloc: Global, enter: Option<u32>) -> Result<Vec<F>, AllocError>
+        requires { IsDone (fraction_dictionary F.value self.now) enter }
+        ensures { IfOk result (λ list. map F.value list.items ≡ (last_with (fraction_dictionary F.value self.now) enter).changes) }
+    {
+        let Some(enter) = enter else {
+            return Ok(Vec::new(alloc));
+        };
+        let count = self.variables as usize + 1;
+        let rows = self.rows.as_slice();
+        let numbers = by_variable(alloc, rows, self.basic.as_slice(), count, enter + 1)?;
+        Ok(changes(numbers, enter))
+    }
+}

@@ -1,0 +1,5 @@
+pub mod Bounds
+pub mod Room
+pub mod Pairs
+pub mod InnerChoice
+pub mod Whole

@@ -1,0 +1,72 @@
+-- A dictionary by integers, as contracts view it, and how it is stored (Chvatal, Linear
+-- Programming, chapters 2 and 3).
+use Rattle.std.specs.Prelude.{◌≡◌, ◌≢◌, ◌⊎◌, ℕ, ◌+◌, ◌<◌, ◌^◌, nat_lt, List, length, Option, Some, None, Result, IfOk, IfErr, if◌then◌else◌}
+use Rattle.lp_core.specs.declared.answer.Pivot.{Pivot}
+use Rattle.lp_core.specs.Dictionary.{Dictionary, exchanged}
+use Rattle.lp_fraction_dict.specs.Pivots.{IsProper}
+use Rattle.lp_fraction_dict.specs.Tableau.{IsPlace}
+use Rattle.lp_integer_rows.specs.declared.line.Line.{Line}
+use Rattle.lp_integer_rows.specs.Form.{lines_number, numbers_above}
+use Rattle.lp_integer_dict.specs.Room.{AreWhole, HasNoRoomFor, LinesHaveNoRoom}
+use Rattle.lp_integer_dict.specs.Pairs.{IsSomePairCrowded}
+
+-- the row of a number; past the last it is the objective
+abbrev pub row_of : ℕ → ℕ → ℕ
+row_of rows i = if nat_lt i rows then i else rows
+
+-- the dictionary that stored rows mean, with the objective after the rows; variable 0 is deferred
+-- in the row `deferred`
+abbrev pub whole_dictionary : ℕ → List ℕ → List Line → Option ℕ → Dictionary
+whole_dictionary variables basic lines deferred =
+    record {
+      variables = variables;
+      basic = basic;
+      numbers = λ i c. numbers_above deferred (lines_number lines) (row_of (length basic) i) c;
+    }
+
+-- What is stored: the basic variables, the rows, the row in which variable 0 is deferred, and a
+-- bound of all integers.
+pub record WholeTableau : Type 0 where
+  -- the greatest number of a variable
+  pub variables : ℕ
+  pub basic : List ℕ
+  pub lines : List Line
+  pub deferred : Option ℕ
+  pub bound : ℕ
+
+-- the dictionary that is stored
+abbrev pub integer_dictionary : WholeTableau → Dictionary
+integer_dictionary t = whole_dictionary t.variables t.basic t.lines t.deferred
+
+-- The invariant: there is a stored row for each basic variable and one for the objective, and they
+-- stay within the bound; variable 0 is deferred exactly if it is basic; and the dictionary is one
+-- of a program.
+pub record IsWhole (t : WholeTableau) : Type 0 where
+  pub sized : t.variables + 2 < 2 ^ 32
+  pub paired : length t.lines ≡ length t.basic + 1
+  pub are_whole : AreWhole t.lines t.deferred (t.variables + 2) t.bound
+  pub put_off : IsPlace t.basic 0 t.deferred
+  pub proper : IsProper (integer_dictionary t)
+
+-- the place of the exchange of stored rows when the variable of row k leaves: the row in which
+-- variable 0 is deferred, if it is
+abbrev pub kept_place : Option ℕ → ℕ → ℕ
+kept_place None k = k
+kept_place (Some z) k = z
+
+-- the stored rows exceed the bound in a pivot by row k
+abbrev pub AreCrowded : WholeTableau → Pivot → ℕ → Type 0
+AreCrowded t p k =
+    ((p.enter ≡ 0) × HasNoRoomFor k t.lines t.bound)
+    ⊎ ((p.enter ≢ 0) × LinesHaveNoRoom t.bound (p.enter + 1) (kept_place t.deferred k) k t.lines)
+
+-- a pivot by row k exceeds the bound: some row together with that row, or the stored rows
+abbrev pub IsPivotCrowded : WholeTableau → Pivot → ℕ → Type 0
+IsPivotCrowded t p k = IsSomePairCrowded t.lines t.deferred k (p.enter + 1) t.bound ⊎ AreCrowded t p k
+
+-- the result of a pivot by row k: the exchanged dictionary, or the same one if its rows would
+-- exceed the bound; the bound stays
+abbrev pub IsPivoted : WholeTableau → Pivot → ℕ → Result WholeTableau WholeTableau → Type 0
+IsPivoted t p k r =
+    IfOk r (λ after. (integer_dictionary after ≡ exchanged (integer_dictionary t) p.enter k) × (after.bound ≡ t.bound))
+    × IfErr r (λ same. (integer_dictionary same ≡ integer_dictionary t) × (same.bound ≡ t.bound) × AreCrowded same p k)

@@ -1,0 +1,113 @@
+//! The numbers that stored rows mean.
+ghost use Rattle.std.specs.Prelude.{◌≡◌, ℕ, ◌+◌, ◌*◌, ◌<◌, ◌≤◌, ◌^◌, pos, ◌<ℤ◌, ◌-ℤ◌, ◌*ℤ◌, nat_abs, length};
+ghost use Rattle.gq_number.specs.Number.{ratio};
+ghost use Rattle.lp_integers.specs.Lines.{whole_at};
+ghost use Rattle.lp_integer_rows.specs.Form.{wholes, IsLine, lines_number, numbers_above};
+ghost use Rattle.lp_integer_dict.specs.Room.{AreWhole, HasRoom, line_denominator, row_number};
+
+use lp_integer_rows::{Line, magnitude_at, marked_number_at, number_at};
+use lp_integers::cross_difference;
+
+/// A number: an integer over a denominator above 0.
+#[derive(Clone, Copy)]
+pub struct Fraction {
+    /// The integer above.
+    pub numerator: i128,
+    /// The denominator.
+    pub denominator: u128,
+}
+
+/// The number of a row at a column.
+#[inline(always)]
+fn read_own(line: &Line, column: usize) -> Fraction
+    requires line { IsLine line.now }
+    requires within { column < length (wholes line.now) }
+    ensures numerator { result.numerator ≡ whole_at (wholes line.now) column }
+    ensures denominator { result.denominator ≡ line.now.denominator }
+{
+    Fraction {
+        numerator: marked_number_at(line, column),
+        denominator: line.denominator,
+    }
+}
+
+/// The number at a column of the row in which variable 0 is deferred.
+#[inline(always)]
+fn read_pivot(pivot: &Line, column: usize) -> Fraction
+    requires line { IsLine pivot.now }
+    requires within { (column < length (wholes pivot.now)) × (1 < length (wholes pivot.now)) }
+    ensures numerator { result.numerator ≡ whole_at (wholes pivot.now) column }
+    ensures denominator { result.denominator ≡ nat_abs (whole_at (wholes pivot.now) 1) }
+{
+    Fraction {
+        numerator: number_at(pivot, column),
+        denominator: magnitude_at(pivot, 1),
+    }
+}
+
+/// The integer of a row at a column, in the dictionary that the exchange of variable 0 into the
+/// pivot row makes. The row's list is read only if the column has a mark and is not that
+/// of the constant.
+#[inline(always)]
+fn number_above(line: &Line, pivot: &Line, column: usize) -> i128
+    requires line { IsLine line.now }
+    requires pivot { IsLine pivot.now }
+    requires within { column < length (wholes line.now) }
+    requires sized { length (wholes pivot.now) ≡ length (wholes line.now) }
+    requires zero { 1 < length (wholes line.now) }
+    requires room { line.now.most * nat_abs (whole_at (wholes pivot.now) 1) + nat_abs (whole_at (wholes line.now) 1) * pivot.now.most < 2 ^ 127 }
+    ensures { result ≡ whole_at (wholes pivot.now) 1 *ℤ whole_at (wholes line.now) column -ℤ whole_at (wholes line.now) 1 *ℤ whole_at (wholes pivot.now) column }
+{
+    if column > 1 && line.marks.includes(column) {
+        return line.numbers.cross_at(&pivot.numbers, 1, column);
+    }
+    cross_difference(
+        marked_number_at(pivot, 1),
+        marked_number_at(line, column),
+        marked_number_at(line, 1),
+        marked_number_at(pivot, column),
+    )
+}
+
+/// The number of a row at a column, in the dictionary that the exchange of variable 0 into the
+/// pivot row makes.
+#[inline(always)]
+fn read_above(line: &Line, pivot: &Line, column: usize) -> Fraction
+    requires line { IsLine line.now }
+    requires pivot { IsLine pivot.now }
+    requires within { column < length (wholes line.now) }
+    requires sized { length (wholes pivot.now) ≡ length (wholes line.now) }
+    requires zero { 1 < length (wholes line.now) }
+    requires room { line.now.most * nat_abs (whole_at (wholes pivot.now) 1) + nat_abs (whole_at (wholes line.now) 1) * pivot.now.most < 2 ^ 127 }
+    ensures numerator { result.numerator ≡ whole_at (wholes pivot.now) 1 *ℤ whole_at (wholes line.now) column -ℤ whole_at (wholes line.now) 1 *ℤ whole_at (wholes pivot.now) column }
+    ensures denominator { result.denominator ≡ nat_abs (whole_at (wholes pivot.now) 1) * line.now.denominator }
+{
+    let numerator = number_above(line, pivot, column);
+    let denominator = magnitude_at(pivot, 1) * line.denominator;
+    Fraction {
+        numerator,
+        denominator,
+    }
+}
+
+/// The number at a column of a row, or of the objective, which follows the rows.
+#[inline(always)]
+pub(crate) fn read(lines: &[Line], deferred: Option<usize>, place: usize, column: usize) -> Fraction
+    requires lines { (width bound : ℕ) × AreWhole lines.now deferred width bound × (column < width) }
+    requires within { place < length lines.now }
+    ensures positive { 0 < result.denominator }
+    ensures number { ratio result.numerator result.denominator ≡ numbers_above deferred (lines_number lines.now) place column }
+    ensures numerator { result.numerator ≡ row_number deferred lines.now place column }
+    ensures shared { result.denominator ≡ line_denominator deferred lines.now place }
+    ensures within { (bound : ℕ) → HasRoom deferred lines.now bound → (nat_abs result.numerator ≤ bound) × (result.denominator ≤ bound) }
+{
+    let line = &lines[place];
+    let Some(k) = deferred else {
+        return read_own(line, column);
+    };
+    let pivot = &lines[k];
+    if place == k {
+        return read_pivot(pivot, column);
+    }
+    read_above(line, pivot, column)
+}

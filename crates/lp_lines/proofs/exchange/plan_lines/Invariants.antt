@@ -1,5 +1,0 @@
-use Rattle.lp_lines.specs.Form.{ArePlanned}
-use Rattle.lp_lines.proofs.exchange.plan_lines.Given as goal
-
-abbrev pub invariant-loop-i : goal.invariant-loop-i
-invariant-loop-i l = ArePlanned l.bound l.column l.place l.lines l.pivot l.plans.items l.i

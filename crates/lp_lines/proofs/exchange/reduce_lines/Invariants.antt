@@ -1,5 +1,0 @@
-use Rattle.lp_lines.proofs.Plans.{AreReduced}
-use Rattle.lp_lines.proofs.exchange.reduce_lines.Given as goal
-
-abbrev pub invariant-loop-i : goal.invariant-loop-i
-invariant-loop-i l = AreReduced l.initial.lines.items l.lines.items l.i

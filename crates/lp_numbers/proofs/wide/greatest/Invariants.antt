@@ -1,7 +1,0 @@
-use Rattle.std.proofs.Common.{ℕ, ◌<◌, ◌≤◌, nat_abs}
-use Rattle.lp_numbers.specs.Lines.{whole_at, AreWithin}
-use Rattle.lp_numbers.proofs.wide.greatest.Given as goal
-
-abbrev pub invariant-loop-n : goal.invariant-loop-n
-invariant-loop-n l =
-    ((c : ℕ) → c < l.n-index → nat_abs (whole_at l.numbers c) ≤ l.most) × (l.least ≤ l.most) × ((m : ℕ) → AreWithin l.numbers m → l.least ≤ m → l.most ≤ m)

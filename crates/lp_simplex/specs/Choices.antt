@@ -1,0 +1,19 @@
+-- Choices of the entering variable that always find one (Chvatal, Linear Programming, chapters 2
+-- and 3).
+use Rattle.std.specs.Prelude.{ℕ, List, []}
+use Rattle.lp_core.specs.declared.answer.Pivot.{Pivot}
+use Rattle.lp_core.specs.declared.answer.Rule.TheVariants.{Legal}
+use Rattle.lp_core.specs.Dictionary.{Dictionary, Improves}
+use Rattle.lp_core.specs.Pivots.{ByRule, Leads}
+use Rattle.lp_fraction_dict.specs.Pivots.{IsProper}
+
+-- a choice, by the first dictionary, the pivots so far, the dictionary they lead to, and a
+-- variable: each chosen variable improves
+abbrev pub ChoosesImproving : (Dictionary → List Pivot → Dictionary → ℕ → Type 0) → Type 0
+ChoosesImproving choice = (first : Dictionary) (pivots : List Pivot) (d : Dictionary) (q : ℕ) → choice first pivots d q → Improves d q
+
+-- wherever legal pivots lead, if a variable improves then some variable is chosen
+abbrev pub AlwaysChooses : (Dictionary → List Pivot → Dictionary → ℕ → Type 0) → Type 0
+AlwaysChooses choice =
+    (first : Dictionary) (pivots : List Pivot) (d : Dictionary) → IsProper first → Leads (ByRule Legal) [] first pivots d → ((v : ℕ) × Improves d v) →
+    (q : ℕ) × choice first pivots d q

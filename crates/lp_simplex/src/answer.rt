@@ -1,0 +1,189 @@
+//! From a linear program to its answer.
+ghost use Rattle.std.specs.Prelude.{◌≡◌, ◌≢◌, ℕ, pos, [], map, replicate, Some, IfOk};
+ghost use Rattle.gq_number.specs.Number.{whole};
+ghost use Rattle.lp_core.specs.declared.answer.Rule.TheVariants.{Legal};
+ghost use Rattle.lp_core.specs.Proofs.{FirstCrossed};
+ghost use Rattle.lp_core.specs.declared.answer.StepName.{StepName};
+ghost use Rattle.lp_core.specs.declared.answer.End.TheVariants.{Refused};
+ghost use Rattle.lp_core.specs.Dictionary.{Dictionary};
+ghost use Rattle.lp_core.specs.Answers.{EndsCrossed, IsAnswer, IsAnswerByChoice};
+ghost use Rattle.lp_core.specs.Steps.{AllFit, standard_steps};
+ghost use Rattle.lp_core.specs.WellFormed.{IsWellFormed};
+ghost use Rattle.lp_std.specs.declared.stop.Stop.TheVariants as stops;
+ghost use Rattle.lp_std.specs.Meaning.{standard_value, HasNoForm};
+ghost use Rattle.lp_std.specs.Back.{IsFormOf};
+ghost use Rattle.lp_std.specs.Last.{IsDictionaryOf};
+ghost use Rattle.lp_dict.specs.Tableau.{dictionary};
+ghost use Rattle.lp_fraction_dict.specs.Reading.{IsDone};
+ghost use Rattle.lp_simplex.specs.InnerEnds.{MayGoOn, CanEnd, IsLedBack, IsBrokenOff, EndsHalted, EndsFormless};
+
+use crate::choosing::Choosing;
+use crate::walk::{Halt, walked};
+use gq_field::ExactField;
+use lp_core::{Answer, End, Lp, Sequence, StepName};
+use lp_dict::Dict;
+use lp_std::{Standard, Stop, recover, standard};
+use std::alloc::{AllocError, Global};
+
+/// The end if this step does not fit. Out of memory is passed on.
+fn refused<F>(stop: Stop) -> Result<End<F>, AllocError>
+    requires { (j : ℕ) → stop ≢ stops.Crossed j }
+    ensures { IfOk result (λ end. (step : StepName) × (stop ≡ stops.Limit step) × (end ≡ Refused step)) }
+{
+    match stop {
+        Stop::Limit(step) => Ok(End::Refused { step }),
+        Stop::Memory => Err(AllocError),
+        Stop::Crossed(_) => unreachable!(),
+    }
+}
+
+/// The end recovered from a final dictionary, or the first step of the recovery that does not fit.
+fn led_back<F: ExactField>(
+    alloc: Global,
+    lp: &Lp<F>,
+    s: &Standard<F>,
+    dict: &Dict<F>,
+    enter: Option<u32>,
+) -> Result<End<F>, AllocError>
+    requires well_formed { IsWellFormed F.value lp.now }
+    requires form { IsFormOf F.value lp.now s.now }
+    requires of_form { IsDictionaryOf (standard_value F.value s.now) (dictionary F.value dict.now) }
+    requires done { IsDone (dictionary F.value dict.now) enter }
+    ensures { IfOk result (IsLedBack F.value F.limit lp.now (dictionary F.value dict.now) enter) }
+{
+    let last = dict.done(alloc, enter)?;
+    match recover(alloc, lp, s, &last) {
+        Ok(end) => Ok(end),
+        Err(stop) => refused(stop),
+    }
+}
+
+/// The end when the limit of pivots is met: it shows nothing in phase 1, and the run's point in
+/// phase 2.
+fn interrupted<F: ExactField>(
+    alloc: Global,
+    lp: &Lp<F>,
+    s: &Standard<F>,
+    dict: &Dict<F>,
+) -> Result<End<F>, AllocError>
+    requires well_formed { IsWellFormed F.value lp.now }
+    requires form { IsFormOf F.value lp.now s.now }
+    requires of_form { IsDictionaryOf (standard_value F.value s.now) (dictionary F.value dict.now) }
+    requires goes_on { MayGoOn (dictionary F.value dict.now) }
+    ensures { IfOk result (IsBrokenOff F.value F.limit lp.now (dictionary F.value dict.now)) }
+{
+    if dict.phase() == 2 {
+        return led_back(alloc, lp, s, dict, None);
+    }
+    Ok(End::Interrupted {
+        phase: 1,
+        levels: Sequence::new(Vec::new(alloc)),
+        row_levels: Sequence::new(Vec::new(alloc)),
+    })
+}
+
+/// The end of a run that halted so.
+fn end_of<F: ExactField>(
+    alloc: Global,
+    lp: &Lp<F>,
+    s: &Standard<F>,
+    halt: Halt<F>,
+) -> Result<End<F>, AllocError>
+    requires well_formed { IsWellFormed F.value lp.now }
+    requires form { IsFormOf F.value lp.now s.now }
+    requires halted { CanEnd F.value (standard_value F.value s.now) halt }
+    ensures { IfOk result (EndsHalted F.value F.limit lp.now halt) }
+{
+    match halt {
+        Halt::Ended(dict, enter) => led_back(alloc, lp, s, &dict, enter),
+        Halt::Interrupted(dict) => interrupted(alloc, lp, s, &dict),
+        Halt::Refused(step) => Ok(End::Refused { step }),
+    }
+}
+
+/// The answer of a program with this standard form.
+fn searched<C: Choosing<F>, F: ExactField>(
+    alloc: Global,
+    lp: &Lp<F>,
+    s: &Standard<F>,
+    iterlim: u64,
+    choice: &mut C,
+) -> Result<Answer<F>, AllocError>
+    requires well_formed { IsWellFormed F.value lp.now }
+    requires form { IsFormOf F.value lp.now s.now }
+    requires all_fit { AllFit (standard_steps F.value F.limit lp.now) }
+    requires fresh { (d : Dictionary) → C.remembers choice.old d [] d }
+    ensures { IfOk result (IsAnswerByChoice F.value F.limit lp.now iterlim C.chooses) }
+{
+    let first = Dict::of(alloc, s)?;
+    let walk = walked(alloc, first, iterlim, choice)?;
+    let end = end_of(alloc, lp, s, walk.halt)?;
+    Ok(Answer {
+        pivots: Sequence::new(walk.pivots),
+        end,
+    })
+}
+
+/// A list of zeros.
+fn zeros<F: ExactField>(alloc: Global, count: usize) -> Result<Vec<F>, AllocError>
+    ensures { IfOk result (λ list. map F.value list.items ≡ replicate count (whole (pos 0))) }
+{
+    let mut list = Vec::new(alloc);
+    for _place in 0..count {
+        list.push(F::zero())?;
+    }
+    Ok(list)
+}
+
+/// The end of a program in which the bounds of this column cross, and those of no earlier one: all
+/// factors of rows are 0.
+fn crossed<F: ExactField>(alloc: Global, lp: &Lp<F>, column: u32) -> Result<End<F>, AllocError>
+    requires { FirstCrossed F.value lp.now.columns (Some column) }
+    ensures { IfOk result (EndsCrossed F.value lp.now) }
+{
+    let duals = zeros(alloc, lp.rows.len())?;
+    Ok(End::Infeasible {
+        duals: Sequence::new(duals),
+        crossed: Some(column),
+    })
+}
+
+/// The end of a program that has no standard form.
+fn formless<F: ExactField>(alloc: Global, lp: &Lp<F>, stop: Stop) -> Result<End<F>, AllocError>
+    requires { HasNoForm F.value F.limit lp.now stop }
+    ensures { IfOk result (EndsFormless F.value F.limit lp.now) }
+{
+    match stop {
+        Stop::Crossed(column) => crossed(alloc, lp, column),
+        Stop::Limit(step) => Ok(End::Refused { step }),
+        Stop::Memory => Err(AllocError),
+    }
+}
+
+/// An answer of a program, found by at most `iterlim` pivots. The choice gives the entering
+/// variable, and of the tied variables the least leaves: Chvatal, Linear Programming, chapters 2, 3
+/// and 8.
+///
+/// If the bounds of a column cross, the answer is Infeasible with the first such column, and no
+/// step is made. If a step of the standard form does not fit, it is Refused with the first such
+/// step. Else pivots are made until none is required, the limit is met, or a step does not fit; the
+/// end is read from the final dictionary. The only error is out of memory.
+pub fn solve_by<C: Choosing<F>, F: ExactField>(
+    alloc: Global,
+    lp: &Lp<F>,
+    iterlim: u64,
+    choice: &mut C,
+) -> Result<Answer<F>, AllocError>
+    requires well_formed { IsWellFormed F.value lp.now }
+    requires fresh { (d : Dictionary) → C.remembers choice.old d [] d }
+    ensures chosen { IfOk result (IsAnswerByChoice F.value F.limit lp.now iterlim C.chooses) }
+    ensures legal { IfOk result (IsAnswer F.value F.limit lp.now iterlim Legal) }
+{
+    match standard(alloc, lp) {
+        Ok(s) => searched(alloc, lp, &s, iterlim, choice),
+        Err(stop) => Ok(Answer {
+            pivots: Sequence::new(Vec::new(alloc)),
+            end: formless(alloc, lp, stop)?,
+        }),
+    }
+}

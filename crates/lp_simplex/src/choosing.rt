@@ -1,0 +1,40 @@
+//! Which of the variables that improve enters.
+ghost use Rattle.std.specs.Prelude.{◌≡◌, ℕ, List, [], ◌∷◌, ◌++◌, slice_get, Some, MatchOption};
+ghost use Rattle.lp_core.specs.declared.answer.Pivot.{Pivot};
+ghost use Rattle.lp_core.specs.Dictionary.{Dictionary, OpeningIsDue, Improves, IsLegal, exchanged};
+ghost use Rattle.lp_fraction_dict.specs.Pivots.{IsProper};
+ghost use Rattle.lp_dict.specs.Tableau.{dictionary};
+
+use gq_field::ExactField;
+use lp_core::Pivot;
+use lp_dict::Dict;
+
+/// A way to choose the entering variable among those that improve: Chvatal, Linear Programming,
+/// chapters 2 and 3. It may remember the pivots so far.
+pub trait Choosing<F: ExactField> {
+    /// That a variable may be chosen, given the first dictionary, the pivots so far, and the
+    /// dictionary they lead to.
+    ghost chooses: { Dictionary → List Pivot → Dictionary → ℕ → Type 0 };
+
+    /// That the chooser remembers what it needs, given the first dictionary, the pivots so far, and
+    /// the dictionary they lead to.
+    ghost remembers: { Self → Dictionary → List Pivot → Dictionary → Type 0 };
+
+    /// The entering variable among those that improve. None exactly if no variable improves.
+    fn entering(&self, dict: &Dict<F>) -> Option<u32>
+        requires { ¬ (OpeningIsDue (dictionary F.value dict.now)) }
+        ensures { MatchOption result ((v : ℕ) → ¬ (Improves (dictionary F.value dict.now) v))
+            (λ q. Improves (dictionary F.value dict.now) q × ((first : Dictionary) (pivots : List Pivot) →
+            remembers self.now first pivots (dictionary F.value dict.now) → chooses first pivots (dictionary F.value dict.now) q)) };
+
+    /// Notes a pivot that is about to be made.
+    fn note(&mut self, dict: &Dict<F>, pivot: Pivot)
+        requires proper { IsProper (dictionary F.value dict.now) }
+        requires legal { (k : ℕ) × IsLegal (dictionary F.value dict.now) pivot k }
+        ensures { (first : Dictionary) (pivots : List Pivot) (k : ℕ) → slice_get dict.now.basic k ≡ Some pivot.leave →
+            remembers self.old first pivots (dictionary F.value dict.now) →
+            remembers self.new first (pivots ++ pivot ∷ []) (exchanged (dictionary F.value dict.now) pivot.enter k) };
+
+    /// A chosen variable improves.
+    ghost improving: { (first : Dictionary) (pivots : List Pivot) (d : Dictionary) (q : ℕ) → chooses first pivots d q → Improves d q };
+}

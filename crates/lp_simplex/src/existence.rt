@@ -1,0 +1,32 @@
+//! That a program has an answer: a law on a function with an empty body.
+ghost use Rattle.std.specs.Prelude.{ℕ, List};
+ghost use Rattle.lp_core.specs.declared.answer.Answer.{Answer};
+ghost use Rattle.lp_core.specs.declared.answer.Pivot.{Pivot};
+ghost use Rattle.lp_core.specs.declared.program.Lp.{Lp};
+ghost use Rattle.lp_core.specs.Answers.{IsAnswerByChoice};
+ghost use Rattle.lp_core.specs.Dictionary.{Dictionary};
+ghost use Rattle.lp_core.specs.WellFormed.{IsWellFormed};
+ghost use Rattle.lp_simplex.specs.Choices.{ChoosesImproving, AlwaysChooses};
+
+use gq_field::ExactField;
+
+/// A choice of the entering variable that chooses only improving variables, and finds one whenever
+/// some variable improves.
+pub trait Finding {
+    /// That a variable may be chosen, given the first dictionary, the pivots so far, and the
+    /// dictionary they lead to.
+    ghost chooses: { Dictionary → List Pivot → Dictionary → ℕ → Type 0 };
+
+    /// A chosen variable improves.
+    ghost improving: { ChoosesImproving chooses };
+
+    /// If some variable improves, one is chosen.
+    ghost always: { AlwaysChooses chooses };
+}
+
+/// A program has an answer under each limit of pivots, by any choice of the entering variable that
+/// always finds one: Chvatal, Linear Programming, chapters 2, 3 and 8.
+pub fn an_answer<F: ExactField, C: Finding>()
+    ensures { (lp : Lp F) (iterlim : ℕ) → IsWellFormed F.value lp →
+        (answer : Answer F) × IsAnswerByChoice F.value F.limit lp iterlim C.chooses answer }
+{}

@@ -1,0 +1,39 @@
+//! The answer of a program by a rule of choice with the turn to Bland's rule.
+ghost use Rattle.std.specs.Prelude.{IfOk};
+ghost use Rattle.lp_core.specs.declared.answer.Rule.TheVariants as by;
+ghost use Rattle.lp_core.specs.Answers.{IsAnswer};
+ghost use Rattle.lp_core.specs.WellFormed.{IsWellFormed};
+ghost use Rattle.lp_nocycle.specs.Turns.{HasFewPivotsByTurn, ComesToEndByTurn};
+ghost use Rattle.lp_simplex.specs.Turn.{IsTurningAnswer};
+
+use crate::answer::solve_by;
+use crate::picking::Picking;
+use crate::turning::Turning;
+use gq_field::ExactField;
+use lp_core::{Answer, Lp};
+use std::alloc::{AllocError, Global};
+
+/// The answer of a program by a rule of choice, found by at most `iterlim` pivots: Chvatal, Linear
+/// Programming, chapters 2 and 3.
+///
+/// A variable that the rule picks enters, and of the tied ones the least leaves. After as many
+/// successive pivots without gain as there are variables, Bland's rule takes over to the end of the
+/// phase. Optimal, Infeasible and Unbounded come with their certificates. Interrupted is the end
+/// after exactly `iterlim` pivots when a further one is required. Refused has the first step that
+/// does not fit under the limit of the field. The turn bounds the pivots, and with a limit of at
+/// least the bound the end is not Interrupted. The error is out of memory.
+pub fn solve_with<P: Picking<F>, F: ExactField>(
+    alloc: Global,
+    lp: &Lp<F>,
+    iterlim: u64,
+    rule: P,
+) -> Result<Answer<F>, AllocError>
+    requires { IsWellFormed F.value lp.now }
+    ensures turning { IfOk result (IsTurningAnswer F.value F.limit P.picks lp.now iterlim) }
+    ensures legal { IfOk result (IsAnswer F.value F.limit lp.now iterlim by.Legal) }
+    ensures few { IfOk result (HasFewPivotsByTurn F.value lp.now) }
+    ensures to_the_end { IfOk result (ComesToEndByTurn F.value lp.now iterlim) }
+{
+    let mut choice = Turning::new(rule);
+    solve_by(alloc, lp, iterlim, &mut choice)
+}

@@ -1,4 +1,0 @@
-pub mod Updates
-pub mod Maps
-pub mod Terms
-pub mod Sums

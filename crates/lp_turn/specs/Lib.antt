@@ -1,3 +1,0 @@
-pub mod Turn
-pub mod Next
-pub mod Counting

@@ -1,9 +1,0 @@
-pub mod Lists
-pub mod Stops
-pub mod Walking
-pub mod Standing
-pub mod Steps
-pub mod Ending
-pub mod Answering
-pub mod Formless
-pub mod Unique

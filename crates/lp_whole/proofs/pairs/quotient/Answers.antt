@@ -1,8 +1,0 @@
-use Rattle.lp_lines.proofs.Updating.{divided_by}
-use Rattle.lp_whole.proofs.pairs.quotient.Goals as goal
-
-pub returns : goal.returns
-returns c = (divided_by c.args.n c.args.divisor c.ranges.n c.requires.positive c.requires.small c.requires.divides).value
-
-pub nonzero_div-result : goal.nonzero_div-result
-nonzero_div-result c = (c.requires.positive, (divided_by c.args.n c.args.divisor c.ranges.n c.requires.positive c.requires.small c.requires.divides).fits)
