@@ -15,8 +15,11 @@ Improving = dict[int, Number]
 
 # The rules that a solver tries in turn.
 SOLVERS = {'bland': ('bland',), 'dantzig': ('largest',), 'steepest': ('steepest',),
-           'any': ('steepest', 'shortest', 'gain', 'row', 'both', 'largest', 'bland')}
+           'any': ('steepest', 'shortest', 'gain', 'row', 'both', 'largest', 'bland',
+                   'first shuffle', 'second shuffle', 'third shuffle')}
 MOST_DENOMINATOR = 2 ** 128 - 1
+# The factors of the shuffles.
+FACTORS = {'first shuffle': 2_810_603_975, 'second shuffle': 3_049_954_367, 'third shuffle': 304_094_739}
 
 
 class Size(NamedTuple):
@@ -94,6 +97,7 @@ class Pivot:
 
     def __init__(self, dictionary: Dictionary, variable: int, coefficient: Number) -> None:
         row = dictionary.leaving(variable, 0)
+        self.variable = variable
         self.number, constant = dictionary.number(row, variable), dictionary.number(row, CONSTANT)
         self.of_gain = (bits(coefficient.numerator) + bits(constant.numerator) + bits(self.number.denominator)
                         - bits(coefficient.denominator) - bits(constant.denominator) - bits(self.number.numerator))
@@ -101,11 +105,22 @@ class Pivot:
         self.in_column = bits_over(self.number, denominator(it.get(variable, 0) for it in dictionary.rows))
 
 
+def handicap(variable: int, factor: int) -> int:
+    """What a shuffle adds for a variable: the four highest of the 32 bits of the product."""
+    return (variable * factor) % 2 ** 32 // 2 ** 28
+
+
+def shuffled(factor: int, pivot: Pivot) -> int:
+    """The cost by a shuffle: as gain for bits, with the gain twice and the handicap added."""
+    return bits(pivot.number.numerator) - 2 * pivot.of_gain + handicap(pivot.variable, factor)
+
+
 COSTS: dict[str, Callable[[Pivot], int]] = {
     'shortest': lambda it: bits(it.number.numerator) + bits(it.number.denominator),
     'gain': lambda it: bits(it.number.numerator) - it.of_gain,
     'row': lambda it: 2 * it.in_row - it.of_gain,
     'both': lambda it: it.in_row + it.in_column - 3 * it.of_gain,
+    **{name: partial(shuffled, factor) for name, factor in FACTORS.items()},
 }
 
 

@@ -10,12 +10,16 @@ from reference.standard import CONSTANT, Refusal, standard
 
 
 def solve(program: Program, solver: str, iteration_limit: int) -> Answer:
-    """The first answer of the solver's rules that is not Refused, or that of the last one."""
+    """The first answer of the solver's rules that is not Refused; where all are, that by Bland's
+    rule, or by the solver's one rule.
+    """
+    refused: dict[str, Answer] = {}
     for rule in SOLVERS[solver]:
         answer = answer_by(program, rule, iteration_limit)
         if answer.status != 'Refused':
-            break
-    return answer
+            return answer
+        refused[rule] = answer
+    return refused.get('bland', answer)
 
 
 def answer_by(program: Program, rule: str, iteration_limit: int) -> Answer:

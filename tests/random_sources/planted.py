@@ -37,7 +37,7 @@ MISTAKES = [Mistake(*it) for it in [
     ('choice.py', '[:most]', ''),
     ('choice.py', '(len(dictionary.basis) + 1)', 'len(dictionary.basis)'),
     ('choice.py', 'leading((x.numerator << 160) // x.denominator, -160)', 'quotient(leading(x.numerator), leading(x.denominator))'),
-    ('choice.py', "('steepest', 'shortest', 'gain', 'row', 'both', 'largest', 'bland')", "('steepest', 'gain', 'shortest', 'row', 'both', 'largest', 'bland')"),
+    ('choice.py', "('steepest', 'shortest', 'gain', 'row', 'both', 'largest', 'bland',", "('steepest', 'gain', 'shortest', 'row', 'both', 'largest', 'bland',"),
     ('choice.py', 'bits(it.number.numerator) + bits(it.number.denominator)', 'bits(it.number.numerator)'),
     ('choice.py', 'bits(it.number.numerator) - it.of_gain', 'bits(it.number.numerator) - 2 * it.of_gain'),
     ('choice.py', '2 * it.in_row - it.of_gain', 'it.in_row - it.of_gain'),

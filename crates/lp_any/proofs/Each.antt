@@ -1,5 +1,5 @@
--- If Bland's rule, tried after all others, is refused, each of them is refused; and an answer by
--- Bland's rule is one of legal pivots.
+-- If each rule that is tried is refused, every rule is; and an answer by Bland's rule is one of
+-- legal pivots.
 use Rattle.std.proofs.Common.{◌≡◌, ℕ, Bool, true}
 use Rattle.std.specs.Prelude.{◌↔◌, Result, Ok, Err, IfOk, IsTrue}
 use Rattle.std.specs.declared.alloc.AllocError.{AllocError}
@@ -18,23 +18,17 @@ module _ {F : Type 0} (value : F → Number) (limit : ℕ) (lp : Lp F) (iterlim 
   abbrev By : Member → Type 0
   By rule = IsRefusedBy value limit rule lp iterlim
 
-  each : By member.Steepest → By member.Shortest → By member.GainForBits → By member.ShortInRow → By member.ShortInBoth → By member.Largest → By member.Bland → (rule : Member) → By rule
-  each steepest shortest gain in_row in_both largest bland member.Steepest = steepest
-  each steepest shortest gain in_row in_both largest bland member.Shortest = shortest
-  each steepest shortest gain in_row in_both largest bland member.GainForBits = gain
-  each steepest shortest gain in_row in_both largest bland member.ShortInRow = in_row
-  each steepest shortest gain in_row in_both largest bland member.ShortInBoth = in_both
-  each steepest shortest gain in_row in_both largest bland member.Largest = largest
-  each steepest shortest gain in_row in_both largest bland member.Bland = bland
-
-  pub each_refused : (result : Result (Answer F) AllocError) → By member.Steepest → By member.Shortest → By member.GainForBits → By member.ShortInRow → By member.ShortInBoth → By member.Largest
-      → IfOk result (IsAnswerOf value limit member.Bland lp iterlim) → IfOk result (λ answer. IsRefusedEnd answer.end → (rule : Member) → By rule)
-  each_refused (Ok answer) steepest shortest gain in_row in_both largest bland = λ refused. each steepest shortest gain in_row in_both largest (answer, bland, refused)
-  each_refused (Err e) steepest shortest gain in_row in_both largest bland = bland
-
-  pub bland_if_ok : (result : Result (Answer F) AllocError) → IfOk result (IsAnswerOf value limit member.Bland lp iterlim) → IfOk result (λ answer. (rule : Member) × IsAnswerOf value limit rule lp iterlim answer)
-  bland_if_ok (Ok answer) bland = (member.Bland, bland)
-  bland_if_ok (Err e) bland = bland
+  pub each : By member.Steepest → By member.Shortest → By member.GainForBits → By member.ShortInRow → By member.ShortInBoth → By member.Largest → By member.Bland → By member.FirstShuffle → By member.SecondShuffle → By member.ThirdShuffle → (rule : Member) → By rule
+  each steepest shortest gain in_row in_both largest bland first second third member.Steepest = steepest
+  each steepest shortest gain in_row in_both largest bland first second third member.Shortest = shortest
+  each steepest shortest gain in_row in_both largest bland first second third member.GainForBits = gain
+  each steepest shortest gain in_row in_both largest bland first second third member.ShortInRow = in_row
+  each steepest shortest gain in_row in_both largest bland first second third member.ShortInBoth = in_both
+  each steepest shortest gain in_row in_both largest bland first second third member.Largest = largest
+  each steepest shortest gain in_row in_both largest bland first second third member.Bland = bland
+  each steepest shortest gain in_row in_both largest bland first second third member.FirstShuffle = first
+  each steepest shortest gain in_row in_both largest bland first second third member.SecondShuffle = second
+  each steepest shortest gain in_row in_both largest bland first second third member.ThirdShuffle = third
 
   -- a rule whose end is found to be Refused has a refused answer
   pub refused_by : (rule : Member) (answer : Answer F) (found : Bool) → IsAnswerOf value limit rule lp iterlim answer → IsTrue found ↔ IsRefusedEnd answer.end → found ≡ true → By rule

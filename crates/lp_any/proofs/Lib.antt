@@ -3,3 +3,4 @@ pub mod Denominators
 pub mod Each
 pub mod Few
 pub mod Measured
+pub mod Shuffled

@@ -3,3 +3,4 @@ pub mod Denominators
 pub mod Measures
 pub mod Members
 pub mod Name
+pub mod Shuffles

@@ -12,6 +12,7 @@ use Rattle.lp_simplex.specs.Turn.{IsTurningAnswer}
 use Rattle.lp_bland.specs.Ends.{IsRefusedEnd}
 use Rattle.lp_any.specs.Costs.{IsCheapest}
 use Rattle.lp_any.specs.Measures.{IsCostBy, LengthAt, GainAt, RowAt, BothAt}
+use Rattle.lp_any.specs.Shuffles as shuffles
 use Rattle.lp_any.specs.declared.members.Member.{Member}
 use Rattle.lp_any.specs.declared.members.Member.TheVariants as member
 
@@ -26,6 +27,9 @@ module _ {F : Type 0} (value : F → Number) (limit : ℕ) where
   IsAnswerOf member.ShortInBoth lp iterlim answer = IsTurningAnswer value limit (IsCheapest (IsCostBy limit BothAt)) lp iterlim answer
   IsAnswerOf member.Largest lp iterlim answer = IsLargestAnswer value limit lp iterlim answer
   IsAnswerOf member.Bland lp iterlim answer = IsAnswer value limit lp iterlim Bland answer
+  IsAnswerOf member.FirstShuffle lp iterlim answer = IsTurningAnswer value limit (IsCheapest (IsCostBy limit (shuffles.ShuffledAt shuffles.first_factor))) lp iterlim answer
+  IsAnswerOf member.SecondShuffle lp iterlim answer = IsTurningAnswer value limit (IsCheapest (IsCostBy limit (shuffles.ShuffledAt shuffles.second_factor))) lp iterlim answer
+  IsAnswerOf member.ThirdShuffle lp iterlim answer = IsTurningAnswer value limit (IsCheapest (IsCostBy limit (shuffles.ShuffledAt shuffles.third_factor))) lp iterlim answer
 
   -- a rule has an answer that is Refused
   abbrev pub IsRefusedBy : Member → Lp F → ℕ → Type 0

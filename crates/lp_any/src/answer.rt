@@ -67,5 +67,21 @@ pub fn solve_in<F: ExactField>(
     if !is_refused(&largest.end) {
         return Ok(largest);
     }
-    answer_of(alloc, lp, iterlim, Member::Bland)
+    let bland = answer_of(alloc, lp, iterlim, Member::Bland)?;
+    if !is_refused(&bland.end) {
+        return Ok(bland);
+    }
+    let first = answer_of(alloc, lp, iterlim, Member::FirstShuffle)?;
+    if !is_refused(&first.end) {
+        return Ok(first);
+    }
+    let second = answer_of(alloc, lp, iterlim, Member::SecondShuffle)?;
+    if !is_refused(&second.end) {
+        return Ok(second);
+    }
+    let third = answer_of(alloc, lp, iterlim, Member::ThirdShuffle)?;
+    if !is_refused(&third.end) {
+        return Ok(third);
+    }
+    Ok(bland)
 }

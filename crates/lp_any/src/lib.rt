@@ -7,6 +7,7 @@ mod common;
 mod costs;
 mod measures;
 mod members;
+mod shuffles;
 
 pub use answer::solve_in;
 pub use any::Any;

@@ -10,7 +10,7 @@ use lp_dict::Dict;
 use lp_simplex::Picking;
 
 /// The cost of a variable if a step of its ratio test does not fit: above that of any other.
-const STOPS: u32 = 10_000;
+pub(crate) const STOPS: u32 = 10_000;
 
 /// The rule of the shortest pivot number: the variable enters whose pivot number has the fewest
 /// bits, numerator and denominator together, which keeps the next dictionary's numbers short. It
@@ -36,7 +36,7 @@ pub(crate) struct ShortInRow;
 pub(crate) struct ShortInBoth;
 
 /// How many bits a whole number has.
-fn bits(number: u128) -> u32
+pub(crate) fn bits(number: u128) -> u32
     ensures value { result ≡ measures.bits number }
     ensures most { result ≤ 128 }
 {
@@ -53,14 +53,14 @@ fn length_of<F: ExactField>(number: F) -> u32
 
 /// The bits of a gain: those of a numerator, less those of a denominator.
 #[derive(Clone, Copy)]
-struct Gain {
-    above: u32,
-    below: u32,
+pub(crate) struct Gain {
+    pub(crate) above: u32,
+    pub(crate) below: u32,
 }
 
 /// The bits of the gain, from a coefficient, the constant of the leaving variable's row, and the
 /// pivot number in it.
-fn gain_of<F: ExactField>(coefficient: F, constant: F, number: F) -> Gain
+pub(crate) fn gain_of<F: ExactField>(coefficient: F, constant: F, number: F) -> Gain
     ensures above { result.above ≡ measures.gain_above (F.value coefficient) (F.value constant) (F.value number) }
     ensures below { result.below ≡ measures.gain_below (F.value coefficient) (F.value constant) (F.value number) }
     ensures few_above { result.above ≤ 384 }

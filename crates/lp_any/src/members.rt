@@ -7,6 +7,7 @@ ghost use Rattle.lp_nocycle.specs.Turns.{HasFewPivotsByTurn, ComesToEndByTurn};
 ghost use Rattle.lp_any.specs.Members.{IsAnswerOf};
 
 use crate::measures::{GainForBits, ShortInBoth, ShortInRow, Shortest};
+use crate::shuffles::{First, Second, Shuffled, Third};
 use gq_field::ExactField;
 use lp_core::{Answer, Lp};
 use lp_simplex::solve_with;
@@ -30,6 +31,15 @@ pub enum Member {
     Largest,
     /// Bland's rule.
     Bland,
+    /// The bits of the gain counted twice, less those of the pivot number and less a handicap that
+    /// the first shuffle gives.
+    FirstShuffle,
+    /// The bits of the gain counted twice, less those of the pivot number and less a handicap that
+    /// the second shuffle gives.
+    SecondShuffle,
+    /// The bits of the gain counted twice, less those of the pivot number and less a handicap that
+    /// the third shuffle gives.
+    ThirdShuffle,
 }
 
 /// The answer of a program by one of the rules, found by at most `iterlim` pivots: Chvatal, Linear
@@ -55,5 +65,8 @@ pub fn answer_of<F: ExactField>(
         Member::ShortInBoth => solve_with(alloc, lp, iterlim, ShortInBoth),
         Member::Largest => lp_dantzig::solve_in(alloc, lp, iterlim),
         Member::Bland => lp_bland::solve_in(alloc, lp, iterlim),
+        Member::FirstShuffle => solve_with(alloc, lp, iterlim, Shuffled { shuffle: First }),
+        Member::SecondShuffle => solve_with(alloc, lp, iterlim, Shuffled { shuffle: Second }),
+        Member::ThirdShuffle => solve_with(alloc, lp, iterlim, Shuffled { shuffle: Third }),
     }
 }

@@ -1,0 +1,33 @@
+-- The cost of a variable's entering, by its gain and the handicap that a shuffle gives it.
+use Rattle.std.specs.Prelude.{◌≡◌, ℕ, ◌+◌, ◌*◌, ◌-◌, ◌/◌, ◌%◌, ◌^◌, nat_abs}
+use Rattle.gq_number.specs.Number.{Number}
+use Rattle.lp_core.specs.Dictionary.{Dictionary, constant_at, entry_at, IsPriced}
+use Rattle.lp_any.specs.Measures.{bits, gain_above, gain_below}
+
+-- the factor of the first shuffle
+abbrev pub first_factor : ℕ
+first_factor = 2810603975
+
+-- the factor of the second shuffle
+abbrev pub second_factor : ℕ
+second_factor = 3049954367
+
+-- the factor of the third shuffle
+abbrev pub third_factor : ℕ
+third_factor = 304094739
+
+-- The handicap that a shuffle gives a variable, from 0 to 15: the four highest of the 32 bits of
+-- its number times the shuffle's factor.
+abbrev pub handicap : ℕ → ℕ → ℕ
+handicap factor v = v * factor % 2 ^ 32 / 268435456
+
+-- the bits of the numerator of a pivot number and the handicap, less twice the bits of the gain,
+-- and 2000
+abbrev pub cost_with_handicap : Number → Number → Number → ℕ → ℕ
+cost_with_handicap coefficient constant number handicap =
+    2000 + bits (nat_abs number.numerator) + handicap + 2 * gain_below coefficient constant number - 2 * gain_above coefficient constant number
+
+-- the cost by the gain and the handicap of a shuffle
+abbrev pub ShuffledAt : ℕ → Dictionary → ℕ → ℕ → ℕ → Type 0
+ShuffledAt factor d v k n =
+    (j : ℕ) × IsPriced d j × (n ≡ cost_with_handicap (entry_at d j v) (constant_at d k) (entry_at d k v) (handicap factor v))
