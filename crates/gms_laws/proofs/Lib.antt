@@ -1,4 +1,7 @@
 mod ChosenElements
+mod Occurring
 mod OnePart
 mod OneTable
 mod ReadModes
+mod StatementPlaces
+mod TreePlaces

@@ -1,4 +1,6 @@
 pub mod Domains
 pub mod Modes
+pub mod Occurrences
 pub mod Parts
+pub mod Places
 pub mod Tables
