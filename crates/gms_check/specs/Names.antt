@@ -23,7 +23,8 @@ same_position state None None = true
 same_position state (Some a) (Some b) = base_of state a == base_of state b
 same_position state a b = false
 
--- whether two domains are the same
+-- whether two domains are equally long and have one set at each position, an alias counting as its
+-- set
 abbrev pub same_domain : State → List (Option ℕ) → List (Option ℕ) → Bool
 same_domain state [] [] = true
 same_domain state (a ∷ as_) (b ∷ bs) = same_position state a b && same_domain state as_ bs

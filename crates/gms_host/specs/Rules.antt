@@ -20,7 +20,7 @@ with_output o bytes = record o { output = told_with o.output bytes }
 abbrev pub with_said : Outside → List ℕ → Outside
 with_said o bytes = record o { said = told_with o.said bytes }
 
--- these names were requested too
+-- the outside after the files of these names were requested too
 abbrev pub with_asked : Outside → List (List ℕ) → Outside
 with_asked o names = record o { asked = told_with o.asked names }
 

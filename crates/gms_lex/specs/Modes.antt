@@ -32,7 +32,8 @@ begun_by (Some Table) current = TableName
 begun_by (Some Other) current = Code
 begun_by None current = current
 
--- after an element, or something in its place: outside parentheses its text or value has begun
+-- the mode after an element, or after a token that is where an element is expected: outside
+-- parentheses its text or value comes next, within them the list goes on
 abbrev pub behind_element : Shape → ℕ → Mode
 behind_element shape depth = if depth == 0 then Tail shape else Element shape depth After
 

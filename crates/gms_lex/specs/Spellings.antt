@@ -58,8 +58,9 @@ abbrev pub IsExponentSpelling : List ℕ → Type 0
 IsExponentSpelling [] = Unit {0}
 IsExponentSpelling (b ∷ power) = ((b == 101 || b == 69) ≡ true) × IsPower power
 
--- A number followed by `behind`: digits, a dot with digits, and an exponent, with at least one
--- digit before the exponent. No other dot follows its dot.
+-- A number followed by `behind`: digits, a dot that digits may follow, and an exponent, of which
+-- each may be absent; there is a digit before the exponent. A dot without digits is not followed by
+-- another dot.
 pub record IsNumberSpelling (text behind : List ℕ) : Type 0 where
   pub whole : List ℕ
   pub point : List ℕ

@@ -51,7 +51,7 @@ pub record ReaderState : Type 0 where
 abbrev pub start : ReaderState
 start = record { open_count = 0; names = []; labels = []; before = []; keyword = terminal.Semicolon; level = 0 }
 
--- the kind of the last token
+-- the kind of the token that was read last, which comes first in the list; a semicolon if none was
 abbrev pub last_kind : List KindedToken → Terminal
 last_kind [] = terminal.Semicolon
 last_kind (token ∷ tokens) = token.0

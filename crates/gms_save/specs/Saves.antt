@@ -26,7 +26,7 @@ use Rattle.gms_save.specs.declared.fault.SaveFault.TheVariants.{SaveTooLong, Sav
 use Rattle.gms_save.specs.declared.fault.SaveFaultOrMemory.{SaveFaultOrMemory}
 use Rattle.gms_save.specs.declared.fault.SaveFaultOrMemory.TheVariants.{Memory, Fault}
 
--- the greatest magnitude of a part of a number
+-- the greatest magnitude that the numerator or the denominator of a number may have
 abbrev pub greatest_part : ℕ
 greatest_part = 2 ^ 127 - 1
 

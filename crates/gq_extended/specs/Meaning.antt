@@ -13,7 +13,7 @@ extended value PlusInf = plus_infinity
 extended value MinusInf = minus_infinity
 extended value Na = na
 
--- what a call answers, as what a step gives
+-- the result of a call as the outcome of a step: its value, or its fault
 abbrev pub outcome : {F : Type 0} → (F → Number.Number) → Result (Ext F) ExtendedFault → Outcome
 outcome value (Ok x) = Ok (extended value x)
 outcome value (Err fault) = Err fault

@@ -97,7 +97,8 @@ pub record IsForgottenLine (before after : Line) : Type 0 where
   pub most : after.most ≤ before.most
   pub numbers : (c : ℕ) → line_number after c ≡ (if c == 1 then whole (pos 0) else line_number before c)
 
--- A row is another, negated if that makes its coefficient of variable 0 positive.
+-- The row `after` is `before` or its negative, whichever has a positive coefficient of variable 0,
+-- which is at index 1, after the constant.
 pub record IsRaisedLine (before after : Line) : Type 0 where
   pub is_line : IsLine after
   pub sized : length (wholes after) ≡ length (wholes before)
