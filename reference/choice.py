@@ -13,13 +13,12 @@ from reference.standard import Refusal
 
 Improving = dict[int, Number]
 
+# The shuffles, and the factor of each: an odd multiple of 2^32 over the golden ratio.
+FACTORS = {f'shuffle {n}': (2 * n + 1) * 2_654_435_761 % 2 ** 32 for n in range(16)}
 # The rules that a solver tries in turn.
 SOLVERS = {'bland': ('bland',), 'dantzig': ('largest',), 'steepest': ('steepest',),
-           'any': ('steepest', 'shortest', 'gain', 'row', 'both', 'largest', 'bland',
-                   'first shuffle', 'second shuffle', 'third shuffle')}
+           'any': ('steepest', 'shortest', 'gain', 'row', 'both', 'largest', 'bland', *FACTORS)}
 MOST_DENOMINATOR = 2 ** 128 - 1
-# The factors of the shuffles.
-FACTORS = {'first shuffle': 2_810_603_975, 'second shuffle': 3_049_954_367, 'third shuffle': 304_094_739}
 
 
 class Size(NamedTuple):

@@ -21,7 +21,11 @@ const VARIABLES: u32 = 1_000;
 pub(crate) struct Greatest;
 
 impl<F: ExactField> Choosing<F> for Greatest {
-    ghost chooses = { λ _ _ d q. Improves d q };
+    ghost Rule = { ⊤ };
+
+    ghost rule = { λ _. tt };
+
+    ghost chooses = { λ _ _ _ d q. Improves d q };
 
     ghost remembers = { λ _ _ _ _. ⊤ };
 
@@ -36,7 +40,7 @@ impl<F: ExactField> Choosing<F> for Greatest {
 
     fn note(&mut self, _dict: &Dict<F>, _pivot: Pivot) {}
 
-    ghost improving = { λ _ _ _ _ improves. improves };
+    ghost improving = { λ _ _ _ _ _ improves. improves };
 }
 
 /// The solver by that rule.

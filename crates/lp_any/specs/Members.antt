@@ -1,6 +1,6 @@
--- Answers by each of the rules that are tried in turn (Chvatal, Linear Programming, chapters 2 and
+-- The rules that are tried in turn, and their answers (Chvatal, Linear Programming, chapters 2 and
 -- 3).
-use Rattle.std.specs.Prelude.{ℕ}
+use Rattle.std.specs.Prelude.{ℕ, zero, suc, ◌<◌, List, [], ◌∷◌}
 use Rattle.gq_number.specs.Number.{Number}
 use Rattle.lp_core.specs.declared.answer.Answer.{Answer}
 use Rattle.lp_core.specs.declared.answer.Rule.TheVariants.{Bland}
@@ -12,9 +12,24 @@ use Rattle.lp_simplex.specs.Turn.{IsTurningAnswer}
 use Rattle.lp_bland.specs.Ends.{IsRefusedEnd}
 use Rattle.lp_any.specs.Costs.{IsCheapest}
 use Rattle.lp_any.specs.Measures.{IsCostBy, LengthAt, GainAt, RowAt, BothAt}
-use Rattle.lp_any.specs.Shuffles as shuffles
+use Rattle.lp_any.specs.Shuffles.{ShuffledAt}
 use Rattle.lp_any.specs.declared.members.Member.{Member}
 use Rattle.lp_any.specs.declared.members.Member.TheVariants as member
+
+-- how many rules are tried
+abbrev pub rule_count : ℕ
+rule_count = 23
+
+-- the rule at a place of a list; after its last one the shuffles, from 0 on
+abbrev pub rule_after : List Member → ℕ → Member
+rule_after [] n = member.Shuffle n
+rule_after (rule ∷ rules) zero = rule
+rule_after (rule ∷ rules) (suc n) = rule_after rules n
+
+-- the rules in the order in which they are tried, from 0 on: seven, and then the shuffles
+abbrev pub rule_at : ℕ → Member
+rule_at place =
+    rule_after (member.Steepest ∷ member.Shortest ∷ member.GainForBits ∷ member.ShortInRow ∷ member.ShortInBoth ∷ member.Largest ∷ member.Bland ∷ []) place
 
 module _ {F : Type 0} (value : F → Number) (limit : ℕ) where
   -- An answer by one of the rules. Steepest edge may pick any improving variable before the turn to
@@ -27,10 +42,19 @@ module _ {F : Type 0} (value : F → Number) (limit : ℕ) where
   IsAnswerOf member.ShortInBoth lp iterlim answer = IsTurningAnswer value limit (IsCheapest (IsCostBy limit BothAt)) lp iterlim answer
   IsAnswerOf member.Largest lp iterlim answer = IsLargestAnswer value limit lp iterlim answer
   IsAnswerOf member.Bland lp iterlim answer = IsAnswer value limit lp iterlim Bland answer
-  IsAnswerOf member.FirstShuffle lp iterlim answer = IsTurningAnswer value limit (IsCheapest (IsCostBy limit (shuffles.ShuffledAt shuffles.first_factor))) lp iterlim answer
-  IsAnswerOf member.SecondShuffle lp iterlim answer = IsTurningAnswer value limit (IsCheapest (IsCostBy limit (shuffles.ShuffledAt shuffles.second_factor))) lp iterlim answer
-  IsAnswerOf member.ThirdShuffle lp iterlim answer = IsTurningAnswer value limit (IsCheapest (IsCostBy limit (shuffles.ShuffledAt shuffles.third_factor))) lp iterlim answer
+  IsAnswerOf (member.Shuffle n) lp iterlim answer = IsTurningAnswer value limit (IsCheapest (IsCostBy limit (ShuffledAt n))) lp iterlim answer
 
   -- a rule has an answer that is Refused
   abbrev pub IsRefusedBy : Member → Lp F → ℕ → Type 0
   IsRefusedBy rule lp iterlim = (answer : Answer F) × IsAnswerOf rule lp iterlim answer × IsRefusedEnd answer.end
+
+  -- each of the first rules has an answer that is Refused
+  abbrev pub AreRefused : ℕ → Lp F → ℕ → Type 0
+  AreRefused count lp iterlim = (place : ℕ) → place < count → IsRefusedBy (rule_at place) lp iterlim
+
+  -- An answer by one of the rules that are tried, all before which are refused.
+  pub record IsAnswerInTurn (lp : Lp F) (iterlim : ℕ) (answer : Answer F) : Type 0 where
+    pub place : ℕ
+    pub tried : place < rule_count
+    pub answers : IsAnswerOf (rule_at place) lp iterlim answer
+    pub before : AreRefused place lp iterlim

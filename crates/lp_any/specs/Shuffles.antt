@@ -4,22 +4,15 @@ use Rattle.gq_number.specs.Number.{Number}
 use Rattle.lp_core.specs.Dictionary.{Dictionary, constant_at, entry_at, IsPriced}
 use Rattle.lp_any.specs.Measures.{bits, gain_above, gain_below}
 
--- the factor of the first shuffle
-abbrev pub first_factor : ℕ
-first_factor = 2810603975
-
--- the factor of the second shuffle
-abbrev pub second_factor : ℕ
-second_factor = 3049954367
-
--- the factor of the third shuffle
-abbrev pub third_factor : ℕ
-third_factor = 304094739
+-- The factor of a shuffle, by its number from 0 on: an odd multiple of 2654435761, which is 2^32
+-- over the golden ratio (Knuth, The Art of Computer Programming, section 6.4).
+abbrev pub factor : ℕ → ℕ
+factor shuffle = (2 * shuffle + 1) * 2654435761 % 2 ^ 32
 
 -- The handicap that a shuffle gives a variable, from 0 to 15: the four highest of the 32 bits of
--- its number times the shuffle's factor.
+-- the product of the variable's number and the shuffle's factor.
 abbrev pub handicap : ℕ → ℕ → ℕ
-handicap factor v = v * factor % 2 ^ 32 / 268435456
+handicap shuffle v = v * factor shuffle % 2 ^ 32 / 268435456
 
 -- the bits of the numerator of a pivot number and the handicap, less twice the bits of the gain,
 -- and 2000
@@ -29,5 +22,5 @@ cost_with_handicap coefficient constant number handicap =
 
 -- the cost by the gain and the handicap of a shuffle
 abbrev pub ShuffledAt : ℕ → Dictionary → ℕ → ℕ → ℕ → Type 0
-ShuffledAt factor d v k n =
-    (j : ℕ) × IsPriced d j × (n ≡ cost_with_handicap (entry_at d j v) (constant_at d k) (entry_at d k v) (handicap factor v))
+ShuffledAt shuffle d v k n =
+    (j : ℕ) × IsPriced d j × (n ≡ cost_with_handicap (entry_at d j v) (constant_at d k) (entry_at d k v) (handicap shuffle v))

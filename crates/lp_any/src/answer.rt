@@ -5,10 +5,9 @@ ghost use Rattle.lp_core.specs.Answers.{IsAnswer};
 ghost use Rattle.lp_core.specs.WellFormed.{IsWellFormed};
 ghost use Rattle.lp_nocycle.specs.Turns.{HasFewPivotsByTurn, ComesToEndByTurn};
 ghost use Rattle.lp_bland.specs.Ends.{IsRefusedEnd};
-ghost use Rattle.lp_any.specs.declared.members.Member.{Member as MemberName};
-ghost use Rattle.lp_any.specs.Members.{IsAnswerOf, IsRefusedBy};
+ghost use Rattle.lp_any.specs.Members.{IsAnswerInTurn, AreRefused, rule_count};
 
-use crate::members::{Member, answer_of};
+use crate::members::{Member, RULES, answer_of, rule_at};
 use gq_field::ExactField;
 use lp_core::{Answer, End, Lp};
 use std::alloc::{AllocError, Global};
@@ -37,51 +36,18 @@ pub fn solve_in<F: ExactField>(
     iterlim: u64,
 ) -> Result<Answer<F>, AllocError>
     requires { IsWellFormed F.value lp.now }
-    ensures member { IfOk result (λ answer. (member : MemberName) × IsAnswerOf F.value F.limit member lp.now iterlim answer) }
-    ensures refused { IfOk result (λ answer. IsRefusedEnd answer.end → (member : MemberName) → IsRefusedBy F.value F.limit member lp.now iterlim) }
+    ensures in_turn { IfOk result (IsAnswerInTurn F.value F.limit lp.now iterlim) }
+    ensures refused { IfOk result (λ answer. IsRefusedEnd answer.end → AreRefused F.value F.limit rule_count lp.now iterlim) }
+    ensures by_bland { IfOk result (λ answer. IsRefusedEnd answer.end → IsAnswer F.value F.limit lp.now iterlim by.Bland answer) }
     ensures answers { IfOk result (IsAnswer F.value F.limit lp.now iterlim by.Legal) }
     ensures few { IfOk result (HasFewPivotsByTurn F.value lp.now) }
     ensures to_the_end { IfOk result (ComesToEndByTurn F.value lp.now iterlim) }
 {
-    let steepest = answer_of(alloc, lp, iterlim, Member::Steepest)?;
-    if !is_refused(&steepest.end) {
-        return Ok(steepest);
+    for place in 0..RULES {
+        let answer = answer_of(alloc, lp, iterlim, rule_at(place))?;
+        if !is_refused(&answer.end) {
+            return Ok(answer);
+        }
     }
-    let shortest = answer_of(alloc, lp, iterlim, Member::Shortest)?;
-    if !is_refused(&shortest.end) {
-        return Ok(shortest);
-    }
-    let gain = answer_of(alloc, lp, iterlim, Member::GainForBits)?;
-    if !is_refused(&gain.end) {
-        return Ok(gain);
-    }
-    let in_row = answer_of(alloc, lp, iterlim, Member::ShortInRow)?;
-    if !is_refused(&in_row.end) {
-        return Ok(in_row);
-    }
-    let in_both = answer_of(alloc, lp, iterlim, Member::ShortInBoth)?;
-    if !is_refused(&in_both.end) {
-        return Ok(in_both);
-    }
-    let largest = answer_of(alloc, lp, iterlim, Member::Largest)?;
-    if !is_refused(&largest.end) {
-        return Ok(largest);
-    }
-    let bland = answer_of(alloc, lp, iterlim, Member::Bland)?;
-    if !is_refused(&bland.end) {
-        return Ok(bland);
-    }
-    let first = answer_of(alloc, lp, iterlim, Member::FirstShuffle)?;
-    if !is_refused(&first.end) {
-        return Ok(first);
-    }
-    let second = answer_of(alloc, lp, iterlim, Member::SecondShuffle)?;
-    if !is_refused(&second.end) {
-        return Ok(second);
-    }
-    let third = answer_of(alloc, lp, iterlim, Member::ThirdShuffle)?;
-    if !is_refused(&third.end) {
-        return Ok(third);
-    }
-    Ok(bland)
+    answer_of(alloc, lp, iterlim, Member::Bland)
 }

@@ -8,8 +8,7 @@ ghost use Rattle.lp_core.specs.WellFormed.{IsWellFormed};
 ghost use Rattle.lp_nocycle.specs.Turns.{HasFewPivotsByTurn, ComesToEndByTurn};
 ghost use Rattle.lp_any.specs.Name.{any_is_name};
 ghost use Rattle.lp_bland.specs.Ends.{IsRefusedEnd};
-ghost use Rattle.lp_any.specs.declared.members.Member.{Member as MemberName};
-ghost use Rattle.lp_any.specs.Members.{IsAnswerOf, IsRefusedBy};
+ghost use Rattle.lp_any.specs.Members.{IsAnswerInTurn, AreRefused, rule_count};
 
 use crate::answer::solve_in;
 use gq_frac::Frac;
@@ -75,8 +74,9 @@ impl LpSolver for Any {
     ) -> Result<Answer<Frac>, AllocError>
         requires { IsWellFormed frac_value lp.now }
         ensures answers { IfOk result (IsAnswer frac_value frac_limit lp.now iterlim by.Legal) }
-        ensures member { IfOk result (λ answer. (member : MemberName) × IsAnswerOf frac_value frac_limit member lp.now iterlim answer) }
-        ensures refused { IfOk result (λ answer. IsRefusedEnd answer.end → (member : MemberName) → IsRefusedBy frac_value frac_limit member lp.now iterlim) }
+        ensures in_turn { IfOk result (IsAnswerInTurn frac_value frac_limit lp.now iterlim) }
+        ensures refused { IfOk result (λ answer. IsRefusedEnd answer.end → AreRefused frac_value frac_limit rule_count lp.now iterlim) }
+        ensures by_bland { IfOk result (λ answer. IsRefusedEnd answer.end → IsAnswer frac_value frac_limit lp.now iterlim by.Bland answer) }
         ensures few { IfOk result (HasFewPivotsByTurn frac_value lp.now) }
         ensures to_the_end { IfOk result (ComesToEndByTurn frac_value lp.now iterlim) }
         ensures paths { IfOk result (λ answer. self.new ≡ self.old ++ answer.pivots ∷ []) }

@@ -9,13 +9,13 @@ use lp_dict::Dict;
 
 /// A cost of each variable that improves, by which the one to enter is picked.
 pub(crate) trait Costing<F: ExactField>: Drop {
-    /// That a number is the cost of a variable at a dictionary.
-    ghost costs: { Dictionary → ℕ → ℕ → Type 0 };
+    /// That a number is the cost of a variable at a dictionary, by a rule.
+    ghost costs: { Self → Dictionary → ℕ → ℕ → Type 0 };
 
     /// The cost of this variable's entering.
     fn cost(&self, dict: &Dict<F>, variable: u32) -> u32
         requires { Improves (dictionary F.value dict.now) variable }
-        ensures { costs (dictionary F.value dict.now) variable result };
+        ensures { costs self.now (dictionary F.value dict.now) variable result };
 }
 
 /// A variable, and the cost of its entering.
@@ -42,7 +42,7 @@ fn tried<C: Costing<F>, F: ExactField>(
     best: Option<Candidate>,
     variable: u32,
 ) -> Option<Candidate>
-    ensures { IsTried C.costs (dictionary F.value dict.now) variable best result }
+    ensures { IsTried (C.costs rule.now) (dictionary F.value dict.now) variable best result }
 {
     if !dict.improves(variable) {
         return best;
@@ -54,7 +54,7 @@ fn tried<C: Costing<F>, F: ExactField>(
 /// The improving variable that costs least, and of equal ones the least. None exactly if no
 /// variable improves.
 pub(crate) fn cheapest<C: Costing<F>, F: ExactField>(rule: &C, dict: &Dict<F>) -> Option<u32>
-    ensures { MatchOption result ((v : ℕ) → ¬ (Improves (dictionary F.value dict.now) v)) (IsCheapest C.costs (dictionary F.value dict.now)) }
+    ensures { MatchOption result ((v : ℕ) → ¬ (Improves (dictionary F.value dict.now) v)) (IsCheapest (C.costs rule.now) (dictionary F.value dict.now)) }
 {
     dict.keeps();
     let mut best = None;

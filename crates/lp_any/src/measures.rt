@@ -121,7 +121,7 @@ fn cost_in_both<F: ExactField>(
 }
 
 impl<F: ExactField> Costing<F> for Shortest {
-    ghost costs = { measures.IsCostBy F.limit measures.LengthAt };
+    ghost costs = { λ _. measures.IsCostBy F.limit measures.LengthAt };
 
     fn cost(&self, dict: &Dict<F>, variable: u32) -> u32 {
         match dict.leaving(variable) {
@@ -133,7 +133,7 @@ impl<F: ExactField> Costing<F> for Shortest {
 }
 
 impl<F: ExactField> Costing<F> for GainForBits {
-    ghost costs = { measures.IsCostBy F.limit measures.GainAt };
+    ghost costs = { λ _. measures.IsCostBy F.limit measures.GainAt };
 
     fn cost(&self, dict: &Dict<F>, variable: u32) -> u32 {
         match dict.leaving(variable) {
@@ -148,7 +148,7 @@ impl<F: ExactField> Costing<F> for GainForBits {
 }
 
 impl<F: ExactField> Costing<F> for ShortInRow {
-    ghost costs = { measures.IsCostBy F.limit measures.RowAt };
+    ghost costs = { λ _. measures.IsCostBy F.limit measures.RowAt };
 
     fn cost(&self, dict: &Dict<F>, variable: u32) -> u32 {
         match dict.leaving(variable) {
@@ -169,7 +169,7 @@ impl<F: ExactField> Costing<F> for ShortInRow {
 }
 
 impl<F: ExactField> Costing<F> for ShortInBoth {
-    ghost costs = { measures.IsCostBy F.limit measures.BothAt };
+    ghost costs = { λ _. measures.IsCostBy F.limit measures.BothAt };
 
     fn cost(&self, dict: &Dict<F>, variable: u32) -> u32 {
         match dict.leaving(variable) {
@@ -187,41 +187,41 @@ impl<F: ExactField> Costing<F> for ShortInBoth {
 }
 
 impl<F: ExactField> Picking<F> for Shortest {
-    ghost picks = { IsCheapest (measures.IsCostBy F.limit measures.LengthAt) };
+    ghost picks = { λ _. IsCheapest (measures.IsCostBy F.limit measures.LengthAt) };
 
     fn pick(&self, dict: &Dict<F>) -> Option<u32> {
         cheapest(self, dict)
     }
 
-    ghost improving = { cheapest_improves (measures.IsCostBy F.limit measures.LengthAt) };
+    ghost improving = { λ _. cheapest_improves (measures.IsCostBy F.limit measures.LengthAt) };
 }
 
 impl<F: ExactField> Picking<F> for GainForBits {
-    ghost picks = { IsCheapest (measures.IsCostBy F.limit measures.GainAt) };
+    ghost picks = { λ _. IsCheapest (measures.IsCostBy F.limit measures.GainAt) };
 
     fn pick(&self, dict: &Dict<F>) -> Option<u32> {
         cheapest(self, dict)
     }
 
-    ghost improving = { cheapest_improves (measures.IsCostBy F.limit measures.GainAt) };
+    ghost improving = { λ _. cheapest_improves (measures.IsCostBy F.limit measures.GainAt) };
 }
 
 impl<F: ExactField> Picking<F> for ShortInRow {
-    ghost picks = { IsCheapest (measures.IsCostBy F.limit measures.RowAt) };
+    ghost picks = { λ _. IsCheapest (measures.IsCostBy F.limit measures.RowAt) };
 
     fn pick(&self, dict: &Dict<F>) -> Option<u32> {
         cheapest(self, dict)
     }
 
-    ghost improving = { cheapest_improves (measures.IsCostBy F.limit measures.RowAt) };
+    ghost improving = { λ _. cheapest_improves (measures.IsCostBy F.limit measures.RowAt) };
 }
 
 impl<F: ExactField> Picking<F> for ShortInBoth {
-    ghost picks = { IsCheapest (measures.IsCostBy F.limit measures.BothAt) };
+    ghost picks = { λ _. IsCheapest (measures.IsCostBy F.limit measures.BothAt) };
 
     fn pick(&self, dict: &Dict<F>) -> Option<u32> {
         cheapest(self, dict)
     }
 
-    ghost improving = { cheapest_improves (measures.IsCostBy F.limit measures.BothAt) };
+    ghost improving = { λ _. cheapest_improves (measures.IsCostBy F.limit measures.BothAt) };
 }

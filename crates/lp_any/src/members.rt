@@ -1,13 +1,13 @@
 //! The rules that are tried, and the answer by each.
-ghost use Rattle.std.specs.Prelude.{IfOk};
+ghost use Rattle.std.specs.Prelude.{◌≡◌, IfOk};
 ghost use Rattle.lp_core.specs.declared.answer.Rule.TheVariants as by;
 ghost use Rattle.lp_core.specs.Answers.{IsAnswer};
 ghost use Rattle.lp_core.specs.WellFormed.{IsWellFormed};
 ghost use Rattle.lp_nocycle.specs.Turns.{HasFewPivotsByTurn, ComesToEndByTurn};
-ghost use Rattle.lp_any.specs.Members.{IsAnswerOf};
+ghost use Rattle.lp_any.specs.Members as members;
 
 use crate::measures::{GainForBits, ShortInBoth, ShortInRow, Shortest};
-use crate::shuffles::{First, Second, Shuffled, Third};
+use crate::shuffles::Shuffle;
 use gq_field::ExactField;
 use lp_core::{Answer, Lp};
 use lp_simplex::solve_with;
@@ -32,14 +32,27 @@ pub enum Member {
     /// Bland's rule.
     Bland,
     /// The bits of the gain counted twice, less those of the pivot number and less a handicap that
-    /// the first shuffle gives.
-    FirstShuffle,
-    /// The bits of the gain counted twice, less those of the pivot number and less a handicap that
-    /// the second shuffle gives.
-    SecondShuffle,
-    /// The bits of the gain counted twice, less those of the pivot number and less a handicap that
-    /// the third shuffle gives.
-    ThirdShuffle,
+    /// the shuffle with this number gives.
+    Shuffle(u8),
+}
+
+/// How many rules are tried.
+pub(crate) const RULES: u8 = 23;
+
+/// The rules in the order in which they are tried, from 0 on: seven, and then the shuffles.
+pub(crate) fn rule_at(place: u8) -> Member
+    ensures { result ≡ members.rule_at place }
+{
+    match place {
+        0 => Member::Steepest,
+        1 => Member::Shortest,
+        2 => Member::GainForBits,
+        3 => Member::ShortInRow,
+        4 => Member::ShortInBoth,
+        5 => Member::Largest,
+        6 => Member::Bland,
+        _ => Member::Shuffle(place - 7),
+    }
 }
 
 /// The answer of a program by one of the rules, found by at most `iterlim` pivots: Chvatal, Linear
@@ -52,7 +65,7 @@ pub fn answer_of<F: ExactField>(
     member: Member,
 ) -> Result<Answer<F>, AllocError>
     requires { IsWellFormed F.value lp.now }
-    ensures answer { IfOk result (IsAnswerOf F.value F.limit member lp.now iterlim) }
+    ensures answer { IfOk result (members.IsAnswerOf F.value F.limit member lp.now iterlim) }
     ensures legal { IfOk result (IsAnswer F.value F.limit lp.now iterlim by.Legal) }
     ensures few { IfOk result (HasFewPivotsByTurn F.value lp.now) }
     ensures to_the_end { IfOk result (ComesToEndByTurn F.value lp.now iterlim) }
@@ -65,8 +78,6 @@ pub fn answer_of<F: ExactField>(
         Member::ShortInBoth => solve_with(alloc, lp, iterlim, ShortInBoth),
         Member::Largest => lp_dantzig::solve_in(alloc, lp, iterlim),
         Member::Bland => lp_bland::solve_in(alloc, lp, iterlim),
-        Member::FirstShuffle => solve_with(alloc, lp, iterlim, Shuffled { shuffle: First }),
-        Member::SecondShuffle => solve_with(alloc, lp, iterlim, Shuffled { shuffle: Second }),
-        Member::ThirdShuffle => solve_with(alloc, lp, iterlim, Shuffled { shuffle: Third }),
+        Member::Shuffle(number) => solve_with(alloc, lp, iterlim, Shuffle { number }),
     }
 }

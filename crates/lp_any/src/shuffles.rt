@@ -1,5 +1,5 @@
-//! Rules by the gain for bits and a handicap that a shuffle gives each variable.
-ghost use Rattle.std.specs.Prelude.{◌≡◌, ◌≤◌, ℕ};
+//! The rule by the gain for bits and a handicap that a shuffle gives each variable.
+ghost use Rattle.std.specs.Prelude.{◌≡◌, ◌≤◌};
 ghost use Rattle.lp_any.specs.Costs.{IsCheapest, cheapest_improves};
 ghost use Rattle.lp_any.specs.Measures as measures;
 ghost use Rattle.lp_any.specs.Shuffles as shuffles;
@@ -10,58 +10,21 @@ use gq_field::ExactField;
 use lp_dict::Dict;
 use lp_simplex::Picking;
 
-/// A shuffle of the variables: it gives each a handicap, the same on every machine.
-pub(crate) trait Shuffle: Drop {
-    /// The factor by which a variable's number is multiplied.
-    ghost factor: { ℕ };
-
-    /// The factor by which a variable's number is multiplied.
-    fn factor(&self) -> u32
-        ensures { result ≡ factor };
+/// The factor of a shuffle, by which a variable's number is multiplied.
+fn factor(shuffle: u8) -> u32
+    ensures { result ≡ shuffles.factor shuffle }
+{
+    let odd = 2 * shuffle as u32 + 1;
+    odd.wrapping_mul(2_654_435_761)
 }
 
-/// The first shuffle.
-#[derive(Drop)]
-pub(crate) struct First;
-
-/// The second shuffle.
-#[derive(Drop)]
-pub(crate) struct Second;
-
-/// The third shuffle.
-#[derive(Drop)]
-pub(crate) struct Third;
-
-impl Shuffle for First {
-    ghost factor = { shuffles.first_factor };
-
-    fn factor(&self) -> u32 {
-        2_810_603_975
-    }
-}
-
-impl Shuffle for Second {
-    ghost factor = { shuffles.second_factor };
-
-    fn factor(&self) -> u32 {
-        3_049_954_367
-    }
-}
-
-impl Shuffle for Third {
-    ghost factor = { shuffles.third_factor };
-
-    fn factor(&self) -> u32 {
-        304_094_739
-    }
-}
-
-/// The handicap of a variable: the four highest of the 32 bits of its number times a factor.
-fn handicap(variable: u32, factor: u32) -> u32
-    ensures value { result ≡ shuffles.handicap factor variable }
+/// The handicap of a variable, the same on every machine: the four highest of the 32 bits of its
+/// number times the shuffle's factor.
+fn handicap(shuffle: u8, variable: u32) -> u32
+    ensures value { result ≡ shuffles.handicap shuffle variable }
     ensures most { result ≤ 15 }
 {
-    variable.wrapping_mul(factor) / 268_435_456
+    variable.wrapping_mul(factor(shuffle)) / 268_435_456
 }
 
 /// The bits of the pivot number's numerator and a handicap, less twice the bits of the gain, and
@@ -79,20 +42,20 @@ fn cost_with_handicap<F: ExactField>(coefficient: F, constant: F, number: F, han
 /// of its pivot number's numerator and less the handicap that the shuffle gives it. It remembers
 /// nothing.
 #[derive(Drop)]
-pub(crate) struct Shuffled<S: Shuffle> {
-    pub(crate) shuffle: S,
+pub(crate) struct Shuffle {
+    /// The shuffle's number, from 0 on.
+    pub(crate) number: u8,
 }
 
-impl<S: Shuffle, F: ExactField> Costing<F> for Shuffled<S> {
-    ghost costs = { measures.IsCostBy F.limit (shuffles.ShuffledAt S.factor) };
+impl<F: ExactField> Costing<F> for Shuffle {
+    ghost costs = { λ rule. measures.IsCostBy F.limit (shuffles.ShuffledAt rule.number) };
 
     fn cost(&self, dict: &Dict<F>, variable: u32) -> u32 {
         match dict.leaving(variable) {
             Ok(Some(leave)) => {
                 let coefficient = dict.coefficient(variable);
                 let number = dict.entry(leave, variable);
-                let factor = self.shuffle.factor();
-                let handicap = handicap(variable, factor);
+                let handicap = handicap(self.number, variable);
                 cost_with_handicap(coefficient, dict.amount(leave), number, handicap)
             }
             Ok(None) => 0,
@@ -101,12 +64,12 @@ impl<S: Shuffle, F: ExactField> Costing<F> for Shuffled<S> {
     }
 }
 
-impl<S: Shuffle, F: ExactField> Picking<F> for Shuffled<S> {
-    ghost picks = { IsCheapest (measures.IsCostBy F.limit (shuffles.ShuffledAt S.factor)) };
+impl<F: ExactField> Picking<F> for Shuffle {
+    ghost picks = { λ rule. IsCheapest (measures.IsCostBy F.limit (shuffles.ShuffledAt rule.number)) };
 
     fn pick(&self, dict: &Dict<F>) -> Option<u32> {
         cheapest(self, dict)
     }
 
-    ghost improving = { cheapest_improves (measures.IsCostBy F.limit (shuffles.ShuffledAt S.factor)) };
+    ghost improving = { λ rule. cheapest_improves (measures.IsCostBy F.limit (shuffles.ShuffledAt rule.number)) };
 }

@@ -19,7 +19,11 @@ use std::alloc::{AllocError, Global};
 pub struct Least;
 
 impl<F: ExactField> Choosing<F> for Least {
-    ghost chooses = { λ _ _ d q. IsChosen by.Bland d q };
+    ghost Rule = { ⊤ };
+
+    ghost rule = { λ _. tt };
+
+    ghost chooses = { λ _ _ _ d q. IsChosen by.Bland d q };
 
     ghost remembers = { λ _ _ _ _. ⊤ };
 
@@ -29,7 +33,7 @@ impl<F: ExactField> Choosing<F> for Least {
 
     fn note(&mut self, _dict: &Dict<F>, _pivot: Pivot) {}
 
-    ghost improving = { λ _ _ d q chosen. least_improves d q chosen };
+    ghost improving = { λ _ _ _ d q chosen. least_improves d q chosen };
 }
 
 /// The only answer of a program under Bland's rule, found by at most `iterlim` pivots: Bland, "New

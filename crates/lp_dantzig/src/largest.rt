@@ -13,11 +13,11 @@ use lp_simplex::Picking;
 pub(crate) struct Largest;
 
 impl<F: ExactField> Picking<F> for Largest {
-    ghost picks = { HasGreatest };
+    ghost picks = { λ _. HasGreatest };
 
     fn pick(&self, dict: &Dict<F>) -> Option<u32> {
         dict.greatest()
     }
 
-    ghost improving = { greatest_improves };
+    ghost improving = { λ _. greatest_improves };
 }

@@ -113,7 +113,7 @@ fn searched<C: Choosing<F>, F: ExactField>(
     requires form { IsFormOf F.value lp.now s.now }
     requires all_fit { AllFit (standard_steps F.value F.limit lp.now) }
     requires fresh { (d : Dictionary) → C.remembers choice.old d [] d }
-    ensures { IfOk result (IsAnswerByChoice F.value F.limit lp.now iterlim C.chooses) }
+    ensures { IfOk result (IsAnswerByChoice F.value F.limit lp.now iterlim (C.chooses (C.rule choice.old))) }
 {
     let first = Dict::of(alloc, s)?;
     let walk = walked(alloc, first, iterlim, choice)?;
@@ -176,7 +176,7 @@ pub fn solve_by<C: Choosing<F>, F: ExactField>(
 ) -> Result<Answer<F>, AllocError>
     requires well_formed { IsWellFormed F.value lp.now }
     requires fresh { (d : Dictionary) → C.remembers choice.old d [] d }
-    ensures chosen { IfOk result (IsAnswerByChoice F.value F.limit lp.now iterlim C.chooses) }
+    ensures chosen { IfOk result (IsAnswerByChoice F.value F.limit lp.now iterlim (C.chooses (C.rule choice.old))) }
     ensures legal { IfOk result (IsAnswer F.value F.limit lp.now iterlim Legal) }
 {
     match standard(alloc, lp) {

@@ -12,9 +12,15 @@ use lp_dict::Dict;
 /// A way to choose the entering variable among those that improve: Chvatal, Linear Programming,
 /// chapters 2 and 3. It may remember the pivots so far.
 pub trait Choosing<F: ExactField> {
-    /// That a variable may be chosen, given the first dictionary, the pivots so far, and the
-    /// dictionary they lead to.
-    ghost chooses: { Dictionary → List Pivot → Dictionary → ℕ → Type 0 };
+    /// The type of the rules by which such a chooser chooses.
+    ghost Rule: { Type 0 };
+
+    /// The rule by which a chooser chooses. No pivot changes it.
+    ghost rule: { Self → Rule };
+
+    /// That a variable may be chosen by a rule, given the first dictionary, the pivots so far, and
+    /// the dictionary they lead to.
+    ghost chooses: { Rule → Dictionary → List Pivot → Dictionary → ℕ → Type 0 };
 
     /// That the chooser remembers what it needs, given the first dictionary, the pivots so far, and
     /// the dictionary they lead to.
@@ -25,16 +31,17 @@ pub trait Choosing<F: ExactField> {
         requires { ¬ (OpeningIsDue (dictionary F.value dict.now)) }
         ensures { MatchOption result ((v : ℕ) → ¬ (Improves (dictionary F.value dict.now) v))
             (λ q. Improves (dictionary F.value dict.now) q × ((first : Dictionary) (pivots : List Pivot) →
-            remembers self.now first pivots (dictionary F.value dict.now) → chooses first pivots (dictionary F.value dict.now) q)) };
+            remembers self.now first pivots (dictionary F.value dict.now) → chooses (rule self.now) first pivots (dictionary F.value dict.now) q)) };
 
     /// Notes a pivot that is about to be made.
     fn note(&mut self, dict: &Dict<F>, pivot: Pivot)
         requires proper { IsProper (dictionary F.value dict.now) }
         requires legal { (k : ℕ) × IsLegal (dictionary F.value dict.now) pivot k }
-        ensures { (first : Dictionary) (pivots : List Pivot) (k : ℕ) → slice_get dict.now.basic k ≡ Some pivot.leave →
+        ensures rule { rule self.new ≡ rule self.old }
+        ensures remembered { (first : Dictionary) (pivots : List Pivot) (k : ℕ) → slice_get dict.now.basic k ≡ Some pivot.leave →
             remembers self.old first pivots (dictionary F.value dict.now) →
             remembers self.new first (pivots ++ pivot ∷ []) (exchanged (dictionary F.value dict.now) pivot.enter k) };
 
     /// A chosen variable improves.
-    ghost improving: { (first : Dictionary) (pivots : List Pivot) (d : Dictionary) (q : ℕ) → chooses first pivots d q → Improves d q };
+    ghost improving: { (by : Rule) (first : Dictionary) (pivots : List Pivot) (d : Dictionary) (q : ℕ) → chooses by first pivots d q → Improves d q };
 }

@@ -9,14 +9,14 @@ use lp_dict::Dict;
 /// A rule of choice: it picks the entering variable among those that improve, and depends on the
 /// dictionary alone: Chvatal, Linear Programming, chapters 2 and 3.
 pub trait Picking<F: ExactField>: Drop {
-    /// That the rule may pick a variable at a dictionary.
-    ghost picks: { Dictionary → ℕ → Type 0 };
+    /// That a rule may pick a variable at a dictionary.
+    ghost picks: { Self → Dictionary → ℕ → Type 0 };
 
     /// A variable that the rule picks. None exactly if no variable improves.
     fn pick(&self, dict: &Dict<F>) -> Option<u32>
         requires { ¬ (OpeningIsDue (dictionary F.value dict.now)) }
-        ensures { MatchOption result ((v : ℕ) → ¬ (Improves (dictionary F.value dict.now) v)) (picks (dictionary F.value dict.now)) };
+        ensures { MatchOption result ((v : ℕ) → ¬ (Improves (dictionary F.value dict.now) v)) (picks self.now (dictionary F.value dict.now)) };
 
     /// A picked variable improves.
-    ghost improving: { (d : Dictionary) (q : ℕ) → picks d q → Improves d q };
+    ghost improving: { (rule : Self) (d : Dictionary) (q : ℕ) → picks rule d q → Improves d q };
 }

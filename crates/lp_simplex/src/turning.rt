@@ -65,7 +65,8 @@ pub(crate) struct Turning<P: Drop> {
 impl<P: Drop> Turning<P> {
     /// The rule before any pivot.
     pub(crate) fn new(rule: P) -> Turning<P>
-        ensures { result.count ≡ Still 0 }
+        ensures rule { result.rule ≡ rule }
+        ensures count { result.count ≡ Still 0 }
     {
         Turning {
             rule,
@@ -75,7 +76,11 @@ impl<P: Drop> Turning<P> {
 }
 
 impl<P: Picking<F>, F: ExactField> Choosing<F> for Turning<P> {
-    ghost chooses = { IsNextBy P.picks };
+    ghost Rule = { P };
+
+    ghost rule = { λ t. t.rule };
+
+    ghost chooses = { λ rule. IsNextBy (P.picks rule) };
 
     ghost remembers = { λ t. Remembers t.count };
 
@@ -91,5 +96,5 @@ impl<P: Picking<F>, F: ExactField> Choosing<F> for Turning<P> {
         self.count = self.count.after(pivot.leave == 0, gains, dict.variables());
     }
 
-    ghost improving = { next_improves P.picks P.improving };
+    ghost improving = { λ rule. next_improves (P.picks rule) (P.improving rule) };
 }

@@ -29,7 +29,7 @@ pub fn solve_with<P: Picking<F>, F: ExactField>(
     rule: P,
 ) -> Result<Answer<F>, AllocError>
     requires { IsWellFormed F.value lp.now }
-    ensures turning { IfOk result (IsTurningAnswer F.value F.limit P.picks lp.now iterlim) }
+    ensures turning { IfOk result (IsTurningAnswer F.value F.limit (P.picks rule) lp.now iterlim) }
     ensures legal { IfOk result (IsAnswer F.value F.limit lp.now iterlim by.Legal) }
     ensures few { IfOk result (HasFewPivotsByTurn F.value lp.now) }
     ensures to_the_end { IfOk result (ComesToEndByTurn F.value lp.now iterlim) }

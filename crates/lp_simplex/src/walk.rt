@@ -67,7 +67,7 @@ fn due_with(enter: u32, leave: Option<u32>) -> Due
 fn due_at<C: Choosing<F>, F: ExactField>(dict: &Dict<F>, choice: &C) -> Due
     ensures legal { walks.IsDue F.limit (Improves (dictionary F.value dict.now)) dict.now.upcoming (dictionary F.value dict.now) result }
     ensures chosen { (first : Dictionary) (pivots : List Pivot) → C.remembers choice.now first pivots (dictionary F.value dict.now) →
-        walks.IsDue F.limit (C.chooses first pivots (dictionary F.value dict.now)) dict.now.upcoming (dictionary F.value dict.now) result }
+        walks.IsDue F.limit (C.chooses (C.rule choice.now) first pivots (dictionary F.value dict.now)) dict.now.upcoming (dictionary F.value dict.now) result }
 {
     if let Some(pivot) = dict.opening() {
         return Due::Pivot(pivot);
@@ -92,9 +92,10 @@ fn pivoted<C: Choosing<F>, F: ExactField>(
 ) -> Result<Step<F>, AllocError>
     requires proper { IsProper (dictionary F.value dict) }
     requires legal { (k : ℕ) × IsLegal (dictionary F.value dict) pivot k × TestFits F.limit dict.upcoming (dictionary F.value dict) pivot }
-    ensures { IfOk result (λ step. (first : Dictionary) (pivots : List Pivot) → C.remembers choice.old first pivots (dictionary F.value dict) →
-        IsTaken (C.chooses first pivots (dictionary F.value dict)) (dictionary F.value dict) pivot →
-        walks.StepsTo F.limit F.value (C.chooses first pivots (dictionary F.value dict)) (C.remembers choice.new first) pivots dict step) }
+    ensures rule { C.rule choice.new ≡ C.rule choice.old }
+    ensures steps { IfOk result (λ step. (first : Dictionary) (pivots : List Pivot) → C.remembers choice.old first pivots (dictionary F.value dict) →
+        IsTaken (C.chooses (C.rule choice.old) first pivots (dictionary F.value dict)) (dictionary F.value dict) pivot →
+        walks.StepsTo F.limit F.value (C.chooses (C.rule choice.old) first pivots (dictionary F.value dict)) (C.remembers choice.new first) pivots dict step) }
 {
     choice.note(&dict, pivot);
     match dict.pivot(alloc, pivot) {
@@ -112,8 +113,9 @@ fn stepped<C: Choosing<F>, F: ExactField>(
     choice: &mut C,
 ) -> Result<Step<F>, AllocError>
     requires { IsProper (dictionary F.value dict) }
-    ensures { IfOk result (λ step. (first : Dictionary) (pivots : List Pivot) → C.remembers choice.old first pivots (dictionary F.value dict) →
-        walks.StepsTo F.limit F.value (C.chooses first pivots (dictionary F.value dict)) (C.remembers choice.new first) pivots dict step) }
+    ensures rule { C.rule choice.new ≡ C.rule choice.old }
+    ensures steps { IfOk result (λ step. (first : Dictionary) (pivots : List Pivot) → C.remembers choice.old first pivots (dictionary F.value dict) →
+        walks.StepsTo F.limit F.value (C.chooses (C.rule choice.old) first pivots (dictionary F.value dict)) (C.remembers choice.new first) pivots dict step) }
 {
     match due_at(&dict, choice) {
         Due::Pivot(pivot) => pivoted(alloc, dict, pivot, choice),
@@ -125,7 +127,7 @@ fn stepped<C: Choosing<F>, F: ExactField>(
 /// Where a run halts that may make no further pivot.
 fn halted<C: Choosing<F>, F: ExactField>(dict: Dict<F>, choice: &C) -> Halt<F>
     ensures { (first : Dictionary) (pivots : List Pivot) → C.remembers choice.now first pivots (dictionary F.value dict) →
-        walks.HaltsAtLimit F.limit F.value (C.chooses first pivots (dictionary F.value dict)) dict result }
+        walks.HaltsAtLimit F.limit F.value (C.chooses (C.rule choice.now) first pivots (dictionary F.value dict)) dict result }
 {
     match due_at(&dict, choice) {
         Due::Pivot(_) => Halt::Interrupted(dict),
@@ -144,7 +146,7 @@ pub(crate) fn walked<C: Choosing<F>, F: ExactField>(
     requires upcoming { first.upcoming ≡ 1 }
     requires proper { IsProper (dictionary F.value first) }
     requires fresh { C.remembers choice.old (dictionary F.value first) [] (dictionary F.value first) }
-    ensures { IfOk result (walks.IsWalk F.limit F.value C.chooses (dictionary F.value first) iterlim) }
+    ensures { IfOk result (walks.IsWalk F.limit F.value (C.chooses (C.rule choice.old)) (dictionary F.value first) iterlim) }
 {
     let mut pivots = Vec::new(alloc);
     let mut dict = first;

@@ -12,7 +12,7 @@ pub(crate) struct Leader {
 }
 
 /// The variables with the greatest coefficients of those that were added, and of equal ones the
-/// first.
+/// first. The greatest of all is at place 0.
 #[derive(Drop)]
 pub(crate) struct Leaders {
     list: [Leader; MOST],
@@ -59,17 +59,29 @@ impl Leaders {
     /// Finds the place of the last one.
     fn find_last(&mut self) {
         let mut last = 0;
-        for place in 1..MOST {
-            if place < self.count && Leaders::is_after(self.list[place], self.list[last]) {
+        for place in 1..self.count.min(MOST) {
+            if Leaders::is_after(self.list[place], self.list[last]) {
                 last = place;
             }
         }
         self.last = last;
     }
 
+    /// Puts a variable at place 0 if its coefficient is the greatest so far. It returns the variable
+    /// that still has to be added: the one that was there, or the same.
+    fn exchanged(&mut self, other: Leader) -> Leader {
+        let first = self.list[0];
+        if self.count == 0 || !Leaders::is_after(first, other) {
+            return other;
+        }
+        self.list[0] = other;
+        first
+    }
+
     /// Adds a variable that is greater than those before it. If the list is full, it replaces the
     /// last one, provided that its coefficient is greater.
     pub(crate) fn add(&mut self, other: Leader) {
+        let other = self.exchanged(other);
         if self.count < self.room && self.count < MOST {
             self.list[self.count] = other;
             self.count += 1;

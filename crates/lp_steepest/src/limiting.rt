@@ -15,11 +15,11 @@ use lp_simplex::Picking;
 pub(crate) struct Limiting;
 
 impl<F: ExactField> Picking<F> for Limiting {
-    ghost picks = { Improves };
+    ghost picks = { λ _. Improves };
 
     fn pick(&self, dict: &Dict<F>) -> Option<u32> {
         worthiest(dict)
     }
 
-    ghost improving = { itself };
+    ghost improving = { λ _. itself };
 }

@@ -67,6 +67,19 @@ fn quotient_by_bits(numerator: u128, denominator: u128) -> u128 {
 }
 
 impl Size {
+    /// A size above that of any number.
+    pub(crate) fn endless() -> Size {
+        Size {
+            exponent: i32::MAX,
+            word: 0,
+        }
+    }
+
+    /// A somewhat greater size: a few steps with sizes cut off less than what is added.
+    pub(crate) fn raised(self) -> Size {
+        leading(self.word.wrapping_add(8), self.exponent)
+    }
+
     /// The size of a whole number.
     pub(crate) fn of(number: u128) -> Size {
         leading_of_two(number, 0)

@@ -65,17 +65,32 @@ fn leaders_of<F: ExactField>(dict: &Dict<F>) -> Leaders {
     leaders
 }
 
-/// 1 and the squares of the numbers above 0 in a column.
-fn length_of<F: ExactField>(dict: &Dict<F>, column: usize) -> Size
+/// The length above which an edge is worth less than the best one so far.
+fn longest(best: Option<Candidate>, square: Size) -> Size {
+    match best {
+        Some(best) => square.over(best.worth).raised(),
+        None => Size::endless(),
+    }
+}
+
+/// The length of a variable's edge: 1 and the squares of the numbers above 0 in its column. None as
+/// soon as it is above `most`: the rows after that are not read.
+fn length_of<F: ExactField>(dict: &Dict<F>, column: usize, most: Size) -> Option<Size>
     requires { column ≤ dict.now.variables + 1 }
 {
     let mut length = Size::of(1);
+    if length.compare(most).is_gt() {
+        return None;
+    }
     for row in 0..dict.len() {
         if let Some(size) = size_above(dict, row, column) {
             length = length.plus(size.times(size));
+            if length.compare(most).is_gt() {
+                return None;
+            }
         }
     }
-    length
+    Some(length)
 }
 
 /// The better of the best variable so far and another: the one that is worth more, and of equal
@@ -89,8 +104,11 @@ fn weighed<F: ExactField>(
     if variable > dict.variables() {
         return best;
     }
-    let length = length_of(dict, variable as usize + 1);
-    let worth = leader.gain.times(leader.gain).over(length);
+    let square = leader.gain.times(leader.gain);
+    let Some(length) = length_of(dict, variable as usize + 1, longest(best, square)) else {
+        return best;
+    };
+    let worth = square.over(length);
     let other = Some(Candidate { variable, worth });
     let Some(first) = best else {
         return other;

@@ -13,7 +13,7 @@ returns-in-Some-clause-legal g c =
 
 pub returns-in-Some-clause-chosen : goal.returns-in-Some-clause-chosen
 returns-in-Some-clause-chosen g c first pivots known =
-    opening_is_due (g.C.Choosing.chooses first pivots (dictionary g.F.ExactField.value c.args.dict.now)) g.F.ExactField.limit c.args.dict.now.upcoming (dictionary g.F.ExactField.value c.args.dict.now) c.in-Some.pivot c.in-Some.ensures.0 c.in-Some.ensures.1
+    opening_is_due (g.C.Choosing.chooses (g.C.Choosing.rule c.args.choice.now) first pivots (dictionary g.F.ExactField.value c.args.dict.now)) g.F.ExactField.limit c.args.dict.now.upcoming (dictionary g.F.ExactField.value c.args.dict.now) c.in-Some.pivot c.in-Some.ensures.0 c.in-Some.ensures.1
 
 pub leaving-requires : goal.leaving-requires
 leaving-requires g c = c.in-Some-entering.ensures.0
@@ -25,7 +25,7 @@ returns-in-Ok-clause-legal g c =
 
 pub returns-in-Ok-clause-chosen : goal.returns-in-Ok-clause-chosen
 returns-in-Ok-clause-chosen g c first pivots known =
-    due_by g.F.ExactField.limit (g.C.Choosing.chooses first pivots (dictionary g.F.ExactField.value c.args.dict.now)) c.args.dict.now.upcoming (dictionary g.F.ExactField.value c.args.dict.now) c.in-Some-entering.enter c.in-Ok.leave c.due_with.result c.in_default.ensures c.in-Some-entering.ensures.0 (c.in-Some-entering.ensures.1 first pivots known) c.in-Ok.ensures.choice c.in-Ok.ensures.fits c.due_with.ensures
+    due_by g.F.ExactField.limit (g.C.Choosing.chooses (g.C.Choosing.rule c.args.choice.now) first pivots (dictionary g.F.ExactField.value c.args.dict.now)) c.args.dict.now.upcoming (dictionary g.F.ExactField.value c.args.dict.now) c.in-Some-entering.enter c.in-Ok.leave c.due_with.result c.in_default.ensures c.in-Some-entering.ensures.0 (c.in-Some-entering.ensures.1 first pivots known) c.in-Ok.ensures.choice c.in-Ok.ensures.fits c.due_with.ensures
 
 pub returns-in-Err-Limit-clause-legal : goal.returns-in-Err-Limit-clause-legal
 returns-in-Err-Limit-clause-legal g c =
@@ -33,7 +33,7 @@ returns-in-Err-Limit-clause-legal g c =
 
 pub returns-in-Err-Limit-clause-chosen : goal.returns-in-Err-Limit-clause-chosen
 returns-in-Err-Limit-clause-chosen g c first pivots known =
-    ratio_stops (g.C.Choosing.chooses first pivots (dictionary g.F.ExactField.value c.args.dict.now)) g.F.ExactField.limit c.args.dict.now.upcoming (dictionary g.F.ExactField.value c.args.dict.now) c.in-Some-entering.enter c.in-Err-Limit.step c.in_default.ensures (c.in-Some-entering.ensures.1 first pivots known) (subst (IsLimit (ratio_steps g.F.ExactField.limit c.args.dict.now.upcoming (dictionary g.F.ExactField.value c.args.dict.now) c.in-Some-entering.enter)) c.in-Err-Limit.field-0-is c.in-Err-Limit.ensures.limit)
+    ratio_stops (g.C.Choosing.chooses (g.C.Choosing.rule c.args.choice.now) first pivots (dictionary g.F.ExactField.value c.args.dict.now)) g.F.ExactField.limit c.args.dict.now.upcoming (dictionary g.F.ExactField.value c.args.dict.now) c.in-Some-entering.enter c.in-Err-Limit.step c.in_default.ensures (c.in-Some-entering.ensures.1 first pivots known) (subst (IsLimit (ratio_steps g.F.ExactField.limit c.args.dict.now.upcoming (dictionary g.F.ExactField.value c.args.dict.now) c.in-Some-entering.enter)) c.in-Err-Limit.field-0-is c.in-Err-Limit.ensures.limit)
 
 pub unreachable-requires : goal.unreachable-requires
 unreachable-requires g c = subst (IsLimit (ratio_steps g.F.ExactField.limit c.args.dict.now.upcoming (dictionary g.F.ExactField.value c.args.dict.now) c.in-Some-entering.enter)) c.in-Err-Crossed.field-0-is c.in-Err-Crossed.ensures.limit

@@ -6,8 +6,8 @@ use Rattle.lp_simplex.proofs.walk.halted.Goals as goal
 pub returns-in-Pivot : goal.returns-in-Pivot
 returns-in-Pivot g c first pivots known =
     let due = c.in-Pivot.ensures.chosen first pivots known in
-    (refl, goes_on_by_pivot (g.C.Choosing.chooses first pivots (dictionary g.F.ExactField.value c.args.dict)) (dictionary g.F.ExactField.value c.args.dict) c.in-Pivot.field-0 due.0 due.1)
+    (refl, goes_on_by_pivot (g.C.Choosing.chooses (g.C.Choosing.rule c.args.choice.now) first pivots (dictionary g.F.ExactField.value c.args.dict)) (dictionary g.F.ExactField.value c.args.dict) c.in-Pivot.field-0 due.0 due.1)
 
 pub returns-in-Stop : goal.returns-in-Stop
 returns-in-Stop g c first pivots known =
-    (refl, goes_on_by_stop (g.C.Choosing.chooses first pivots (dictionary g.F.ExactField.value c.args.dict)) g.F.ExactField.limit c.args.dict.upcoming (dictionary g.F.ExactField.value c.args.dict) c.in-Stop.field-0 (c.in-Stop.ensures.chosen first pivots known))
+    (refl, goes_on_by_stop (g.C.Choosing.chooses (g.C.Choosing.rule c.args.choice.now) first pivots (dictionary g.F.ExactField.value c.args.dict)) g.F.ExactField.limit c.args.dict.upcoming (dictionary g.F.ExactField.value c.args.dict) c.in-Stop.field-0 (c.in-Stop.ensures.chosen first pivots known))
