@@ -3,7 +3,7 @@ use Rattle.std.proofs.Common.{◌≡◌, ◌≢◌, ℕ, suc, ◌+◌, ◌-◌, 
 use Rattle.std.specs.Prelude.{slice_get, Contains, IsTrue, is_some, sum_by, ◌↔◌}
 use Rattle.std.specs.List.{range_with_len}
 use Rattle.std.specs.declared.cmp.Ordering.{Ordering}
-use Rattle.std.specs.declared.cmp.Ordering.TheVariants.{Less, Greater}
+use Rattle.std.specs.declared.cmp.Ordering.TheVariants.{Less, Equal, Greater}
 use Rattle.std.proofs.lemmas.Bool.{eq-eqb, ne_eqb}
 use Rattle.std.proofs.lemmas.List.{drop_all, map-append, append-nil, length-append, get_or_default}
 use Rattle.std.proofs.lemmas.List.Sums.{sum_by-cons}
@@ -40,7 +40,7 @@ use Rattle.lp_fraction_dict.specs.Pivots.{IsProper}
 use Rattle.lp_fraction_dict.proofs.Lists.{place_is, no_place}
 use Rattle.lp_fraction_dict.proofs.Improving.{found_or_not}
 use Rattle.lp_range.specs.declared.interval.Interval.{Interval}
-use Rattle.lp_range.specs.Spans.{Gain, end_fits, gain_fits, span_from, span}
+use Rattle.lp_range.specs.Spans.{Gain, end_of, low_by, high_by, end_fits, gain_fits, span_from, span}
 use Rattle.lp_range.specs.Ranges.{span_value, right_gain, right_gains, right_spans, change, cost_gains, cost_spans}
 use Rattle.lp_range.specs.InnerSteps.{IsFound, EndsWith}
 use Rattle.lp_range.proofs.Spans.{span_goes, span_stops}
@@ -61,17 +61,27 @@ module _ {F : Type 0} (value : F → Number) (limit : ℕ) (x : Number) (moves :
   same_gain : (amount each : Number) → amount ≡ g.amount → g.fits ≡ true → each ≡ g.each → (record { amount = amount; each = each; fits = true }) ≡ g
   same_gain amount each amount_is fit each_is = λ t. record { amount = amount_is t; each = each_is t; fits = sym fit t }
 
-  pub gain_goes : (after : Interval F) (amount each : F) → IsFound value g (Some each) → value amount ≡ g.amount → EndsWith value limit moves (record { amount = value amount; each = value each; fits = true }) (Some after) → span_from limit x (bound_value value moves.low) (bound_value value moves.high) (g ∷ gains) ≡ span_from limit x (bound_value value after.low) (bound_value value after.high) gains
+  pub gain_goes : (after : Interval F) (amount : Number) (each : F) → IsFound value g (Some each) → amount ≡ g.amount → EndsWith value limit moves (record { amount = amount; each = value each; fits = true }) (Some after) → span_from limit x (bound_value value moves.low) (bound_value value moves.high) (g ∷ gains) ≡ span_from limit x (bound_value value after.low) (bound_value value after.high) gains
   gain_goes after amount each found amount_is ends =
-      let e = subst (λ (k : Gain). EndsWith value limit moves k (Some after)) (same_gain (value amount) (value each) amount_is found.0 found.1) ends in
+      let e = subst (λ (k : Gain). EndsWith value limit moves k (Some after)) (same_gain amount (value each) amount_is found.0 found.1) ends in
       span_goes limit x (bound_value value moves.low) (bound_value value moves.high) g gains e.0 ∙ ap₂ (λ lo hi. span_from limit x lo hi gains) (sym e.1) (sym e.2)
 
   pub gain_stops : g.fits ≡ false → span_from limit x (bound_value value moves.low) (bound_value value moves.high) (g ∷ gains) ≡ None
   gain_stops misfit = span_stops limit x (bound_value value moves.low) (bound_value value moves.high) g gains (ap (λ b. b && end_fits (number_cmp g.each (whole (pos 0))) limit g) misfit)
 
-  pub end_stops : (amount each : F) → IsFound value g (Some each) → value amount ≡ g.amount → gain_fits limit (record { amount = value amount; each = value each; fits = true }) ≡ false → span_from limit x (bound_value value moves.low) (bound_value value moves.high) (g ∷ gains) ≡ None
+  pub end_stops : (amount : Number) (each : F) → IsFound value g (Some each) → amount ≡ g.amount → gain_fits limit (record { amount = amount; each = value each; fits = true }) ≡ false → span_from limit x (bound_value value moves.low) (bound_value value moves.high) (g ∷ gains) ≡ None
   end_stops amount each found amount_is misfit =
-      span_stops limit x (bound_value value moves.low) (bound_value value moves.high) g gains (subst (λ (k : Gain). gain_fits limit k ≡ false) (same_gain (value amount) (value each) amount_is found.0 found.1) misfit)
+      span_stops limit x (bound_value value moves.low) (bound_value value moves.high) g gains (subst (λ (k : Gain). gain_fits limit k ≡ false) (same_gain amount (value each) amount_is found.0 found.1) misfit)
+
+-- an amount that gains nothing sets no end
+pub no_end : {F : Type 0} (value : F → Number) (limit : ℕ) (moves : Interval F) (amount each zero : Number) (o : Ordering) → zero ≡ whole (pos 0) → o ≡ number_cmp each zero → o ≡ Equal → EndsWith value limit moves (record { amount = amount; each = each; fits = true }) (Some moves)
+no_end value limit moves amount each zero o none is equal =
+    let same : number_cmp each (whole (pos 0)) ≡ Equal = sym (is ∙ ap (number_cmp each) none) ∙ equal in
+    let g : Gain = record { amount = amount; each = each; fits = true } in (
+      ap (λ k. end_fits k limit g) same,
+      sym (ap (λ k. low_by k (bound_value value moves.low) (end_of g)) same),
+      sym (ap (λ k. high_by k (bound_value value moves.high) (end_of g)) same),
+    )
 
 -- the loop begins with no ends
 pub walk_begins : {F : Type 0} (value : F → Number) (limit : ℕ) (x : Number) (moves : Interval F) (gains rest : List Gain) → moves.low ≡ None → moves.high ≡ None → rest ≡ gains → span limit x gains ≡ span_from limit x (bound_value value moves.low) (bound_value value moves.high) rest

@@ -1,5 +1,6 @@
 //! The ranges of costs.
-ghost use Rattle.std.specs.Prelude.{◌≡◌, ◌+◌, ◌≤◌, map, sum_by, IfOk};
+ghost use Rattle.std.specs.Prelude.{◌≡◌, ◌+◌, ◌≤◌, length, map, sum_by, true, IfOk};
+ghost use Rattle.gq_number.specs.Number.{neg_ℚ};
 ghost use Rattle.lp_core.specs.WellFormed.{IsWellFormed};
 ghost use Rattle.lp_core.specs.DualBound.{objective_costs};
 ghost use Rattle.lp_core.specs.StandardForm.{standard_form, directed as directed_number, width, numbered};
@@ -10,7 +11,7 @@ ghost use Rattle.lp_dict.specs.Tableau.{dictionary};
 ghost use Rattle.lp_range.specs.Spans.{span};
 ghost use Rattle.lp_range.specs.Ranges as of;
 ghost use Rattle.lp_range.specs.Ranges.{span_value, change, cost_gain, cost_gains, cost_spans};
-ghost use Rattle.lp_range.specs.InnerSteps.{IsFound, IsPlaced, FindsChange};
+ghost use Rattle.lp_range.specs.InnerSteps.{IsFound, EndsWith, IsPlaced, FindsChange};
 
 use crate::interval::{Interval, all_numbers, around, with_amount};
 use gq_field::ExactField;
@@ -18,6 +19,7 @@ use lp_core::Lp;
 use lp_dict::Dict;
 use lp_std::{Shift, Standard};
 use std::alloc::{AllocError, Global};
+use std::cmp::Ordering;
 
 /// A variable, and the row in which it is basic.
 #[derive(Clone, Copy)]
@@ -121,6 +123,29 @@ fn gain_of<F: ExactField>(
     }
 }
 
+/// The moves so far, narrowed to those that keep a nonbasic variable from entering, whose loss
+/// gains `each` for a unit of the move. Its coefficient is read only if that is not 0. None if the
+/// quotient of the two, which is an end, does not fit.
+fn with_coefficient<F: ExactField>(
+    dict: &Dict<F>,
+    other: u32,
+    moves: Interval<F>,
+    each: F,
+) -> Option<Interval<F>>
+    requires { other ≤ dict.now.variables }
+    ensures { EndsWith F.value F.limit moves
+        (record { amount = neg_ℚ ((dictionary F.value dict.now).numbers (length dict.now.basic) (other + 1)); each = F.value each; fits = true }) result }
+{
+    match each.cmp_value(F::zero()) {
+        Ordering::Equal => Some(moves),
+        _ => {
+            dict.keeps();
+            let amount = dict.number(dict.len(), other as usize + 1).neg();
+            with_amount(moves, amount, each)
+        }
+    }
+}
+
 /// The range of the cost of a column at a final dictionary, whose nonbasic variables are `others`.
 /// None if a step does not fit.
 fn range_of<F: ExactField>(
@@ -136,14 +161,12 @@ fn range_of<F: ExactField>(
         (cost_gains F.limit (dictionary F.value dict.now) maximize (column.first.variable, shift_value F.value column.shift)) }
 {
     dict.keeps();
-    let objective = dict.len();
     let mut moves = all_numbers();
     for other in others {
         let Some(each) = gain_of(dict, maximize, *other, column) else {
             return None;
         };
-        let amount = dict.number(objective, *other as usize + 1).neg();
-        let Some(after) = with_amount(moves, amount, each) else {
+        let Some(after) = with_coefficient(dict, *other, moves, each) else {
             return None;
         };
         moves = after;

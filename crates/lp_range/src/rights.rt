@@ -1,5 +1,5 @@
 //! The ranges of right sides.
-ghost use Rattle.std.specs.Prelude.{◌≡◌, ◌+◌, ◌<◌, ◌≤◌, map, length, IfOk};
+ghost use Rattle.std.specs.Prelude.{◌≡◌, ◌+◌, ◌<◌, ◌≤◌, map, length, true, IfOk};
 ghost use Rattle.lp_core.specs.WellFormed.{IsWellFormed};
 ghost use Rattle.lp_core.specs.StandardForm.{standard_form, rows_of_sense};
 ghost use Rattle.lp_core.specs.Steps.{count_of_rows};
@@ -8,13 +8,14 @@ ghost use Rattle.lp_dict.specs.Tableau.{dictionary};
 ghost use Rattle.lp_range.specs.Spans.{span};
 ghost use Rattle.lp_range.specs.Ranges as of;
 ghost use Rattle.lp_range.specs.Ranges.{span_value, right_gain, right_gains, right_spans};
-ghost use Rattle.lp_range.specs.InnerSteps.{IsFound};
+ghost use Rattle.lp_range.specs.InnerSteps.{IsFound, EndsWith};
 
 use crate::interval::{Interval, all_numbers, around, with_amount};
 use gq_field::ExactField;
 use lp_core::{Lp, Row, Sense, rows_by_sense};
 use lp_dict::Dict;
 use std::alloc::{AllocError, Global};
+use std::cmp::Ordering;
 
 /// What the constant of a row gains when the right side of a row of this sense moves; `slack` is
 /// the first slack of that row. None if the difference of the two slacks of an equation does not
@@ -36,6 +37,25 @@ fn gain_of<F: ExactField>(dict: &Dict<F>, sense: Sense, slack: usize, row: usize
     }
 }
 
+/// The moves so far, narrowed to those that keep the constant of a row at least 0, which gains
+/// `each` for a unit of the move. It is read only if that is not 0. None if the quotient of the
+/// two, which is an end, does not fit.
+fn with_constant<F: ExactField>(
+    dict: &Dict<F>,
+    row: usize,
+    moves: Interval<F>,
+    each: F,
+) -> Option<Interval<F>>
+    requires { row < length dict.now.basic }
+    ensures { EndsWith F.value F.limit moves
+        (record { amount = (dictionary F.value dict.now).numbers row 0; each = F.value each; fits = true }) result }
+{
+    match each.cmp_value(F::zero()) {
+        Ordering::Equal => Some(moves),
+        _ => with_amount(moves, dict.number(row, 0), each),
+    }
+}
+
 /// The range of the right side of a row of this sense, whose first slack is `slack`. None if a step
 /// does not fit.
 fn range_of<F: ExactField>(
@@ -52,7 +72,7 @@ fn range_of<F: ExactField>(
         let Some(each) = gain_of(dict, sense, slack, row) else {
             return None;
         };
-        let Some(after) = with_amount(moves, dict.number(row, 0), each) else {
+        let Some(after) = with_constant(dict, row, moves, each) else {
             return None;
         };
         moves = after;

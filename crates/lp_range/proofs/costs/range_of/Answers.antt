@@ -1,7 +1,6 @@
-use Rattle.std.proofs.Common.{◌+◌, List, map, drop, sym, ap, ◌∙◌, arith}
+use Rattle.std.proofs.Common.{◌+◌, List, map, drop, refl, sym, ap, ◌∙◌}
 use Rattle.std.specs.Prelude.{slice_index_or}
 use Rattle.std.proofs.lemmas.List.{drop_all}
-use Rattle.gq_number.specs.Number.{neg_ℚ}
 use Rattle.lp_form.proofs.Walks.{drop_item}
 use Rattle.lp_core.specs.Feasible.{bound_value}
 use Rattle.lp_std.specs.Meaning.{shift_value}
@@ -15,10 +14,8 @@ use Rattle.lp_range.proofs.costs.range_of.Goals as goal
 pub gain_of-requires-clause-there : goal.gain_of-requires-clause-there
 gain_of-requires-clause-there g c = other_there g.F.ExactField.limit (dictionary g.F.ExactField.value c.args.dict.now) c.args.others.now c.requires.others c.loop-other.other-index 0 c.loop-other-test.true
 
-pub number-requires-clause-column : goal.number-requires-clause-column
-number-requires-clause-column g c =
-    let most = other_there g.F.ExactField.limit (dictionary g.F.ExactField.value c.args.dict.now) c.args.others.now c.requires.others c.loop-other.other-index 0 c.loop-other-test.true in
-    omega (arith, most)
+pub with_coefficient-requires : goal.with_coefficient-requires
+with_coefficient-requires g c = other_there g.F.ExactField.limit (dictionary g.F.ExactField.value c.args.dict.now) c.args.others.now c.requires.others c.loop-other.other-index 0 c.loop-other-test.true
 
 pub loop-other-init : goal.loop-other-init
 loop-other-init g c =
@@ -35,17 +32,16 @@ returns-in_default g c =
     ∙ ap (λ (ks : List _). span_from g.F.ExactField.limit (g.F.ExactField.value c.args.cost) (bound_value g.F.ExactField.value c.loop-other.moves.low) (bound_value g.F.ExactField.value c.loop-other.moves.high) (map f ks)) (drop_item others i q c.loop-other-test.true (item_is others i 0 c.loop-other-test.true))
     ∙ gain_stops g.F.ExactField.value g.F.ExactField.limit (g.F.ExactField.value c.args.cost) c.loop-other.moves (f q) (map f (drop (i + 1) others)) c.in_default.ensures)
 
-pub returns-in_default-with_amount : goal.returns-in_default-with_amount
-returns-in_default-with_amount g c =
+pub returns-in_default-with_coefficient : goal.returns-in_default-with_coefficient
+returns-in_default-with_coefficient g c =
     let d = dictionary g.F.ExactField.value c.args.dict.now in
     let others = c.args.others.now in
     let i = c.loop-other.other-index in
     let q = slice_index_or others i 0 in
     let f = cost_gain g.F.ExactField.limit d c.args.maximize (c.args.column.first.variable, shift_value g.F.ExactField.value c.args.column.shift) in
-    let amount = c.neg-amount.ensures ∙ ap neg_ℚ (c.number.ensures ∙ ap (λ k. d.numbers k (q + 1)) c.len-objective.ensures) in
     sym (c.loop-other.invariant
     ∙ ap (λ (ks : List _). span_from g.F.ExactField.limit (g.F.ExactField.value c.args.cost) (bound_value g.F.ExactField.value c.loop-other.moves.low) (bound_value g.F.ExactField.value c.loop-other.moves.high) (map f ks)) (drop_item others i q c.loop-other-test.true (item_is others i 0 c.loop-other-test.true))
-    ∙ end_stops g.F.ExactField.value g.F.ExactField.limit (g.F.ExactField.value c.args.cost) c.loop-other.moves (f q) (map f (drop (i + 1) others)) c.neg-amount.result c.in-Some.each c.in-Some.ensures amount c.in_default-with_amount.ensures)
+    ∙ end_stops g.F.ExactField.value g.F.ExactField.limit (g.F.ExactField.value c.args.cost) c.loop-other.moves (f q) (map f (drop (i + 1) others)) _ c.in-Some.each c.in-Some.ensures refl c.in_default-with_coefficient.ensures)
 
 pub loop-other-preserved : goal.loop-other-preserved
 loop-other-preserved g c =
@@ -54,10 +50,9 @@ loop-other-preserved g c =
     let i = c.loop-other.other-index in
     let q = slice_index_or others i 0 in
     let f = cost_gain g.F.ExactField.limit d c.args.maximize (c.args.column.first.variable, shift_value g.F.ExactField.value c.args.column.shift) in
-    let amount = c.neg-amount.ensures ∙ ap neg_ℚ (c.number.ensures ∙ ap (λ k. d.numbers k (q + 1)) c.len-objective.ensures) in
     c.loop-other.invariant
     ∙ ap (λ (ks : List _). span_from g.F.ExactField.limit (g.F.ExactField.value c.args.cost) (bound_value g.F.ExactField.value c.loop-other.moves.low) (bound_value g.F.ExactField.value c.loop-other.moves.high) (map f ks)) (drop_item others i q c.loop-other-test.true (item_is others i 0 c.loop-other-test.true))
-    ∙ gain_goes g.F.ExactField.value g.F.ExactField.limit (g.F.ExactField.value c.args.cost) c.loop-other.moves (f q) (map f (drop (i + 1) others)) c.in-Some-with_amount.after c.neg-amount.result c.in-Some.each c.in-Some.ensures amount c.in-Some-with_amount.ensures
+    ∙ gain_goes g.F.ExactField.value g.F.ExactField.limit (g.F.ExactField.value c.args.cost) c.loop-other.moves (f q) (map f (drop (i + 1) others)) c.in-Some-with_coefficient.after _ c.in-Some.each c.in-Some.ensures refl c.in-Some-with_coefficient.ensures
 
 pub returns : goal.returns
 returns g c =

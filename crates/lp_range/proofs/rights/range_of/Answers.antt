@@ -19,17 +19,17 @@ returns-in_default g c =
     ∙ ap (λ (ks : List _). span_from g.F.ExactField.limit (g.F.ExactField.value c.args.right) (bound_value g.F.ExactField.value c.loop-row.moves.low) (bound_value g.F.ExactField.value c.loop-row.moves.high) (map f ks)) (range_more k n less)
     ∙ gain_stops g.F.ExactField.value g.F.ExactField.limit (g.F.ExactField.value c.args.right) c.loop-row.moves (f k) (map f (range_with_len (k + 1) (n - (k + 1)))) c.in_default.ensures)
 
-pub returns-in_default-with_amount : goal.returns-in_default-with_amount
-returns-in_default-with_amount g c =
+pub returns-in_default-with_constant : goal.returns-in_default-with_constant
+returns-in_default-with_constant g c =
     let d = dictionary g.F.ExactField.value c.args.dict.now in
     let k = c.loop-row.row in
     let n = length c.args.dict.now.basic in
     let less : k < n = omega (arith, c.len-row-end.ensures, c.loop-row-test.true) in
     let f = right_gain g.F.ExactField.limit d c.args.sense c.args.slack in
-    let amount = c.number.ensures ∙ sym (amount_is g.F.ExactField.limit d c.args.sense c.args.slack c.args.sense k) in
+    let amount = sym (amount_is g.F.ExactField.limit d c.args.sense c.args.slack c.args.sense k) in
     sym (c.loop-row.invariant
     ∙ ap (λ (ks : List _). span_from g.F.ExactField.limit (g.F.ExactField.value c.args.right) (bound_value g.F.ExactField.value c.loop-row.moves.low) (bound_value g.F.ExactField.value c.loop-row.moves.high) (map f ks)) (range_more k n less)
-    ∙ end_stops g.F.ExactField.value g.F.ExactField.limit (g.F.ExactField.value c.args.right) c.loop-row.moves (f k) (map f (range_with_len (k + 1) (n - (k + 1)))) c.number.result c.in-Some.each c.in-Some.ensures amount c.in_default-with_amount.ensures)
+    ∙ end_stops g.F.ExactField.value g.F.ExactField.limit (g.F.ExactField.value c.args.right) c.loop-row.moves (f k) (map f (range_with_len (k + 1) (n - (k + 1)))) _ c.in-Some.each c.in-Some.ensures amount c.in_default-with_constant.ensures)
 
 pub loop-row-preserved : goal.loop-row-preserved
 loop-row-preserved g c =
@@ -38,10 +38,10 @@ loop-row-preserved g c =
     let n = length c.args.dict.now.basic in
     let less : k < n = omega (arith, c.len-row-end.ensures, c.loop-row-test.true) in
     let f = right_gain g.F.ExactField.limit d c.args.sense c.args.slack in
-    let amount = c.number.ensures ∙ sym (amount_is g.F.ExactField.limit d c.args.sense c.args.slack c.args.sense k) in
+    let amount = sym (amount_is g.F.ExactField.limit d c.args.sense c.args.slack c.args.sense k) in
     c.loop-row.invariant
     ∙ ap (λ (ks : List _). span_from g.F.ExactField.limit (g.F.ExactField.value c.args.right) (bound_value g.F.ExactField.value c.loop-row.moves.low) (bound_value g.F.ExactField.value c.loop-row.moves.high) (map f ks)) (range_more k n less)
-    ∙ gain_goes g.F.ExactField.value g.F.ExactField.limit (g.F.ExactField.value c.args.right) c.loop-row.moves (f k) (map f (range_with_len (k + 1) (n - (k + 1)))) c.in-Some-with_amount.after c.number.result c.in-Some.each c.in-Some.ensures amount c.in-Some-with_amount.ensures
+    ∙ gain_goes g.F.ExactField.value g.F.ExactField.limit (g.F.ExactField.value c.args.right) c.loop-row.moves (f k) (map f (range_with_len (k + 1) (n - (k + 1)))) c.in-Some-with_constant.after _ c.in-Some.each c.in-Some.ensures amount c.in-Some-with_constant.ensures
 
 pub returns : goal.returns
 returns g c =

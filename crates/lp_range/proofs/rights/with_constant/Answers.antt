@@ -1,0 +1,11 @@
+use Rattle.std.proofs.Common.{true, subst}
+use Rattle.lp_range.specs.InnerSteps.{EndsWith}
+use Rattle.lp_range.proofs.Loops.{no_end}
+use Rattle.lp_range.proofs.rights.with_constant.Goals as goal
+
+pub returns-in_default : goal.returns-in_default
+returns-in_default g c =
+    subst (λ a. EndsWith g.F.ExactField.value g.F.ExactField.limit c.args.moves (record { amount = a; each = g.F.ExactField.value c.args.each; fits = true }) c.with_amount.result) c.number.ensures c.with_amount.ensures
+
+pub returns-in-Equal : goal.returns-in-Equal
+returns-in-Equal g c = no_end g.F.ExactField.value g.F.ExactField.limit c.args.moves _ (g.F.ExactField.value c.args.each) (g.F.ExactField.value c.zero.result) c.cmp_value.result c.zero.ensures c.cmp_value.ensures c.in-Equal.is
