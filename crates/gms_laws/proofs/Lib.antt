@@ -1,7 +1,25 @@
+mod AcceptedSources
+mod AssignedEntries
 mod ChosenElements
+mod ComputedModels
+mod Executions
+mod FaultlessStatements
+pub mod GeneratedSizes
+mod InRuns
+mod KeptEntries
+mod LastGiven
+mod LocalTexts
 mod Occurring
 mod OnePart
 mod OneTable
+mod OrderedData
 mod ReadModes
+mod ShortNumerals
+mod SoundTokens
+mod SourcePieces
+mod SourcePrograms
+mod SourceTests
 mod StatementPlaces
+mod TakenTrees
+mod TextedTokens
 mod TreePlaces

@@ -1,3 +1,5 @@
+pub mod Accepted
+pub mod Assignments
 pub mod Domains
 pub mod Modes
 pub mod Occurrences

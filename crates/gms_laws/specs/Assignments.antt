@@ -1,0 +1,91 @@
+-- What an assignment does, element by element (GAMS User's Guide, "Data Manipulations with
+-- Parameters", indexed assignments; "Sets as Sequences: Ordered Sets", lags in assignments).
+use Rattle.std.specs.Prelude.{◌≡◌, ℕ, List, map, Option, Some, None, Ok, option_map}
+use Rattle.gms_labels.specs.declared.place.Place.{Place}
+use Rattle.gq_number.specs.Number.{Number}
+use Rattle.gq_extended.specs.Extended.{Extended}
+use Rattle.gms_ast.specs.declared.expression.Expr.{Expr}
+use Rattle.gms_ast.specs.declared.program.Act.TheVariants.{Assign}
+use Rattle.gms_ast.specs.declared.program.Right.TheVariants.{Value}
+use Rattle.gms_ast.specs.declared.program.Stmt.{Stmt}
+use Rattle.gms_ast.specs.declared.program.Target.{Target}
+use Rattle.gms_ast.specs.Trees.{Indices}
+use Rattle.gms_ast.specs.TreeView.{tree_of}
+use Rattle.gms_tuple.specs.TupleSet.{has}
+use Rattle.gms_store.specs.State.{State, attributes_of, members_of, value_of}
+use Rattle.gms_check.specs.Loaded.{IsAccepted}
+use Rattle.gms_eval.specs.Bindings.{Pairs, controlled}
+use Rattle.gms_eval.specs.Value.{control_over, labels, value}
+use Rattle.gms_exec.specs.Assignment.{newly_controlled, target_of}
+use Rattle.gms_exec.specs.Given.{with_attribute}
+use Rattle.gms_exec.specs.Run.{Course, World, of_statement}
+use Rattle.gms_run_laws.specs.LastStates.{MayBegin}
+use Rattle.gms_run_laws.specs.Reached.{IsReached, IsStatementOf}
+use Rattle.gms_laws.specs.Domains.{HasItsMembers, IsWhereItHolds}
+
+-- An assignment that is executed.
+pub record Execution (F : Type 0) : Type 0 where
+  pub world : World F
+  pub statement : Stmt F
+  -- the left side, its condition, and the right side with its place
+  pub target : Target F
+  pub condition : Option (Expr F)
+  pub right_at : Place
+  pub right : Expr F
+  -- the labels that the sets of loops stand for
+  pub binding : Pairs
+  -- the states before it and after it
+  pub before : State
+  pub after : State
+
+module _ {F : Type 0} where
+  -- the indices of the left side
+  abbrev pub left_indices : Execution F → Indices F
+  left_indices e = (target_of e.target).indices
+
+  -- the sets of the left side that no loop controls
+  abbrev pub left_sets : Execution F → List ℕ
+  left_sets e = newly_controlled e.binding (left_indices e)
+
+  -- the binding in which the sets of the left side stand for the labels of an element
+  abbrev pub element_binding : Execution F → List ℕ → Pairs
+  element_binding e element = controlled e.binding (left_sets e) element
+
+module _ {F : Type 0} (number_of : F → Number) (limit : ℕ) where
+  -- An assignment of an accepted program is executed without a fault, in a run from the program's
+  -- start or from a save.
+  pub record IsCompleted (e : Execution F) : Type 0 where
+    pub accepted : IsAccepted number_of e.world.program
+    pub of_program : IsStatementOf e.world.program e.statement
+    pub act : e.statement.act ≡ Assign e.target e.condition e.right_at (Value e.right)
+    pub first : State
+    pub may_begin : MayBegin number_of e.world.program first
+    pub reached : IsReached number_of limit e.world first e.before
+    pub course : Course
+    pub before_is : course.state ≡ e.before
+    pub no_fault : (of_statement number_of limit e.world e.statement e.binding course).halted ≡ None
+    pub after_is : (of_statement number_of limit e.world e.statement e.binding course).state ≡ e.after
+
+  -- The left side takes an element to a tuple: the element has a member of each set of the left
+  -- side, the condition holds for it, and under it each index has the label of the tuple.
+  pub record TakesTo (e : Execution F) (element tuple : List ℕ) : Type 0 where
+    pub members : HasItsMembers e.before (left_sets e) element
+    pub holds : IsWhereItHolds number_of limit e.before e.binding (control_over (left_sets e) (option_map tree_of e.condition)) element
+    pub labels_are : labels number_of limit e.before (element_binding e element) (left_indices e) ≡ map (λ label. Ok (Some label)) tuple
+
+  -- the value of the right side under an element
+  abbrev pub IsRight : Execution F → List ℕ → Extended → Type 0
+  IsRight e element x = value number_of limit e.before (element_binding e element) (tree_of e.right) ≡ Ok x
+
+  -- Under an element the right side has a value, which the attribute that the left side names has
+  -- after the assignment; the other attributes are as before.
+  pub record HasAttribute (e : Execution F) (element tuple : List ℕ) : Type 0 where
+    pub x : Extended
+    pub is : IsRight e element x
+    pub given : attributes_of e.after e.target.name tuple ≡ with_attribute e.target.suffix (attributes_of e.before e.target.name tuple) x
+
+-- What the assigned name has at a tuple is as before: a value, membership, or attributes.
+pub record IsKept {F : Type 0} (e : Execution F) (tuple : List ℕ) : Type 0 where
+  pub value : value_of e.after e.target.name tuple ≡ value_of e.before e.target.name tuple
+  pub member : has (members_of e.after e.target.name) tuple ≡ has (members_of e.before e.target.name) tuple
+  pub attributes : attributes_of e.after e.target.name tuple ≡ attributes_of e.before e.target.name tuple

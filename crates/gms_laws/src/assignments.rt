@@ -1,0 +1,40 @@
+//! The law of assignments.
+ghost use Rattle.std.specs.Prelude.{◌≡◌, ℕ, true, List, Ok};
+ghost use Rattle.gq_extended.specs.Extended.{Extended};
+ghost use Rattle.gms_ast.specs.TreeView.{tree_of};
+ghost use Rattle.gms_tuple.specs.TupleSet.{has};
+ghost use Rattle.gms_store.specs.State.{Entries, base_of, has_attributes, members_of, parameter_of, set_of, symbol_of, value_of};
+ghost use Rattle.gms_exec.specs.Membership.{membership};
+ghost use Rattle.gms_laws.specs.Assignments.{Execution, HasAttribute, IsCompleted, IsKept, IsRight, TakesTo, element_binding};
+
+use gq_field::ExactField;
+
+/// What the assigned name has at a tuple after an assignment, in a run of an accepted program.
+///
+/// The left side takes at most one element of its sets to the tuple (`one`). If there is one, the
+/// tuple has the right side under that element: a parameter its value (`value`), a set whether it
+/// is a member (`member`), a variable its value at the attribute that the left side names
+/// (`attribute`). If there is none, the tuple has what it had (`kept`). All values are read in the
+/// state before the assignment. Other names and the settings are as before (`others`, `settings`).
+///
+/// GAMS User's Guide, "Data Manipulations with Parameters", indexed assignments; "Dynamic Sets";
+/// "Variables".
+pub fn assigned_entries<F: ExactField>()
+    ensures one { (e : Execution F) (element other tuple : List ℕ) →
+        IsCompleted F.value F.limit e → TakesTo F.value F.limit e element tuple → TakesTo F.value F.limit e other tuple → element ≡ other }
+    ensures value { (e : Execution F) (entries : Entries Extended) (element tuple : List ℕ) →
+        IsCompleted F.value F.limit e → (symbol_of e.before e.target.name).content ≡ parameter_of entries → TakesTo F.value F.limit e element tuple →
+        IsRight F.value F.limit e element (value_of e.after e.target.name tuple) }
+    ensures member { (e : Execution F) (members : List (List ℕ)) (element tuple : List ℕ) →
+        IsCompleted F.value F.limit e → (symbol_of e.before e.target.name).content ≡ set_of members → TakesTo F.value F.limit e element tuple →
+        membership F.value F.limit e.before (element_binding e element) (tree_of e.right) ≡ Ok (has (members_of e.after e.target.name) tuple) }
+    ensures attribute { (e : Execution F) (element tuple : List ℕ) →
+        IsCompleted F.value F.limit e → has_attributes (symbol_of e.before e.target.name).content ≡ true → TakesTo F.value F.limit e element tuple →
+        HasAttribute F.value F.limit e element tuple }
+    ensures kept { (e : Execution F) (tuple : List ℕ) →
+        IsCompleted F.value F.limit e → ((element : List ℕ) → TakesTo F.value F.limit e element tuple → ⊥) → IsKept e tuple }
+    ensures others { (e : Execution F) (other : ℕ) →
+        IsCompleted F.value F.limit e → (base_of e.before other ≡ base_of e.before e.target.name → ⊥) →
+        symbol_of e.after other ≡ symbol_of e.before other }
+    ensures settings { (e : Execution F) → IsCompleted F.value F.limit e → e.after.settings ≡ e.before.settings }
+{}
