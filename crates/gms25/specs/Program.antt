@@ -1,5 +1,5 @@
 -- What the program does with the arguments of its process.
-use Rattle.std.specs.Prelude.{◌≡◌, ◌↔◌, ◌⊎◌, ℕ, List, [], ◌∷◌, codes, drop, Result, Ok, Err, None, IfOk}
+use Rattle.std.specs.Prelude.{◌≡◌, ◌↔◌, ◌⊎◌, ℕ, List, [], ◌∷◌, codes, drop, Result, Ok, Err, Some, None, IfOk}
 use Rattle.std.specs.Vec.Iter.{into_iter_items}
 use Rattle.std.specs.IoError.{error_kind}
 use Rattle.std.specs.declared.alloc.AllocError.{AllocError}
@@ -13,9 +13,11 @@ use Rattle.gms_command.specs.CommandLine.{texts, request_of}
 use Rattle.lp_slot.specs.declared.solver.SolverRule.TheVariants.{Bland, LargestCoefficient, Turning, Legal}
 use Rattle.gms_run.specs.Solving.{Solvers, Solving}
 use Rattle.gms_run.specs.Jobs.{status_code}
-use Rattle.gms_run.specs.Statuses.{CountsSo, EndsByNoFault, IsReadyFor, IsRun, MeetsNoFault, NamesProgram}
+use Rattle.gms_run.specs.Headline.{HasListing, WritesListing, file_alone}
+use Rattle.gms_run.specs.Laws.{RunIsAnsweredRightly}
+use Rattle.gms_run.specs.Statuses.{CanRun, CountsSo, EndsByNoFault, IsReadyFor, IsRun, IsStopped, MeetsNoFault, NamesProgram, NamesSource}
 use Rattle.gms_run.specs.declared.status.Status.{Status}
-use Rattle.gms_run.specs.declared.status.Status.TheVariants.{Done, Usage, Execution}
+use Rattle.gms_run.specs.declared.status.Status.TheVariants.{Done, Usage, Compile, Execution}
 
 -- the arguments that the process gives: all after the program's name, or none if it gives an error
 abbrev pub given_words : Result (IntoIter (String Global) Global) Error → List (String Global)
@@ -37,9 +39,19 @@ lent =
       paths = [] ∷ [] ∷ [] ∷ [] ∷ [];
     }
 
--- the run of arguments with these solvers, which ends with this status
-abbrev pub RunsWith : Status → List (List ℕ) → Meaning → Meaning → Type 0
-RunsWith status words old new = (solving : Solving) × ((solving.before ≡ lent) × IsRun status solving words old new)
+-- The run of arguments with these solvers ends with this status: what `run` of gms_run promises of
+-- it, with the answers that the solvers gave.
+pub record RunsWith (status : Status) (words : List (List ℕ)) (old new : Meaning) : Type 0 where
+  pub solving : Solving
+  pub lends : solving.before ≡ lent
+  pub headline : (file output : List ℕ) → request_of words ≡ Some (file_alone file output) → HasListing status →
+      WritesListing status solving old.outside new.outside file output
+  pub run : IsRun status solving words old new
+  pub answers : RunIsAnsweredRightly solving
+  pub compile : (source : NamesSource old.outside words) → MeetsNoFault old.counts new.counts →
+      (status ≡ Compile) ↔ ¬ (CanRun lent.names source.taken)
+  pub execution : (source : NamesSource old.outside words) → MeetsNoFault old.counts new.counts →
+      (status ≡ Execution) ↔ IsStopped solving source.taken
 
 -- the run of the arguments that the process gives
 abbrev pub RunsGiven : Status → Result (IntoIter (String Global) Global) Error → Meaning → Meaning → Type 0

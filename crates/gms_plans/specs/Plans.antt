@@ -18,14 +18,14 @@ use Rattle.lp_form.specs.declared.key.Key.{Key}
 
 -- ---- plans and questions
 
--- A plan gives each element of a variable a number.
+-- A plan gives each element of a variable a number: a level for the variable at a tuple of labels.
 abbrev pub Plan : Type 0
 Plan = Key → Number
 
 -- The question of a solve: which plans satisfy the equations of a model, with the data of a state,
 -- and which of them has the best objective.
 pub record Question (F : Type 0) : Type 0 where
-  -- the statements of the program, which define the model's equations
+  -- all statements of the program, which define the model's equations
   pub statements : List (Stmt F)
   -- the state at the solve: all data, bounds and set members of that moment
   pub state : State
@@ -35,7 +35,8 @@ pub record Question (F : Type 0) : Type 0 where
   pub objective : ℕ
   -- whether the objective is maximized; otherwise it is minimized
   pub maximize : Bool
-  -- the elements of variables that the solve lists, in order
+  -- the elements that the solve lists, in order: each element of a variable that occurs in a row of
+  -- the model, and the objective
   pub listed : List Key
 
 -- whether the first of two outcomes is better than the second: greater or less, as the direction
@@ -47,9 +48,10 @@ IsBetter false outcome other = outcome <ℚ other
 -- ---- which plans are feasible, and which optimal
 
 module _ {F : Type 0} (number_of : F → Number) (limit : ℕ) (question : Question F) where
-  -- A plan satisfies an equation: at each element of the equation's sets for which its condition
-  -- holds, the left side compares with the right one as `=e=`, `=l=` or `=g=` says, with the
-  -- variables read in the plan.
+  -- A plan satisfies an equation: at each tuple of labels of the equation's sets for which its
+  -- condition holds, both sides have a value, and the left one compares with the right one as
+  -- `=e=`, `=l=` or `=g=` says. Variables are read in the plan; data, and attributes such as `.l`,
+  -- in the state of the solve.
   abbrev pub Satisfies : Plan → Definition F → Type 0
   Satisfies plan equation = (element : List ℕ) → has (elements question.state (sets_of_definition equation)) element ≡ true →
       holds_for number_of limit question.state (bound_to equation element) equation.condition ≡ Ok true → SidesCompare number_of limit question.state plan equation (bound_to equation element)
@@ -71,16 +73,18 @@ module _ {F : Type 0} (number_of : F → Number) (limit : ℕ) (question : Quest
 
   -- ---- what an answer says
 
-  -- Levels are of plans with a property: some plan has these levels at the listed elements, and
-  -- each plan that has them there has the property, with any levels elsewhere.
+  -- Levels are of plans with a property: some plan has these levels at the listed elements (so that
+  -- the next part is not empty), and each plan that has them there has the property, whatever its
+  -- levels elsewhere.
   pub record AreLevels (Holds : Plan → Type 0) (levels : List Number) : Type 0 where
     pub some : (plan : Plan) × (map plan question.listed ≡ levels)
     pub each : (plan : Plan) → map plan question.listed ≡ levels → Holds plan
 
-  -- What an answer says. Optimal: its levels are optimal. Infeasible: no plan is feasible.
-  -- Unbounded: its levels are feasible, and for each number some feasible plan has a better
-  -- outcome. Interrupted in phase 2: its levels are feasible. Interrupted in phase 1, or Refused:
-  -- nothing.
+  -- What an answer says of plans; its other parts (levels of rows, duals, a ray) are its
+  -- certificate. Optimal: its levels are optimal. Infeasible: no plan is feasible. Unbounded: its
+  -- levels are feasible, and for each number some feasible plan has a better outcome. Interrupted
+  -- (the limit of pivots was met) in phase 2 of the simplex method: its levels are feasible.
+  -- Interrupted in phase 1, or Refused (a number grew beyond the limit): nothing.
   abbrev pub IsSo : End Number → Type 0
   IsSo (Optimal levels row_levels duals reduced) = AreLevels IsOptimal levels
   IsSo (Infeasible duals crossed) = (plan : Plan) → IsFeasible plan → ⊥

@@ -15,14 +15,14 @@ use Rattle.lp_core.specs.declared.answer.Answer.{Answer}
 use Rattle.lp_slot.specs.declared.solver.SolverRule.{SolverRule}
 use Rattle.lp_core.specs.declared.program.Lp.{Lp}
 use Rattle.gms_exec.specs.Run.{Course, one_after_another, of_statement, while_it_runs}
-use Rattle.gms_exec.specs.Dimensions.{AreOneDimensional}
-use Rattle.gms_exec.specs.Stepping.{AreValidSettings}
 use Rattle.gms_list.specs.ListingText.{echo_text}
 use Rattle.gms_run.specs.declared.status.Status.{Status}
 use Rattle.gms_run.specs.declared.status.Status.TheVariants.{Done, Execution}
 use Rattle.gms_run.specs.Solving.{Solvers, Solving, number_limit}
 use Rattle.gms_run.specs.Jobs.{IsCutOff, IsRunSolved, Job, body_of, first_of, shown_by}
-use Rattle.gms_run.specs.InnerSteps.{Between, BreaksBehind, Ends, EndsBehind, IsListed, work}
+use Rattle.gms_run.specs.declared.execution.Run.{Run}
+use Rattle.gms_run.specs.InnerRuns.{ListsStatement, between, pending}
+use Rattle.gms_run.specs.InnerSteps.{Between, BreaksBehind, CanExecute, Ends, EndsBehind, IsListed, work}
 use Rattle.gms_run.proofs.Listed.{listed_none, listed_more, one_more}
 use Rattle.gms_run.proofs.Rest.{Done_so, EndsWith, begin, comes_to_rest, ends_done, ends_stopped, shown_by_first, solving_with, statements, statement_of, taken_by_first}
 
@@ -131,6 +131,13 @@ module _ (job : Job) (before : Solvers) (old : Outside) (due : List ℕ) where
   executes_next mid goes_on i s now next spool x y xs h few same l is p =
       executes_more mid goes_on i s now next spool x y h few (subst (λ ys. i < length ys) same l) (is ∙ ap (λ ys. get_or ys i s) same) p
 
+  -- the same of a run
+  pub executes_run : (mid : Outside) (goes_on : Bool) (i : ℕ) (s : Stmt Frac) (these those : Solvers) (now next : Run) (xs : List (Stmt Frac)) → Come mid i (between these now) (pending now) → length (pending now) ≤ 4096 → xs ≡ job.statements → i < length xs → s ≡ get_or xs i s →
+      ListsStatement goes_on job.program s these now those next → next.outlet.spool ≡ now.outlet.spool → Executes mid goes_on i (between those next) (pending next)
+  executes_run mid goes_on i s these those now next xs h few same l is p kept =
+      subst (λ (spool : List ℕ). Executes mid goes_on i (between those next) (spool ++ next.outlet.listing)) (sym kept)
+      (executes_next mid goes_on i s (between these now) (between those next) now.outlet.spool now.outlet.listing next.outlet.listing xs h few same l is p)
+
   -- What is pending was passed on, and the run reaches the next statement.
   pub come_more : (mid new : Outside) (i : ℕ) (next : Between) (left spool rest : List ℕ) → Executes mid true i next left → Passes mid new left spool → rest ≡ [] → Come new (i + 1) next (spool ++ rest)
   come_more mid new i next left spool rest h q none =
@@ -182,8 +189,7 @@ module _ (job : Job) (before : Solvers) (old : Outside) (due : List ℕ) where
 pub record AtStatement (job : Job) (before : Solvers) (many : ℕ) (old now : Meaning) (due : List ℕ) (i : ℕ) (at : Between) (left : List ℕ) : Type 0 where
   pub come : HasCome job before old.outside now.outside due i at left
   pub room : length left ≤ 4096
-  pub settings : AreValidSettings many at.state.settings
-  pub plain : AreOneDimensional at.state job.program.statements.items
+  pub can_execute : CanExecute job.program many at.state
   pub counts : CountsWriting all_done old.counts now.counts
 
 -- as many solvers as before, where they have the same names

@@ -1,6 +1,6 @@
 -- A run can resume from a restored state: its settings are within their ranges, and its members are
 -- as long as the dimensions of their sets.
-use Rattle.std.proofs.Common.{◌≡◌, ℕ, suc, ◌<◌, Bool, true, false, ◌&&◌, ◌==◌, List, [], ◌∷◌, length, refl, sym, ap, subst, cond, Option, Some, None, Result, codes, arith}
+use Rattle.std.proofs.Common.{◌≡◌, ℕ, suc, ◌<◌, Bool, true, false, ◌&&◌, ◌==◌, List, [], ◌∷◌, length, refl, ap, cond, Option, Some, None, Result, codes, arith}
 use Rattle.std.specs.Prelude.{nat_le}
 use Rattle.std.specs.List.{All, position}
 use Rattle.std.specs.Result.{IsErrAnd}

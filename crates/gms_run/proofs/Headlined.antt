@@ -1,12 +1,10 @@
 -- What a run did for a FILE alone, by the page that begins with its source.
-use Rattle.std.proofs.Common.{◌≡◌, ℕ, true, false, List, [], ◌++◌, length, Option, Some, None, ◌⊎◌, inl, inr, refl, sym, ap, ap₂, ◌∙◌, subst}
+use Rattle.std.proofs.Common.{◌≡◌, ℕ, List, [], ◌++◌, length, Option, Some, None, inl, inr, refl, sym, ap, ap₂, ◌∙◌, subst}
 use Rattle.std.proofs.lemmas.List.{length-map}
-use Rattle.gq_frac.specs.declared.frac.Frac.{Frac}
 use Rattle.gq_frac.specs.Frac.{frac_value}
-use Rattle.gms_ast.specs.declared.program.Program.{Program}
 use Rattle.gms_host.specs.Meaning.{Meaning, Outside}
 use Rattle.gms_host.specs.Rules.{with_said}
-use Rattle.gms_exec.specs.Run.{Halt, stopped, waiting}
+use Rattle.gms_exec.specs.Run.{Halt}
 use Rattle.gms_list.specs.ListingText.{end_text}
 use Rattle.lp_core.specs.Numbers.{answer_numbers}
 use Rattle.gms_command.specs.CommandLine.{Asked, request_of, closing_line}
@@ -17,8 +15,8 @@ use Rattle.gms_parse.specs.Outcomes.{IsProgram}
 use Rattle.gms_run.specs.Solving.{Solving, number_limit, numbers_of}
 use Rattle.gms_run.specs.Scripts.{Script, Matter, Taken, from_start, from_save, scripted, unrestored, script_of, IsMatter, errors_of_script}
 use Rattle.gms_run.specs.Laws.{RunIsAnsweredRightly}
-use Rattle.gms_run.specs.Jobs.{HasRightAnswers, Job, job_of, course_of, job_text, body_of, last_line, IsRunSolved, HaltsSo, status_code}
-use Rattle.gms_run.specs.Listings.{AreClosing, IsExecuted, IsJob, IsListing, IsRefusalListing, ShowsWhy, save_file}
+use Rattle.gms_run.specs.Jobs.{HasRightAnswers, job_of, course_of, job_text, body_of, last_line, HaltsSo, status_code}
+use Rattle.gms_run.specs.Listings.{AreClosing, IsExecuted, IsListing, IsRefusalListing, save_file}
 use Rattle.gms_run.specs.Statuses.{IsFileOf, IsReported, IsRun, IsRunOf, IsInputOf, RanSo, with_file, with_save, with_source_read, with_taken}
 use Rattle.gms_run.specs.Headline.{HasListing, IsListingOf, IsRunListing, WritesListing, file_alone, run_of}
 

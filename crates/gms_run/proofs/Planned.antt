@@ -1,5 +1,5 @@
 -- What each answer of a run says is true, from its start and from a save.
-use Rattle.std.proofs.Common.{◌≡◌, ℕ, List, [], length, map, drop, sym, ap, ◌∙◌, subst}
+use Rattle.std.proofs.Common.{◌≡◌, ℕ, List, [], length, drop, sym, ap, ◌∙◌, subst}
 use Rattle.gq_frac.specs.declared.frac.Frac.{Frac}
 use Rattle.gq_frac.specs.Frac.{frac_value}
 use Rattle.gms_ast.specs.declared.program.Program.{Program}
@@ -15,7 +15,7 @@ use Rattle.gms_plans.specs.Moments.{AnswersAreSo, run_with_answers}
 use Rattle.lp_core.specs.declared.answer.Answer.{Answer}
 use Rattle.lp_slot.specs.declared.solver.SolverRule.{SolverRule}
 use Rattle.gms_run.specs.Solving.{Solving, number_limit}
-use Rattle.gms_run.specs.Scripts.{Script, Taken, from_start, from_save, Matter, scripted, unrestored, IsMatter, IsJoint, script_of, joint_script, joint_source, first_line, errors_of_script}
+use Rattle.gms_run.specs.Scripts.{Script, from_start, from_save, Matter, scripted, unrestored, IsJoint, script_of, joint_script, joint_source, first_line, errors_of_script}
 use Rattle.gms_run.specs.Jobs.{Job, job_of, course_of, HasRightAnswers}
 use Rattle.gms_run.specs.Listings.{IsExecuted}
 use Rattle.gms_run.specs.Laws.{RunsAreAnsweredRightly}

@@ -251,17 +251,6 @@ ran_joint r solving old new request source file before line state saved is begin
     (subst (λ (n : ℕ). IfOk r (λ status. RanSo status solving old new request (scripted (record { source = joint_source before file; file = file; line = n; saved = Some state })))) begins
     (subst (λ (t : List ℕ). IfOk r (λ status. RanSo status solving old new request (scripted (record { source = t; file = file; line = line; saved = Some state })))) is ran))
 
--- A run that resumes from no state does not depend on the state that is passed on.
-pub ran_anew : (r : Result Status AllocError) (solving : Solving) (old new : Outside) (request : Asked) (matter : State → Matter) (due : Matter) → ((state : State) → matter state ≡ due) →
-    IfOk r (λ status. (state : State) × RanSo status solving old new request (matter state)) → IfOk r (λ status. RanSo status solving old new request due)
-ran_anew (Ok status) solving old new request matter due same ran = subst (λ (m : Matter). RanSo status solving old new request m) (same ran.0) ran.1
-ran_anew (Err e) solving old new request matter due same ran = tt
-
-pub ran_at : (r : Result Status AllocError) (solving : Solving) (old new : Outside) (request : Asked) (matter : State → Matter) (state : State) →
-    IfOk r (λ status. RanSo status solving old new request (matter state)) → IfOk r (λ status. (state : State) × RanSo status solving old new request (matter state))
-ran_at (Ok status) solving old new request matter state ran = (state, ran)
-ran_at (Err e) solving old new request matter state ran = tt
-
 -- What could not be restored is listed so.
 pub of_unrestored : (r : Result Status AllocError) (solving : Solving) (old new : Outside) (request : Asked) (save file : List ℕ) (fault : SaveFault) → IsUnrestored solving.before.names save fault →
     IfOk r (λ status. RanSo status solving old new request (unrestored fault)) → IfOk r (λ status. RanOf status solving old new request (from_save save file))

@@ -1,7 +1,12 @@
 -- Begin here: what `run` promises of a FILE, from the text of a source to the text of its listing
--- (GAMS User's Guide, "GAMS Programs" and "GAMS Output"). Restarts, saves, ranges and generated
--- models are additions to it, in the modules after this one.
-use Rattle.std.specs.Prelude.{◌≡◌, ◌≢◌, ℕ, ◌⊎◌, false, List, [], length, Option, Some, None}
+-- (GAMS User's Guide, "GAMS Programs" and "GAMS Output"). The clause `headline` of `run` says:
+-- where the arguments are a FILE alone (`file_alone`), and the run ends with a status that has a
+-- listing (`HasListing`), what is outside before the run and after it is as `WritesListing` says.
+-- Restarts, saves, ranges (how far right sides and costs may move) and generated models
+-- (`--generate`) are additions to it, in the modules after this one. Texts and names are lists of
+-- bytes. Numbers are exact fractions; `number_limit` bounds their numerators and denominators, and
+-- `frac_value` is the number that a stored fraction means.
+use Rattle.std.specs.Prelude.{◌≡◌, ◌≢◌, ℕ, ◌⊎◌, false, List, [], length, None}
 use Rattle.gq_frac.specs.declared.frac.Frac.{Frac}
 use Rattle.gq_frac.specs.Frac.{frac_value}
 use Rattle.gms_ast.specs.declared.program.Program.{Program}
@@ -24,8 +29,9 @@ use Rattle.gms_run.specs.Statuses.{IsFileOf, with_source_read, with_file}
 
 -- ---- runs
 
--- the run of a program: its statements in order, from the state that its declarations give, with
--- the solvers' answers
+-- The run of a program: its statements in order, from the state that its declarations give. Each
+-- solve takes the next of the answers that the solvers gave. A `Solving` has the solvers' names and
+-- rules, before the run and after it, and these answers.
 abbrev pub run_of : Program Frac → Solving → Course
 run_of program solving =
     run_from frac_value number_limit (record { program = program; solvers = solving.before.names }) (loaded frac_value program) (numbers_of solving.answers) program.statements.items
@@ -38,16 +44,18 @@ pub record IsFaultListing (source text : List ℕ) : Type 0 where
   pub is_first : IsSourceFault number_limit source fault
   pub listing : text ≡ refused_listing 1 source fault
 
--- The source is a program with errors: the listing has each of them.
+-- The source is a program that has compile errors: the listing has each of them.
 pub record IsErrorListing (solvers : List (List ℕ)) (source text : List ℕ) : Type 0 where
   pub program : Program Frac
   pub is_program : IsProgram number_limit source frac_value program
   pub some : compile_errors frac_value program solvers ≢ []
   pub listing : text ≡ errors_listing 1 source (compile_errors frac_value program solvers)
 
--- The source is a program without errors: its run takes all answers, each solve has an answer of
--- the linear program that its model means at that point, what each answer says of plans is so, the
--- run ends as the status says, and the listing has what it shows.
+-- The source is a program without errors. Its run takes all answers: none is left over. Each solve
+-- has an answer of the linear program that its model means at that moment, with the certificate
+-- that proves it (`answered`), and what each answer says of plans is so (`says_so`). With Done
+-- every statement was executed, with Execution an execution error stopped the run. The listing is
+-- the text of the events of the run, which echoes the source from line 1.
 pub record IsRunListing (status : Status) (solving : Solving) (source text : List ℕ) : Type 0 where
   pub program : Program Frac
   pub is_program : IsProgram number_limit source frac_value program
@@ -68,7 +76,8 @@ IsListingOf Usage solving source text = ⊥
 IsListingOf ReadFault solving source text = ⊥
 IsListingOf WriteFault solving source text = ⊥
 
--- whether a run with this status writes a whole listing
+-- whether a run with this status writes a whole listing; after a write fault the output may hold a
+-- part of one
 abbrev pub HasListing : Status → Type 0
 HasListing Done = Unit {0}
 HasListing Compile = Unit {0}
@@ -83,8 +92,9 @@ HasListing WriteFault = ⊥
 abbrev pub file_alone : List ℕ → List ℕ → Asked
 file_alone file output = record { source = in_file file; output = output; save = None; ranges = false }
 
--- The listing of the source in a file is written to the output, which is kept, and then the closing
--- line is printed. Nothing else is done outside.
+-- The whole listing of the source in a file is written to the output, and the output is closed.
+-- Then the closing line is printed: the status, how many answers there are, and the name of the
+-- output. Nothing else is done outside but that the file is read.
 pub record WritesListing (status : Status) (solving : Solving) (old new : Outside) (file output : List ℕ) : Type 0 where
   pub source : List ℕ
   pub is_source : IsFileOf old file source

@@ -1,5 +1,5 @@
 -- The contracts between the functions that load an input, run it and report it.
-use Rattle.std.specs.Prelude.{◌≡◌, ◌≢◌, ◌≤◌, ◌<◌, ◌⊎◌, Bool, true, false, ℕ, List, [], ◌++◌, map, take, drop, length, Option, Some, None, option_map, IfSome, IfOk, Result, Ok, Err, Vec}
+use Rattle.std.specs.Prelude.{◌≡◌, ◌≢◌, ◌≤◌, ◌<◌, ◌⊎◌, Bool, true, false, ℕ, List, [], ◌++◌, map, take, drop, length, Option, Some, None, option_map, IfSome, IfOk, Result, Ok, Err, Vec, string_bytes}
 use Rattle.std.specs.List.{All}
 use Rattle.std.specs.declared.alloc.Global.{Global}
 use Rattle.std.specs.declared.alloc.AllocError.{AllocError}
@@ -36,7 +36,10 @@ use Rattle.gms_run.specs.Solving.{Solving, SolvesNothing, number_limit, numbers_
 use Rattle.gms_run.specs.Scripts.{Script, Matter, scripted, unrestored, Taken, from_save, IsMatter, first_line, first_state, joint_source}
 use Rattle.gms_run.specs.Jobs.{solver_name, status_code}
 use Rattle.gms_run.specs.Listings.{AreRemarks, IsAcceptedScript, IsListing, IsModelLine, SavesSo, errors_text, save_file}
-use Rattle.gms_run.specs.Statuses.{CountsSo, EndsByNoFault, IsFileOf, IsUnread, IsUnwrittenFile, RanSo, SaysLine, with_read, with_save, with_source_read}
+use Rattle.gms_run.specs.declared.execution.Run.{Run}
+use Rattle.gms_run.specs.InnerRuns.{Moment, pending, solved_between}
+use Rattle.gms_run.specs.InnerSteps.{ComesTo}
+use Rattle.gms_run.specs.Statuses.{CountsSo, EndsByNoFault, IsFileOf, IsReported, IsRun, IsUnread, IsUnwritten, IsUnwrittenFile, IsWriteFault, OfRequest, RanSo, SaysLine, with_read, with_save, with_source_read}
 
 -- ---- views of arguments
 
@@ -137,11 +140,33 @@ pub record Prepares (status : Status) (solving : Solving) (old new : Outside) (m
   pub passes : Passes old new body pending
   pub room : (status ≡ Compile) ⊎ (length pending ≤ 4096)
 
+-- The loaded input was listed except for the last line, or a prefix of its listing was written.
+abbrev pub ListsBody : Result Status Failed → Matter → Moment → Moment → Type 0
+ListsBody result matter old new =
+    ComesTo result
+    (λ status. Prepares status (solved_between old new) old.host.outside new.host.outside matter (pending new.run))
+    (IsUnwritten (solved_between old new) old.host.outside new.host.outside matter)
+
 -- The whole listing of the loaded input was added to the output.
 pub record Lists (status : Status) (solving : Solving) (old new : Outside) (matter : Matter) : Type 0 where
   pub text : List ℕ
   pub listing : IsListing status solving matter text
   pub written : new ≡ with_output old text
+
+-- The whole listing of the loaded input was written, or a prefix of it.
+abbrev pub ListsAll : Result Status Failed → Matter → Moment → Moment → Type 0
+ListsAll result matter old new =
+    ComesTo result
+    (λ status. Lists status (solved_between old new) old.host.outside new.host.outside matter)
+    (IsUnwritten (solved_between old new) old.host.outside new.host.outside matter)
+
+-- The listing was written, the requested save of the last state too, and the closing lines were
+-- printed; or a write failed.
+abbrev pub Reports : Result Status Failed → Asked → Matter → Moment → Moment → Type 0
+Reports result request matter old new =
+    ComesTo result
+    (λ status. IsReported status (solved_between old new) old.host.outside new.host.outside request matter)
+    (IsWriteFault (solved_between old new) old.host.outside new.host.outside request matter)
 
 -- the errors of a program are listed after the echo of its script; without errors nothing is listed
 abbrev pub ListsErrors : Bool → List CompileError → Script → List ℕ → List ℕ → Type 0
@@ -152,6 +177,11 @@ ListsErrors false errors script before after = (errors ≡ []) × (after ≡ bef
 pub record Follows (status : Status) (solving : Solving) (request : Asked) (matter : Matter) (text bytes : List ℕ) : Type 0 where
   pub remarks : AreRemarks status solving request matter text
   pub saves : SavesSo status solving request matter bytes
+
+-- what follows the listing is prepared in the run
+abbrev pub HasRest : Result Status Failed → Asked → Matter → Moment → Moment → Type 0
+HasRest result request matter old new =
+    IfOk result (λ status. Follows status (solved_between old new) request matter (string_bytes new.run.remarks) new.run.save.items)
 
 -- the end of a run, by the result of its report: a fault of the host is a write fault, and out of
 -- memory has no status
@@ -179,6 +209,33 @@ RanBehind ReadFault solving old new request save file = IsUnreadFile old new fil
 RanBehind status solving old new request save file =
     (source : List ℕ) × (IsFileOf old.outside file source × RanOf status solving (with_source_read old.outside file source) new.outside request (from_save save source))
 
+-- ---- requests
+
+-- the loaded input was run as the status says, unless memory ran out
+abbrev pub RunsMatter : Result Status AllocError → Asked → Matter → Moment → Moment → Type 0
+RunsMatter result request matter old new =
+    IfOk result (λ status. RanSo status (solved_between old new) old.host.outside new.host.outside request matter)
+
+-- the same of the input that was read
+abbrev pub RunsTaken : Result Status AllocError → Asked → Taken → Moment → Moment → Type 0
+RunsTaken result request taken old new =
+    IfOk result (λ status. RanOf status (solved_between old new) old.host.outside new.host.outside request taken)
+
+-- the same of a file after a save
+abbrev pub RunsAfter : Result Status AllocError → Asked → List ℕ → List ℕ → Moment → Moment → Type 0
+RunsAfter result request save file old new =
+    IfOk result (λ status. RanBehind status (solved_between old new) old.host new.host request save file)
+
+-- the same of a request
+abbrev pub RunsRequest : Result Status AllocError → Asked → Moment → Moment → Type 0
+RunsRequest result request old new =
+    IfOk result (λ status. OfRequest status (solved_between old new) old.host new.host request)
+
+-- the same of arguments
+abbrev pub RunsWords : Result Status AllocError → List (List ℕ) → Moment → Moment → Type 0
+RunsWords result words old new =
+    IfOk result (λ status. IsRun status (solved_between old new) words old.host new.host)
+
 -- ---- remarks
 
 -- the line on a run, by where its source comes from, its program and its last state
@@ -198,6 +255,11 @@ abbrev pub IsRemarked : Asked → Program Frac → State → List (Lp Frac) → 
 IsRemarked request program last solved answers text =
     (ranges line : List ℕ) × IsRanged request.ranges program solved answers ranges × IsTold request.source program last answers line × (text ≡ ranges ++ line)
 
+-- the remarks on a run of a program are those that its state calls for
+abbrev pub HasRemarks : Asked → Program Frac → Run → Type 0
+HasRemarks request program run =
+    IsRemarked request program run.store run.solved.items run.answers.items (string_bytes run.remarks)
+
 -- The bytes are the save of a last state with its source, and the numbers of the state are within
 -- the limit.
 pub record KeepsState (solvers : List (List ℕ)) (source : List ℕ) (program : Program Frac) (last : State) (bytes : List ℕ) : Type 0 where
@@ -207,6 +269,11 @@ pub record KeepsState (solvers : List (List ℕ)) (source : List ℕ) (program :
 -- the bytes are the save of the last state, if the run is to be saved
 abbrev pub IsSave : Status → Asked → List (List ℕ) → List ℕ → Program Frac → State → List ℕ → Type 0
 IsSave status request solvers source program last bytes = IfSome (save_file status request) (λ file. KeepsState solvers source program last bytes)
+
+-- the save of a run of a program over a source, where one is requested, is that of its state
+abbrev pub HasSave : Status → Asked → List (List ℕ) → List ℕ → Program Frac → Run → Type 0
+HasSave status request solvers source program run =
+    IsSave status request solvers source program run.store run.save.items
 
 -- ---- counts
 

@@ -18,15 +18,16 @@ use Rattle.gms_event.specs.declared.event.Event.TheVariants as own
 use Rattle.gms_event.specs.Events.{Event}
 use Rattle.gms_event.specs.EventView.{events_in}
 use Rattle.lp_core.specs.declared.answer.Answer.{Answer}
-use Rattle.lp_core.specs.declared.answer.Pivot.{Pivot}
 use Rattle.lp_slot.specs.declared.solver.SolverRule.{SolverRule}
 use Rattle.lp_core.specs.declared.program.Lp.{Lp}
 use Rattle.lp_core.specs.Numbers.{lp_numbers}
+use Rattle.gms_exec.specs.Dimensions.{AreOneDimensional}
 use Rattle.gms_exec.specs.Run.{Course, stopped, last_event}
+use Rattle.gms_exec.specs.Stepping.{AreValidSettings}
 use Rattle.gms_exec.specs.Standing.{IsStanding, IsStandingSolve}
 use Rattle.gms_list.specs.ListingText.{events_text}
 use Rattle.gms_run.specs.declared.status.Status.{Status}
-use Rattle.gms_run.specs.Solving.{Solvers, Solving, HaveGrown, number_limit, numbers_of, places_of, programs_of, solver_views, solves_in}
+use Rattle.gms_run.specs.Solving.{Solvers, Solving, HaveGrown, number_limit, numbers_of, places_of, programs_of, solves_in}
 use Rattle.gms_run.specs.Jobs.{Job, IsRunSolved, HaltsSo, course_of, first_of, shown_by}
 
 -- what work over a host results in: `Done` on success, `Broken` on a host fault; out of memory
@@ -55,6 +56,14 @@ programs_in [] = []
 programs_in (own.Solve line model equations lp answer solver settings level ∷ events) = lp ∷ programs_in events
 programs_in (other ∷ events) = programs_in events
 
+-- ---- before statements
+
+-- Statements of a program can be executed with n solvers in a state: its settings are within their
+-- ranges, and definitions are over sets of one dimension.
+pub record CanExecute (program : Program Frac) (n : ℕ) (state : State) : Type 0 where
+  pub settings : AreValidSettings n state.settings
+  pub plain : AreOneDimensional state program.statements.items
+
 -- ---- between statements
 
 -- A run between two statements: its state, its answers, their linear programs, and its solvers.
@@ -63,11 +72,6 @@ pub record Between : Type 0 where
   pub answers : List (Answer Frac)
   pub programs : List (Lp Frac)
   pub solvers : Solvers
-
--- the view of a run between two statements
-abbrev pub between : {S : Type 0} → (S → List ℕ) → (S → SolverRule) → (S → List (List Pivot)) → State → List (Answer Frac) → List (Lp Frac) → List S → Between
-between name rule paths state answers programs solvers =
-    record { state = state; answers = answers; programs = programs; solvers = solver_views name rule paths solvers }
 
 -- the state of a run that has shown these events and has these answers left
 abbrev pub course_at : Between → List Event → List (Answer Number) → Option Fault → Course

@@ -7,4 +7,5 @@ pub mod Listings
 pub mod Statuses
 pub mod Laws
 pub mod InnerSteps
+pub mod InnerRuns
 pub mod InnerReports

@@ -1,5 +1,5 @@
 //! The execution of a program, whose listing is written statement by statement.
-ghost use Rattle.std.specs.Prelude.{◌≡◌, ◌<◌, ◌≤◌, ◌^◌, ◌∷◌, ◌++◌, ℕ, List, [], true, length, map, option_to_list, IfOk, OnOk, string_bytes};
+ghost use Rattle.std.specs.Prelude.{◌≡◌, ◌<◌, ◌≤◌, ◌^◌, ◌∷◌, ◌++◌, [], true, length, map, option_to_list, IfOk, OnOk};
 ghost use Rattle.std.specs.List.{All};
 ghost use Rattle.gq_frac.specs.Frac.{frac_value};
 ghost use Rattle.gms_eval.specs.Gives.{fault_of};
@@ -15,11 +15,11 @@ ghost use Rattle.gms_list.specs.ListingText.{echo_text, event_text, events_text}
 ghost use Rattle.gms_host.specs.Rules.{CountsWriting};
 ghost use Rattle.gms_host.specs.Spooling.{Passes, WritesFront};
 ghost use Rattle.gms_command.specs.CommandLine.{asked_by};
-ghost use Rattle.gms_run.specs.InnerReports.{Begins, Follows, IsRemarked, IsSave, Prepares, script_in};
-ghost use Rattle.gms_run.specs.InnerSteps.{BreaksBehind, ComesTo, EndsBehind, IsListed, between, programs_in, work};
+ghost use Rattle.gms_run.specs.InnerReports.{Begins, HasRemarks, HasRest, HasSave, ListsBody, script_in};
+ghost use Rattle.gms_run.specs.InnerRuns.{ExecutesJob, IsFresh, IsUnsolved, ListsStatement, moment, pending};
+ghost use Rattle.gms_run.specs.InnerSteps.{CanExecute, ComesTo, programs_in, work};
 ghost use Rattle.gms_run.specs.Scripts.{scripted, statements_to_run};
-ghost use Rattle.gms_run.specs.Solving.{number_limit, numbers_of, solving};
-ghost use Rattle.gms_run.specs.Statuses.{IsUnwritten};
+ghost use Rattle.gms_run.specs.Solving.{number_limit, numbers_of, solver_views};
 
 use crate::outlet::Outlet;
 use crate::restart::statements_of;
@@ -40,10 +40,14 @@ use std::alloc::{AllocError, Global};
 
 /// A run in progress.
 pub(crate) struct Run {
+    /// The answers of its solvers, in the order of the solves.
+    pub(crate) answers: Vec<Answer<Frac>>,
+    /// The linear programs of these solves, in order.
+    pub(crate) solved: Vec<Lp<Frac>>,
     /// Its state; before its program begins, the saved state, if it resumes from one.
     pub(crate) store: Store<Frac>,
-    /// The linear programs of its solves, in order.
-    pub(crate) solved: Vec<Lp<Frac>>,
+    /// The part of its listing that is not written yet.
+    pub(crate) outlet: Outlet,
     /// The remarks on it, which are printed after its listing.
     pub(crate) remarks: String,
     /// The save of its last state, if that is to be saved.
@@ -54,8 +58,10 @@ pub(crate) struct Run {
 impl Drop for Run {
     fn drop(self) {
         let Self {
-            store: _,
+            answers: _,
             solved: _,
+            store: _,
+            outlet: _,
             remarks: _,
             save: _,
         } = self;
@@ -158,139 +164,6 @@ fn list_fault(
     listing.event(alloc, program, &Event::Fault(stop), answers)
 }
 
-/// Executes a statement that no loop contains, and lists what it shows and the fault that stops it.
-/// Answers whether the run continues.
-fn statement(
-    alloc: Global,
-    store: &mut Store<Frac>,
-    program: &Program<Frac>,
-    s: &Stmt<Frac>,
-    solvers: &mut Vec<Box<dyn LpSolver>>,
-    answers: &mut Vec<Answer<Frac>>,
-    solved: &mut Vec<Lp<Frac>>,
-    listing: &mut Listing,
-) -> Result<bool, AllocError>
-    requires few { length solvers.old.items < 2 ^ 32 }
-    requires settings { AreValidSettings (length solvers.old.items) store.old.settings }
-    requires plain { AreOneDimensional store.old program.now.statements.items }
-    ensures listed { IfOk result (λ goes_on. IsListed goes_on (of_statement frac_value number_limit (record { program = program.now; solvers = map name solvers.old.items }) s.now []) program.now (map rule solvers.old.items)
-        (between name rule paths store.old answers.old.items solved.old.items solvers.old.items) (between name rule paths store.new answers.new.items solved.new.items solvers.new.items) listing.old listing.new) }
-    ensures settings { OnOk result (AreValidSettings (length solvers.old.items) store.new.settings) }
-    ensures plain { OnOk result (AreOneDimensional store.new program.now.statements.items) }
-{
-    let mut events = Vec::new(alloc);
-    let stepped = step_alone(alloc, store, program, s, solvers, answers, &mut events);
-    match stepped {
-        Ok(()) => {
-            show(alloc, program, events, answers, solved, listing)?;
-            Ok(true)
-        }
-        Err(ExecStopOrMemory::Memory) => Err(AllocError),
-        Err(ExecStopOrMemory::Fault(stop)) => {
-            show(alloc, program, events, answers, solved, listing)?;
-            list_fault(alloc, program, stop, answers, listing)?;
-            Ok(false)
-        }
-    }
-}
-
-/// Executes statements of a program from a state. What a statement shows is written before the next
-/// one is executed; after a failed write none is.
-fn statements<H: Host>(
-    alloc: Global,
-    host: &mut H,
-    store: &mut Store<Frac>,
-    program: &Program<Frac>,
-    list: &[Stmt<Frac>],
-    solvers: &mut Vec<Box<dyn LpSolver>>,
-    answers: &mut Vec<Answer<Frac>>,
-    solved: &mut Vec<Lp<Frac>>,
-    outlet: &mut Outlet,
-) -> Result<Status, Failed>
-    requires open { (H.meaning host.old).outside.writing ≡ true }
-    requires few { length solvers.old.items < 2 ^ 32 }
-    requires settings { AreValidSettings (length solvers.old.items) store.old.settings }
-    requires plain { AreOneDimensional store.old program.now.statements.items }
-    requires none { answers.old.items ≡ [] }
-    requires unsolved { solved.old.items ≡ [] }
-    requires room { length (outlet.old.spool ++ outlet.old.listing) ≤ 4096 }
-    ensures outside { ComesTo result (λ status. EndsBehind status (work program.now store.old list.now) (solving name rule paths solvers.old.items solvers.new.items answers.new.items) store.new solved.new.items (H.meaning host.old).outside (H.meaning host.new).outside (outlet.old.spool ++ outlet.old.listing) (outlet.new.spool ++ outlet.new.listing))
-        (BreaksBehind (work program.now store.old list.now) (solving name rule paths solvers.old.items solvers.new.items answers.new.items) (H.meaning host.old).outside (H.meaning host.new).outside (outlet.old.spool ++ outlet.old.listing)) }
-    ensures counts { CountsWriting result (H.meaning host.old).counts (H.meaning host.new).counts }
-{
-    for s in list {
-        let listing = &mut outlet.listing;
-        let goes_on = statement(alloc, store, program, s, solvers, answers, solved, listing)?;
-        outlet.pass(host)?;
-        if !goes_on {
-            return Ok(Status::Execution);
-        }
-    }
-    Ok(Status::Done)
-}
-
-impl Run {
-    /// A run that has not begun, from no state.
-    pub(crate) fn new(alloc: Global) -> Result<Run, AllocError>
-        ensures silent { IfOk result (λ run. string_bytes run.remarks ≡ []) }
-        ensures unsolved { IfOk result (λ run. run.solved.items ≡ []) }
-    {
-        let store = Store::blank(alloc, 0)?;
-        Ok(Run {
-            store,
-            solved: Vec::new(alloc),
-            remarks: String::new(alloc),
-            save: Vec::new(alloc),
-        })
-    }
-
-    /// Executes the statements of a script's program that are run, and prepares what follows their
-    /// listing.
-    fn to_end<H: Host>(
-        &mut self,
-        alloc: Global,
-        host: &mut H,
-        request: Request,
-        script: Script,
-        program: &Program<Frac>,
-        solvers: &mut Vec<Box<dyn LpSolver>>,
-        answers: &mut Vec<Answer<Frac>>,
-        outlet: &mut Outlet,
-    ) -> Result<Status, Failed>
-        requires open { (H.meaning host.old).outside.writing ≡ true }
-        requires few { length solvers.old.items < 2 ^ 32 }
-        requires settings { AreValidSettings (length solvers.old.items) self.old.store.settings }
-        requires plain { AreOneDimensional self.old.store program.now.statements.items }
-        requires none { answers.old.items ≡ [] }
-        requires unsolved { self.old.solved.items ≡ [] }
-        requires room { length (outlet.old.spool ++ outlet.old.listing) ≤ 4096 }
-        ensures outside { (state : State) → ComesTo result (λ status. EndsBehind status (work program.now self.old.store (statements_to_run (script_in script.entry state).saved script.entry.line program.now)) (solving name rule paths solvers.old.items solvers.new.items answers.new.items) self.new.store self.new.solved.items (H.meaning host.old).outside (H.meaning host.new).outside (outlet.old.spool ++ outlet.old.listing) (outlet.new.spool ++ outlet.new.listing))
-            (BreaksBehind (work program.now self.old.store (statements_to_run (script_in script.entry state).saved script.entry.line program.now)) (solving name rule paths solvers.old.items solvers.new.items answers.new.items) (H.meaning host.old).outside (H.meaning host.new).outside (outlet.old.spool ++ outlet.old.listing)) }
-        ensures told { IfOk result (λ status. IsRemarked (asked_by request.entry) program.now self.new.store self.new.solved.items answers.new.items (string_bytes self.new.remarks)) }
-        ensures saved { IfOk result (λ status. IsSave status (asked_by request.entry) (map name solvers.new.items) script.entry.source.now program.now self.new.store self.new.save.items) }
-        ensures counts { CountsWriting result (H.meaning host.old).counts (H.meaning host.new).counts }
-    {
-        let status = statements(
-            alloc,
-            host,
-            &mut self.store,
-            program,
-            statements_of(script, program),
-            solvers,
-            answers,
-            &mut self.solved,
-            outlet,
-        )?;
-        let given = answers.as_slice();
-        let text = self.remark(alloc, request, program, given)?;
-        self.remarks = text;
-        let source = script.source;
-        let save = self.saved(alloc, status, request, source, program, solvers.as_slice())?;
-        self.save = save;
-        Ok(status)
-    }
-}
-
 /// Lists the echo of a script, and writes it.
 fn pass_echo<H: Host>(
     alloc: Global,
@@ -309,33 +182,146 @@ fn pass_echo<H: Host>(
     outlet.pass(host)
 }
 
-/// Executes an accepted script from its first state, after its echo. What a statement shows is
-/// written before the next one is executed; after a failed write none is. At its end it prepares
-/// what follows the listing.
-pub(crate) fn execute<H: Host>(
-    alloc: Global,
-    host: &mut H,
-    request: Request,
-    script: Script,
-    program: &Program<Frac>,
-    solvers: &mut Vec<Box<dyn LpSolver>>,
-    answers: &mut Vec<Answer<Frac>>,
-    outlet: &mut Outlet,
-    run: &mut Run,
-) -> Result<Status, Failed>
-    requires open { (H.meaning host.old).outside.writing ≡ true }
-    requires few { length solvers.old.items < 2 ^ 32 }
-    requires settings { AreValidSettings (length solvers.old.items) run.old.store.settings }
-    requires plain { AreOneDimensional run.old.store program.now.statements.items }
-    requires unsolved { run.old.solved.items ≡ [] }
-    requires none { answers.old.items ≡ [] }
-    requires empty { outlet.old.spool ++ outlet.old.listing ≡ [] }
-    ensures outside { (state : State) → Begins (map name solvers.old.items) (script_in script.entry state) program.now run.old.store → ComesTo result (λ status. Prepares status (solving name rule paths solvers.old.items solvers.new.items answers.new.items) (H.meaning host.old).outside (H.meaning host.new).outside (scripted (script_in script.entry state)) (outlet.new.spool ++ outlet.new.listing)) (IsUnwritten (solving name rule paths solvers.old.items solvers.new.items answers.new.items) (H.meaning host.old).outside (H.meaning host.new).outside (scripted (script_in script.entry state))) }
-    ensures follows { (state : State) → Begins (map name solvers.old.items) (script_in script.entry state) program.now run.old.store → IfOk result (λ status. Follows status (solving name rule paths solvers.old.items solvers.new.items answers.new.items) (asked_by request.entry) (scripted (script_in script.entry state)) (string_bytes run.new.remarks) run.new.save.items) }
-    ensures counts { CountsWriting result (H.meaning host.old).counts (H.meaning host.new).counts }
-{
-    pass_echo(alloc, host, script, outlet)?;
-    run.to_end(
-        alloc, host, request, script, program, solvers, answers, outlet,
-    )
+impl Run {
+    /// A run that has not begun, from no state.
+    pub(crate) fn new(alloc: Global) -> Result<Run, AllocError>
+        ensures { IfOk result IsFresh }
+    {
+        let outlet = Outlet::new(alloc)?;
+        let store = Store::blank(alloc, 0)?;
+        Ok(Run {
+            answers: Vec::new(alloc),
+            solved: Vec::new(alloc),
+            store,
+            outlet,
+            remarks: String::new(alloc),
+            save: Vec::new(alloc),
+        })
+    }
+
+    /// Executes a statement that no loop contains, and lists what it shows and the fault that stops
+    /// it. Answers whether the run continues.
+    fn statement(
+        &mut self,
+        alloc: Global,
+        program: &Program<Frac>,
+        s: &Stmt<Frac>,
+        solvers: &mut Vec<Box<dyn LpSolver>>,
+    ) -> Result<bool, AllocError>
+        requires few { length solvers.old.items < 2 ^ 32 }
+        requires can_execute { CanExecute program.now (length solvers.old.items) self.old.store }
+        ensures listed { IfOk result (λ goes_on. ListsStatement goes_on program.now s.now (solver_views name rule paths solvers.old.items) self.old (solver_views name rule paths solvers.new.items) self.new) }
+        ensures spool { OnOk result (self.new.outlet.spool ≡ self.old.outlet.spool) }
+        ensures can_execute { OnOk result (CanExecute program.now (length solvers.old.items) self.new.store) }
+    {
+        let mut events = Vec::new(alloc);
+        let store = &mut self.store;
+        let taken = &mut self.answers;
+        let stepped = step_alone(alloc, store, program, s, solvers, taken, &mut events);
+        let answers = self.answers.as_slice();
+        let solved = &mut self.solved;
+        let listing = &mut self.outlet.listing;
+        match stepped {
+            Ok(()) => {
+                show(alloc, program, events, answers, solved, listing)?;
+                Ok(true)
+            }
+            Err(ExecStopOrMemory::Memory) => Err(AllocError),
+            Err(ExecStopOrMemory::Fault(stop)) => {
+                show(alloc, program, events, answers, solved, listing)?;
+                list_fault(alloc, program, stop, answers, listing)?;
+                Ok(false)
+            }
+        }
+    }
+
+    /// Executes statements of a program. What a statement shows is written before the next one is
+    /// executed; after a failed write none is.
+    fn statements<H: Host>(
+        &mut self,
+        alloc: Global,
+        host: &mut H,
+        program: &Program<Frac>,
+        list: &[Stmt<Frac>],
+        solvers: &mut Vec<Box<dyn LpSolver>>,
+    ) -> Result<Status, Failed>
+        requires open { (H.meaning host.old).outside.writing ≡ true }
+        requires few { length solvers.old.items < 2 ^ 32 }
+        requires can_execute { CanExecute program.now (length solvers.old.items) self.old.store }
+        requires unsolved { IsUnsolved self.old }
+        requires room { length (pending self.old) ≤ 4096 }
+        ensures outside { ExecutesJob result (work program.now self.old.store list.now)
+            (moment name rule paths (H.meaning host.old) solvers.old.items self.old)
+            (moment name rule paths (H.meaning host.new) solvers.new.items self.new) }
+        ensures counts { CountsWriting result (H.meaning host.old).counts (H.meaning host.new).counts }
+    {
+        for s in list {
+            let goes_on = self.statement(alloc, program, s, solvers)?;
+            self.outlet.pass(host)?;
+            if !goes_on {
+                return Ok(Status::Execution);
+            }
+        }
+        Ok(Status::Done)
+    }
+
+    /// Executes the statements of a script's program, and prepares what follows its listing.
+    fn to_end<H: Host>(
+        &mut self,
+        alloc: Global,
+        host: &mut H,
+        request: Request,
+        script: Script,
+        program: &Program<Frac>,
+        solvers: &mut Vec<Box<dyn LpSolver>>,
+    ) -> Result<Status, Failed>
+        requires open { (H.meaning host.old).outside.writing ≡ true }
+        requires few { length solvers.old.items < 2 ^ 32 }
+        requires can_execute { CanExecute program.now (length solvers.old.items) self.old.store }
+        requires unsolved { IsUnsolved self.old }
+        requires room { length (pending self.old) ≤ 4096 }
+        ensures outside { (state : State) → ExecutesJob result (work program.now self.old.store (statements_to_run (script_in script.entry state).saved script.entry.line program.now))
+            (moment name rule paths (H.meaning host.old) solvers.old.items self.old)
+            (moment name rule paths (H.meaning host.new) solvers.new.items self.new) }
+        ensures remarks { IfOk result (λ status. HasRemarks (asked_by request.entry) program.now self.new) }
+        ensures saved { IfOk result (λ status. HasSave status (asked_by request.entry) (map name solvers.new.items) script.entry.source.now program.now self.new) }
+        ensures counts { CountsWriting result (H.meaning host.old).counts (H.meaning host.new).counts }
+    {
+        let list = statements_of(script, program);
+        let status = self.statements(alloc, host, program, list, solvers)?;
+        let given = self.answers.as_slice();
+        let text = self.remark(alloc, request, program, given)?;
+        self.remarks = text;
+        let source = script.source;
+        let save = self.saved(alloc, status, request, source, program, solvers.as_slice())?;
+        self.save = save;
+        Ok(status)
+    }
+
+    /// Executes an accepted script from its first state on, after its echo, and prepares what follows
+    /// its listing.
+    pub(crate) fn execute<H: Host>(
+        &mut self,
+        alloc: Global,
+        host: &mut H,
+        request: Request,
+        script: Script,
+        program: &Program<Frac>,
+        solvers: &mut Vec<Box<dyn LpSolver>>,
+    ) -> Result<Status, Failed>
+        requires open { (H.meaning host.old).outside.writing ≡ true }
+        requires few { length solvers.old.items < 2 ^ 32 }
+        requires can_execute { CanExecute program.now (length solvers.old.items) self.old.store }
+        requires fresh { IsFresh self.old }
+        ensures outside { (state : State) → Begins (map name solvers.old.items) (script_in script.entry state) program.now self.old.store → ListsBody result (scripted (script_in script.entry state))
+            (moment name rule paths (H.meaning host.old) solvers.old.items self.old)
+            (moment name rule paths (H.meaning host.new) solvers.new.items self.new) }
+        ensures follows { (state : State) → Begins (map name solvers.old.items) (script_in script.entry state) program.now self.old.store → HasRest result (asked_by request.entry) (scripted (script_in script.entry state))
+            (moment name rule paths (H.meaning host.old) solvers.old.items self.old)
+            (moment name rule paths (H.meaning host.new) solvers.new.items self.new) }
+        ensures counts { CountsWriting result (H.meaning host.old).counts (H.meaning host.new).counts }
+    {
+        pass_echo(alloc, host, script, &mut self.outlet)?;
+        self.to_end(alloc, host, request, script, program, solvers)
+    }
 }

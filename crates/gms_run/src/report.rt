@@ -1,5 +1,5 @@
 //! The listing of the loaded input, as it is written.
-ghost use Rattle.std.specs.Prelude.{◌≡◌, ◌<◌, ◌^◌, ◌++◌, [], true, length, map, IfOk, OnOk, string_bytes};
+ghost use Rattle.std.specs.Prelude.{◌≡◌, ◌<◌, ◌^◌, ◌++◌, true, length, map, IfOk, OnOk, string_bytes};
 ghost use Rattle.std.specs.List.{All};
 ghost use Rattle.gq_frac.specs.Frac.{frac_value};
 ghost use Rattle.gms_host.specs.Rules.{CountsWriting};
@@ -7,15 +7,14 @@ ghost use Rattle.gms_store.specs.State.{State};
 ghost use Rattle.gms_parse.specs.Outcomes.{IsProgram};
 ghost use Rattle.gms_command.specs.CommandLine.{asked_by};
 ghost use Rattle.lp_slot.specs.SolverNames.{IsSolverName};
-ghost use Rattle.gms_run.specs.InnerReports.{Follows, IsSound, IsSoundMatter, Lists, ListsErrors, Prepares, matter_in, script_in};
-ghost use Rattle.gms_run.specs.InnerSteps.{ComesTo};
+ghost use Rattle.gms_run.specs.InnerReports.{HasRest, IsSoundMatter, ListsAll, ListsBody, ListsErrors, matter_in, script_in};
+ghost use Rattle.gms_run.specs.InnerRuns.{IsFresh, moment};
 ghost use Rattle.gms_list.specs.ListingText.{has_echo};
 ghost use Rattle.gms_run.specs.Listings.{refusal_text, unrestored_text};
 ghost use Rattle.gms_run.specs.Scripts.{errors_of_script, scripted};
-ghost use Rattle.gms_run.specs.Solving.{number_limit, solving};
-ghost use Rattle.gms_run.specs.Statuses.{IsUnwritten};
+ghost use Rattle.gms_run.specs.Solving.{number_limit};
 
-use crate::execution::{Run, execute};
+use crate::execution::Run;
 use crate::outlet::Outlet;
 use crate::restart::{begin, errors_of};
 use crate::script::{Matter, Script};
@@ -29,7 +28,6 @@ use gms_list::Listing;
 use gms_parse::{SourceError, SourceFault, SourceFaultOrMemory, parse};
 use gms_save::SaveFault;
 use gq_frac::Frac;
-use lp_core::Answer;
 use lp_slot::LpSolver;
 use std::alloc::{AllocError, Global};
 
@@ -149,30 +147,27 @@ fn checked<H: Host>(
     script: Script,
     program: &Program<Frac>,
     solvers: &mut Vec<Box<dyn LpSolver>>,
-    answers: &mut Vec<Answer<Frac>>,
-    outlet: &mut Outlet,
     run: &mut Run,
 ) -> Result<Status, Failed>
     requires open { (H.meaning host.old).outside.writing ≡ true }
     requires few { length solvers.old.items < 2 ^ 32 }
+    requires fresh { IsFresh run.old }
     requires is_program { IsProgram number_limit script.source.now frac_value program.now }
-    requires sound { IsSound (map name solvers.old.items) (script_in script run.old.store).source script.line (script_in script run.old.store).saved }
-    requires none { answers.old.items ≡ [] }
-    requires empty { outlet.old.spool ++ outlet.old.listing ≡ [] }
-    requires silent { string_bytes run.old.remarks ≡ [] }
-    requires unsolved { run.old.solved.items ≡ [] }
-    ensures outside { ComesTo result (λ status. Prepares status (solving name rule paths solvers.old.items solvers.new.items answers.new.items) (H.meaning host.old).outside (H.meaning host.new).outside (scripted (script_in script.entry run.old.store)) (outlet.new.spool ++ outlet.new.listing)) (IsUnwritten (solving name rule paths solvers.old.items solvers.new.items answers.new.items) (H.meaning host.old).outside (H.meaning host.new).outside (scripted (script_in script.entry run.old.store))) }
-    ensures follows { IfOk result (λ status. Follows status (solving name rule paths solvers.old.items solvers.new.items answers.new.items) (asked_by request.entry) (scripted (script_in script.entry run.old.store)) (string_bytes run.new.remarks) run.new.save.items) }
+    requires sound { IsSoundMatter (map name solvers.old.items) (scripted (script_in script run.old.store)) }
+    ensures outside { ListsBody result (scripted (script_in script.entry run.old.store))
+        (moment name rule paths (H.meaning host.old) solvers.old.items run.old)
+        (moment name rule paths (H.meaning host.new) solvers.new.items run.new) }
+    ensures follows { HasRest result (asked_by request.entry) (scripted (script_in script.entry run.old.store))
+        (moment name rule paths (H.meaning host.old) solvers.old.items run.old)
+        (moment name rule paths (H.meaning host.new) solvers.new.items run.new) }
     ensures counts { CountsWriting result (H.meaning host.old).counts (H.meaning host.new).counts }
 {
-    let listing = &mut outlet.listing;
+    let listing = &mut run.outlet.listing;
     if has_errors(alloc, script, program, solvers.as_slice(), listing)? {
         return Ok(Status::Compile);
     }
     begin(alloc, script, program, &mut run.store)?;
-    execute(
-        alloc, host, request, script, program, solvers, answers, outlet, run,
-    )
+    run.execute(alloc, host, request, script, program, solvers)
 }
 
 /// Parses, checks and executes a script. Its listing is written except for its last line, which is
@@ -183,28 +178,25 @@ fn parsed<H: Host>(
     request: Request,
     script: Script,
     solvers: &mut Vec<Box<dyn LpSolver>>,
-    answers: &mut Vec<Answer<Frac>>,
-    outlet: &mut Outlet,
     run: &mut Run,
 ) -> Result<Status, Failed>
     requires open { (H.meaning host.old).outside.writing ≡ true }
     requires few { length solvers.old.items < 2 ^ 32 }
-    requires sound { IsSound (map name solvers.old.items) (script_in script run.old.store).source script.line (script_in script run.old.store).saved }
-    requires none { answers.old.items ≡ [] }
-    requires empty { outlet.old.spool ++ outlet.old.listing ≡ [] }
-    requires silent { string_bytes run.old.remarks ≡ [] }
-    requires unsolved { run.old.solved.items ≡ [] }
-    ensures outside { ComesTo result (λ status. Prepares status (solving name rule paths solvers.old.items solvers.new.items answers.new.items) (H.meaning host.old).outside (H.meaning host.new).outside (scripted (script_in script.entry run.old.store)) (outlet.new.spool ++ outlet.new.listing)) (IsUnwritten (solving name rule paths solvers.old.items solvers.new.items answers.new.items) (H.meaning host.old).outside (H.meaning host.new).outside (scripted (script_in script.entry run.old.store))) }
-    ensures follows { IfOk result (λ status. Follows status (solving name rule paths solvers.old.items solvers.new.items answers.new.items) (asked_by request.entry) (scripted (script_in script.entry run.old.store)) (string_bytes run.new.remarks) run.new.save.items) }
+    requires fresh { IsFresh run.old }
+    requires sound { IsSoundMatter (map name solvers.old.items) (scripted (script_in script run.old.store)) }
+    ensures outside { ListsBody result (scripted (script_in script.entry run.old.store))
+        (moment name rule paths (H.meaning host.old) solvers.old.items run.old)
+        (moment name rule paths (H.meaning host.new) solvers.new.items run.new) }
+    ensures follows { HasRest result (asked_by request.entry) (scripted (script_in script.entry run.old.store))
+        (moment name rule paths (H.meaning host.old) solvers.old.items run.old)
+        (moment name rule paths (H.meaning host.new) solvers.new.items run.new) }
     ensures counts { CountsWriting result (H.meaning host.old).counts (H.meaning host.new).counts }
 {
     match parse::<Frac>(alloc, script.source) {
-        Ok(program) => checked(
-            alloc, host, request, script, &program, solvers, answers, outlet, run,
-        ),
+        Ok(program) => checked(alloc, host, request, script, &program, solvers, run),
         Err(SourceFaultOrMemory::Memory) => Err(Failed::Memory),
         Err(SourceFaultOrMemory::Fault(fault)) => {
-            let status = refused(alloc, script, fault, outlet)?;
+            let status = refused(alloc, script, fault, &mut run.outlet)?;
             Ok(status)
         }
     }
@@ -218,27 +210,24 @@ fn listed<H: Host>(
     request: Request,
     matter: Matter,
     solvers: &mut Vec<Box<dyn LpSolver>>,
-    answers: &mut Vec<Answer<Frac>>,
-    outlet: &mut Outlet,
     run: &mut Run,
 ) -> Result<Status, Failed>
     requires open { (H.meaning host.old).outside.writing ≡ true }
     requires few { length solvers.old.items < 2 ^ 32 }
+    requires fresh { IsFresh run.old }
     requires sound { IsSoundMatter (map name solvers.old.items) (matter_in matter run.old.store) }
-    requires none { answers.old.items ≡ [] }
-    requires empty { outlet.old.spool ++ outlet.old.listing ≡ [] }
-    requires silent { string_bytes run.old.remarks ≡ [] }
-    requires unsolved { run.old.solved.items ≡ [] }
-    ensures outside { ComesTo result (λ status. Prepares status (solving name rule paths solvers.old.items solvers.new.items answers.new.items) (H.meaning host.old).outside (H.meaning host.new).outside (matter_in matter.entry run.old.store) (outlet.new.spool ++ outlet.new.listing)) (IsUnwritten (solving name rule paths solvers.old.items solvers.new.items answers.new.items) (H.meaning host.old).outside (H.meaning host.new).outside (matter_in matter.entry run.old.store)) }
-    ensures follows { IfOk result (λ status. Follows status (solving name rule paths solvers.old.items solvers.new.items answers.new.items) (asked_by request.entry) (matter_in matter.entry run.old.store) (string_bytes run.new.remarks) run.new.save.items) }
+    ensures outside { ListsBody result (matter_in matter.entry run.old.store)
+        (moment name rule paths (H.meaning host.old) solvers.old.items run.old)
+        (moment name rule paths (H.meaning host.new) solvers.new.items run.new) }
+    ensures follows { HasRest result (asked_by request.entry) (matter_in matter.entry run.old.store)
+        (moment name rule paths (H.meaning host.old) solvers.old.items run.old)
+        (moment name rule paths (H.meaning host.new) solvers.new.items run.new) }
     ensures counts { CountsWriting result (H.meaning host.old).counts (H.meaning host.new).counts }
 {
     match matter {
-        Matter::ToRun(script) => parsed(
-            alloc, host, request, script, solvers, answers, outlet, run,
-        ),
+        Matter::ToRun(script) => parsed(alloc, host, request, script, solvers, run),
         Matter::Unrestored(fault) => {
-            list_unrestored(alloc, fault, &mut outlet.listing)?;
+            list_unrestored(alloc, fault, &mut run.outlet.listing)?;
             Ok(Status::Compile)
         }
     }
@@ -252,30 +241,22 @@ pub(crate) fn report<H: Host>(
     request: Request,
     matter: Matter,
     solvers: &mut Vec<Box<dyn LpSolver>>,
-    answers: &mut Vec<Answer<Frac>>,
     run: &mut Run,
 ) -> Result<Status, Failed>
     requires open { (H.meaning host.old).outside.writing ≡ true }
     requires few { length solvers.old.items < 2 ^ 32 }
+    requires fresh { IsFresh run.old }
     requires sound { IsSoundMatter (map name solvers.old.items) (matter_in matter run.old.store) }
-    requires none { answers.old.items ≡ [] }
-    requires silent { string_bytes run.old.remarks ≡ [] }
-    requires unsolved { run.old.solved.items ≡ [] }
-    ensures outside { ComesTo result (λ status. Lists status (solving name rule paths solvers.old.items solvers.new.items answers.new.items) (H.meaning host.old).outside (H.meaning host.new).outside (matter_in matter.entry run.old.store)) (IsUnwritten (solving name rule paths solvers.old.items solvers.new.items answers.new.items) (H.meaning host.old).outside (H.meaning host.new).outside (matter_in matter.entry run.old.store)) }
-    ensures follows { IfOk result (λ status. Follows status (solving name rule paths solvers.old.items solvers.new.items answers.new.items) (asked_by request.entry) (matter_in matter.entry run.old.store) (string_bytes run.new.remarks) run.new.save.items) }
+    ensures outside { ListsAll result (matter_in matter.entry run.old.store)
+        (moment name rule paths (H.meaning host.old) solvers.old.items run.old)
+        (moment name rule paths (H.meaning host.new) solvers.new.items run.new) }
+    ensures follows { HasRest result (asked_by request.entry) (matter_in matter.entry run.old.store)
+        (moment name rule paths (H.meaning host.old) solvers.old.items run.old)
+        (moment name rule paths (H.meaning host.new) solvers.new.items run.new) }
     ensures counts { CountsWriting result (H.meaning host.old).counts (H.meaning host.new).counts }
 {
-    let mut outlet = Outlet::new(alloc)?;
-    let status = listed(
-        alloc,
-        host,
-        request,
-        matter,
-        solvers,
-        answers,
-        &mut outlet,
-        run,
-    )?;
-    outlet.end(alloc, host, status, answers.len())?;
+    let status = listed(alloc, host, request, matter, solvers, run)?;
+    let solves = run.answers.len();
+    run.outlet.end(alloc, host, status, solves)?;
     Ok(status)
 }

@@ -1,17 +1,16 @@
 //! The top call: from the arguments of the command line to the bytes of the listing and of the
 //! save.
-ghost use Rattle.std.specs.Prelude.{◌≡◌, ◌<◌, ◌≤◌, ◌^◌, ◌↔◌, ◌⊎◌, ℕ, List, [], true, length, map, Some, IfOk, OnOk, string_bytes};
+ghost use Rattle.std.specs.Prelude.{◌≡◌, ◌<◌, ◌≤◌, ◌^◌, ◌↔◌, ◌⊎◌, ℕ, List, true, length, map, None, Some, IfOk, OnOk};
 ghost use Rattle.gms_host.specs.Rules.{CountsWriting, IsThere};
-ghost use Rattle.gms_store.specs.State.{State};
 ghost use Rattle.gms_lex.specs.Tokens.{most_source_bytes};
 ghost use Rattle.gms_command.specs.CommandLine.{texts, request_of, asked_by, in_file, restarted, generated, read_fault_line};
 ghost use Rattle.gms_run.specs.Headline.{HasListing, WritesListing, file_alone};
-ghost use Rattle.gms_run.specs.InnerReports.{CanGoOn, CountsMention, CountsRun, EndsAs, IsSoundMatter, RanBehind, RanOf, matter_in};
-ghost use Rattle.gms_run.specs.InnerSteps.{ComesTo};
+ghost use Rattle.gms_run.specs.InnerReports.{CanGoOn, CountsMention, CountsRun, EndsAs, IsSoundMatter, Reports, RunsAfter, RunsMatter, RunsRequest, RunsTaken, RunsWords, matter_in};
+ghost use Rattle.gms_run.specs.InnerRuns.{IsFresh, moment};
 ghost use Rattle.gms_run.specs.Laws.{RunIsAnsweredRightly};
 ghost use Rattle.gms_run.specs.Scripts.{first_line, from_save, joint_script, joint_source, script_of, scripted};
 ghost use Rattle.gms_run.specs.Solving.{solving};
-ghost use Rattle.gms_run.specs.Statuses.{CanRun, CountsSo, EndsByNoFault, HasOrigin, IsReadyFor, IsReported, IsRun, IsStopped, IsWriteFault, MeetsNoFault, NamesProgram, NamesSource, OfRequest, RanSo, SaysLine};
+ghost use Rattle.gms_run.specs.Statuses.{CanRun, CountsSo, EndsByNoFault, HasOrigin, IsReadyFor, IsRun, IsStopped, MeetsNoFault, NamesProgram, NamesSource, SaysLine};
 
 use crate::closing::{push_closing, write_save};
 use crate::execution::Run;
@@ -30,7 +29,7 @@ use gq_frac::Frac;
 use lp_core::Answer;
 use lp_slot::LpSolver;
 use std::alloc::{AllocError, Global};
-use std::mem::swap;
+use std::mem::{replace, swap};
 
 /// How a run ended.
 #[derive(Drop)]
@@ -51,23 +50,22 @@ fn write_report<H: Host>(
     matter: Matter,
     output: &str,
     solvers: &mut Vec<Box<dyn LpSolver>>,
-    answers: &mut Vec<Answer<Frac>>,
     run: &mut Run,
 ) -> Result<Status, Failed>
     requires few { length solvers.old.items < 2 ^ 32 }
+    requires fresh { IsFresh run.old }
     requires sound { IsSoundMatter (map name solvers.old.items) (matter_in matter run.old.store) }
-    requires none { answers.old.items ≡ [] }
     requires named { output.now ≡ (asked_by request).output }
-    requires silent { string_bytes run.old.remarks ≡ [] }
-    requires unsolved { run.old.solved.items ≡ [] }
-    ensures outside { ComesTo result (λ status. IsReported status (solving name rule paths solvers.old.items solvers.new.items answers.new.items) (H.meaning host.old).outside (H.meaning host.new).outside (asked_by request.entry) (matter_in matter.entry run.old.store)) (IsWriteFault (solving name rule paths solvers.old.items solvers.new.items answers.new.items) (H.meaning host.old).outside (H.meaning host.new).outside (asked_by request.entry) (matter_in matter.entry run.old.store)) }
+    ensures outside { Reports result (asked_by request.entry) (matter_in matter.entry run.old.store)
+        (moment name rule paths (H.meaning host.old) solvers.old.items run.old)
+        (moment name rule paths (H.meaning host.new) solvers.new.items run.new) }
     ensures counts { CountsWriting result (H.meaning host.old).counts (H.meaning host.new).counts }
 {
     host.open_out(output)?;
-    let status = report(alloc, host, request, matter, solvers, answers, run)?;
+    let status = report(alloc, host, request, matter, solvers, run)?;
     host.close_out()?;
     write_save(host, status, request, run.save.as_slice())?;
-    push_closing(alloc, status, answers.len(), output, &mut run.remarks)?;
+    push_closing(alloc, status, run.answers.len(), output, &mut run.remarks)?;
     say_line(host, run.remarks.as_str().as_bytes())?;
     Ok(status)
 }
@@ -113,39 +111,19 @@ fn run_matter<H: Host>(
     request: Request,
     matter: Matter,
     solvers: &mut Vec<Box<dyn LpSolver>>,
-    answers: &mut Vec<Answer<Frac>>,
     run: &mut Run,
 ) -> Result<Status, AllocError>
     requires few { length solvers.old.items < 2 ^ 32 }
+    requires fresh { IsFresh run.old }
     requires sound { IsSoundMatter (map name solvers.old.items) (matter_in matter run.old.store) }
-    requires none { answers.old.items ≡ [] }
-    requires silent { string_bytes run.old.remarks ≡ [] }
-    requires unsolved { run.old.solved.items ≡ [] }
-    ensures ran { IfOk result (λ status. RanSo status (solving name rule paths solvers.old.items solvers.new.items answers.new.items) (H.meaning host.old).outside (H.meaning host.new).outside (asked_by request.entry) (matter_in matter.entry run.old.store)) }
+    ensures ran { RunsMatter result (asked_by request.entry) (matter_in matter.entry run.old.store)
+        (moment name rule paths (H.meaning host.old) solvers.old.items run.old)
+        (moment name rule paths (H.meaning host.new) solvers.new.items run.new) }
     ensures counts { CountsRun result ((H.meaning host.old).counts.reliable ≡ true) (H.meaning host.old).counts (H.meaning host.new).counts }
 {
     let output = output_of(alloc, request)?;
     let name = output.as_str();
-    status_of(write_report(alloc, host, request, matter, name, solvers, answers, run))
-}
-
-/// Runs the loaded input for a request, where it resumes from no state.
-fn run_anew<H: Host>(
-    alloc: Global,
-    host: &mut H,
-    request: Request,
-    matter: Matter,
-    solvers: &mut Vec<Box<dyn LpSolver>>,
-    answers: &mut Vec<Answer<Frac>>,
-) -> Result<Status, AllocError>
-    requires few { length solvers.old.items < 2 ^ 32 }
-    requires sound { (state : State) → IsSoundMatter (map name solvers.old.items) (matter_in matter state) }
-    requires none { answers.old.items ≡ [] }
-    ensures ran { IfOk result (λ status. (state : State) × RanSo status (solving name rule paths solvers.old.items solvers.new.items answers.new.items) (H.meaning host.old).outside (H.meaning host.new).outside (asked_by request.entry) (matter_in matter.entry state)) }
-    ensures counts { CountsRun result ((H.meaning host.old).counts.reliable ≡ true) (H.meaning host.old).counts (H.meaning host.new).counts }
-{
-    let mut run = Run::new(alloc)?;
-    run_matter(alloc, host, request, matter, solvers, answers, &mut run)
+    status_of(write_report(alloc, host, request, matter, name, solvers, run))
 }
 
 /// Runs a source from its start for a request.
@@ -155,11 +133,13 @@ fn run_source<H: Host>(
     request: Request,
     source: &[u8],
     solvers: &mut Vec<Box<dyn LpSolver>>,
-    answers: &mut Vec<Answer<Frac>>,
+    run: &mut Run,
 ) -> Result<Status, AllocError>
     requires few { length solvers.old.items < 2 ^ 32 }
-    requires none { answers.old.items ≡ [] }
-    ensures ran { IfOk result (λ status. RanSo status (solving name rule paths solvers.old.items solvers.new.items answers.new.items) (H.meaning host.old).outside (H.meaning host.new).outside (asked_by request.entry) (scripted (script_of source.now))) }
+    requires fresh { IsFresh run.old }
+    ensures ran { RunsMatter result (asked_by request.entry) (scripted (script_of source.now))
+        (moment name rule paths (H.meaning host.old) solvers.old.items run.old)
+        (moment name rule paths (H.meaning host.new) solvers.new.items run.new) }
     ensures counts { CountsRun result ((H.meaning host.old).counts.reliable ≡ true) (H.meaning host.old).counts (H.meaning host.new).counts }
 {
     let script = Script {
@@ -169,7 +149,7 @@ fn run_source<H: Host>(
         joint: false,
     };
     let matter = Matter::ToRun(script);
-    run_anew(alloc, host, request, matter, solvers, answers)
+    run_matter(alloc, host, request, matter, solvers, run)
 }
 
 /// Runs a file that resumes from a restored state, for a request.
@@ -180,13 +160,15 @@ fn run_joint<H: Host>(
     saved: &mut Saved,
     file: &[u8],
     solvers: &mut Vec<Box<dyn LpSolver>>,
-    answers: &mut Vec<Answer<Frac>>,
+    run: &mut Run,
 ) -> Result<Status, AllocError>
     requires few { length solvers.old.items < 2 ^ 32 }
+    requires fresh { IsFresh run.old }
     requires short { length saved.old.source.items ≤ most_source_bytes }
     requires sound { CanGoOn (map name solvers.old.items) (joint_source saved.old.source.items file.now) (first_line saved.old.source.items) saved.old.store }
-    requires none { answers.old.items ≡ [] }
-    ensures ran { IfOk result (λ status. RanSo status (solving name rule paths solvers.old.items solvers.new.items answers.new.items) (H.meaning host.old).outside (H.meaning host.new).outside (asked_by request.entry) (scripted (joint_script saved.old.source.items saved.old.store file.now))) }
+    ensures ran { RunsMatter result (asked_by request.entry) (scripted (joint_script saved.old.source.items saved.old.store file.now))
+        (moment name rule paths (H.meaning host.old) solvers.old.items run.old)
+        (moment name rule paths (H.meaning host.new) solvers.new.items run.new) }
     ensures counts { CountsRun result ((H.meaning host.old).counts.reliable ≡ true) (H.meaning host.old).counts (H.meaning host.new).counts }
 {
     let source = joint_source(alloc, saved.source.as_slice(), file)?;
@@ -198,9 +180,8 @@ fn run_joint<H: Host>(
         joint: true,
     };
     let matter = Matter::ToRun(script);
-    let mut run = Run::new(alloc)?;
     swap(&mut run.store, &mut saved.store);
-    run_matter(alloc, host, request, matter, solvers, answers, &mut run)
+    run_matter(alloc, host, request, matter, solvers, run)
 }
 
 /// Runs a file that resumes from a save, for a request.
@@ -211,19 +192,21 @@ fn run_save<H: Host>(
     save: Vec<u8>,
     file: &[u8],
     solvers: &mut Vec<Box<dyn LpSolver>>,
-    answers: &mut Vec<Answer<Frac>>,
+    run: &mut Run,
 ) -> Result<Status, AllocError>
     requires few { length solvers.old.items < 2 ^ 32 }
-    requires none { answers.old.items ≡ [] }
-    ensures ran { IfOk result (λ status. RanOf status (solving name rule paths solvers.old.items solvers.new.items answers.new.items) (H.meaning host.old).outside (H.meaning host.new).outside (asked_by request.entry) (from_save save.items file.now)) }
+    requires fresh { IsFresh run.old }
+    ensures ran { RunsTaken result (asked_by request.entry) (from_save save.items file.now)
+        (moment name rule paths (H.meaning host.old) solvers.old.items run.old)
+        (moment name rule paths (H.meaning host.new) solvers.new.items run.new) }
     ensures counts { CountsRun result ((H.meaning host.old).counts.reliable ≡ true) (H.meaning host.old).counts (H.meaning host.new).counts }
 {
     match restored(alloc, save, solvers.as_slice()) {
-        Ok(mut saved) => run_joint(alloc, host, request, &mut saved, file, solvers, answers),
+        Ok(mut saved) => run_joint(alloc, host, request, &mut saved, file, solvers, run),
         Err(SaveFaultOrMemory::Memory) => Err(AllocError),
         Err(SaveFaultOrMemory::Fault(fault)) => {
             let matter = Matter::Unrestored(fault);
-            run_anew(alloc, host, request, matter, solvers, answers)
+            run_matter(alloc, host, request, matter, solvers, run)
         }
     }
 }
@@ -235,12 +218,14 @@ fn run_file<H: Host>(
     request: Request,
     file: &str,
     solvers: &mut Vec<Box<dyn LpSolver>>,
-    answers: &mut Vec<Answer<Frac>>,
+    run: &mut Run,
 ) -> Result<Status, AllocError>
     requires few { length solvers.old.items < 2 ^ 32 }
-    requires none { answers.old.items ≡ [] }
+    requires fresh { IsFresh run.old }
     requires named { (asked_by request).source ≡ in_file file.now }
-    ensures ran { IfOk result (λ status. OfRequest status (solving name rule paths solvers.old.items solvers.new.items answers.new.items) (H.meaning host.old) (H.meaning host.new) (asked_by request.entry)) }
+    ensures ran { RunsRequest result (asked_by request.entry)
+        (moment name rule paths (H.meaning host.old) solvers.old.items run.old)
+        (moment name rule paths (H.meaning host.new) solvers.new.items run.new) }
     ensures counts { CountsRun result (((H.meaning host.old).counts.reliable ≡ true) × IsThere (H.meaning host.old).outside file.now) (H.meaning host.old).counts (H.meaning host.new).counts }
 {
     let source = match read_file(alloc, host, file, MOST_BYTES) {
@@ -248,7 +233,7 @@ fn run_file<H: Host>(
         Err(Failed::Fault) => return report_read_fault(alloc, host, file),
         Err(Failed::Memory) => return Err(AllocError),
     };
-    run_source(alloc, host, request, source.as_slice(), solvers, answers)
+    run_source(alloc, host, request, source.as_slice(), solvers, run)
 }
 
 /// Runs the requested file after the save that was read.
@@ -259,11 +244,13 @@ fn run_behind<H: Host>(
     save: Vec<u8>,
     file: &str,
     solvers: &mut Vec<Box<dyn LpSolver>>,
-    answers: &mut Vec<Answer<Frac>>,
+    run: &mut Run,
 ) -> Result<Status, AllocError>
     requires few { length solvers.old.items < 2 ^ 32 }
-    requires none { answers.old.items ≡ [] }
-    ensures ran { IfOk result (λ status. RanBehind status (solving name rule paths solvers.old.items solvers.new.items answers.new.items) (H.meaning host.old) (H.meaning host.new) (asked_by request.entry) save.items file.now) }
+    requires fresh { IsFresh run.old }
+    ensures ran { RunsAfter result (asked_by request.entry) save.items file.now
+        (moment name rule paths (H.meaning host.old) solvers.old.items run.old)
+        (moment name rule paths (H.meaning host.new) solvers.new.items run.new) }
     ensures counts { CountsRun result (((H.meaning host.old).counts.reliable ≡ true) × IsThere (H.meaning host.old).outside file.now) (H.meaning host.old).counts (H.meaning host.new).counts }
 {
     let source = match read_file(alloc, host, file, MOST_BYTES) {
@@ -271,15 +258,7 @@ fn run_behind<H: Host>(
         Err(Failed::Fault) => return report_read_fault(alloc, host, file),
         Err(Failed::Memory) => return Err(AllocError),
     };
-    run_save(
-        alloc,
-        host,
-        request,
-        save,
-        source.as_slice(),
-        solvers,
-        answers,
-    )
+    run_save(alloc, host, request, save, source.as_slice(), solvers, run)
 }
 
 /// Runs the requested file, which resumes from the save in another file.
@@ -290,12 +269,14 @@ fn run_restart<H: Host>(
     saved: &str,
     file: &str,
     solvers: &mut Vec<Box<dyn LpSolver>>,
-    answers: &mut Vec<Answer<Frac>>,
+    run: &mut Run,
 ) -> Result<Status, AllocError>
     requires few { length solvers.old.items < 2 ^ 32 }
-    requires none { answers.old.items ≡ [] }
+    requires fresh { IsFresh run.old }
     requires named { (asked_by request).source ≡ restarted saved.now file.now }
-    ensures ran { IfOk result (λ status. OfRequest status (solving name rule paths solvers.old.items solvers.new.items answers.new.items) (H.meaning host.old) (H.meaning host.new) (asked_by request.entry)) }
+    ensures ran { RunsRequest result (asked_by request.entry)
+        (moment name rule paths (H.meaning host.old) solvers.old.items run.old)
+        (moment name rule paths (H.meaning host.new) solvers.new.items run.new) }
     ensures counts { CountsRun result (((H.meaning host.old).counts.reliable ≡ true) × (IsThere (H.meaning host.old).outside saved.now × IsThere (H.meaning host.old).outside file.now)) (H.meaning host.old).counts (H.meaning host.new).counts }
 {
     let save = match read_file(alloc, host, saved, MOST_SAVE_BYTES) {
@@ -303,7 +284,7 @@ fn run_restart<H: Host>(
         Err(Failed::Fault) => return report_read_fault(alloc, host, saved),
         Err(Failed::Memory) => return Err(AllocError),
     };
-    run_behind(alloc, host, request, save, file, solvers, answers)
+    run_behind(alloc, host, request, save, file, solvers, run)
 }
 
 /// Runs the generated model of the requested size.
@@ -313,17 +294,19 @@ fn run_generated<H: Host>(
     request: Request,
     size: u32,
     solvers: &mut Vec<Box<dyn LpSolver>>,
-    answers: &mut Vec<Answer<Frac>>,
+    run: &mut Run,
 ) -> Result<Status, AllocError>
     requires few { length solvers.old.items < 2 ^ 32 }
-    requires none { answers.old.items ≡ [] }
+    requires fresh { IsFresh run.old }
     requires named { (asked_by request).source ≡ generated size }
-    ensures ran { IfOk result (λ status. OfRequest status (solving name rule paths solvers.old.items solvers.new.items answers.new.items) (H.meaning host.old) (H.meaning host.new) (asked_by request.entry)) }
+    ensures ran { RunsRequest result (asked_by request.entry)
+        (moment name rule paths (H.meaning host.old) solvers.old.items run.old)
+        (moment name rule paths (H.meaning host.new) solvers.new.items run.new) }
     ensures counts { CountsRun result ((H.meaning host.old).counts.reliable ≡ true) (H.meaning host.old).counts (H.meaning host.new).counts }
 {
     let text = generate(alloc, u64::from(size), size, size)?;
     let source = text.as_str().as_bytes();
-    run_source(alloc, host, request, source, solvers, answers)
+    run_source(alloc, host, request, source, solvers, run)
 }
 
 /// Runs the requested source, and ends with its status.
@@ -332,19 +315,21 @@ fn run_request<H: Host>(
     host: &mut H,
     request: Request,
     solvers: &mut Vec<Box<dyn LpSolver>>,
-    answers: &mut Vec<Answer<Frac>>,
+    run: &mut Run,
 ) -> Result<Status, AllocError>
     requires few { length solvers.old.items < 2 ^ 32 }
-    requires none { answers.old.items ≡ [] }
-    ensures ran { IfOk result (λ status. OfRequest status (solving name rule paths solvers.old.items solvers.new.items answers.new.items) (H.meaning host.old) (H.meaning host.new) (asked_by request.entry)) }
+    requires fresh { IsFresh run.old }
+    ensures ran { RunsRequest result (asked_by request.entry)
+        (moment name rule paths (H.meaning host.old) solvers.old.items run.old)
+        (moment name rule paths (H.meaning host.new) solvers.new.items run.new) }
     ensures counts { CountsRun result (((H.meaning host.old).counts.reliable ≡ true) × HasOrigin (H.meaning host.old).outside (asked_by request.entry).source) (H.meaning host.old).counts (H.meaning host.new).counts }
 {
     match request.source {
-        Source::File(file) => run_file(alloc, host, request, file, solvers, answers),
+        Source::File(file) => run_file(alloc, host, request, file, solvers, run),
         Source::Restart { saved, file } => {
-            run_restart(alloc, host, request, saved, file, solvers, answers)
+            run_restart(alloc, host, request, saved, file, solvers, run)
         }
-        Source::Generate(size) => run_generated(alloc, host, request, size, solvers, answers),
+        Source::Generate(size) => run_generated(alloc, host, request, size, solvers, run),
     }
 }
 
@@ -354,15 +339,17 @@ fn run_words<H: Host>(
     words: &[String],
     host: &mut H,
     solvers: &mut Vec<Box<dyn LpSolver>>,
-    answers: &mut Vec<Answer<Frac>>,
+    run: &mut Run,
 ) -> Result<Status, AllocError>
     requires few { length solvers.old.items < 2 ^ 32 }
-    requires none { answers.old.items ≡ [] }
-    ensures ran { IfOk result (λ status. IsRun status (solving name rule paths solvers.old.items solvers.new.items answers.new.items) (texts words.now) (H.meaning host.old) (H.meaning host.new)) }
+    requires fresh { IsFresh run.old }
+    ensures ran { RunsWords result (texts words.now)
+        (moment name rule paths (H.meaning host.old) solvers.old.items run.old)
+        (moment name rule paths (H.meaning host.new) solvers.new.items run.new) }
     ensures counts { CountsRun result (IsReadyFor (H.meaning host.old) (texts words.now)) (H.meaning host.old).counts (H.meaning host.new).counts }
 {
     match request_of(alloc, words)? {
-        Some(request) => run_request(alloc, host, request, solvers, answers),
+        Some(request) => run_request(alloc, host, request, solvers, run),
         None => {
             mention(host, usage_line())?;
             Ok(Status::Usage)
@@ -388,7 +375,14 @@ fn run_words<H: Host>(
 /// long.
 ///
 /// `headline` is the promise for a FILE alone: the listing is that of its source, what each answer
-/// says of plans is so, and nothing else changes outside. `answers` says the second of every run.
+/// says of plans is so, and nothing else changes outside. `answers` says the second of every run. A
+/// plan gives each element of a variable a number. It is feasible where it satisfies the equations
+/// of the model and the bounds of the listed elements, with the data of the moment of the solve.
+/// Optimal: the listed levels are feasible, and no feasible plan is better. Infeasible: no plan is
+/// feasible. Unbounded: for each number some feasible plan is better. The listed elements are those
+/// that occur in a row, and the objective: an answer says nothing of the levels and bounds of
+/// others.
+///
 /// `run` says the same of every request, and what the other statuses mean. Done and Execution: the
 /// source is accepted, its run takes all answers, each of which answers its linear program, and the
 /// listing is the text of that run. Compile: the source is refused, or the save cannot be restored,
@@ -407,7 +401,9 @@ fn run_words<H: Host>(
 /// What the clauses leave open: `AllocError` comes where a growth finds no memory, here or in the
 /// host. Then only `steady` holds, and the output may hold a prefix of a listing. Where the host
 /// hides its files, the source is some source, and `compile`, `execution` and `complete` are
-/// silent. Of a solver whose rule is Legal they promise legal pivots, and not which of them.
+/// silent. `RealHost`, the host over real files, hides them: that it reads and writes the files
+/// that are named is trusted. Of a solver whose rule is Legal the clauses promise legal pivots, and
+/// not which of them.
 pub fn run<H: Host>(
     alloc: Global,
     words: &[String],
@@ -442,8 +438,9 @@ pub fn run<H: Host>(
     ensures execution { (source : NamesSource (H.meaning host.old).outside (texts words.now)) → MeetsNoFault (H.meaning host.old).counts (H.meaning host.new).counts → IfOk result (λ ended. (ended.status ≡ Status.Execution) ↔ IsStopped (solving name rule paths solvers.old.items solvers.new.items ended.answers.items) source.taken) }
     ensures complete { NamesProgram (map name solvers.old.items) (H.meaning host.old).outside (texts words.now) → MeetsNoFault (H.meaning host.old).counts (H.meaning host.new).counts → IfOk result (λ ended. (ended.status ≡ Status.Done) ⊎ (ended.status ≡ Status.Execution)) }
 {
-    let mut answers = Vec::new(alloc);
-    let status = run_words(alloc, words, host, solvers, &mut answers)?;
+    let mut run = Run::new(alloc)?;
+    let status = run_words(alloc, words, host, solvers, &mut run)?;
+    let answers = replace(&mut run.answers, Vec::new(alloc));
     answer_laws();
     Ok(Ended { status, answers })
 }

@@ -1,3 +1,4 @@
+-- The answers of the run are those of the ended run.
 use Rattle.gms_run.proofs.Completeness.{completes, refused_so, refuses}
 use Rattle.gms_run.proofs.Headlined.{headlined}
 use Rattle.gms_run.proofs.Stopping.{stopped_so}
@@ -7,13 +8,15 @@ pub returns-in_err-status-clause-steady : goal.returns-in_err-status-clause-stea
 returns-in_err-status-clause-steady g c = λ ready. c.in_err-status.ensures.counts.stay ready
 
 pub returns-clause-headline : goal.returns-clause-headline
-returns-clause-headline g c = λ file output. headlined c.in_ok-status.status _ _ _ _ file output (c.answer_laws.ensures _) c.in_ok-status.ensures.ran
+returns-clause-headline g c = λ file output.
+    rw (c.replace-answers.ensures.value)
+    (headlined c.in_ok-status.status _ _ _ _ file output (c.answer_laws.ensures _) c.in_ok-status.ensures.ran)
 
 pub returns-clause-answers : goal.returns-clause-answers
 returns-clause-answers g c = c.answer_laws.ensures _
 
 pub returns-clause-run : goal.returns-clause-run
-returns-clause-run g c = c.in_ok-status.ensures.ran
+returns-clause-run g c = rw (c.replace-answers.ensures.value) c.in_ok-status.ensures.ran
 
 pub returns-clause-counts : goal.returns-clause-counts
 returns-clause-counts g c = c.in_ok-status.ensures.counts.said
@@ -31,7 +34,7 @@ pub returns-clause-compile : goal.returns-clause-compile
 returns-clause-compile g c = λ n. refuses c.in_ok-status.status _ _ _ _ c.in_ok-status.ensures.ran c.in_ok-status.ensures.counts.said c.in_ok-status.ensures.counts.unmet n
 
 pub returns-clause-execution : goal.returns-clause-execution
-returns-clause-execution g c = λ n. stopped_so c.in_ok-status.status _ _ _ _ c.in_ok-status.ensures.ran c.in_ok-status.ensures.counts.said c.in_ok-status.ensures.counts.unmet n
+returns-clause-execution g c = λ n. rw (c.replace-answers.ensures.value) (stopped_so c.in_ok-status.status _ _ _ _ c.in_ok-status.ensures.ran c.in_ok-status.ensures.counts.said c.in_ok-status.ensures.counts.unmet n)
 
 pub returns-clause-complete : goal.returns-clause-complete
 returns-clause-complete g c = completes c.in_ok-status.status _ _ _ _ c.in_ok-status.ensures.ran c.in_ok-status.ensures.counts.said c.in_ok-status.ensures.counts.unmet

@@ -8,6 +8,15 @@ use Rattle.gms_run.specs.Solving.{solving}
 use Rattle.gms_run.proofs.Runs.{ran_joint}
 use Rattle.gms_run.proofs.top_call.run_joint.Goals as goal
 
+pub run_matter-requires-clause-fresh : goal.run_matter-requires-clause-fresh
+run_matter-requires-clause-fresh g c =
+    let fresh = c.requires.fresh in
+    record {
+      start = record { unanswered = fresh.start.unanswered; unsolved = fresh.start.unsolved };
+      unlisted = fresh.unlisted;
+      silent = fresh.silent;
+    }
+
 pub run_matter-requires-clause-sound : goal.run_matter-requires-clause-sound
 run_matter-requires-clause-sound g c =
     subst (λ (t : List ℕ). CanGoOn (map (λ b. (goal.LpSolver-dyn g (b.vtable, b.value)).name b.value) c.args.solvers.now.items) t c.first_line-line.result c.swap.new.x) (sym (c.as_slice-3.ensures.value ∙ c.in_ok-source.ensures ∙ ap (λ (t : List ℕ). joint_source t c.args.file.now) c.as_slice.ensures.value))
@@ -16,5 +25,5 @@ run_matter-requires-clause-sound g c =
 
 pub returns-clause-ran : goal.returns-clause-ran
 returns-clause-ran g c =
-    ran_joint c.run_matter.result (solving (λ b. (goal.LpSolver-dyn g (b.vtable, b.value)).name b.value) (λ b. (goal.LpSolver-dyn g (b.vtable, b.value)).rule b.value) (λ b. (goal.LpSolver-dyn g (b.vtable, b.value)).paths b.value) c.args.solvers.now.items c.run_matter.new.solvers.items c.run_matter.new.answers.items) (g.H.Host.meaning c.args.host.now).outside (g.H.Host.meaning c.run_matter.new.host).outside (asked_by c.args.request) c.as_slice-3.result.now c.args.file.now c.args.saved.now.source.items c.first_line-line.result c.swap.new.x c.args.saved.now.store
+    ran_joint c.run_matter.result (solving (λ b. (goal.LpSolver-dyn g (b.vtable, b.value)).name b.value) (λ b. (goal.LpSolver-dyn g (b.vtable, b.value)).rule b.value) (λ b. (goal.LpSolver-dyn g (b.vtable, b.value)).paths b.value) c.args.solvers.now.items c.run_matter.new.solvers.items c.run_matter.new.run.answers.items) (g.H.Host.meaning c.args.host.now).outside (g.H.Host.meaning c.run_matter.new.host).outside (asked_by c.args.request) c.as_slice-3.result.now c.args.file.now c.args.saved.now.source.items c.first_line-line.result c.swap.new.x c.args.saved.now.store
     (c.as_slice-3.ensures.value ∙ c.in_ok-source.ensures ∙ ap (λ (t : List ℕ). joint_source t c.args.file.now) c.as_slice.ensures.value) (c.first_line-line.ensures ∙ ap first_line c.as_slice-2.ensures.value) c.swap.ensures.x_after c.run_matter.ensures.ran

@@ -1,14 +1,12 @@
 -- A restored save is resumed; of any other save the listing says why not.
-use Rattle.std.proofs.Common.{◌≡◌, ◌<◌, ◌^◌, length, map, List, ℕ, ap, refl, subst, sym}
+use Rattle.std.proofs.Common.{◌≡◌, ◌<◌, ◌^◌, length, map, List, ℕ, ap, subst, sym}
 use Rattle.std.specs.Prelude.{Ok}
 use Rattle.gms_save.specs.Saves.{GivesBack, IsRestored}
 use Rattle.gms_command.specs.CommandLine.{asked_by}
-use Rattle.gms_run.specs.declared.script.Matter.TheVariants.{Unrestored}
-use Rattle.gms_run.specs.InnerReports.{matter_in}
-use Rattle.gms_run.specs.Scripts.{IsUnrestored, unrestored}
+use Rattle.gms_run.specs.Scripts.{IsUnrestored}
 use Rattle.gms_run.specs.Solving.{solving}
 use Rattle.gms_run.proofs.Going.{can_go_on}
-use Rattle.gms_run.proofs.Runs.{counts_nothing, of_joint, of_unrestored, ran_anew}
+use Rattle.gms_run.proofs.Runs.{counts_nothing, of_joint, of_unrestored}
 use Rattle.gms_run.proofs.top_call.run_save.Goals as goal
 
 pub restored-requires : goal.restored-requires
@@ -25,15 +23,15 @@ run_joint-requires-clause-sound g c =
 pub returns-in-Ok-clause-ran : goal.returns-in-Ok-clause-ran
 returns-in-Ok-clause-ran g c =
     let names : map (λ b. (goal.LpSolver-dyn g (b.vtable, b.value)).name b.value) c.as_slice.result.now ≡ map (λ b. (goal.LpSolver-dyn g (b.vtable, b.value)).name b.value) c.args.solvers.now.items = ap (map (λ b. (goal.LpSolver-dyn g (b.vtable, b.value)).name b.value)) c.as_slice.ensures.value in
-    of_joint c.run_joint.result (solving (λ b. (goal.LpSolver-dyn g (b.vtable, b.value)).name b.value) (λ b. (goal.LpSolver-dyn g (b.vtable, b.value)).rule b.value) (λ b. (goal.LpSolver-dyn g (b.vtable, b.value)).paths b.value) c.args.solvers.now.items c.run_joint.new.solvers.items c.run_joint.new.answers.items) (g.H.Host.meaning c.args.host.now).outside (g.H.Host.meaning c.run_joint.new.host).outside (asked_by c.args.request) c.args.save.items c.args.file.now c.in-Ok.saved c.in-Ok.ensures.answer.0 (subst (λ (ns : List (List ℕ)). IsRestored ns c.args.save.items c.in-Ok.saved) names c.in-Ok.ensures.answer.1) (subst (λ (ns : List (List ℕ)). GivesBack ns c.args.save.items (Ok c.in-Ok.saved)) names c.in-Ok.ensures.back) c.run_joint.ensures.ran
+    of_joint c.run_joint.result (solving (λ b. (goal.LpSolver-dyn g (b.vtable, b.value)).name b.value) (λ b. (goal.LpSolver-dyn g (b.vtable, b.value)).rule b.value) (λ b. (goal.LpSolver-dyn g (b.vtable, b.value)).paths b.value) c.args.solvers.now.items c.run_joint.new.solvers.items c.run_joint.new.run.answers.items) (g.H.Host.meaning c.args.host.now).outside (g.H.Host.meaning c.run_joint.new.host).outside (asked_by c.args.request) c.args.save.items c.args.file.now c.in-Ok.saved c.in-Ok.ensures.answer.0 (subst (λ (ns : List (List ℕ)). IsRestored ns c.args.save.items c.in-Ok.saved) names c.in-Ok.ensures.answer.1) (subst (λ (ns : List (List ℕ)). GivesBack ns c.args.save.items (Ok c.in-Ok.saved)) names c.in-Ok.ensures.back) c.run_joint.ensures.ran
 
-pub run_anew-requires-clause-sound : goal.run_anew-requires-clause-sound
-run_anew-requires-clause-sound g c = λ state. tt
+pub run_matter-requires-clause-sound : goal.run_matter-requires-clause-sound
+run_matter-requires-clause-sound g c = tt
 
 pub returns-in-Err-Fault-clause-ran : goal.returns-in-Err-Fault-clause-ran
 returns-in-Err-Fault-clause-ran g c =
     let names : map (λ b. (goal.LpSolver-dyn g (b.vtable, b.value)).name b.value) c.as_slice.result.now ≡ map (λ b. (goal.LpSolver-dyn g (b.vtable, b.value)).name b.value) c.args.solvers.now.items = ap (map (λ b. (goal.LpSolver-dyn g (b.vtable, b.value)).name b.value)) c.as_slice.ensures.value in
-    of_unrestored c.run_anew.result (solving (λ b. (goal.LpSolver-dyn g (b.vtable, b.value)).name b.value) (λ b. (goal.LpSolver-dyn g (b.vtable, b.value)).rule b.value) (λ b. (goal.LpSolver-dyn g (b.vtable, b.value)).paths b.value) c.args.solvers.now.items c.run_anew.new.solvers.items c.run_anew.new.answers.items) (g.H.Host.meaning c.args.host.now).outside (g.H.Host.meaning c.run_anew.new.host).outside (asked_by c.args.request) c.args.save.items c.args.file.now c.in-Err-Fault.fault (subst (λ (ns : List (List ℕ)). IsUnrestored ns c.args.save.items c.in-Err-Fault.fault) names (record { answer = rw c.in-Err-Fault.field-0-is at c.in-Err-Fault.ensures.answer; back = rw c.in-Err-Fault.field-0-is at c.in-Err-Fault.ensures.back })) (ran_anew c.run_anew.result (solving (λ b. (goal.LpSolver-dyn g (b.vtable, b.value)).name b.value) (λ b. (goal.LpSolver-dyn g (b.vtable, b.value)).rule b.value) (λ b. (goal.LpSolver-dyn g (b.vtable, b.value)).paths b.value) c.args.solvers.now.items c.run_anew.new.solvers.items c.run_anew.new.answers.items) (g.H.Host.meaning c.args.host.now).outside (g.H.Host.meaning c.run_anew.new.host).outside (asked_by c.args.request) (matter_in (Unrestored c.in-Err-Fault.fault)) (unrestored c.in-Err-Fault.fault) (λ state. refl) c.run_anew.ensures.ran)
+    of_unrestored c.run_matter.result (solving (λ b. (goal.LpSolver-dyn g (b.vtable, b.value)).name b.value) (λ b. (goal.LpSolver-dyn g (b.vtable, b.value)).rule b.value) (λ b. (goal.LpSolver-dyn g (b.vtable, b.value)).paths b.value) c.args.solvers.now.items c.run_matter.new.solvers.items c.run_matter.new.run.answers.items) (g.H.Host.meaning c.args.host.now).outside (g.H.Host.meaning c.run_matter.new.host).outside (asked_by c.args.request) c.args.save.items c.args.file.now c.in-Err-Fault.fault (subst (λ (ns : List (List ℕ)). IsUnrestored ns c.args.save.items c.in-Err-Fault.fault) names (record { answer = rw c.in-Err-Fault.field-0-is at c.in-Err-Fault.ensures.answer; back = rw c.in-Err-Fault.field-0-is at c.in-Err-Fault.ensures.back })) c.run_matter.ensures.ran
 
 pub returns-in-Err-Memory-clause-counts : goal.returns-in-Err-Memory-clause-counts
 returns-in-Err-Memory-clause-counts g c = counts_nothing _ _ _

@@ -2,7 +2,6 @@
 use Rattle.std.proofs.Common.{◌≡◌, ◌<◌, ◌∙◌, List, Vec, ap, codes, map, slice_get, subst, sym, unwrap_or, ℕ}
 use Rattle.std.specs.Prelude.{IfOk}
 use Rattle.std.specs.declared.alloc.Global.{Global}
-use Rattle.std.proofs.lemmas.List.{length-map}
 use Rattle.gms_store.specs.declared.settings.Settings.{Settings}
 use Rattle.gms_save_text.specs.SavedState.{saved_text}
 use Rattle.gms_command.specs.CommandLine.{asked_by}

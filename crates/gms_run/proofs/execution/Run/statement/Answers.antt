@@ -7,16 +7,22 @@ use Rattle.lp_core.specs.Numbers.{answer_numbers}
 use Rattle.gms_exec.proofs.Behind.{behind_statement}
 use Rattle.gms_exec.specs.Run.{of_statement}
 use Rattle.gms_list.specs.ListingText.{event_text, events_text}
-use Rattle.gms_run.specs.InnerSteps.{between}
-use Rattle.gms_run.specs.Solving.{number_limit}
+use Rattle.gms_run.specs.InnerRuns.{between}
+use Rattle.gms_run.specs.Solving.{number_limit, solver_views}
 use Rattle.gms_run.proofs.Executed.{all_stand, all_listable, listed_on, listed_stop}
 use Rattle.gms_run.proofs.Paths.{grown_answered}
-use Rattle.gms_run.proofs.execution.statement.Goals as goal
+use Rattle.gms_run.proofs.execution.Run.statement.Goals as goal
+
+pub step_alone-stepped-requires-clause-settings : goal.step_alone-stepped-requires-clause-settings
+step_alone-stepped-requires-clause-settings g c = c.requires.can_execute.settings
+
+pub step_alone-stepped-requires-clause-plain : goal.step_alone-stepped-requires-clause-plain
+step_alone-stepped-requires-clause-plain g c = c.requires.can_execute.plain
 
 pub show-requires : goal.show-requires
 show-requires g c =
     let rules = map (λ b. (goal.LpSolver-dyn g (b.vtable, b.value)).rule b.value) c.args.solvers.now.items in
-    rw c.deref.ensures.value
+    rw c.as_slice-answers.ensures.value
     (all_listable rules c.step_alone-stepped.new.answers.items c.step_alone-stepped.new.events.items (all_stand rules c.step_alone-stepped.new.answers.items c.new-events.result.items c.step_alone-stepped.new.events.items c.new-events.ensures.items c.in-Ok.ensures.standing))
 
 pub returns-in_ok-show-in-Ok-clause-listed : goal.returns-in_ok-show-in-Ok-clause-listed
@@ -26,9 +32,9 @@ returns-in_ok-show-in-Ok-clause-listed g c =
     let rules = map (λ b. (goal.LpSolver-dyn g (b.vtable, b.value)).rule b.value) c.args.solvers.now.items in
     let answers = c.step_alone-stepped.new.answers.items in
     let events = c.step_alone-stepped.new.events.items in
-    let before = c.args.listing.now in
-    listed_on program rules (of_statement frac_value number_limit (record { program = program; solvers = names }) c.args.s.now []) (between (λ b. (goal.LpSolver-dyn g (b.vtable, b.value)).name b.value) (λ b. (goal.LpSolver-dyn g (b.vtable, b.value)).rule b.value) (λ b. (goal.LpSolver-dyn g (b.vtable, b.value)).paths b.value) c.args.store.now c.args.answers.now.items c.args.solved.now.items c.args.solvers.now.items)
-    (between (λ b. (goal.LpSolver-dyn g (b.vtable, b.value)).name b.value) (λ b. (goal.LpSolver-dyn g (b.vtable, b.value)).rule b.value) (λ b. (goal.LpSolver-dyn g (b.vtable, b.value)).paths b.value) c.step_alone-stepped.new.store answers c.show.new.solved.items c.step_alone-stepped.new.solvers.items) events
+    let before = c.args.self.now.outlet.listing in
+    listed_on program rules (of_statement frac_value number_limit (record { program = program; solvers = names }) c.args.s.now []) (between (solver_views (λ b. (goal.LpSolver-dyn g (b.vtable, b.value)).name b.value) (λ b. (goal.LpSolver-dyn g (b.vtable, b.value)).rule b.value) (λ b. (goal.LpSolver-dyn g (b.vtable, b.value)).paths b.value) c.args.solvers.now.items) c.args.self.now)
+    (record { state = c.step_alone-stepped.new.store; answers = answers; programs = c.show.new.solved.items; solvers = (solver_views (λ b. (goal.LpSolver-dyn g (b.vtable, b.value)).name b.value) (λ b. (goal.LpSolver-dyn g (b.vtable, b.value)).rule b.value) (λ b. (goal.LpSolver-dyn g (b.vtable, b.value)).paths b.value) c.step_alone-stepped.new.solvers.items) }) events
     (λ front course. behind_statement frac_value number_limit (record { program = program; solvers = names }) c.args.s.now front [] course)
     c.in-Ok.field-0 c.new-events.result.items before c.show.new.listing c.new-events.ensures.items
     c.in-Ok.ensures.runs
@@ -36,18 +42,15 @@ returns-in_ok-show-in-Ok-clause-listed g c =
     (grown_answered (λ b. (goal.LpSolver-dyn g (b.vtable, b.value)).name b.value) (λ b. (goal.LpSolver-dyn g (b.vtable, b.value)).rule b.value) (λ b. (goal.LpSolver-dyn g (b.vtable, b.value)).paths b.value) c.args.solvers.now.items c.step_alone-stepped.new.solvers.items answers
     c.new-events.result.items events c.new-events.ensures.items c.in-Ok.ensures.solvers)
     c.in_ok-show-in-Ok.ensures.kept
-    (c.in_ok-show-in-Ok.ensures.listed ∙ ap (λ all. before ++ events_text program.names program.labels number_limit (map (answer_numbers frac_value) all) (events_in frac_value events)) c.deref.ensures.value)
+    (c.in_ok-show-in-Ok.ensures.listed ∙ ap (λ all. before ++ events_text program.names program.labels number_limit (map (answer_numbers frac_value) all) (events_in frac_value events)) c.as_slice-answers.ensures.value)
 
-pub returns-in_ok-show-in-Ok-clause-settings : goal.returns-in_ok-show-in-Ok-clause-settings
-returns-in_ok-show-in-Ok-clause-settings g c = c.in-Ok.ensures.settings
-
-pub returns-in_ok-show-in-Ok-clause-plain : goal.returns-in_ok-show-in-Ok-clause-plain
-returns-in_ok-show-in-Ok-clause-plain g c = c.in-Ok.ensures.plain
+pub returns-in_ok-show-in-Ok-clause-can_execute : goal.returns-in_ok-show-in-Ok-clause-can_execute
+returns-in_ok-show-in-Ok-clause-can_execute g c = record { settings = c.in-Ok.ensures.settings; plain = c.in-Ok.ensures.plain }
 
 pub show-requires-in-Err-Fault : goal.show-requires-in-Err-Fault
 show-requires-in-Err-Fault g c =
     let rules = map (λ b. (goal.LpSolver-dyn g (b.vtable, b.value)).rule b.value) c.args.solvers.now.items in
-    rw c.deref-in-Err-Fault.ensures.value
+    rw c.as_slice-answers.ensures.value
     (all_listable rules c.step_alone-stepped.new.answers.items c.step_alone-stepped.new.events.items (all_stand rules c.step_alone-stepped.new.answers.items c.new-events.result.items c.step_alone-stepped.new.events.items c.new-events.ensures.items (rw c.in-Err-Fault.field-0-is at c.in-Err-Fault.ensures.standing)))
 
 pub returns-in_ok-list_fault-in-Err-Fault-clause-listed : goal.returns-in_ok-list_fault-in-Err-Fault-clause-listed
@@ -57,9 +60,9 @@ returns-in_ok-list_fault-in-Err-Fault-clause-listed g c =
     let rules = map (λ b. (goal.LpSolver-dyn g (b.vtable, b.value)).rule b.value) c.args.solvers.now.items in
     let answers = c.step_alone-stepped.new.answers.items in
     let events = c.step_alone-stepped.new.events.items in
-    let before = c.args.listing.now in
-    listed_stop program rules (of_statement frac_value number_limit (record { program = program; solvers = names }) c.args.s.now []) (between (λ b. (goal.LpSolver-dyn g (b.vtable, b.value)).name b.value) (λ b. (goal.LpSolver-dyn g (b.vtable, b.value)).rule b.value) (λ b. (goal.LpSolver-dyn g (b.vtable, b.value)).paths b.value) c.args.store.now c.args.answers.now.items c.args.solved.now.items c.args.solvers.now.items)
-    (between (λ b. (goal.LpSolver-dyn g (b.vtable, b.value)).name b.value) (λ b. (goal.LpSolver-dyn g (b.vtable, b.value)).rule b.value) (λ b. (goal.LpSolver-dyn g (b.vtable, b.value)).paths b.value) c.step_alone-stepped.new.store answers c.show-in-Err-Fault.new.solved.items c.step_alone-stepped.new.solvers.items) events
+    let before = c.args.self.now.outlet.listing in
+    listed_stop program rules (of_statement frac_value number_limit (record { program = program; solvers = names }) c.args.s.now []) (between (solver_views (λ b. (goal.LpSolver-dyn g (b.vtable, b.value)).name b.value) (λ b. (goal.LpSolver-dyn g (b.vtable, b.value)).rule b.value) (λ b. (goal.LpSolver-dyn g (b.vtable, b.value)).paths b.value) c.args.solvers.now.items) c.args.self.now)
+    (record { state = c.step_alone-stepped.new.store; answers = answers; programs = c.show-in-Err-Fault.new.solved.items; solvers = (solver_views (λ b. (goal.LpSolver-dyn g (b.vtable, b.value)).name b.value) (λ b. (goal.LpSolver-dyn g (b.vtable, b.value)).rule b.value) (λ b. (goal.LpSolver-dyn g (b.vtable, b.value)).paths b.value) c.step_alone-stepped.new.solvers.items) }) events
     (λ front course. behind_statement frac_value number_limit (record { program = program; solvers = names }) c.args.s.now front [] course)
     c.in-Err-Fault.stop c.new-events.result.items before c.show-in-Err-Fault.new.listing c.list_fault.new.listing c.new-events.ensures.items
     (rw c.in-Err-Fault.field-0-is at c.in-Err-Fault.ensures.runs)
@@ -68,12 +71,13 @@ returns-in_ok-list_fault-in-Err-Fault-clause-listed g c =
     c.new-events.result.items events c.new-events.ensures.items (rw c.in-Err-Fault.field-0-is at c.in-Err-Fault.ensures.solvers))
     c.in_ok-show-in-Err-Fault.ensures.kept
     (c.in_ok-show-in-Err-Fault.ensures.listed
-    ∙ ap (λ all. before ++ events_text program.names program.labels number_limit (map (answer_numbers frac_value) all) (events_in frac_value events)) c.deref-in-Err-Fault.ensures.value)
+    ∙ ap (λ all. before ++ events_text program.names program.labels number_limit (map (answer_numbers frac_value) all) (events_in frac_value events)) c.as_slice-answers.ensures.value)
     (c.in_ok-list_fault-in-Err-Fault.ensures
-    ∙ ap (λ all. c.show-in-Err-Fault.new.listing ++ event_text program.names program.labels number_limit (map (answer_numbers frac_value) all) (stops (fault_of frac_value c.in-Err-Fault.stop))) c.deref-in-Err-Fault-2.ensures.value)
+    ∙ ap (λ all. c.show-in-Err-Fault.new.listing ++ event_text program.names program.labels number_limit (map (answer_numbers frac_value) all) (stops (fault_of frac_value c.in-Err-Fault.stop))) c.as_slice-answers.ensures.value)
 
-pub returns-in_ok-list_fault-in-Err-Fault-clause-settings : goal.returns-in_ok-list_fault-in-Err-Fault-clause-settings
-returns-in_ok-list_fault-in-Err-Fault-clause-settings g c = rw c.in-Err-Fault.field-0-is at c.in-Err-Fault.ensures.settings
-
-pub returns-in_ok-list_fault-in-Err-Fault-clause-plain : goal.returns-in_ok-list_fault-in-Err-Fault-clause-plain
-returns-in_ok-list_fault-in-Err-Fault-clause-plain g c = rw c.in-Err-Fault.field-0-is at c.in-Err-Fault.ensures.plain
+pub returns-in_ok-list_fault-in-Err-Fault-clause-can_execute : goal.returns-in_ok-list_fault-in-Err-Fault-clause-can_execute
+returns-in_ok-list_fault-in-Err-Fault-clause-can_execute g c =
+    record {
+      settings = rw c.in-Err-Fault.field-0-is at c.in-Err-Fault.ensures.settings;
+      plain = rw c.in-Err-Fault.field-0-is at c.in-Err-Fault.ensures.plain;
+    }

@@ -1,0 +1,70 @@
+-- The contracts between the functions that execute a run: the run as a whole, and its host.
+use Rattle.std.specs.Prelude.{◌≡◌, ℕ, Bool, List, [], ◌++◌, Result, string_bytes}
+use Rattle.gq_frac.specs.declared.frac.Frac.{Frac}
+use Rattle.gq_frac.specs.Frac.{frac_value}
+use Rattle.gms_host.specs.declared.host.Failed.{Failed}
+use Rattle.gms_host.specs.Meaning.{Meaning}
+use Rattle.gms_ast.specs.declared.program.Program.{Program}
+use Rattle.gms_ast.specs.declared.program.Stmt.{Stmt}
+use Rattle.gms_exec.specs.Run.{of_statement}
+use Rattle.lp_core.specs.declared.answer.Pivot.{Pivot}
+use Rattle.lp_slot.specs.declared.solver.SolverRule.{SolverRule}
+use Rattle.gms_run.specs.declared.execution.Run.{Run}
+use Rattle.gms_run.specs.declared.status.Status.{Status}
+use Rattle.gms_run.specs.Solving.{Solvers, Solving, number_limit, solver_views}
+use Rattle.gms_run.specs.Jobs.{Job}
+use Rattle.gms_run.specs.InnerSteps.{Between, BreaksBehind, ComesTo, EndsBehind, IsListed}
+
+-- ---- runs
+
+-- the text that is listed and not yet written
+abbrev pub pending : Run → List ℕ
+pending run = run.outlet.spool ++ run.outlet.listing
+
+-- Nothing has been solved in the run.
+pub record IsUnsolved (run : Run) : Type 0 where
+  pub unanswered : run.answers.items ≡ []
+  pub unsolved : run.solved.items ≡ []
+
+-- The run has not begun: nothing has been solved or listed, and there is nothing to print after its
+-- listing.
+pub record IsFresh (run : Run) : Type 0 where
+  pub start : IsUnsolved run
+  pub unlisted : pending run ≡ []
+  pub silent : string_bytes run.remarks ≡ []
+
+-- a run between two statements, with these solvers
+abbrev pub between : Solvers → Run → Between
+between solvers run =
+    record { state = run.store; answers = run.answers.items; programs = run.solved.items; solvers = solvers }
+
+-- A statement of a program was executed and listed; the solvers are given before it and after it.
+abbrev pub ListsStatement : Bool → Program Frac → Stmt Frac → Solvers → Run → Solvers → Run → Type 0
+ListsStatement goes_on program s before old after new =
+    IsListed goes_on (of_statement frac_value number_limit (record { program = program; solvers = before.names }) s []) program before.rules (between before old) (between after new) old.outlet.listing new.outlet.listing
+
+-- ---- moments
+
+-- A moment of a run: what its host means, its solvers, and the run.
+pub record Moment : Type 0 where
+  pub host : Meaning
+  pub solvers : Solvers
+  pub run : Run
+
+-- a moment, by what the host means and what each solver exposes
+abbrev pub moment : {S : Type 0} → (S → List ℕ) → (S → SolverRule) → (S → List (List Pivot)) → Meaning → List S → Run → Moment
+moment name rule paths host solvers run =
+    record { host = host; solvers = solver_views name rule paths solvers; run = run }
+
+-- what a run solved with from one moment to another: its solvers before and after, and the answers
+-- that they gave
+abbrev pub solved_between : Moment → Moment → Solving
+solved_between old new = record { before = old.solvers; after = new.solvers; answers = new.run.answers.items }
+
+-- The statements of a job were executed after the pending text: to their end, or up to a statement
+-- whose listing was not written.
+abbrev pub ExecutesJob : Result Status Failed → Job → Moment → Moment → Type 0
+ExecutesJob result job old new =
+    ComesTo result
+    (λ status. EndsBehind status job (solved_between old new) new.run.store new.run.solved.items old.host.outside new.host.outside (pending old.run) (pending new.run))
+    (BreaksBehind job (solved_between old new) old.host.outside new.host.outside (pending old.run))
