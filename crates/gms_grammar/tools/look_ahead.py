@@ -97,7 +97,7 @@ class Reader:
         return Reader(body, dict(zip(parameters, arguments))).alternatives()
 
 
-for helper in ("name", "word", "bracketed", "listed", "separated", "items"):
+for helper in set(re.findall(r"^abbrev pub (\w+) : .*Part Terminal Nonterminal$", text, re.M)) - {"token", "any_of", "productions"}:
     parameters, body = lines_of(helper)[0]
     helpers[helper] = (parameters.split(), body)
 
@@ -212,7 +212,7 @@ use Rattle.std.specs.Prelude.{{ℕ, Bool, true, false, List, [], ◌∷◌}}
 use Rattle.gms_grammar.specs.declared.terminal.Terminal.{{Terminal}}
 use Rattle.gms_grammar.specs.declared.terminal.Terminal.TheVariants.{{{', '.join(used)}}}
 use Rattle.gms_grammar.specs.LookAhead.{{LookAhead}}
-use Rattle.gms_grammar.specs.Terminals.{{is_among}}
+use Rattle.gms_grammar.specs.Terminals.{{is_terminal_among}}
 use Rattle.gms_grammar.specs.GamsGrammar.{{Nonterminal, {', '.join(names)}}}
 
 -- the kinds of tokens that may come first in a nonterminal
@@ -243,4 +243,4 @@ for n in names:
 print("""
 -- what one token tells
 abbrev pub look_ahead : LookAhead Terminal Nonterminal
-look_ahead = record { first = λ n. is_among (firsts n); follow = λ n. is_among (follows n); empty = is_empty; depth = least_depth; rank = front_rank }""")
+look_ahead = record { first = λ n. is_terminal_among (firsts n); follow = λ n. is_terminal_among (follows n); empty = is_empty; depth = least_depth; rank = front_rank }""")
