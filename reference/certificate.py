@@ -20,7 +20,7 @@ class CheckStep(Exception):
 
 
 class NoBound(Exception):
-    """A factor selects a bound that is not there."""
+    """A factor selects a bound that its column or row does not have."""
 
 
 class Sum:
@@ -82,6 +82,6 @@ def dual_bound(program: Program, duals: list[Number], with_objective: bool, step
         if factor:
             selected = bounds_of(it)[0 if (factor > 0) == is_low else 1]
             if selected is None:
-                raise NoBound('the factor %s of %s uses a bound that is not there' % (factor, it.name))
+                raise NoBound('the factor %s of %s selects a bound that %s does not have' % (factor, it.name, it.name))
             bound = steps.taken('+', bound, steps.taken('*', factor, selected))
     return bound

@@ -29,7 +29,7 @@ DEEPEST = 20_000
 
 @dataclass
 class Request:
-    """What the words request."""
+    """What the arguments request."""
     file: Optional[str] = None
     values: dict[str, str] = field(default_factory=dict)
     has_ranges: bool = False
@@ -43,19 +43,19 @@ class Request:
         return (self.file[:-4] if self.file.endswith('.gms') else self.file) + '.lst'
 
 
-def request_of(words: list[str]) -> Optional[Request]:
-    """The request of the words; None where they are refused."""
-    request, files, rest = Request(), [], list(words)
+def request_of(arguments: list[str]) -> Optional[Request]:
+    """The request of the arguments; None where they are refused."""
+    request, files, rest = Request(), [], list(arguments)
     try:
-        ''.join(words).encode('utf-8')
+        ''.join(arguments).encode('utf-8')
     except UnicodeEncodeError:
         return None
     while rest:
-        word = rest.pop(0)
-        name, has_value, value = word.partition('=')
-        if word == '--':
+        argument = rest.pop(0)
+        name, has_value, value = argument.partition('=')
+        if argument == '--':
             files, rest = files + rest, []
-        elif word == '--ranges' and not request.has_ranges:
+        elif argument == '--ranges' and not request.has_ranges:
             request.has_ranges = True
         elif name in VALUED and name not in request.values:
             if not has_value:
@@ -63,15 +63,17 @@ def request_of(words: list[str]) -> Optional[Request]:
                     return None
                 value = rest.pop(0)
             request.values[name] = value
-        elif word.startswith('-') and word != '-':
+        elif argument.startswith('-') and argument != '-':
             return None
         else:
-            files.append(word)
-    return checked(request, files)
+            files.append(argument)
+    return with_file(request, files)
 
 
-def checked(request: Request, files: list[str]) -> Optional[Request]:
-    """Exactly one of FILE and `--generate` is there, and `--restart` goes with FILE."""
+def with_file(request: Request, files: list[str]) -> Optional[Request]:
+    """The request with its FILE; None unless exactly one of FILE and `--generate` is given, and
+    `--restart` goes with FILE.
+    """
     number = request.values.get('--generate')
     if len(files) + (number is not None) != 1:
         return None
@@ -140,7 +142,7 @@ def program_of(source: str) -> Tree:
 
 def outcome_of(source: str, saved: Optional[Saved] = None, run_from: Callable[[State], Run] = Run) -> Outcome:
     """Reads, checks and executes a source, which resumes from a save if one is given."""
-    first_line = saved.source.count('\n') + 3 if saved else 0
+    first_line = saved.first_line if saved else 0
     try:
         tree = program_of(source)
     except SourceFault as fault:
@@ -190,21 +192,20 @@ def answered(request: Request) -> int:
     saved_text = read_file(request.values['--restart'], MOST_SAVED) if '--restart' in request.values else None
     file = generated(int(request.values['--generate'])) if request.file is None else read_file(request.file, MOST_BYTES)
     saved = restored(request, saved_text) if saved_text is not None else None
-    source = joint_source(saved.source, file) if saved else file
+    source = joint_source(saved, file)
     write_file(request.output, '')
     outcome = outcome_of(source, saved)
-    first_line = saved.source.count('\n') + 3 if saved else 1
-    lines = (echo(file, first_line) if outcome.has_echo else []) + outcome.lines
+    lines = (echo(file, saved.first_line if saved else 1) if outcome.has_echo else []) + outcome.lines
     write_file(request.output, '\n'.join(lines) + '\n')
     if '--save' in request.values and outcome.status == DONE:
         write_file(request.values['--save'], save_text(source, outcome.run.state))
     return say(closing_lines(request, outcome), outcome.status)
 
 
-def main(words: list[str]) -> int:
+def main(arguments: list[str]) -> int:
     """Runs the command, and gives its exit status."""
     sys.setrecursionlimit(DEEPEST)
-    request = request_of(words)
+    request = request_of(arguments)
     if request is None:
         return say([USAGE], USAGE_FAULT)
     try:

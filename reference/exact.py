@@ -4,13 +4,15 @@ A number is a fraction in lowest terms, and `str` of it is its exact text, `n` o
 one is an `int`, with which Python computes fast. Each step is taken exactly. Where its result does
 not fit, `step` raises `DoesNotFit`, and nothing is ever rounded.
 """
+import re
 from fractions import Fraction
 from math import gcd
-from typing import Union
+from typing import Optional, Union
 
 Number = Union[int, Fraction]
 
 LIMIT = 2 ** 127 - 1
+EXACT_TEXT = re.compile(r'(-?[0-9]{1,39})(?:/([0-9]{1,39}))?')
 
 
 class DoesNotFit(Exception):
@@ -25,6 +27,17 @@ def is_within(*numbers: int) -> bool:
 def ratio(numerator: int, denominator: int) -> Number:
     """The number of these parts."""
     return plain(Fraction(numerator, denominator))
+
+
+def number_of(text: str) -> Optional[Number]:
+    """The number of a text `n` or `n/d`, in lowest terms or not; None where it has none, or a part
+    is over the limit.
+    """
+    match = EXACT_TEXT.fullmatch(text)
+    if match is None:
+        return None
+    numerator, denominator = int(match[1]), int(match[2] or 1)
+    return ratio(numerator, denominator) if denominator and is_within(numerator, denominator) else None
 
 
 def plain(value: Number) -> Number:

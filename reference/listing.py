@@ -1,5 +1,4 @@
 """The lines of a listing (docs/LISTING.md). Lines are without their line feeds."""
-from itertools import product
 from typing import Iterable, Optional, Union
 
 from reference.checks import CompileError
@@ -10,7 +9,7 @@ from reference.proof import proof_lines
 from reference.rows import Generated
 from reference.source import SourceFault, split_lines
 from reference.state import State
-from reference.symbols import Element, Symbol
+from reference.symbols import Element, Symbol, combined
 from reference.texts import rounded
 from reference.tree import Shown, Solve
 from reference.values import Stop, checked_size
@@ -89,8 +88,7 @@ def entries_of(state: State, symbol: Symbol, item: Shown, binding: dict[int, int
     every = [(label,) for label in range(len(state.tree.labels.texts))]
     positions = [every if position is None else state.member_list(position) for position in symbol.domain]
     checked_size(map(len, positions), item.named.at, binding)
-    elements = (tuple(label for part in parts for label in part) for parts in product(*positions))
-    return ((element, getattr(state.entry(symbol, element), item.suffix)) for element in elements)
+    return ((element, getattr(state.entry(symbol, element), item.suffix)) for element in combined(positions))
 
 
 # ---- solves

@@ -3,15 +3,15 @@ SAVE] MODEL LISTING`.
 
 The source is read, checked and run anew. Where it solves, the answer is read off the listing, and
 it has to prove itself against the rows derived here (`verdicts.py`); what the listing shows is then
-written out from that answer. The first line that differs is false. With `--replay` each program is
-solved again, too, and so are the pivots, an interrupt and a refused step checked.
+written out from that answer. The first line that differs is false. `--replay` solves each program
+again, and so checks the number of pivots, an interrupt and a refused step too.
 """
 import re
 import sys
 from typing import Optional, Sequence
 
 from reference.command import DEEPEST, outcome_of
-from reference.exact import Number, is_within, ratio
+from reference.exact import Number, number_of
 from reference.listing import echo, error_line, last_line, program_lines
 from reference.program import Answer, Program, Step
 from reference.rows import Generated
@@ -25,7 +25,6 @@ from reference.verdicts import fault_of, row_sum
 USAGE = 'usage: gams25-recheck [--replay] [--restart SAVE] MODEL LISTING'
 SOLVER = re.compile(r'SOLVER [A-Za-z0-9_]+ PIVOTS ([0-9]{1,10}) LIMIT [0-9]+')
 MODEL = re.compile(r'MODEL STATUS ([0-9]{1,2}) .*')
-NUMBER = re.compile(r'(-?[0-9]{1,39})(?:/([0-9]{1,39}))?')
 NAMED = re.compile(r'  (level|marginal|row|point|ray) (.*) = (\S+)')
 CROSSED = re.compile(r'  crossed (.*) \S+ \S+')
 PHASE = re.compile(r'  phase ([12]) pivots [0-9]+')
@@ -42,14 +41,14 @@ class FalseListing(Exception):
         self.line, self.why = line, why
 
 
-def number_of(text: str, line: int) -> Number:
-    match = NUMBER.fullmatch(text)
-    if match is None or not int(match[2] or 1) or not is_within(int(match[1]), int(match[2] or 1)):
+def number_in(text: str, line: int) -> Number:
+    number = number_of(text)
+    if number is None:
         raise FalseListing(line, '%s is no number' % text)
-    return ratio(int(match[1]), int(match[2] or 1))
+    return number
 
 
-class Answers:
+class AnswerReader:
     """Reads the answer of a solve off the lines of a listing."""
 
     def __init__(self, lines: list[str], program: Program, place: int, has_levels: bool) -> None:
@@ -129,7 +128,7 @@ class Answers:
                 k += 1
             if k == len(named):
                 raise FalseListing(place, '%s is no row or column that comes here' % match[2])
-            numbers[k] = number_of(match[3], place)
+            numbers[k] = number_in(match[3], place)
             k += 1
         rows = len(self.program.rows) if with_rows else len(numbers)
         return numbers[:rows], numbers[rows:]
@@ -152,11 +151,11 @@ class Recheck(Run):
         head = program_lines(self.state, s, made)
         self.compare(head)
         place = self.echoed + len(self.lines) + len(head)
-        answers = Answers(self.listing, made.program, place, self.state.settings.solprint)
-        answer = answers.read(lines_of_levels(made))
+        reader = AnswerReader(self.listing, made.program, place, self.state.settings.solprint)
+        answer = reader.read(lines_of_levels(made))
         reason = fault_of(made.program, answer, self.state.settings.iterlim)
         if reason:
-            raise FalseListing(answers.proof, 'the answer proves nothing: ' + reason)
+            raise FalseListing(reader.proof, 'the answer proves nothing: ' + reason)
         if self.is_replayed:
             return super().answer(s, made)
         if answer.status not in PROVED:
@@ -185,10 +184,8 @@ def checked(source: str, listing: list[str], saved: Optional[Saved], is_replayed
     """Checks a listing against its source, and gives the run where there was one; raises what is
     false first.
     """
-    first_line = saved.source.count('\n') + 3 if saved else 1
-    echoed = echo(source, first_line)
-    joint = joint_source(saved.source, source) if saved else source
-    outcome = outcome_of(joint, saved, lambda state: Recheck(state, listing, len(echoed), is_replayed))
+    echoed = echo(source, saved.first_line if saved else 1)
+    outcome = outcome_of(joint_source(saved, source), saved, lambda state: Recheck(state, listing, len(echoed), is_replayed))
     right = (echoed if outcome.has_echo else []) + outcome.lines
     compare(listing, 0, right)
     if len(listing) > len(right):
@@ -196,12 +193,14 @@ def checked(source: str, listing: list[str], saved: Optional[Saved], is_replayed
     return outcome.run
 
 
-def words_of(words: list[str]) -> Optional[tuple[bool, Optional[str], str, str]]:
-    """Whether to replay, the save, the source and the listing; None where the words are wrong."""
-    rest, save = [word for word in words if word != '--replay'], None
+def request_of(arguments: list[str]) -> Optional[tuple[bool, Optional[str], str, str]]:
+    """Whether to replay, the save, the source and the listing; None where the arguments are
+    refused.
+    """
+    rest, save = [it for it in arguments if it != '--replay'], None
     if rest[:1] == ['--restart'] and len(rest) > 1:
         save, rest = rest[1], rest[2:]
-    return ('--replay' in words, save, rest[0], rest[1]) if len(rest) == 2 else None
+    return ('--replay' in arguments, save, rest[0], rest[1]) if len(rest) == 2 else None
 
 
 def read(name: str) -> str:
@@ -230,10 +229,10 @@ def verdict(source: str, text: str, save: Optional[str], is_replayed: bool) -> l
     return (run.unproved if isinstance(run, Recheck) else []) + ['right: %d lines, %d solves' % (len(lines), solves)]
 
 
-def main(words: list[str]) -> int:
+def main(arguments: list[str]) -> int:
     """0 where the listing is right, 1 where it is false, and 2 where nothing can be checked."""
     sys.setrecursionlimit(DEEPEST)
-    request = words_of(words)
+    request = request_of(arguments)
     if request is None:
         print(USAGE, file=sys.stderr)
         return 2

@@ -5,12 +5,12 @@ written again: where that is not the text, it is no save.
 """
 import re
 from dataclasses import dataclass
-from typing import Iterator, TypeVar
+from typing import Iterator, Optional, TypeVar
 
 from reference import errors
 from reference.checks import MOST_OF_OPTION, Checks
 from reference.choice import SOLVERS
-from reference.exact import is_within, ratio
+from reference.exact import number_of
 from reference.extended import INF, MINUS_INF, NA, Value, exactly
 from reference.run import is_possible
 from reference.source import MOST_BYTES, Place, SourceFault, read_source
@@ -21,10 +21,9 @@ from reference.symbols import Element, Symbol, dynamic_sets
 MOST_SAVED = 67_108_864
 HEAD = re.compile(r'gams25 save 1\nsource ([0-9]{1,8})\n')
 SOLVER_NAME = re.compile(r'[A-Za-z][A-Za-z0-9_]{0,62}')
-FRACTION = re.compile(r'-?[0-9]{1,39}(?:/[0-9]{1,39})?')
 COUNT = re.compile(r'[0-9]{1,10}')
-# The one that goes with a model status.
-SOLVER_STATUS = {0: 0, 1: 1, 3: 1, 4: 1, 6: 2, 7: 2, 13: 4}
+# The solver status that goes with a model status.
+SOLVER_STATUS_OF = {0: 0, 1: 1, 3: 1, 4: 1, 6: 2, 7: 2, 13: 4}
 
 Given = TypeVar('Given')
 
@@ -39,6 +38,11 @@ class Saved:
     source: str
     state: State
 
+    @property
+    def first_line(self) -> int:
+        """The number of the file's first line in the joint source."""
+        return self.source.count('\n') + 3
+
     def put_into(self, state: State) -> None:
         """Puts the saved state over what the joint program declares."""
         state.members.update(self.state.members)
@@ -48,10 +52,11 @@ class Saved:
         state.settings = self.state.settings
 
 
-def joint_source(saved: str, file: str) -> str:
-    """What is read, checked and run: the saved source, a line end, a line with `;`, and the file.
+def joint_source(saved: Optional[Saved], file: str) -> str:
+    """What is read, checked and run: the saved source, a line end, a line with `;`, and the file;
+    without a save the file alone.
     """
-    return saved + '\n;\n' + file
+    return saved.source + '\n;\n' + file if saved else file
 
 
 # ---- writing
@@ -180,7 +185,7 @@ def other_than(absent: Given, given: Given) -> Given:
 
 def read_statuses(state: State, name: int, words: list[str]) -> None:
     model, solver = (count(word) for word in words[2:])
-    if SOLVER_STATUS.get(model) != solver:
+    if SOLVER_STATUS_OF.get(model) != solver:
         raise NoSave
     state.statuses[name] = (model, solver)
 
@@ -203,19 +208,13 @@ def read_members(state: State, symbol: Symbol, rows: list[tuple[Element, list[st
     if symbol.name not in dynamic and members != set(symbol.data):
         raise NoSave
     state.members[symbol.name] = members
-    state.in_order.pop(symbol.name, None)
 
 
 def read_value(text: str) -> Value:
-    special = {'+INF': INF, '-INF': MINUS_INF, 'NA': NA}.get(text)
-    if special is not None:
-        return special
-    if not FRACTION.fullmatch(text):
+    value = {'+INF': INF, '-INF': MINUS_INF, 'NA': NA}.get(text, number_of(text))
+    if value is None:
         raise NoSave
-    numerator, _, denominator = text.partition('/')
-    if not is_within(int(numerator), int(denominator or 1)) or denominator and not int(denominator):
-        raise NoSave
-    return ratio(int(numerator), int(denominator or 1))
+    return value
 
 
 def read_entry(words: list[str]) -> Entry:

@@ -3,7 +3,7 @@
 An alias is the very symbol of its set, so two names are one set where their symbols are one object.
 """
 from dataclasses import dataclass, field
-from itertools import product
+from itertools import chain, product
 from typing import Iterable, Iterator, Optional
 
 from reference.extended import Value
@@ -78,6 +78,11 @@ def has_variables(e: Expression, symbols: dict[int, Symbol]) -> bool:
 def elements_of(item: Item) -> Iterator[Element]:
     """The elements of an item of a list."""
     return product(*item.parts)
+
+
+def combined(sets: Iterable[Iterable[Element]]) -> Iterator[Element]:
+    """The elements that have one element of each set, in order."""
+    return (tuple(chain.from_iterable(parts)) for parts in product(*sets))
 
 
 def size_of(item: Item) -> int:

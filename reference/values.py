@@ -11,7 +11,7 @@ from reference.extended import (FUNCTIONS, RELATIONS, StepFault, Value, added, d
                                 multiplied, negated, power, subtracted)
 from reference.source import Place
 from reference.state import State
-from reference.symbols import Element, Symbol
+from reference.symbols import Element, Symbol, combined
 from reference.tree import (Call, Chain, Constant, Control, Count, Expression, Fold, Guarded, Index, Membership, Negative, Not, Reference)
 
 Binding = dict[int, int]
@@ -59,8 +59,8 @@ def matched(indices: tuple[Index, ...], element: Element, names: tuple[int, ...]
     """The labels that the names have where indices lead to an element; None where they cannot."""
     given: Binding = {}
     for index, label in zip(indices, element):
-        wanted = index.label if index.label is not None else given.get(index.name, binding.get(index.name))
-        if wanted is not None and wanted != label:
+        expected = index.label if index.label is not None else given.get(index.name, binding.get(index.name))
+        if expected is not None and expected != label:
             return None
         if index.label is None and index.name in names:
             given[index.name] = label
@@ -220,7 +220,7 @@ class Evaluator:
         """
         leader = self.leader(control.condition)
         if leader is None:
-            return (tuple(label for part in parts for label in part) for parts in product(*members))
+            return combined(members)
         found: set[Element] = set()
         for element in self.stored(leader):
             given = matched(leader.indices, element, control.names, binding)

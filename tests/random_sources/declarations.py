@@ -2,7 +2,7 @@
 from typing import Optional
 
 from tests.random_sources.draw import Draw
-from tests.random_sources.layout import between, digits, label, number, quoted
+from tests.random_sources.layout import digits, label, number
 from tests.random_sources.world import Domain, Symbol, World
 
 WORDS = ['north', 'south', 'east', 'west', 'new-york', 'chicago', 'San Jose', 'jan', 'feb', 'mar', 'a', 'b', 'c', 'x1', 'y', '1990', '7',

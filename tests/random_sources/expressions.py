@@ -412,7 +412,9 @@ def linear_term(scope: Scope, variables: list[Symbol]) -> Tokens:
 
 
 def linear_factor(scope: Scope, variables: list[Symbol]) -> Tokens:
-    """A variable, with a number before or after it, or a condition."""
+    """A variable, with a number before or after it, or a condition; now and then a number over it,
+    which is not linear.
+    """
     draw = scope.world.draw
     found = reference(scope, draw.pick(variables))
     if not found:
@@ -424,4 +426,5 @@ def linear_factor(scope: Scope, variables: list[Symbol]) -> Tokens:
         draw.note('variable with a condition')
     return draw.call(
         (5, lambda: found), (5, lambda: power(low) + ['*'] + found), (2, lambda: found + ['*'] + power(low)),
-        (1, lambda: found + ['/', digits(draw)]), (1, lambda: [digits(draw), '*', '-'] + found))
+        (1, lambda: found + ['/', digits(draw)]), (1, lambda: [digits(draw), '*', '-'] + found),
+        (scope.risk, lambda: [digits(draw), '/'] + found))

@@ -1,8 +1,6 @@
 """Sources with linear programs of chosen shapes: small, degenerate, stalling, planning, and with
 numbers near the limit.
 """
-from typing import Optional
-
 from tests.random_sources.draw import Draw
 
 HUGE = ['1.6e38', '0.9e38', '8e37', '2**126', '2**125', '2**64', '1e38', '3**79', '1/3**79', '10**37', '170141183460469231731687303715884105727', '1e-38', '2**100',
@@ -200,8 +198,8 @@ def diet(draw: Draw) -> str:
     costs = ', '.join('f%d %s' % (food, decimal(draw, 20, draw.between(0, 2))) for food in range(1, foods + 1))
     parts = ['n%d.f%d %s' % (need, food, decimal(draw, 9 * size, places))
              for need, size in enumerate(sizes, 1) for food in range(1, foods + 1) if draw.chance(0.85)]
-    due = ', '.join('n%d %s' % (need, decimal(draw, 20 * size, places)) for need, size in enumerate(sizes, 1))
-    text = 'set f /f1*f%d/, n /n1*n%d/;\nparameter c(f) /%s/,\nb(n) /%s/,\na(n,f) /' % (foods, needs, costs, due)
+    needed = ', '.join('n%d %s' % (need, decimal(draw, 20 * size, places)) for need, size in enumerate(sizes, 1))
+    text = 'set f /f1*f%d/, n /n1*n%d/;\nparameter c(f) /%s/,\nb(n) /%s/,\na(n,f) /' % (foods, needs, costs, needed)
     text += ',\n'.join(', '.join(parts[it:it + 8]) for it in range(0, len(parts), 8)) + '/;\n'
     text += 'positive variable x(f); variable z; equations cost, need(n);\ncost.. z =e= sum(f, c(f)*x(f));\n'
     text += 'need(n).. sum(f, a(n,f)*x(f)) =g= b(n);\nmodel m /all/;\noption lp = %s, limrow = 0, limcol = 0;\n' % draw.pick(['any', 'any', 'steepest'])

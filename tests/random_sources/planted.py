@@ -87,6 +87,5 @@ MISTAKES = [Mistake(*it) for it in [
     ('expression_checks.py', "'/': has_here", "'/': has and has_here"),
     ('symbols.py', 'first < second for first, second', 'first <= second + 1 for first, second'),
     ('saves.py', 'if symbol.name not in dynamic and members != set(symbol.data):', 'if members is None:'),
-    ('saves.py', "if not is_within(int(numerator), int(denominator or 1)) or denominator and not int(denominator):",
-     'if denominator and not int(denominator):'),
+    ('exact.py', 'if denominator and is_within(numerator, denominator) else None', 'if denominator else None'),
 ]]

@@ -4,19 +4,26 @@ import re
 from tests.random_sources.draw import Draw
 
 SOLVERS = [b'dantzig', b'BLAND', b'steepest', b'Any', b'none', b'None', b'x' * 64, b'a-b']
+PART = re.compile(rb'(set|parameter|variable|equation) \w+ (\d+)')
+# What follows the labels of a row.
+ENDS = {b'set': 1, b'parameter': 1, b'variable': 4, b'equation': 4}
+LIMIT = 2 ** 127 - 1
+# Numbers within the limit and over it, and what is no number of a save.
+VALUES = [b'%d' % LIMIT, b'-%d' % LIMIT, b'1/%d' % LIMIT, b'%d' % (LIMIT + 1), b'-%d' % (LIMIT + 1), b'1/%d' % (LIMIT + 1), b'%d/3' % (LIMIT + 1),
+          b'9' * 39, b'1' + b'0' * 39, b'3/6', b'5/0', b'7/2']
 
 
 def damaged(text: bytes, seed: int) -> bytes:
     """The save with one change that the seed draws."""
     draw = Draw(seed)
     lines = text.split(b'\n')
-    ways = [lambda: line_left_out(draw, lines), lambda: line_twice(draw, lines),
-            lambda: lines_exchanged(draw, lines), lambda: number_changed(draw, text),
-            lambda: number_changed(draw, text), lambda: word_changed(draw, text),
-            lambda: word_changed(draw, text), lambda: solver_changed(draw, text, b'cplex'),
-            lambda: solver_changed(draw, text, draw.pick(SOLVERS)),
-            lambda: text[:draw.between(0, len(text))],
-            lambda: text + draw.pick([b' ', b'\n', b'end\n', b'x'])]
+    ways = [lambda: line_left_out(draw, lines), lambda: row_changed(draw, lines, True), lambda: number_changed(draw, text),
+            lambda: value_changed(draw, lines), lambda: row_changed(draw, lines, False), lambda: solver_changed(draw, text, b'cplex'),
+            lambda: word_changed(draw, text), lambda: row_changed(draw, lines, True), lambda: lines_exchanged(draw, lines),
+            lambda: value_changed(draw, lines), lambda: text[:draw.between(0, len(text))], lambda: row_changed(draw, lines, False),
+            lambda: line_twice(draw, lines), lambda: row_changed(draw, lines, True), lambda: number_changed(draw, text),
+            lambda: solver_changed(draw, text, draw.pick(SOLVERS)), lambda: value_changed(draw, lines), lambda: word_changed(draw, text),
+            lambda: row_changed(draw, lines, False), lambda: text + draw.pick([b' ', b'\n', b'end\n', b'x'])]
     return ways[seed % len(ways)]()
 
 
@@ -41,6 +48,50 @@ def lines_exchanged(draw: Draw, lines: list[bytes]) -> bytes:
     """A line and the next one in the other order."""
     place = draw.between(0, max(0, len(lines) - 2))
     lines[place:place + 2] = reversed(lines[place:place + 2])
+    return b'\n'.join(lines)
+
+
+def parts(lines: list[bytes]) -> list[tuple[bytes, int, int]]:
+    """The kind of each name that has rows, and where these begin and end."""
+    after = max((place for place, line in enumerate(lines) if line.startswith(b'settings ')), default=0)
+    found = [(place, PART.fullmatch(line)) for place, line in enumerate(lines) if place > after]
+    return [(it.group(1), place + 1, place + 1 + int(it.group(2))) for place, it in found if it and int(it.group(2))]
+
+
+def row_changed(draw: Draw, lines: list[bytes], is_of_set: bool) -> bytes:
+    """A row less, a row more or other labels of one, of a set or of another name; number and order
+    of the rows are as they have to be.
+    """
+    found = parts(lines)
+    if found:
+        kind, start, end = draw.pick([it for it in found if (it[0] == b'set') == is_of_set] or found)
+        rows = [it.split(b' ') for it in lines[start:end]]
+        row, way = draw.pick(rows), draw.between(0, 2)
+        if way:
+            rows.append(other_labels(draw, row, len(row) - ENDS[kind]))
+        if way < 2:
+            rows.remove(row)
+        rows.sort(key=lambda it: [int(label) for label in it[:-ENDS[kind]]])
+        head = lines[start - 1].rpartition(b' ')[0]
+        lines[start - 1:end] = [b'%s %d' % (head, len(rows)), *(b' '.join(it) for it in rows)]
+    return b'\n'.join(lines)
+
+
+def other_labels(draw: Draw, row: list[bytes], size: int) -> list[bytes]:
+    """The row with another label at one of its n positions."""
+    place = draw.between(0, max(0, size - 1))
+    return [b'%d' % max(0, int(it) + draw.pick([-1, 1, 1, 2, 65535])) if at == place and at < size else it for at, it in enumerate(row)]
+
+
+def value_changed(draw: Draw, lines: list[bytes]) -> bytes:
+    """A number of a parameter, a variable or an equation, at the limit of numbers or over it."""
+    found = [it for it in parts(lines) if it[0] != b'set']
+    if found:
+        kind, start, end = draw.pick(found)
+        row = draw.between(start, end - 1)
+        words = lines[row].split(b' ')
+        words[-draw.between(1, ENDS[kind])] = draw.pick(VALUES)
+        lines[row] = b' '.join(words)
     return b'\n'.join(lines)
 
 

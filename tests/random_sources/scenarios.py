@@ -77,15 +77,17 @@ def usual(kind: str) -> list[int]:
     return [it for it in tables[kind] if not (kind == 'source' and it in (5, 15) or kind == 'execution' and it in (7, 8, 9))]
 
 
-def resumed(draw: Draw, turn: int) -> Scenario:
-    """A source whose last state is saved, and one or two that restart from it."""
+def resumed(draw: Draw, change: Optional[int] = None) -> Scenario:
+    """A source whose last state is saved, and one or two that restart from it, perhaps after the
+    change with this seed.
+    """
     first, world = start(draw)
     steps = [Step(['--save', 's.sav', 'a.gms'], {'a.gms': encoded(first)})]
     for place in range(draw.weighted((3, 1), (1, 2))):
         name = 'bc'[place] + '.gms'
-        damage = ('s.sav', turn // 3) if turn % 3 == 0 and not place else None
+        damage = ('s.sav', change) if change is not None and not place else None
         words = ['--restart', 's.sav'] + draw.weighted((2, []), (3, ['--save', 's.sav']), (1, ['--save=t.sav']), (0.5, ['--ranges'])) + [name]
-        steps.append(Step(words, {name: encoded(going_on(draw, world))}, damage))
+        steps.append(Step(words, {name: encoded(restarting(draw, world))}, damage))
     return Scenario(steps, draw.notes)
 
 
@@ -97,7 +99,7 @@ def start(draw: Draw) -> tuple[str, World]:
     return models.any_model(draw), World(draw)
 
 
-def going_on(draw: Draw, world: World) -> str:
+def restarting(draw: Draw, world: World) -> str:
     """A source that restarts: further statements over the names of the first, and now and then what
     only one file may have.
     """
@@ -169,7 +171,7 @@ def scenario(seed: int) -> Scenario:
     if kind < 12:
         return changed(draw)
     if kind < 14:
-        return resumed(draw, 2 * turn + kind)
+        return resumed(draw, turn if kind == 12 else None)
     if kind < 16:
         return nearly(draw, 'source', pick_in_turn(usual('source'), 2 * turn + kind))
     if kind < 18:

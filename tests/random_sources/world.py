@@ -6,7 +6,6 @@ from typing import Optional
 
 from tests.random_sources.draw import Draw
 
-PLAIN = ('set', 'parameter', 'scalar', 'variable', 'equation', 'model')
 Domain = list[Optional[str]]
 
 
@@ -75,10 +74,6 @@ class World:
     def domain_sets(self) -> list[Symbol]:
         """The sets that may be a domain: of one dimension, and assigned by no statement."""
         return [it for it in self.line_sets() if not it.is_dynamic and it.elements]
-
-    def ordered_sets(self) -> list[Symbol]:
-        """The sets with `ord` and lags."""
-        return [it for it in self.line_sets() if it.is_ordered and it.elements]
 
     def is_below(self, name: str, position: Optional[str]) -> bool:
         """Whether a set may be an index where the domain has this position."""
