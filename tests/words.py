@@ -91,10 +91,10 @@ def python_prose(text: str) -> Iterator[Line]:
 
 
 def comment_prose(text: str, mark: str) -> Iterator[Line]:
-    """The comments of a source that begin with a mark."""
+    """The comments of a source that begin with a mark; none within a text in quotation marks."""
     for number, line in enumerate(text.split('\n'), 1):
         found = re.search(r'(?:^|\s)%s(?!-)(.*)' % mark, line)
-        if found:
+        if found and line[:found.start()].count('"') % 2 == 0:
             yield number, found[1]
 
 
@@ -107,7 +107,7 @@ def prose_in(path: str) -> List[Line]:
         return list(document_prose(text))
     if path.endswith('.py') or first.startswith('#!') and 'python' in first:
         return list(python_prose(text))
-    if path.endswith('.rs'):
+    if path.endswith(('.rs', '.rt')):
         return list(comment_prose(text, '//[/!]?'))
     if path.endswith('.antt'):
         return list(comment_prose(text, '--'))

@@ -1,7 +1,7 @@
 #!/usr/bin/env python3
-"""Prints specs/GamsLookAhead.antt: what may come first in each nonterminal of specs/GamsGrammar.antt,
-what may follow it, whether it may be empty, and a bound on its least tree. If one token does not
-decide, a message on standard error reports it.
+"""Prints specs/GamsLookAhead.antt: what may come first in each nonterminal of
+specs/GamsGrammar.antt, what may follow it, whether it may be empty, and a bound on its least tree.
+If one token does not decide, a message on standard error reports it.
 
 Run it in the crate's folder: tools/look_ahead.py > specs/GamsLookAhead.antt. Its output is proved,
 and not trusted.
@@ -154,7 +154,7 @@ def least(part):
 
 
 def ranks(part):
-    """Gives a number above the ranks of the nonterminals that may stand first in the part."""
+    """Gives a number above the ranks of the nonterminals that may come first in the part."""
     match part:
         case ("one", _):
             return 0
