@@ -35,8 +35,8 @@ module _ {C N : Type 0} (ahead : LookAhead C N) where
   may_begin (opt p) c = may_begin p c
   may_begin (many p) c = may_begin p c
 
-  -- whether a token of a kind may follow a part: `q` comes next and may begin with the token, or `q`
-  -- may be empty and the token may follow it
+  -- whether a token of a kind may follow a part: `q` comes next and may begin with the token, or
+  -- `q` may be empty and the token may follow it
   abbrev pub may_go_on : Part C N → (C → Bool) → C → Bool
   may_go_on q after c = may_begin q c || (may_be_empty q && after c)
 

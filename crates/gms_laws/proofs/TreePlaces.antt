@@ -58,7 +58,7 @@ module _ {F : Type 0} where
   parts-near step around parts root has further at (at_operand operand) = inr (own (operand_at has operand))
   parts-near step around parts root has further at (at_part {next = next} among inside) = inr (deeper step next root at (further next among) inside)
 
-  -- the same where the parts are of a node with a place of its own
+  -- the places inside the parts of a node that has a place
   parts-inside : (step : ExpressionStep) (around place : Place) (parts : Parts F) (root : Tree F) → HasParts parts root → IsOwnPlace place root → ((next : Tree F) → IsPartOf next parts → (steps : List ExpressionStep) (tree : Tree F) → Occurs tree steps next → Occurs tree (step ∷ steps) root) → (at : Place) → IsNearParts place parts at → IsNear around root at
   parts-inside step around place parts root has its further at (at_around same) = inr (own (subst (λ (p : Place). IsOwnPlace p root) (sym same) its))
   parts-inside step around place parts root has its further at (at_operand operand) = inr (own (operand_at has operand))

@@ -168,7 +168,8 @@ pub data IsToSet : ExpressionStep → Type 0 where
   operand_of_or : IsToSet or_operand
   condition_of_fold : IsToSet fold_condition
 
--- steps within the right side of an assignment to a set: sums, products, `not`, and what `$` is applied to
+-- steps within the right side of an assignment to a set: sums, products, `not`, and what `$` is
+-- applied to
 pub data IsOfMembers : ExpressionStep → Type 0 where
   members_signed : IsOfMembers signed_operand
   members_added : IsOfMembers term

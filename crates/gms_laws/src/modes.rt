@@ -66,9 +66,9 @@ pub fn mode_laws()
 ///
 /// A `(` after the name of an item or of a table begins its domain (`domain`), and each token but
 /// `)` and `;` leaves the mode as it is there (`in_domain`), a keyword too; a `)` ends the domain
-/// (`domain_end`). In a list a `(` where a label is expected opens parentheses (`opened`), and a `)`
-/// closes them (`closed`); within them each token is a label or a symbol (`labels`), and after a
-/// comma a label is expected (`comma`). A line end within parentheses ends nothing (`lines`).
+/// (`domain_end`). In a list a `(` where a label is expected opens parentheses (`opened`), and a
+/// `)` closes them (`closed`); within them each token is a label or a symbol (`labels`), and after
+/// a comma a label is expected (`comma`). A line end within parentheses ends nothing (`lines`).
 ///
 /// A word after `table` is the table's name (`table_name`). A text may follow the name or the
 /// domain (`table_text`), and after a line end the lines of the table begin (`table_lines`). After

@@ -33,7 +33,7 @@ begun_by (Some Other) current = Code
 begun_by None current = current
 
 -- the mode after an element, or after a token that is where an element is expected: outside
--- parentheses its text or value comes next, within them the list goes on
+-- parentheses its text or value comes next, within them the list continues
 abbrev pub behind_element : Shape → ℕ → Mode
 behind_element shape depth = if depth == 0 then Tail shape else Element shape depth After
 

@@ -9,8 +9,8 @@ use crate::marks::Marks;
 use lp_integers::{Numbers, gcd, greatest, sum_within};
 use std::alloc::{AllocError, Global};
 
-/// A row: integers over one denominator, a bound of their magnitudes, marks on their columns, and the
-/// first two integers once more.
+/// A row: integers over one denominator, a bound of their magnitudes, marks on their columns, and
+/// the first two integers once more.
 #[derive(Drop)]
 pub struct Line {
     pub numbers: Numbers,

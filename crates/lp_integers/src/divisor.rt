@@ -6,8 +6,8 @@ ghost use Rattle.gq_number.specs.Gcd.{gcd};
 use crate::common::shared_by;
 
 /// The inverse of an odd number modulo 2 to the power of 64, by Newton's steps: each doubles the
-/// number of bits that are right. No contract states this: a quotient by the inverse is tested before
-/// it is used.
+/// number of bits that are right. No contract states this: a quotient by the inverse is tested
+/// before it is used.
 fn inverse_of(odd: i64) -> i64 {
     let two: i64 = 2;
     let mut inverse = odd;

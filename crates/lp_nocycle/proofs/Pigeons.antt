@@ -62,7 +62,7 @@ at_most (suc b) (suc n) f below apart =
       | inr none ↦ let rest : suc n ≤ b = at_most b (suc n) f (λ j less. let h = below j less in let other = none j less in omega arith) apart in omega arith
     ]
 
--- ---- the code of a dictionary: the binary digits of its basic variables, and a digit for its phase
+-- ---- the code of a dictionary: the digits 0 or 1 of its basic variables, and a digit of its phase
 
 -- a number where the first holds, else 0
 abbrev part : {A B : Type 0} → A ⊎ B → ℕ → ℕ
