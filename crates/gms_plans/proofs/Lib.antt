@@ -7,3 +7,4 @@ pub mod Meanings
 pub mod Moments
 pub mod Definitions
 pub mod Meant
+pub mod Promised

@@ -12,6 +12,7 @@ use Rattle.gms_exec.specs.Run.{World}
 use Rattle.gms_save.specs.JointErrors.{joint_errors, resumed, saved_statements}
 use Rattle.gms_save.specs.Saves.{IsSavedBy}
 use Rattle.gms_plans.specs.Moments.{AnswersAreSo, run_with_answers}
+use Rattle.gms_plans.proofs.Promised.{plans-from_save, plans-from_start}
 use Rattle.lp_core.specs.declared.answer.Answer.{Answer}
 use Rattle.lp_slot.specs.declared.solver.SolverRule.{SolverRule}
 use Rattle.gms_run.specs.Solving.{Solving, number_limit}
@@ -74,3 +75,6 @@ runs-say-so plans restarted solving (from_save save file) (scripted script) text
     from-joint solving (scripted script) text run restarted save file script is (same-script solving script text run)
 runs-say-so plans restarted solving (from_save save file) (unrestored fault) text is run =
     absurd (let e = run.is_job.to_run in cc)
+
+pub answered-rightly : RunsAreAnsweredRightly
+answered-rightly = runs-say-so (plans-from_start frac_value number_limit) plans-from_save

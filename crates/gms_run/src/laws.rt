@@ -1,9 +1,6 @@
 //! Laws of runs.
 ghost use Rattle.gms_run.specs.Laws.{RestartsSayTheSame, RunsJoin, RunsAreAnsweredRightly};
 
-use gms_plans::plan_laws;
-use gq_frac::Frac;
-
 /// The run of statements followed by others is the run of the others from where the first end.
 pub fn run_laws()
     ensures { RunsJoin }
@@ -15,9 +12,7 @@ pub fn run_laws()
 /// does is better. Infeasible: no plan does. Unbounded: some plan is better than each number.
 pub fn answer_laws()
     ensures { RunsAreAnsweredRightly }
-{
-    plan_laws::<Frac>();
-}
+{}
 
 /// A file that is run from a save says what it says in one long run. Let a run of a source end with
 /// Done and keep a save. Let a file be run from that save, with the same solvers. Take one long run

@@ -14,7 +14,6 @@ ghost use Rattle.gms_run.specs.Statuses.{CanRun, CountsSo, EndsByNoFault, HasOri
 
 use crate::closing::{push_closing, write_save};
 use crate::execution::Run;
-use crate::laws::answer_laws;
 use crate::report::report;
 use crate::restart::restored;
 use crate::script::{Matter, Script, first_line, joint_source};
@@ -441,6 +440,5 @@ pub fn run<H: Host>(
     let mut run = Run::new(alloc)?;
     let status = run_words(alloc, words, host, solvers, &mut run)?;
     let answers = replace(&mut run.answers, Vec::new(alloc));
-    answer_laws();
     Ok(Ended { status, answers })
 }

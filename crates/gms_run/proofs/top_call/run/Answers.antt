@@ -1,6 +1,7 @@
 -- The answers of the run are those of the ended run.
 use Rattle.gms_run.proofs.Completeness.{completes, refused_so, refuses}
 use Rattle.gms_run.proofs.Headlined.{headlined}
+use Rattle.gms_run.proofs.Planned.{answered-rightly}
 use Rattle.gms_run.proofs.Stopping.{stopped_so}
 use Rattle.gms_run.proofs.top_call.run.Goals as goal
 
@@ -10,10 +11,10 @@ returns-in_err-status-clause-steady g c = λ ready. c.in_err-status.ensures.coun
 pub returns-clause-headline : goal.returns-clause-headline
 returns-clause-headline g c = λ file output.
     rw (c.replace-answers.ensures.value)
-    (headlined c.in_ok-status.status _ _ _ _ file output (c.answer_laws.ensures _) c.in_ok-status.ensures.ran)
+    (headlined c.in_ok-status.status _ _ _ _ file output (answered-rightly _) c.in_ok-status.ensures.ran)
 
 pub returns-clause-answers : goal.returns-clause-answers
-returns-clause-answers g c = c.answer_laws.ensures _
+returns-clause-answers g c = answered-rightly _
 
 pub returns-clause-run : goal.returns-clause-run
 returns-clause-run g c = rw (c.replace-answers.ensures.value) c.in_ok-status.ensures.ran
