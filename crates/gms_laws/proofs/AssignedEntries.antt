@@ -95,7 +95,7 @@ module _ {F : Type 0} (v : F → Number) (limit : ℕ) (run : Execution F) where
   GivenBy all =
       given_by v limit run.before run.statement.at run.binding (target_of run.target) (option_map tree_of run.condition) run.right_at (tree_of run.right) ≡ Ok all
 
-  -- how an assignment without fault comes to what it gives
+  -- the result of an assignment without fault
   record Parts (all : AllGiven) : Type 0 where
     elements : List (List ℕ)
     domain_is : the_domain ≡ Ok elements

@@ -1,4 +1,4 @@
--- That a program has no compile error, computed from how it is seen.
+-- That a program has no compile error, computed from its view.
 use Rattle.std.proofs.Common.{◌≡◌, ℕ, Bool, true, false, not, ◌&&◌, List, [], ◌∷◌, ◌++◌, length, map, Option, Some, None, Result, Ok, cond, if◌then◌else◌, refl, sym, ap, ap₂, ◌∙◌, subst}
 use Rattle.std.specs.Prelude.{flat_map, is_none, option_to_list, take_while}
 use Rattle.std.specs.List.{fold, list_all}
@@ -155,7 +155,7 @@ module _ {F : Type 0} where
       ap (λ (state : State). fold (with_item known.value kind) state items) (state_is known kind item here)
       ∙ items_given next kind items (right (fine_item known kind item) (fine_items next kind items) h)
 
--- ---- options: what they are set to is told by numbers
+-- ---- options: numbers determine what they are set to
 
 value_there : (x : Number) → fits greatest_part x ≡ true → frac_value (value_of x) ≡ x
 value_there x h =
@@ -275,7 +275,7 @@ module _ (count : ℕ) (solvers : List (List ℕ)) (dynamic : List ℕ) where
 abbrev pub dynamic_by : ℕ → List Seen → List ℕ
 dynamic_by count vs = map (base_of (seen_declared count vs)) (flat_map (λ (v : Seen). assigned_of v.1) vs)
 
--- the error of each statement, where there is one
+-- the error of each statement that has one
 abbrev pub errors_by : List (List ℕ) → ℕ → List Seen → List (Option CompileError)
 errors_by solvers count vs = seen_errors count solvers (dynamic_by count vs) [] vs
 
@@ -309,6 +309,6 @@ module _ (solvers : List (List ℕ)) (program : Program Frac) where
       subst (λ (us : List Seen). fine_statements solvers count us ≡ true) (listed-is program.statements.items) h in
       errors-by ∙ none_all (errors_by solvers count vs) (all_none count solvers (dynamic_by count vs) (blank_state count) [] refl vs fine)
 
--- a program that is seen so has no error
+-- a program with this view has no error
 pub no_errors : (solvers : List (List ℕ)) (view : ProgramView) → has_no_error solvers view ≡ true → (program : Program Frac) → program_view frac_value program ≡ view → compile_errors frac_value program solvers ≡ []
 no_errors solvers view h program e = none_seen solvers program (subst (λ (v : ProgramView). has_no_error solvers v ≡ true) (sym e) h)

@@ -1,4 +1,5 @@
--- In the states of an accepted program's run no assignment of the program gives an element twice, and names are of their kinds.
+-- In the states of an accepted program's run no assignment of the program gives an element twice,
+-- and names are of their kinds.
 use Rattle.std.proofs.Common.{◌≡◌, ℕ, true, List, length, Option, option_map, Ok, refl, zero, suc, false, [], ◌∷◌, map, slice_get, unwrap_or, sym, ap, ◌∙◌}
 use Rattle.std.proofs.lemmas.List.Elements.{All-contains}
 use Rattle.gq_number.specs.Number.{Number}

@@ -75,7 +75,7 @@ module _ (source : List ℕ) (labels : List (List ℕ)) where
   same_entry tree =
       ap (λ (v : Ext Rational). item_by (token_text source) (first_in (inside tree)) (Some v)) (same_value (inside (second_in (second_in (inside tree)))))
 
-  -- the bytes of a token, by what is behind a place of the source
+  -- the bytes of a token, by what follows a place of the source
   abbrev text_from : ℕ → List ℕ → Token → List ℕ
   text_from base tail token = elim (nat_le base token.start) [ true ↦ take (token.end - token.start) (drop (token.start - base) tail) | false ↦ token_text source token ]
 
@@ -102,7 +102,7 @@ module _ (source : List ℕ) (labels : List (List ℕ)) where
       by true is = leb-true base token.1.start is
       by false is = omega arith
 
-  -- the items of entries, of which each begins behind the one before
+  -- the items of entries, of which each begins after the one before
   abbrev entries_from : ℕ → List ℕ → Derivation → List (Item Rational)
   entries_from base tail (more tree others) =
       let next = start_of base (yield tree) in

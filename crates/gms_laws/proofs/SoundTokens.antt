@@ -36,7 +36,7 @@ both_true false b h k = absurd (cc)
 abbrev pub is_no : Terminal → KindedToken → Bool
 is_no kind token = not (is kind token.0)
 
--- behind the tokens so far this one has no fault
+-- after the tokens so far this one has no fault
 abbrev pub is_sound : List ℕ → ReaderState → KindedToken → Terminal → Bool
 is_sound source walk token ahead =
     (is_no LeftParen token || nat_lt walk.open_count 100)

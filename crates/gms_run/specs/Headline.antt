@@ -51,7 +51,7 @@ pub record IsErrorListing (solvers : List (List ℕ)) (source text : List ℕ) :
   pub some : compile_errors frac_value program solvers ≢ []
   pub listing : text ≡ errors_listing 1 source (compile_errors frac_value program solvers)
 
--- The source is a program without errors. Its run takes all answers: none is left over. Each solve
+-- The source is a program without errors. Its run takes all answers: none remains. Each solve
 -- has an answer of the linear program that its model means at that moment, with the certificate
 -- that proves it (`answered`), and what each answer says of plans is so (`says_so`). With Done
 -- every statement was executed, with Execution an execution error stopped the run. The listing is

@@ -61,8 +61,8 @@ moment name rule paths host solvers run =
 abbrev pub solved_between : Moment → Moment → Solving
 solved_between old new = record { before = old.solvers; after = new.solvers; answers = new.run.answers.items }
 
--- The statements of a job were executed after the pending text: to their end, or up to a statement
--- whose listing was not written.
+-- The statements of a program to run were executed after the pending text: to their end, or up to
+-- a statement whose listing was not written.
 abbrev pub ExecutesJob : Result Status Failed → Job → Moment → Moment → Type 0
 ExecutesJob result job old new =
     ComesTo result

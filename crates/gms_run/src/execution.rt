@@ -298,8 +298,8 @@ impl Run {
         Ok(status)
     }
 
-    /// Executes an accepted script from its first state on, after its echo, and prepares what follows
-    /// its listing.
+    /// Executes an accepted script from its first state on, after its echo, and prepares what
+    /// follows its listing.
     pub(crate) fn execute<H: Host>(
         &mut self,
         alloc: Global,

@@ -1,5 +1,5 @@
--- If each rule so far is refused and so is the next, each up to it is; and an answer by Bland's rule
--- is one of legal pivots.
+-- If each rule so far is refused and so is the next, each up to it is; and an answer by Bland's
+-- rule is one of legal pivots.
 use Rattle.std.proofs.Common.{◌≡◌, ℕ, ◌+◌, ◌<◌, Bool, true, inl, inr, subst, arith}
 use Rattle.std.proofs.lemmas.Bool.{cases_lt}
 use Rattle.std.specs.Prelude.{◌↔◌, Result, Ok, Err, IfOk, IsTrue}

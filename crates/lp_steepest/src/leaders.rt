@@ -67,8 +67,8 @@ impl Leaders {
         self.last = last;
     }
 
-    /// Puts a variable at place 0 if its coefficient is the greatest so far. It returns the variable
-    /// that still has to be added: the one that was there, or the same.
+    /// Puts a variable at place 0 if its coefficient is the greatest so far. It returns the
+    /// variable that still has to be added: the one that was there, or the same.
     fn exchanged(&mut self, other: Leader) -> Leader {
         let first = self.list[0];
         if self.count == 0 || !Leaders::is_after(first, other) {

@@ -5,7 +5,7 @@ use Rattle.gms_run.specs.Solving.{solver_views}
 use Rattle.gms_run.proofs.Executing.{AtStatement}
 use Rattle.gms_run.proofs.execution.Run.statements.Given as goal
 
--- the loop comes to a statement
+-- the loop reaches a statement
 abbrev pub invariant-loop-s : goal.invariant-loop-s
 invariant-loop-s g l =
     AtStatement (work l.program l.fn.self.store l.list) (solver_views (λ b. (goal.LpSolver-dyn g (b.vtable, b.value)).name b.value) (λ b. (goal.LpSolver-dyn g (b.vtable, b.value)).rule b.value) (λ b. (goal.LpSolver-dyn g (b.vtable, b.value)).paths b.value) l.fn.solvers.items)
