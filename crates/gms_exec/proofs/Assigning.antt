@@ -13,7 +13,7 @@ use Rattle.gms_ast.specs.Trees.{Tree}
 use Rattle.gms_ast.specs.TreeView.{index_tree, indices_of}
 use Rattle.gms_store.specs.declared.kind.SymbolKind.{SymbolKind}
 use Rattle.gms_store.specs.declared.kind.SymbolKind.TheVariants as kind
-use Rattle.gms_store.specs.Declarations.{kind_in}
+use Rattle.gms_store.specs.Declarations.{kind_in, is_set}
 use Rattle.gms_store.specs.State.{State, Content, undeclared, alias_of, set_of, parameter_of, variable_of, equation_of, model_with, symbol_of}
 use Rattle.gms_eval.specs.declared.stop.ExecStopOrMemory.{ExecStopOrMemory}
 use Rattle.gms_eval.specs.declared.stop.ExecStopOrMemory.TheVariants.{Memory, Fault as Stop}
@@ -28,13 +28,13 @@ use Rattle.gms_eval.proofs.Answering.{and_then_assoc, then-value}
 use Rattle.gms_eval.proofs.TreeValues.{labels-indices_of}
 use Rattle.gms_exec.specs.Given.{Given, member, value_is, AllGiven}
 use Rattle.gms_exec.specs.Membership.{membership}
-use Rattle.gms_exec.specs.Assignment.{newly_controlled, takes_value, where_taken, is_set_content, target_of, given_under, element_under, given_elements, given_by}
+use Rattle.gms_exec.specs.Assignment.{newly_controlled, takes_value, where_taken, target_of, given_under, element_under, given_elements, given_by}
 use Rattle.gms_exec.specs.InnerWalks.{behind_others, found_at, Assigns}
 
 -- ---- kinds
 
 -- a name that is declared as a set stands for one
-pub kind-set : (content : Content) (k : SymbolKind) → k ≡ kind_in content → k ≡ kind.Set → true ≡ is_set_content content
+pub kind-set : (content : Content) (k : SymbolKind) → k ≡ kind_in content → k ≡ kind.Set → true ≡ is_set content
 kind-set undeclared k e s = absurd cc
 kind-set (alias_of base) k e s = refl
 kind-set (set_of members) k e s = refl
@@ -43,7 +43,7 @@ kind-set (variable_of type entries) k e s = absurd cc
 kind-set (equation_of entries) k e s = absurd cc
 kind-set (model_with model solver) k e s = absurd cc
 
-pub kind-other : (content : Content) (k : SymbolKind) → k ≡ kind_in content → (k ≡ kind.Set → ⊥) → false ≡ is_set_content content
+pub kind-other : (content : Content) (k : SymbolKind) → k ≡ kind_in content → (k ≡ kind.Set → ⊥) → false ≡ is_set content
 kind-other undeclared k e other = refl
 kind-other (alias_of base) k e other = absurd (other e)
 kind-other (set_of members) k e other = absurd (other e)
@@ -78,11 +78,11 @@ and_then-as (Err fault) f g same = refl
 
 module _ {F : Type 0} (v : F → Number) (limit : ℕ) (state : State) (target : TargetNode F) (right_at : Place) (right : Tree F) (b : Pairs) where
   -- what the right side gives of a set, and of another name
-  pub given-of-set : (s : Bool) → s ≡ is_set_content (symbol_of state target.name).content → s ≡ true → given_under v limit state (target_of target) right_at right b ≡ (membership v limit state b right and_then λ x. Ok (member x))
+  pub given-of-set : (s : Bool) → s ≡ is_set (symbol_of state target.name).content → s ≡ true → given_under v limit state (target_of target) right_at right b ≡ (membership v limit state b right and_then λ x. Ok (member x))
   given-of-set s is so =
       ap (λ s. cond s (membership v limit state b right and_then λ x. Ok (member x)) (value v limit state b right and_then where_taken target.suffix right_at b)) (sym is ∙ so)
 
-  pub given-of-value : (s : Bool) → s ≡ is_set_content (symbol_of state target.name).content → s ≡ false → given_under v limit state (target_of target) right_at right b ≡ (value v limit state b right and_then where_taken target.suffix right_at b)
+  pub given-of-value : (s : Bool) → s ≡ is_set (symbol_of state target.name).content → s ≡ false → given_under v limit state (target_of target) right_at right b ≡ (value v limit state b right and_then where_taken target.suffix right_at b)
   given-of-value s is so =
       ap (λ s. cond s (membership v limit state b right and_then λ x. Ok (member x)) (value v limit state b right and_then where_taken target.suffix right_at b)) (sym is ∙ so)
 

@@ -22,6 +22,7 @@ use Rattle.gms_eval.specs.declared.stop.StopKind.TheVariants.{Undefined}
 use Rattle.gms_rows.specs.Rows.{sets_among, each_once}
 use Rattle.gms_exec.specs.Given.{Given, member, value_is, AllGiven, after_given}
 use Rattle.gms_exec.specs.Membership.{membership}
+use Rattle.gms_store.specs.Declarations.{is_set}
 
 -- ---- what the left side controls
 
@@ -52,12 +53,6 @@ abbrev pub where_taken : Suffix → Place → Pairs → Extended → Answer Give
 where_taken suffix right_at binding x =
     if takes_value suffix x then Ok (value_is x) else Err (faulted Undefined right_at binding x nothing)
 
--- whether a content is that of a set, or of an alias of one
-abbrev pub is_set_content : Content → Bool
-is_set_content (set_of members) = true
-is_set_content (alias_of base) = true
-is_set_content content = false
-
 -- what is assigned, as a tree
 abbrev pub target_of : {F : Type 0} → TargetNode F → Target F
 target_of target =
@@ -67,7 +62,7 @@ module _ {F : Type 0} (number_of : F → Number) (limit : ℕ) (state : State) w
   -- what the right side gives under a binding
   abbrev pub given_under : Target F → Place → tree.Tree F → Pairs → Answer Given
   given_under target right_at right binding =
-      if is_set_content (symbol_of state target.name).content then
+      if is_set (symbol_of state target.name).content then
       membership number_of limit state binding right and_then (λ x. Ok (member x)) else
       value number_of limit state binding right and_then where_taken target.suffix right_at binding
 

@@ -10,8 +10,9 @@ ghost use Rattle.gms_eval.specs.Nodes.{in_order};
 ghost use Rattle.gms_eval.specs.Bindings.{controlled};
 ghost use Rattle.gms_eval.specs.Faults.{nothing, ◌and_then◌};
 ghost use Rattle.gms_eval.specs.Gives.{Gives};
-ghost use Rattle.gms_exec.specs.Assignment.{newly_controlled, takes_value, where_taken, is_set_content, target_of, given_under, element_under, given_elements, given_by, after_assignment};
+ghost use Rattle.gms_exec.specs.Assignment.{newly_controlled, takes_value, where_taken, target_of, given_under, element_under, given_elements, given_by, after_assignment};
 ghost use Rattle.gms_exec.specs.InnerWalks.{given_in, all_given_in, Assigns, first_set, behind_others, noted, with_found, found_in, found_at};
+ghost use Rattle.gms_store.specs.Declarations.{is_set};
 
 use crate::given::{Given, put_all};
 use crate::membership::membership;
@@ -176,7 +177,7 @@ fn where_taken<F: ExactField>(
 
 /// Whether a name stands for a set.
 fn is_set<F: ExactField>(store: &Store<F>, name: u32) -> bool
-    ensures { result ≡ is_set_content (symbol_of store.now name).content }
+    ensures { result ≡ is_set (symbol_of store.now name).content }
 {
     let kind = store.kind_of(store.base(name));
     match kind {

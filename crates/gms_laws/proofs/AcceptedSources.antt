@@ -7,7 +7,6 @@ use Rattle.gms_grammar.specs.Grammar.{the}
 use Rattle.gms_grammar.specs.GamsGrammar.{Program, productions}
 use Rattle.gms_grammar.specs.GamsLookAhead.{look_ahead}
 use Rattle.gms_parse.specs.Walks.{KindedToken}
-use Rattle.gms_save.specs.Saves.{greatest_part}
 use Rattle.gms_laws.specs.Accepted.{IsAcceptedSource}
 use Rattle.gms_laws.proofs.FaultlessStatements.{has_no_error, no_errors}
 use Rattle.gms_laws.proofs.SourcePieces.{Make, pieces_in, made}
@@ -15,8 +14,9 @@ use Rattle.gms_laws.proofs.ShortNumerals.{left, right}
 use Rattle.gms_laws.proofs.SourcePrograms.{inner, all_seen, view_by, is_whole, is_plain, program_by}
 use Rattle.gms_laws.proofs.TakenTrees.{Taken, read_part, IsTaken, taken}
 use Rattle.gms_laws.proofs.SourceTests.{by_tree, by_pieces, accepts}
+use Rattle.gq_frac.specs.Frac.{frac_limit}
 
-wide : 10 ^ 9 ≤ greatest_part
+wide : 10 ^ 9 ≤ frac_limit
 wide = leb-true (10 ^ 9) (2 ^ 127 - 1) refl
 
 module _ (solvers : List (List ℕ)) (source : List ℕ) (plain : is_plain source ≡ true) where
@@ -27,7 +27,7 @@ module _ (solvers : List (List ℕ)) (source : List ℕ) (plain : is_plain sourc
       let view = view_by source ts found.0 in
       record {
         view = view;
-        has_program = program_by greatest_part wide source plain pieces make found.0 found.1 t (left (is_whole source ts found.1) (has_no_error solvers view) h);
+        has_program = program_by frac_limit wide source plain pieces make found.0 found.1 t (left (is_whole source ts found.1) (has_no_error solvers view) h);
         no_error = no_errors solvers view (right (is_whole source ts found.1) (has_no_error solvers view) h);
       }
 

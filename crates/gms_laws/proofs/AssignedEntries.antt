@@ -23,7 +23,7 @@ use Rattle.gms_eval.specs.Value.{labels, domain, control_over, value}
 use Rattle.gms_eval.specs.declared.stop.StopKind.TheVariants.{Undefined}
 use Rattle.gms_eval.proofs.Entries.{there, tuple-labels}
 use Rattle.gms_rows.proofs.Domains.{given, only_value}
-use Rattle.gms_exec.specs.Assignment.{element_under, given_under, given_by, is_set_content, takes_value, target_of, given_elements, where_taken}
+use Rattle.gms_exec.specs.Assignment.{element_under, given_under, given_by, takes_value, target_of, given_elements, where_taken}
 use Rattle.gms_exec.specs.Membership.{membership}
 use Rattle.gms_exec.specs.Given.{Given, member, value_is, AllGiven, after_given, with_attribute}
 use Rattle.gms_exec.specs.Once.{IsOnce}
@@ -33,6 +33,7 @@ use Rattle.gms_laws.specs.Assignments.{Execution, IsRight, TakesTo, left_indices
 use Rattle.gms_laws.specs.Domains.{HasItsMembers, IsWhereItHolds}
 use Rattle.gms_laws.proofs.ChosenElements.{exact}
 use Rattle.gms_laws.proofs.LastGiven.{In, member-once, once-apart, value-once}
+use Rattle.gms_store.specs.Declarations.{is_set}
 
 -- ---- labels that are all there
 
@@ -52,7 +53,7 @@ tuple_of-Some t few =
 -- ---- what is given
 
 -- what is not a set, by its content
-not-set : (content : Content) → has_attributes content ≡ true → is_set_content content ≡ false
+not-set : (content : Content) → has_attributes content ≡ true → is_set content ≡ false
 not-set undeclared e = refl
 not-set (alias_of base) e = absurd (true≢false (sym e))
 not-set (set_of members) e = absurd (true≢false (sym e))
@@ -200,13 +201,13 @@ module _ {F : Type 0} (v : F → Number) (limit : ℕ) (run : Execution F) where
           ap (λ (g : List ℕ × Given). Some g.0) (some_same (u, two.value) (t, what) (only_value (Some (u, two.value)) (Some (t, what)) two.next_is))
 
   -- what a set is given is whether the right side is in it
-  member-given : (b : Pairs) (what : Given) → is_set_content (symbol_of run.before run.target.name).content ≡ true → given_in b ≡ Ok what → (on : Bool) × (what ≡ member on) × (membership v limit run.before b (tree_of run.right) ≡ Ok on)
+  member-given : (b : Pairs) (what : Given) → is_set (symbol_of run.before run.target.name).content ≡ true → given_in b ≡ Ok what → (on : Bool) × (what ≡ member on) × (membership v limit run.before b (tree_of run.right) ≡ Ok on)
   member-given b what is e =
       let one = given (membership v limit run.before b (tree_of run.right)) (λ on. Ok (member on)) what (sym (ap (λ (c : Bool). if c then membership v limit run.before b (tree_of run.right) and_then (λ on. Ok (member on)) else value v limit run.before b (tree_of run.right) and_then where_taken run.target.suffix run.right_at b) is) ∙ e) in
       (one.value, sym (only_value (member one.value) what one.next_is), one.is)
 
   -- what another name is given is the value of the right side
-  value-given : (b : Pairs) (what : Given) → is_set_content (symbol_of run.before run.target.name).content ≡ false → given_in b ≡ Ok what → (x : Extended) × (what ≡ value_is x) × (value v limit run.before b (tree_of run.right) ≡ Ok x)
+  value-given : (b : Pairs) (what : Given) → is_set (symbol_of run.before run.target.name).content ≡ false → given_in b ≡ Ok what → (x : Extended) × (what ≡ value_is x) × (value v limit run.before b (tree_of run.right) ≡ Ok x)
   value-given b what is e =
       let one = given (value v limit run.before b (tree_of run.right)) (where_taken run.target.suffix run.right_at b) what (sym (ap (λ (c : Bool). if c then membership v limit run.before b (tree_of run.right) and_then (λ on. Ok (member on)) else value v limit run.before b (tree_of run.right) and_then where_taken run.target.suffix run.right_at b) is) ∙ e) in
       (one.value, taken-value run.target.suffix run.right_at b one.value what one.next_is, one.is)
@@ -308,7 +309,7 @@ module _ {F : Type 0} (v : F → Number) (limit : ℕ) (run : Execution F) where
       pub value-taken : (entries : Entries Extended) → (symbol_of run.before run.target.name).content ≡ parameter_of entries → run.target.suffix ≡ suffix.None → IsRight v limit run element (value_of then_state run.target.name t)
       value-taken entries is none =
           let g = gives element t k in
-          let x = value-given (element_binding run element) g.what (ap is_set_content is) g.is in
+          let x = value-given (element_binding run element) g.what (ap is_set is) g.is in
           let at : In (t, value_is x.0) all = subst (λ (what : Given). In (t, what) all) x.1 (given-there element t k) in
           let after : value_of (after_given suffix.None run.target.name all run.before) run.target.name t ≡ unwrap_or (given_value all t) (value_of run.before run.target.name t) = values-after run.before run.target.name all entries t within is long in
           let read : value_of then_state run.target.name t ≡ x.0 =
@@ -320,7 +321,7 @@ module _ {F : Type 0} (v : F → Number) (limit : ℕ) (run : Execution F) where
       pub member-taken : (members : List (List ℕ)) → (symbol_of run.before run.target.name).content ≡ set_of members → membership v limit run.before (element_binding run element) (tree_of run.right) ≡ Ok (has (members_of then_state run.target.name) t)
       member-taken members is =
           let g = gives element t k in
-          let on = member-given (element_binding run element) g.what (ap is_set_content is) g.is in
+          let on = member-given (element_binding run element) g.what (ap is_set is) g.is in
           let at : In (t, member on.0) all = subst (λ (what : Given). In (t, what) all) on.1 (given-there element t k) in
           let read : has (members_of then_state run.target.name) t ≡ on.0 =
           members-after run.before run.target.name run.target.suffix all within long members t is

@@ -8,7 +8,7 @@ use Rattle.std.proofs.lemmas.List.Sums.{take_while-cons}
 use Rattle.gq_number.specs.Number.{Number}
 use Rattle.gq_field.specs.Fits.{fits}
 use Rattle.gq_frac.specs.declared.frac.Frac.{Frac}
-use Rattle.gq_frac.specs.Frac.{frac_value, frac_each_number}
+use Rattle.gq_frac.specs.Frac.{frac_value, frac_each_number, frac_limit}
 use Rattle.gms_labels.specs.declared.place.Place.{Place}
 use Rattle.gms_ast.specs.declared.declaration.Decl.{Decl}
 use Rattle.gms_ast.specs.declared.declaration.DeclKind.{DeclKind}
@@ -36,7 +36,6 @@ use Rattle.gms_check.specs.Errors.{first_error}
 use Rattle.gms_check.specs.Past.{Known, with_data, with_item, with_name}
 use Rattle.gms_check.specs.StatementUses.{option_uses}
 use Rattle.gms_check.specs.Uses.{Uses, naming, placing}
-use Rattle.gms_save.specs.Saves.{greatest_part}
 use Rattle.gms_save.proofs.FromNumbers.{option_in, value_of, value_back}
 use Rattle.gms_save.proofs.SeenActs.{Told, assigned_of, told_by}
 use Rattle.gms_save.proofs.SeenPrograms.{Seen, seen, listed, listed-is, after_told, seen_declared, seen_error, seen_errors, known_from, known_told, told_defined, told_models, told_unordered, ToldPast, errors-are, declared-is, assigned-are}
@@ -157,7 +156,7 @@ module _ {F : Type 0} where
 
 -- ---- options: numbers determine what they are set to
 
-value_there : (x : Number) → fits greatest_part x ≡ true → frac_value (value_of x) ≡ x
+value_there : (x : Number) → fits frac_limit x ≡ true → frac_value (value_of x) ≡ x
 value_there x h =
     let y = frac_each_number x h in
     ap (λ (z : Number). frac_value (value_of z)) (sym y.1) ∙ ap (λ (v : Frac). frac_value v) (value_back y.0) ∙ y.1
@@ -170,15 +169,15 @@ as_numbers known =
 -- an option has no error
 abbrev option_fine : Known Frac → Word × Setting Number → Bool
 option_fine known (word, setting.Number at x) =
-    fits greatest_part x && is_nil (errors_of (as_numbers known) (option_uses (word, setting.Number at x)))
+    fits frac_limit x && is_nil (errors_of (as_numbers known) (option_uses (word, setting.Number at x)))
 option_fine known (word, setting.Name name) =
     is_nil (errors_of (as_numbers known) (option_uses (word, setting.Name name)))
 
 option_none : (known : Known Frac) → known.value ≡ frac_value → (option : Word × Setting Number) → option_fine known option ≡ true → errors_of known (option_uses (option_in value_of option)) ≡ []
 option_none known same (word, setting.Number at x) h =
-    let is : known.value (value_of x) ≡ x = ap (λ (f : Frac → Number). f (value_of x)) same ∙ value_there x (left (fits greatest_part x) _ h) in
+    let is : known.value (value_of x) ≡ x = ap (λ (f : Frac → Number). f (value_of x)) same ∙ value_there x (left (fits frac_limit x) _ h) in
     let over : errors_of known (option_uses (word, setting.Number at (value_of x))) ≡ errors_of (as_numbers known) (option_uses (word, setting.Number at (known.value (value_of x)))) = refl in
-    over ∙ ap (λ (y : Number). errors_of (as_numbers known) (option_uses (word, setting.Number at y))) is ∙ nil _ (right (fits greatest_part x) _ h)
+    over ∙ ap (λ (y : Number). errors_of (as_numbers known) (option_uses (word, setting.Number at y))) is ∙ nil _ (right (fits frac_limit x) _ h)
 option_none known same (word, setting.Name name) h =
     let over : errors_of known (option_uses (word, setting.Name name)) ≡ errors_of (as_numbers known) (option_uses (word, setting.Name name)) = refl in
     over ∙ nil _ h

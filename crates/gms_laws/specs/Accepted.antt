@@ -2,11 +2,10 @@
 -- the model is that of "A GAMS Tutorial by Richard E. Rosenthal").
 use Rattle.std.specs.Prelude.{◌≡◌, ℕ, ◌≤◌, List, []}
 use Rattle.gq_frac.specs.declared.frac.Frac.{Frac}
-use Rattle.gq_frac.specs.Frac.{frac_value}
+use Rattle.gq_frac.specs.Frac.{frac_value, frac_limit}
 use Rattle.gms_ast.specs.declared.program.Program.{Program}
 use Rattle.gms_parse.specs.Outcomes.{ProgramView, program_view, HasProgram}
 use Rattle.gms_check.specs.CompileErrors.{compile_errors}
-use Rattle.gms_save.specs.Saves.{greatest_part}
 use Rattle.gms_gen.specs.Generator.{generated_model_text}
 
 -- A source is accepted, where solvers of these names are lent: it has a program, and that program
@@ -14,7 +13,7 @@ use Rattle.gms_gen.specs.Generator.{generated_model_text}
 pub record IsAcceptedSource (solvers : List (List ℕ)) (source : List ℕ) : Type 0 where
   -- the view of the program
   pub view : ProgramView
-  pub has_program : HasProgram greatest_part source view
+  pub has_program : HasProgram frac_limit source view
   pub no_error : (program : Program Frac) → program_view frac_value program ≡ view → compile_errors frac_value program solvers ≡ []
 
 -- Each model that a command may request, of 1 to 30 plants and as many markets, is accepted,

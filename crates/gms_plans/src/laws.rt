@@ -1,7 +1,7 @@
 //! What the answers of whole runs say is true.
 ghost use Rattle.std.specs.Prelude.{◌≡◌, ◌++◌, ℕ, List, [], drop, length};
 ghost use Rattle.gq_frac.specs.declared.frac.Frac.{Frac};
-ghost use Rattle.gq_frac.specs.Frac.{frac_value};
+ghost use Rattle.gq_frac.specs.Frac.{frac_value, frac_limit};
 ghost use Rattle.gms_ast.specs.declared.program.Program.{Program};
 ghost use Rattle.gms_ast.specs.declared.program.Stmt.{Stmt};
 ghost use Rattle.gms_parse.specs.Outcomes.{IsProgram};
@@ -12,7 +12,7 @@ ghost use Rattle.gms_exec.specs.Run.{World};
 ghost use Rattle.gms_run_laws.specs.LastStates.{MayBegin};
 ghost use Rattle.gms_plans.specs.Moments.{AnswersAreSo, run_with_answers};
 ghost use Rattle.gms_save.specs.JointErrors.{joint_errors, resumed, saved_statements};
-ghost use Rattle.gms_save.specs.Saves.{IsSavedBy, greatest_part};
+ghost use Rattle.gms_save.specs.Saves.{IsSavedBy};
 ghost use Rattle.gms_joint_source.specs.Fronts.{first_line, joint_source};
 ghost use Rattle.lp_core.specs.declared.answer.Answer.{Answer};
 ghost use Rattle.lp_slot.specs.declared.solver.SolverRule.{SolverRule};
@@ -42,7 +42,7 @@ pub fn plan_laws<F: ExactField>()
         AreAnswered F.value F.limit rules answers (run_with_answers F.value F.limit world (loaded F.value world.program) world.program.statements.items answers).events →
         AnswersAreSo F.value F.limit world (loaded F.value world.program) world.program.statements.items answers }
     ensures restarted { (limit : ℕ) (source file : List ℕ) (saved : Program Frac) (world : World Frac) (state : State) (solver : List ℕ) (rules : List SolverRule) (answers : List (Answer Frac)) →
-        IsProgram greatest_part source frac_value saved → IsProgram greatest_part (joint_source source file) frac_value world.program →
+        IsProgram frac_limit source frac_value saved → IsProgram frac_limit (joint_source source file) frac_value world.program →
         joint_errors frac_value world.program (first_line source) world.solvers ≡ [] → IsSavedBy saved state solver →
         AreAnswered frac_value limit rules answers (run_with_answers frac_value limit world (resumed frac_value state world.program)
         (drop (length (saved_statements (first_line source) world.program)) world.program.statements.items) answers).events →

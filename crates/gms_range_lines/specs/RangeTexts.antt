@@ -21,6 +21,7 @@ use Rattle.lp_core.specs.Dictionary.{Dictionary}
 use Rattle.lp_range.specs.Spans.{Span}
 use Rattle.lp_range.specs.Moved.{itself}
 use Rattle.lp_range.specs.Ranges.{LeadTo, rights, costs}
+use Rattle.lp_core.specs.Steps.{asks_nothing}
 
 -- the line of a `right` side or a `cost`: its element, and from where to where it may move, or that
 -- this is not shown
@@ -32,11 +33,6 @@ span_line what element (Some span) = range_line what element (option_map exact_t
 abbrev pub span_at : List (Option Span) → ℕ → Option Span
 span_at spans place = slice_index_or spans place None
 
--- whether a row constrains nothing
-abbrev pub has_no_limits : Sense → Bool
-has_no_limits sense.N = true
-has_no_limits other = false
-
 -- With the names and the labels of a program:
 module _ (names labels : List (List ℕ)) where
   -- the text of an element
@@ -45,7 +41,7 @@ module _ (names labels : List (List ℕ)) where
 
   -- the line of the right side of a row; a row that constrains nothing has none
   abbrev pub right_line : Row Number → Option Span → List ℕ
-  right_line row span = if has_no_limits row.sense then [] else span_line (codes "right") (range_key_text row.key) span
+  right_line row span = if asks_nothing row.sense then [] else span_line (codes "right") (range_key_text row.key) span
 
   -- the line of the cost of a column
   abbrev pub cost_line : Column Number → Option Span → List ℕ

@@ -3,7 +3,7 @@ use Rattle.std.proofs.Common.{◌≡◌, ℕ, ◌≤◌, true, List, [], ◌++�
 use Rattle.std.specs.Prelude.{filter, flat_map}
 use Rattle.gq_number.specs.Number.{Number}
 use Rattle.gq_frac.specs.declared.frac.Frac.{Frac}
-use Rattle.gq_frac.specs.Frac.{frac_value}
+use Rattle.gq_frac.specs.Frac.{frac_value, frac_limit}
 use Rattle.gms_ast.specs.declared.program.Program.{Program}
 use Rattle.gms_ast.specs.declared.program.Stmt.{Stmt}
 use Rattle.gms_ast.specs.StatementView.{statements_view}
@@ -15,7 +15,7 @@ use Rattle.gms_run_laws.specs.LastStates.{MayBegin}
 use Rattle.gms_joint_source.proofs.FrontPrograms.{labels_go_on, names_go_on}
 use Rattle.gms_run_laws.proofs.Begins.{begins-with}
 use Rattle.gms_save.specs.JointErrors.{is_saved, joint_errors, resumed, saved_statements}
-use Rattle.gms_save.specs.Saves.{IsSavedBy, greatest_part, solvers_chosen}
+use Rattle.gms_save.specs.Saves.{IsSavedBy, solvers_chosen}
 use Rattle.gms_save.proofs.Joints.{accepted}
 use Rattle.gms_save.proofs.SeenActs.{assigned_of}
 use Rattle.gms_save.proofs.SeenPrograms.{Seen, assigned-are, seen}
@@ -101,7 +101,7 @@ module _ (most : ℕ) (source file : List ℕ) (saved : Program Frac) (world : W
   -- the state that is resumed keeps what the joint program begins with
   pub resumed-kept : (state : State) (solver : List ℕ) → IsSavedBy saved state solver → Kept (length whole.labels) (loaded frac_value whole) (among frac_value whole whole-accepted) (resumed frac_value state whole)
   resumed-kept state solver is =
-      later-kept frac_value whole saved parts.firsts parts.others whole-accepted accepts writes-its goes-on state greatest_part solver is.is_saved
+      later-kept frac_value whole saved parts.firsts parts.others whole-accepted accepts writes-its goes-on state frac_limit solver is.is_saved
 
   -- and so does the last one
   pub state-kept : (limit : ℕ) (state : State) (solver : List ℕ) → IsSavedBy saved state solver → (answers : List (Answer Number)) → Kept (length whole.labels) (loaded frac_value whole) (among frac_value whole whole-accepted) (later_state frac_value limit from world state answers)
@@ -110,18 +110,18 @@ module _ (most : ℕ) (source file : List ℕ) (saved : Program Frac) (world : W
       (resumed-kept state solver is) answers
 
 -- A run may begin in the state that is resumed.
-pub resumed-begins : (source file : List ℕ) (saved : Program Frac) (world : World Frac) (state : State) (solver : List ℕ) → IsProgram greatest_part source frac_value saved → IsProgram greatest_part (joint_source source file) frac_value world.program →
+pub resumed-begins : (source file : List ℕ) (saved : Program Frac) (world : World Frac) (state : State) (solver : List ℕ) → IsProgram frac_limit source frac_value saved → IsProgram frac_limit (joint_source source file) frac_value world.program →
     joint_errors frac_value world.program (first_line source) world.solvers ≡ [] → IsSavedBy saved state solver → MayBegin frac_value world.program (resumed frac_value state world.program)
 resumed-begins source file saved world state solver p q none is =
-    (resumed-kept greatest_part source file saved world p q (solvers_chosen saved, is.no_error) none state solver is).lasts.later
+    (resumed-kept frac_limit source file saved world p q (solvers_chosen saved, is.no_error) none state solver is).lasts.later
 
-pub later-saved : (limit : ℕ) (source file : List ℕ) (saved : Program Frac) (world : World Frac) (state : State) (solver named : List ℕ) (answers : List (Answer Number)) → IsProgram greatest_part source frac_value saved → IsProgram greatest_part (joint_source source file) frac_value world.program →
-    joint_errors frac_value world.program (first_line source) world.solvers ≡ [] → IsSavedBy saved state solver → ((name : ℕ) (t : List ℕ) → fits_at greatest_part (symbol_at (later_state frac_value limit (first_line source) world state answers) name).content t ≡ true) → is_solver_name named ≡ true →
+pub later-saved : (limit : ℕ) (source file : List ℕ) (saved : Program Frac) (world : World Frac) (state : State) (solver named : List ℕ) (answers : List (Answer Number)) → IsProgram frac_limit source frac_value saved → IsProgram frac_limit (joint_source source file) frac_value world.program →
+    joint_errors frac_value world.program (first_line source) world.solvers ≡ [] → IsSavedBy saved state solver → ((name : ℕ) (t : List ℕ) → fits_at frac_limit (symbol_at (later_state frac_value limit (first_line source) world state answers) name).content t ≡ true) → is_solver_name named ≡ true →
     IsSavedBy world.program (later_state frac_value limit (first_line source) world state answers) named
 later-saved limit source file saved world state solver named answers p q none is fit name =
     let accepts : IsAccepted frac_value saved = (solvers_chosen saved, is.no_error) in
-    let both : IsAccepted frac_value world.program = whole-accepted greatest_part source file saved world p q accepts none in
+    let both : IsAccepted frac_value world.program = whole-accepted frac_limit source file saved world p q accepts none in
     record {
       no_error = no-error-chosen world.program both.0 both.1;
-      is_saved = kept-saved frac_value world.program both (later_state frac_value limit (first_line source) world state answers) (state-kept greatest_part source file saved world p q accepts none limit state solver is answers) greatest_part named fit name;
+      is_saved = kept-saved frac_value world.program both (later_state frac_value limit (first_line source) world state answers) (state-kept frac_limit source file saved world p q accepts none limit state solver is answers) frac_limit named fit name;
     }

@@ -2,7 +2,7 @@
 ghost use Rattle.std.specs.Prelude.{◌≡◌, ◌++◌, ℕ, true, List, [], None, Option, Ok, All, length, option_map};
 ghost use Rattle.gq_number.specs.Number.{Number};
 ghost use Rattle.gq_frac.specs.declared.frac.Frac.{Frac};
-ghost use Rattle.gq_frac.specs.Frac.{frac_value};
+ghost use Rattle.gq_frac.specs.Frac.{frac_value, frac_limit};
 ghost use Rattle.gms_labels.specs.declared.place.Place.{Place};
 ghost use Rattle.gms_ast.specs.declared.expression.Expr.{Expr};
 ghost use Rattle.gms_ast.specs.declared.program.Act.TheVariants.{Assign};
@@ -25,7 +25,7 @@ ghost use Rattle.gms_exec.specs.Run.{World};
 ghost use Rattle.gms_run_laws.specs.Reached.{IsReached, IsStatementOf};
 ghost use Rattle.gms_run_laws.specs.LastStates.{MayBegin};
 ghost use Rattle.gms_save.specs.JointErrors.{joint_errors, resumed};
-ghost use Rattle.gms_save.specs.Saves.{IsSavedBy, greatest_part};
+ghost use Rattle.gms_save.specs.Saves.{IsSavedBy};
 ghost use Rattle.gms_joint_source.specs.Fronts.{first_line, joint_source};
 ghost use Rattle.gms_save_text.specs.Validity.{IsSavedOf, is_solver_name, stands_in};
 ghost use Rattle.gms_restart.specs.Alike.{IsAlike};
@@ -43,7 +43,7 @@ use gq_field::ExactField;
 /// "Save and Restart", "Set Definition").
 pub fn fits_laws()
     ensures fits { (saved file : List ℕ) (first whole : Program Frac) (state : State) (solver : List ℕ) →
-        IsProgram greatest_part saved frac_value first → IsProgram greatest_part (joint_source saved file) frac_value whole →
+        IsProgram frac_limit saved frac_value first → IsProgram frac_limit (joint_source saved file) frac_value whole →
         IsSavedBy first state solver → (name : ℕ) → IsAlike (resumed frac_value state whole) (declared_state whole) name }
 {}
 
@@ -92,18 +92,18 @@ pub fn valid_laws<F: ExactField>()
         IsSavedOf most (length world.program.labels) (declared_state world.program) (loaded F.value world.program) (is_among (dynamic_sets world.program))
         (last_state F.value F.limit world answers) solver }
     ensures own { (limit : ℕ) (source : List ℕ) (program : Program Frac) → IsProgram limit source frac_value program → WritesItsLabels frac_value program }
-    ensures last { (limit : ℕ) (source : List ℕ) (world : World Frac) (answers : List (Answer Number)) (solver : List ℕ) → IsProgram greatest_part source frac_value world.program →
+    ensures last { (limit : ℕ) (source : List ℕ) (world : World Frac) (answers : List (Answer Number)) (solver : List ℕ) → IsProgram frac_limit source frac_value world.program →
         compile_errors frac_value world.program world.solvers ≡ [] →
-        NumbersFit greatest_part (last_state frac_value limit world answers) → is_solver_name solver ≡ true →
+        NumbersFit frac_limit (last_state frac_value limit world answers) → is_solver_name solver ≡ true →
         IsSavedBy world.program (last_state frac_value limit world answers) solver }
     ensures begins { (source file : List ℕ) (saved : Program Frac) (world : World Frac) (state : State) (solver : List ℕ) →
-        IsProgram greatest_part source frac_value saved → IsProgram greatest_part (joint_source source file) frac_value world.program →
+        IsProgram frac_limit source frac_value saved → IsProgram frac_limit (joint_source source file) frac_value world.program →
         joint_errors frac_value world.program (first_line source) world.solvers ≡ [] → IsSavedBy saved state solver →
         MayBegin frac_value world.program (resumed frac_value state world.program) }
     ensures later { (limit : ℕ) (source file : List ℕ) (saved : Program Frac) (world : World Frac) (state : State) (solver named : List ℕ) (answers : List (Answer Number)) →
-        IsProgram greatest_part source frac_value saved → IsProgram greatest_part (joint_source source file) frac_value world.program →
+        IsProgram frac_limit source frac_value saved → IsProgram frac_limit (joint_source source file) frac_value world.program →
         joint_errors frac_value world.program (first_line source) world.solvers ≡ [] → IsSavedBy saved state solver →
-        NumbersFit greatest_part (later_state frac_value limit (first_line source) world state answers) → is_solver_name named ≡ true →
+        NumbersFit frac_limit (later_state frac_value limit (first_line source) world state answers) → is_solver_name named ≡ true →
         IsSavedBy world.program (later_state frac_value limit (first_line source) world state answers) named }
 {}
 

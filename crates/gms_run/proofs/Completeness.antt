@@ -3,7 +3,7 @@ use Rattle.std.proofs.Common.{◌≡◌, ℕ, ◌≤◌, true, List, length, Res
 use Rattle.std.specs.FinMap as files_map
 use Rattle.std.specs.Prelude.{◌↔◌}
 use Rattle.gms_host.specs.Meaning.{Meaning, Files, Outside, Rose}
-use Rattle.gq_frac.specs.Frac.{frac_value}
+use Rattle.gq_frac.specs.Frac.{frac_value, frac_limit}
 use Rattle.gms_run.specs.declared.status.Status.{Status}
 use Rattle.gms_run.specs.declared.status.Status.TheVariants.{Done, Usage, Compile, Execution, ReadFault, WriteFault}
 use Rattle.gms_host.specs.Rules.{IsThere}
@@ -19,7 +19,7 @@ use Rattle.gq_frac.specs.declared.frac.Frac.{Frac}
 use Rattle.gms_ast.specs.declared.program.Program.{Program}
 use Rattle.gms_store.specs.State.{State}
 use Rattle.gms_command.specs.CommandLine.{Asked, Origin, in_file, restarted, generated, request_of}
-use Rattle.gms_run.specs.Solving.{Solving, number_limit}
+use Rattle.gms_run.specs.Solving.{Solving}
 use Rattle.gms_run.specs.Jobs.{Job}
 use Rattle.gms_run.specs.Scripts.{Script, joint_script, Matter, scripted, unrestored, Taken, from_start, from_save, IsMatter, IsUnrestored, errors_of_script}
 use Rattle.gms_run.specs.Listings.{IsAcceptedScript, IsExecuted, IsJob, ShowsWhy}
@@ -88,9 +88,9 @@ same_errors_of (Some state) line solvers one other alike = same-joint-errors one
 
 -- A good script is not refused.
 good_script : (solvers : List (List ℕ)) (script : Script) (text : List ℕ) → IsGood solvers script → ShowsWhy solvers (scripted script) text → ⊥
-good_script solvers script text good (inl refusal) = program_or_fault number_limit script.source good.view refusal.fault good.has_program refusal.refused
+good_script solvers script text good (inl refusal) = program_or_fault frac_limit script.source good.view refusal.fault good.has_program refusal.refused
 good_script solvers script text good (inr errors) =
-    errors.some (good.no_error errors.program (one_program number_limit script.source (program_view frac_value errors.program) good.view errors.is_program good.has_program))
+    errors.some (good.no_error errors.program (one_program frac_limit script.source (program_view frac_value errors.program) good.view errors.is_program good.has_program))
 
 -- The source of an accepted program is good.
 accepted_good : (solvers : List (List ℕ)) (script : Script) (program : Program Frac) → IsAcceptedScript solvers script program → IsGood solvers script

@@ -6,7 +6,7 @@ use Rattle.std.proofs.lemmas.Grind.{flat_map-append}
 use Rattle.std.proofs.lemmas.List.Elements.{All-weaker}
 use Rattle.gq_number.specs.Number.{Number}
 use Rattle.gq_frac.specs.declared.frac.Frac.{Frac}
-use Rattle.gq_frac.specs.Frac.{frac_value}
+use Rattle.gq_frac.specs.Frac.{frac_value, frac_limit}
 use Rattle.gms_ast.specs.declared.program.Program.{Program}
 use Rattle.gms_eval.specs.declared.stop.ExecStopOrMemory.{ExecStopOrMemory}
 use Rattle.gms_eval.specs.declared.stop.ExecStopOrMemory.TheVariants.{Fault as Stop}
@@ -24,19 +24,19 @@ use Rattle.gms_exec.specs.Stepping.{Runs, RunView, come_to}
 use Rattle.gms_exec.proofs.Behind.{behind}
 use Rattle.gms_list.specs.Conditions.{IsListable}
 use Rattle.gms_list.specs.ListingText.{event_text, events_text}
-use Rattle.gms_run.specs.Solving.{HaveGrown, number_limit}
+use Rattle.gms_run.specs.Solving.{HaveGrown}
 use Rattle.gms_run.proofs.Proved.{listable}
 use Rattle.gms_run.specs.InnerSteps.{Between, IsListed, course_at, programs_in}
 
 -- all events are valid, where none were shown before
-pub all_stand : (rules : List SolverRule) (answers : List (Answer Frac)) (before events : List (OwnEvent Frac)) → before ≡ [] → ShowsStanding frac_value number_limit rules answers before events → All (IsStanding frac_value number_limit rules answers) events
+pub all_stand : (rules : List SolverRule) (answers : List (Answer Frac)) (before events : List (OwnEvent Frac)) → before ≡ [] → ShowsStanding frac_value frac_limit rules answers before events → All (IsStanding frac_value frac_limit rules answers) events
 all_stand rules answers before events none shows =
-    subst (All (IsStanding frac_value number_limit rules answers)) (sym (shows.events ∙ ap (λ es. es ++ shows.shown) none)) shows.standing
+    subst (All (IsStanding frac_value frac_limit rules answers)) (sym (shows.events ∙ ap (λ es. es ++ shows.shown) none)) shows.standing
 
 -- valid events can be listed
-pub all_listable : (rules : List SolverRule) (answers : List (Answer Frac)) (events : List (OwnEvent Frac)) → All (IsStanding frac_value number_limit rules answers) events → All (IsListable frac_value answers) events
+pub all_listable : (rules : List SolverRule) (answers : List (Answer Frac)) (events : List (OwnEvent Frac)) → All (IsStanding frac_value frac_limit rules answers) events → All (IsListable frac_value answers) events
 all_listable rules answers events are =
-    All-weaker (IsStanding frac_value number_limit rules answers) (IsListable frac_value answers) (listable frac_value number_limit rules answers) events are
+    All-weaker (IsStanding frac_value frac_limit rules answers) (IsListable frac_value answers) (listable frac_value frac_limit rules answers) events are
 
 module _ (program : Program Frac) (rules : List SolverRule) (does : Course → Course) (old new : Between) (events : List (OwnEvent Frac)) (is_behind : (front : List Event) (c : Course) → does (behind front c) ≡ behind front (does c)) where
   abbrev numbers : List (Answer Number)
@@ -56,8 +56,8 @@ module _ (program : Program Frac) (rules : List SolverRule) (does : Course → C
   behind_front front left = ap (λ es. does (course_at old es left None)) (sym (append-nil front)) ∙ is_behind front (come_to frac_value seen_old left)
 
   -- After a statement without a fault the run continues.
-  pub listed_on : {A : Type 0} (x : A) (none : List (OwnEvent Frac)) (before after : List ℕ) → none ≡ [] → Runs frac_value (let r : Result A (ExecStopOrMemory Frac) = Ok x in r) does (seen_before none) seen_new → All (IsStanding frac_value number_limit rules new.answers) events → HaveGrown old.solvers new.solvers new.answers (events_in frac_value events) → new.programs ≡ old.programs ++ programs_in events →
-      after ≡ before ++ events_text program.names program.labels number_limit numbers (events_in frac_value events) → IsListed true does program rules old new before after
+  pub listed_on : {A : Type 0} (x : A) (none : List (OwnEvent Frac)) (before after : List ℕ) → none ≡ [] → Runs frac_value (let r : Result A (ExecStopOrMemory Frac) = Ok x in r) does (seen_before none) seen_new → All (IsStanding frac_value frac_limit rules new.answers) events → HaveGrown old.solvers new.solvers new.answers (events_in frac_value events) → new.programs ≡ old.programs ++ programs_in events →
+      after ≡ before ++ events_text program.names program.labels frac_limit numbers (events_in frac_value events) → IsListed true does program rules old new before after
   listed_on {A} x none before after e given standing grown programs text =
       let runs : Runs frac_value (let r : Result A (ExecStopOrMemory Frac) = Ok x in r) does seen_old seen_new = subst (λ es. Runs frac_value (let r : Result A (ExecStopOrMemory Frac) = Ok x in r) does (seen_before es) seen_new) e given in
       record {
@@ -70,18 +70,18 @@ module _ (program : Program Frac) (rules : List SolverRule) (does : Course → C
         standing = standing;
         grown = grown;
         comes = λ front more. behind_front front (map (answer_numbers frac_value) runs.fresh ++ more) ∙ ap (behind front) (runs.comes more);
-        text = text ∙ ap (λ es. before ++ events_text program.names program.labels number_limit numbers es) (sym (append-nil (events_in frac_value events)));
+        text = text ∙ ap (λ es. before ++ events_text program.names program.labels frac_limit numbers es) (sym (append-nil (events_in frac_value events)));
       }
 
   -- A statement that a stop ended is listed with its fault.
-  pub listed_stop : {A : Type 0} (stop : Box (ExecStop Frac) Global) (none : List (OwnEvent Frac)) (before middle after : List ℕ) → none ≡ [] → Runs frac_value (let r : Result A (ExecStopOrMemory Frac) = Err (Stop stop) in r) does (seen_before none) seen_new → All (IsStanding frac_value number_limit rules new.answers) events → HaveGrown old.solvers new.solvers new.answers (events_in frac_value events) → new.programs ≡ old.programs ++ programs_in events →
-      middle ≡ before ++ events_text program.names program.labels number_limit numbers (events_in frac_value events) →
-      after ≡ middle ++ event_text program.names program.labels number_limit numbers (stops (fault_of frac_value stop)) → IsListed false does program rules old new before after
+  pub listed_stop : {A : Type 0} (stop : Box (ExecStop Frac) Global) (none : List (OwnEvent Frac)) (before middle after : List ℕ) → none ≡ [] → Runs frac_value (let r : Result A (ExecStopOrMemory Frac) = Err (Stop stop) in r) does (seen_before none) seen_new → All (IsStanding frac_value frac_limit rules new.answers) events → HaveGrown old.solvers new.solvers new.answers (events_in frac_value events) → new.programs ≡ old.programs ++ programs_in events →
+      middle ≡ before ++ events_text program.names program.labels frac_limit numbers (events_in frac_value events) →
+      after ≡ middle ++ event_text program.names program.labels frac_limit numbers (stops (fault_of frac_value stop)) → IsListed false does program rules old new before after
   listed_stop {A} stop none before middle after e given standing grown programs text more =
       let runs : Runs frac_value (let r : Result A (ExecStopOrMemory Frac) = Err (Stop stop) in r) does seen_old seen_new = subst (λ es. Runs frac_value (let r : Result A (ExecStopOrMemory Frac) = Err (Stop stop) in r) does (seen_before es) seen_new) e given in
       let fault = fault_of frac_value stop in
-      let one : List Event → List ℕ = events_text program.names program.labels number_limit numbers in
-      let last : List ℕ = event_text program.names program.labels number_limit numbers (stops fault) in
+      let one : List Event → List ℕ = events_text program.names program.labels frac_limit numbers in
+      let last : List ℕ = event_text program.names program.labels frac_limit numbers (stops fault) in
       record {
         shown = events;
         fault = Some fault;
@@ -93,5 +93,5 @@ module _ (program : Program Frac) (rules : List SolverRule) (does : Course → C
         grown = grown;
         comes = λ front left. behind_front front (map (answer_numbers frac_value) runs.fresh ++ left) ∙ ap (behind front) (runs.comes left);
         text = more ∙ ap (λ t. t ++ last) text ∙ append_assoc before (one (events_in frac_value events)) last
-            ∙ ap (λ t. before ++ t) (ap (λ t. one (events_in frac_value events) ++ t) (sym (append-nil last)) ∙ sym (flat_map-append (event_text program.names program.labels number_limit numbers) (events_in frac_value events) (stops fault ∷ [])));
+            ∙ ap (λ t. before ++ t) (ap (λ t. one (events_in frac_value events) ++ t) (sym (append-nil last)) ∙ sym (flat_map-append (event_text program.names program.labels frac_limit numbers) (events_in frac_value events) (stops fault ∷ [])));
       }

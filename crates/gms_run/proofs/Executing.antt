@@ -2,7 +2,7 @@
 use Rattle.std.proofs.Common.{◌≡◌, ℕ, ◌+◌, ◌<◌, ◌≤◌, Bool, true, false, List, [], ◌∷◌, ◌++◌, length, map, take, get_or, refl, sym, ap, ◌∙◌, subst, append_assoc, append-nil, inl, inr, arith, length-append}
 use Rattle.std.proofs.lemmas.List.{take-map, take_more, map_push, length-map}
 use Rattle.gq_frac.specs.declared.frac.Frac.{Frac}
-use Rattle.gq_frac.specs.Frac.{frac_value}
+use Rattle.gq_frac.specs.Frac.{frac_value, frac_limit}
 use Rattle.gms_ast.specs.declared.program.Program.{Program}
 use Rattle.gms_ast.specs.declared.program.Stmt.{Stmt}
 use Rattle.gms_store.specs.State.{State}
@@ -18,7 +18,7 @@ use Rattle.gms_exec.specs.Run.{Course, one_after_another, of_statement, while_it
 use Rattle.gms_list.specs.ListingText.{echo_text}
 use Rattle.gms_run.specs.declared.status.Status.{Status}
 use Rattle.gms_run.specs.declared.status.Status.TheVariants.{Done, Execution}
-use Rattle.gms_run.specs.Solving.{Solvers, Solving, number_limit}
+use Rattle.gms_run.specs.Solving.{Solvers, Solving}
 use Rattle.gms_run.specs.Jobs.{IsCutOff, IsRunSolved, Job, body_of, first_of, shown_by}
 use Rattle.gms_run.specs.declared.execution.Run.{Run}
 use Rattle.gms_run.specs.InnerRuns.{ListsStatement, between, pending}
@@ -61,10 +61,10 @@ module _ (job : Job) (before : Solvers) where
 
   -- What a statement did for solvers of the same names and rules.
   listed_for : (names_now : List (List ℕ)) (rules_now : List SolverRule) (goes_on : Bool) (s : Stmt Frac) (now next : Between) (x y : List ℕ) → names_now ≡ before.names → rules_now ≡ before.rules →
-      IsListed goes_on (of_statement frac_value number_limit (record { program = job.program; solvers = names_now }) s []) job.program rules_now now next x y → IsListed goes_on (statement_of job before s []) job.program before.rules now next x y
+      IsListed goes_on (of_statement frac_value frac_limit (record { program = job.program; solvers = names_now }) s []) job.program rules_now now next x y → IsListed goes_on (statement_of job before s []) job.program before.rules now next x y
   listed_for names_now rules_now goes_on s now next x y same_names same_rules p =
       subst (λ rs. IsListed goes_on (statement_of job before s []) job.program rs now next x y) same_rules
-      (subst (λ ns. IsListed goes_on (of_statement frac_value number_limit (record { program = job.program; solvers = ns }) s []) job.program rules_now now next x y) same_names p)
+      (subst (λ ns. IsListed goes_on (of_statement frac_value frac_limit (record { program = job.program; solvers = ns }) s []) job.program rules_now now next x y) same_names p)
 
 -- at most one spool is pending, where the rest is empty
 pub room_behind : (spool rest : List ℕ) → length spool ≤ 4096 → rest ≡ [] → length (spool ++ rest) ≤ 4096
@@ -105,7 +105,7 @@ module _ (job : Job) (before : Solvers) (old : Outside) (due : List ℕ) where
       omega (arith, e, length-append bytes left, few)
 
   pub executes_more : (mid : Outside) (goes_on : Bool) (i : ℕ) (s : Stmt Frac) (now next : Between) (spool x y : List ℕ) → Come mid i now (spool ++ x) → length (spool ++ x) ≤ 4096 → i < length job.statements → s ≡ get_or job.statements i s →
-      IsListed goes_on (of_statement frac_value number_limit (record { program = job.program; solvers = now.solvers.names }) s []) job.program now.solvers.rules now next x y → Executes mid goes_on i next (spool ++ y)
+      IsListed goes_on (of_statement frac_value frac_limit (record { program = job.program; solvers = now.solvers.names }) s []) job.program now.solvers.rules now next x y → Executes mid goes_on i next (spool ++ y)
   executes_more mid goes_on i s now next spool x y h few l is q =
       let p = listed_for job before now.solvers.names now.solvers.rules goes_on s now next x y h.done.grown.names h.done.grown.rules q in
       let own = alone goes_on (statement_of job before s []) job.program before.rules now next x y p in
@@ -127,7 +127,7 @@ module _ (job : Job) (before : Solvers) (old : Outside) (due : List ℕ) where
 
   -- the same of the statement at a place of a list
   pub executes_next : (mid : Outside) (goes_on : Bool) (i : ℕ) (s : Stmt Frac) (now next : Between) (spool x y : List ℕ) (xs : List (Stmt Frac)) → Come mid i now (spool ++ x) → length (spool ++ x) ≤ 4096 → xs ≡ job.statements → i < length xs → s ≡ get_or xs i s →
-      IsListed goes_on (of_statement frac_value number_limit (record { program = job.program; solvers = now.solvers.names }) s []) job.program now.solvers.rules now next x y → Executes mid goes_on i next (spool ++ y)
+      IsListed goes_on (of_statement frac_value frac_limit (record { program = job.program; solvers = now.solvers.names }) s []) job.program now.solvers.rules now next x y → Executes mid goes_on i next (spool ++ y)
   executes_next mid goes_on i s now next spool x y xs h few same l is p =
       executes_more mid goes_on i s now next spool x y h few (subst (λ ys. i < length ys) same l) (is ∙ ap (λ ys. get_or ys i s) same) p
 

@@ -1,7 +1,7 @@
 -- What a run did for a FILE alone, by the page that begins with its source.
 use Rattle.std.proofs.Common.{◌≡◌, ℕ, List, [], ◌++◌, length, Option, Some, None, inl, inr, refl, sym, ap, ap₂, ◌∙◌, subst}
 use Rattle.std.proofs.lemmas.List.{length-map}
-use Rattle.gq_frac.specs.Frac.{frac_value}
+use Rattle.gq_frac.specs.Frac.{frac_value, frac_limit}
 use Rattle.gms_host.specs.Meaning.{Meaning, Outside}
 use Rattle.gms_host.specs.Rules.{with_said}
 use Rattle.gms_exec.specs.Run.{Halt}
@@ -12,7 +12,7 @@ use Rattle.gms_run.specs.declared.status.Status.{Status}
 use Rattle.gms_run.specs.declared.status.Status.TheVariants.{Done, Usage, Compile, Execution, ReadFault, WriteFault}
 use Rattle.gms_exec.specs.Answering.{AreAnswered}
 use Rattle.gms_parse.specs.Outcomes.{IsProgram}
-use Rattle.gms_run.specs.Solving.{Solving, number_limit, numbers_of}
+use Rattle.gms_run.specs.Solving.{Solving, numbers_of}
 use Rattle.gms_run.specs.Scripts.{Script, Matter, Taken, from_start, from_save, scripted, unrestored, script_of, IsMatter, errors_of_script}
 use Rattle.gms_run.specs.Laws.{RunIsAnsweredRightly}
 use Rattle.gms_run.specs.Jobs.{HasRightAnswers, job_of, course_of, job_text, body_of, last_line, HaltsSo, status_code}
@@ -48,10 +48,10 @@ module _ (solving : Solving) (source : List ℕ) (text : List ℕ) where
       let count : length solving.answers ≡ length (numbers_of solving.answers) = sym (length-map solving.answers (answer_numbers frac_value)) in
       record {
         program = run.job.program;
-        is_program = subst (λ (s : Script). IsProgram number_limit s.source frac_value run.job.program) same run.is_job.accepted.is_program;
+        is_program = subst (λ (s : Script). IsProgram frac_limit s.source frac_value run.job.program) same run.is_job.accepted.is_program;
         no_error = subst (λ (s : Script). errors_of_script s.saved s.line run.job.program solving.before.names ≡ []) same run.is_job.accepted.no_error;
         all_taken = subst (λ j. (course_of j solving).left ≡ []) is run.solved.all_taken;
-        answered = subst (λ j. AreAnswered frac_value number_limit solving.before.rules solving.answers (course_of j solving).events) is run.solved.answered;
+        answered = subst (λ j. AreAnswered frac_value frac_limit solving.before.rules solving.answers (course_of j solving).events) is run.solved.answered;
         says_so = subst (λ j. HasRightAnswers j solving) is (right (from_start source) (scripted (script_of source)) text refl run);
         ends = ends;
         listing = run.listing ∙ ap (λ j. job_text j solving) is

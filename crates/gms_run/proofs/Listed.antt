@@ -9,7 +9,7 @@ use Rattle.std.proofs.lemmas.Grind.{flat_map-append}
 use Rattle.std.proofs.lemmas.Option.{slice_get-map}
 use Rattle.gq_number.specs.Number.{Number}
 use Rattle.gq_frac.specs.declared.frac.Frac.{Frac}
-use Rattle.gq_frac.specs.Frac.{frac_value}
+use Rattle.gq_frac.specs.Frac.{frac_value, frac_limit}
 use Rattle.gms_ast.specs.declared.program.Program.{Program}
 use Rattle.gms_event.specs.declared.event.Event.{Event as OwnEvent}
 use Rattle.gms_event.specs.declared.event.Event.TheVariants as event
@@ -23,14 +23,14 @@ use Rattle.gms_exec.specs.Standing.{IsStanding}
 use Rattle.gms_exec.proofs.Standing.{answered_by_standing}
 use Rattle.gms_list.specs.ListingText.{event_text, events_text}
 use Rattle.gms_list.specs.SolveText.{solve_text}
-use Rattle.gms_run.specs.Solving.{HaveGrown, number_limit}
+use Rattle.gms_run.specs.Solving.{HaveGrown}
 use Rattle.gms_run.specs.InnerSteps.{Between, IsListed, course_at, programs_in}
 use Rattle.gms_run.proofs.Kept.{programs-append}
 use Rattle.gms_run.proofs.Paths.{grown_none, grown_more, stands-more}
 
 module _ (rules : List SolverRule) where
   abbrev Stands : List (Answer Frac) → OwnEvent Frac → Type 0
-  Stands answers e = IsStanding frac_value number_limit rules answers e
+  Stands answers e = IsStanding frac_value frac_limit rules answers e
 
   -- an event that is valid with some answers is valid with more
   standing-more : (answers more : List (Answer Frac)) (e : OwnEvent Frac) → Stands answers e → Stands (answers ++ more) e
@@ -54,10 +54,10 @@ module _ (rules : List SolverRule) where
 
   module _ (names labels : List (List ℕ)) where
     abbrev texts : List (Answer Frac) → List Event → List ℕ
-    texts answers es = events_text names labels number_limit (map (answer_numbers frac_value) answers) es
+    texts answers es = events_text names labels frac_limit (map (answer_numbers frac_value) answers) es
 
     abbrev one_text : List (Answer Frac) → Event → List ℕ
-    one_text answers e = event_text names labels number_limit (map (answer_numbers frac_value) answers) e
+    one_text answers e = event_text names labels frac_limit (map (answer_numbers frac_value) answers) e
 
     -- an event has the same text where more answers were given
     text-more : (answers more : List (Answer Frac)) (e : OwnEvent Frac) → Stands answers e → one_text (answers ++ more) (event_in frac_value e) ≡ one_text answers (event_in frac_value e)
@@ -69,7 +69,7 @@ module _ (rules : List SolverRule) where
         let old : slice_get (map (answer_numbers frac_value) answers) answer ≡ Some given = slice_get-map (answer_numbers frac_value) answers answer ∙ ap (option_map (answer_numbers frac_value)) is.stands in
         let new : slice_get (map (answer_numbers frac_value) (answers ++ more)) answer ≡ Some given = slice_get-map (answer_numbers frac_value) (answers ++ more) answer ∙ ap (option_map (answer_numbers frac_value)) (stands-more answers more answer is.given is.stands) in
         let solved : Solved = record { line = line; model = model; equations = equations; lp = lp_numbers frac_value lp; answer = answer; solver = solver; settings = settings; objective_level = frac_value level } in
-        ap (λ o. flat_map (solve_text names labels number_limit solved) (option_to_list o)) (new ∙ sym old)
+        ap (λ o. flat_map (solve_text names labels frac_limit solved) (option_to_list o)) (new ∙ sym old)
 
     pub texts-more : (answers more : List (Answer Frac)) (es : List (OwnEvent Frac)) → All (Stands answers) es → texts (answers ++ more) (events_in frac_value es) ≡ texts answers (events_in frac_value es)
     texts-more answers more [] is = refl
@@ -86,7 +86,7 @@ listed_none program rules now text =
       fresh = [];
       answers = sym (append-nil now.answers);
       programs = sym (append-nil now.programs);
-      standing = All-nil (IsStanding frac_value number_limit rules now.answers);
+      standing = All-nil (IsStanding frac_value frac_limit rules now.answers);
       grown = grown_none now.solvers now.answers;
       comes = λ events more. ap (λ es. course_at now es more None) (sym (append-nil events));
       text = sym (append-nil text);
@@ -105,7 +105,7 @@ listed_more program rules goes_on first next a b c x y z p q =
       programs =
           q.programs ∙ ap (λ kept. kept ++ programs_in q.shown) p.programs ∙ append_assoc a.programs (programs_in p.shown) (programs_in q.shown)
           ∙ ap (λ kept. a.programs ++ kept) (sym (programs-append p.shown q.shown));
-      standing = All-append (IsStanding frac_value number_limit rules c.answers) p.shown q.shown (subst (λ given. All (IsStanding frac_value number_limit rules given) p.shown) (sym q.answers) (all_standing-more rules b.answers q.fresh p.shown p.standing)) q.standing;
+      standing = All-append (IsStanding frac_value frac_limit rules c.answers) p.shown q.shown (subst (λ given. All (IsStanding frac_value frac_limit rules given) p.shown) (sym q.answers) (all_standing-more rules b.answers q.fresh p.shown p.standing)) q.standing;
       grown = grown;
       comes = comes;
       text = q.text ∙ ap (λ t. t ++ last) before ∙ append_assoc x (texts_of c.answers p.shown) last ∙ ap (λ t. x ++ t) joined;
@@ -115,13 +115,13 @@ listed_more program rules goes_on first next a b c x y z p q =
     numbers answers = map (answer_numbers frac_value) answers
 
     texts_of : List (Answer Frac) → List (OwnEvent Frac) → List ℕ
-    texts_of answers es = events_text program.names program.labels number_limit (numbers answers) (events_in frac_value es)
+    texts_of answers es = events_text program.names program.labels frac_limit (numbers answers) (events_in frac_value es)
 
     stop : List Event
     stop = last_event (option_map stopped q.fault)
 
     last : List ℕ
-    last = events_text program.names program.labels number_limit (numbers c.answers) (events_in frac_value q.shown ++ stop)
+    last = events_text program.names program.labels frac_limit (numbers c.answers) (events_in frac_value q.shown ++ stop)
 
     -- nothing stopped what came first
     going : p.fault ≡ None
@@ -134,18 +134,18 @@ listed_more program rules goes_on first next a b c x y z p q =
     same = ap (λ given. texts_of given p.shown) q.answers ∙ texts-more rules program.names program.labels b.answers q.fresh p.shown p.standing
 
     before : y ≡ x ++ texts_of c.answers p.shown
-    before = p.text ∙ ap (λ es. x ++ events_text program.names program.labels number_limit (numbers b.answers) es) ends_so ∙ ap (λ t. x ++ t) (sym same)
+    before = p.text ∙ ap (λ es. x ++ events_text program.names program.labels frac_limit (numbers b.answers) es) ends_so ∙ ap (λ t. x ++ t) (sym same)
 
-    joined : texts_of c.answers p.shown ++ last ≡ events_text program.names program.labels number_limit (numbers c.answers) (events_in frac_value (p.shown ++ q.shown) ++ stop)
+    joined : texts_of c.answers p.shown ++ last ≡ events_text program.names program.labels frac_limit (numbers c.answers) (events_in frac_value (p.shown ++ q.shown) ++ stop)
     joined =
-        sym (flat_map-append (event_text program.names program.labels number_limit (numbers c.answers)) (events_in frac_value p.shown) (events_in frac_value q.shown ++ stop))
-        ∙ ap (events_text program.names program.labels number_limit (numbers c.answers)) (sym (append_assoc (events_in frac_value p.shown) (events_in frac_value q.shown) stop) ∙ ap (λ es. es ++ stop) (sym (map-append (event_in frac_value) p.shown q.shown)))
+        sym (flat_map-append (event_text program.names program.labels frac_limit (numbers c.answers)) (events_in frac_value p.shown) (events_in frac_value q.shown ++ stop))
+        ∙ ap (events_text program.names program.labels frac_limit (numbers c.answers)) (sym (append_assoc (events_in frac_value p.shown) (events_in frac_value q.shown) stop) ∙ ap (λ es. es ++ stop) (sym (map-append (event_in frac_value) p.shown q.shown)))
 
     grown : HaveGrown a.solvers c.solvers c.answers (events_in frac_value (p.shown ++ q.shown))
     grown =
         subst (HaveGrown a.solvers c.solvers c.answers) (sym (map-append (event_in frac_value) p.shown q.shown))
         (grown_more rules a.solvers b.solvers c.solvers b.answers q.fresh c.answers (events_in frac_value p.shown) (events_in frac_value q.shown) q.answers
-        (answered_by_standing frac_value number_limit rules b.answers p.shown p.standing) p.grown q.grown)
+        (answered_by_standing frac_value frac_limit rules b.answers p.shown p.standing) p.grown q.grown)
 
     comes : (events : List Event) (more : List (Answer Number)) →
         while_it_runs next (first (course_at a events (numbers (p.fresh ++ q.fresh) ++ more) None)) ≡ course_at c (events ++ events_in frac_value (p.shown ++ q.shown)) more q.fault

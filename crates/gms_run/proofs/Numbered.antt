@@ -7,7 +7,7 @@ use Rattle.std.proofs.lemmas.List.{map-append, map-id}
 use Rattle.std.proofs.lemmas.List.FromFn.{map-range_with_len_more}
 use Rattle.gq_number.specs.Number.{Number}
 use Rattle.gq_frac.specs.declared.frac.Frac.{Frac}
-use Rattle.gq_frac.specs.Frac.{frac_value}
+use Rattle.gq_frac.specs.Frac.{frac_value, frac_limit}
 use Rattle.gms_labels.specs.declared.place.Place.{Place}
 use Rattle.gms_ast.specs.declared.program.Show.{Show}
 use Rattle.gms_ast.specs.declared.program.Right.TheVariants.{Value}
@@ -32,7 +32,7 @@ use Rattle.gms_rows.specs.Rows.{equations_of}
 use Rattle.gms_exec.specs.Assignment.{target_of, after_assignment}
 use Rattle.gms_exec.specs.Showing.{all_shown}
 use Rattle.gms_exec.specs.Run.{Course, Halt, World, OfAct, OfStatement, in_state, with_event, stopped_by, while_it_runs, with_evaluated, one_after_another, for_each, display, abort, abort_where, over_elements, answered, solve, act_step, statement_step, of_statement, labels_in}
-use Rattle.gms_run.specs.Solving.{Solving, number_limit, numbers_of, places_of, solve_of, solves_in}
+use Rattle.gms_run.specs.Solving.{Solving, numbers_of, places_of, solve_of, solves_in}
 use Rattle.gms_run.specs.Jobs.{Job, course_of}
 
 -- the places at which the solves among events have their answers
@@ -183,5 +183,5 @@ module _ {F : Type 0} (number_of : F → Number) (limit : ℕ) (world : World F)
 pub numbered_job : (job : Job) (solving : Solving) → IsNumbered (course_of job solving)
 numbered_job job solving =
     let world : World Frac = record { program = job.program; solvers = solving.before.names } in
-    numbered_all (map (of_statement frac_value number_limit world) job.statements) (numbered_statements frac_value number_limit world job.statements) []
+    numbered_all (map (of_statement frac_value frac_limit world) job.statements) (numbered_statements frac_value frac_limit world job.statements) []
     (record { state = job.state; events = []; left = numbers_of solving.answers; taken = 0; halted = None }) refl

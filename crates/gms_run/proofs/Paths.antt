@@ -4,7 +4,7 @@ use Rattle.std.specs.Prelude.{option_map, option_to_list, slice_get}
 use Rattle.std.specs.List.{All}
 use Rattle.std.proofs.lemmas.List.Elements.{All-head, All-tail}
 use Rattle.gq_frac.specs.declared.frac.Frac.{Frac}
-use Rattle.gq_frac.specs.Frac.{frac_value}
+use Rattle.gq_frac.specs.Frac.{frac_value, frac_limit}
 use Rattle.gms_event.specs.declared.event.Event.{Event as OwnEvent}
 use Rattle.gms_event.specs.declared.event.Event.TheVariants as event
 use Rattle.gms_event.specs.Events.{Event, Solved, displays, solves, aborts, stops}
@@ -16,7 +16,7 @@ use Rattle.gms_exec.specs.Answering.{AreAnswered, IsAnswered}
 use Rattle.gms_store.specs.State.{State}
 use Rattle.gms_exec.specs.Stepping.{Answered, paths_taken}
 use Rattle.gms_exec.proofs.Quiet.{IsNoSolve}
-use Rattle.gms_run.specs.Solving.{Solvers, HaveGrown, number_limit, paths_of, solver_views}
+use Rattle.gms_run.specs.Solving.{Solvers, HaveGrown, paths_of, solver_views}
 
 -- the paths of all solvers
 abbrev pub AllPaths : Type 0
@@ -60,10 +60,10 @@ stands-more (a ∷ xs) ys (suc k) x e = stands-more xs ys k x e
 
 module _ (rules : List SolverRule) (answers more : List (Answer Frac)) where
   abbrev Answers_at : Event → Type 0
-  Answers_at e = IsAnswered frac_value number_limit rules answers e
+  Answers_at e = IsAnswered frac_value frac_limit rules answers e
 
   -- the answers at events stay where more are given
-  pub paths_stay : (k : ℕ) (es : List Event) → AreAnswered frac_value number_limit rules answers es → paths_of k (answers ++ more) es ≡ paths_of k answers es
+  pub paths_stay : (k : ℕ) (es : List Event) → AreAnswered frac_value frac_limit rules answers es → paths_of k (answers ++ more) es ≡ paths_of k answers es
   paths_stay k [] are = refl
   paths_stay k (displays line items ∷ es) are = paths_stay k es (All-tail Answers_at (displays line items) es are)
   paths_stay k (solves solved ∷ es) are =
@@ -93,7 +93,7 @@ pub grew_none : (paths : AllPaths) (answers : List (Answer Frac)) → Grew paths
 grew_none paths answers = λ k. grown_nothing (slice_get paths k)
 
 -- two extensions in sequence, with more answers
-pub grew_more : (rules : List SolverRule) (old mid new : AllPaths) (answers fresh all : List (Answer Frac)) (first second : List Event) → all ≡ answers ++ fresh → AreAnswered frac_value number_limit rules answers first →
+pub grew_more : (rules : List SolverRule) (old mid new : AllPaths) (answers fresh all : List (Answer Frac)) (first second : List Event) → all ≡ answers ++ fresh → AreAnswered frac_value frac_limit rules answers first →
     Grew old mid answers first → Grew mid new all second → Grew old new all (first ++ second)
 grew_more rules old mid new answers fresh all first second same are p q = λ k.
     let stays : paths_of k answers first ≡ paths_of k all first = sym (ap (λ given. paths_of k given first) same ∙ paths_stay rules answers fresh k first are) in
@@ -110,7 +110,7 @@ grew_quiet old new answers es more quiet p = λ k.
 
 -- What a statement says of its solvers, where nothing was shown before it.
 pub grew_answered : {S : Type 0} {before after : State} {given : List (Answer Frac)} (name : S → List ℕ) (rule : S → SolverRule) (paths : S → List (List Pivot)) (old new : List S) (answers : List (Answer Frac)) (none events : List (OwnEvent Frac)) → none ≡ [] →
-    Answered frac_value number_limit name rule paths old new (record { state = before; events = none; answers = given }) (record { state = after; events = events; answers = answers }) → Grew (map paths old) (map paths new) answers (events_in frac_value events)
+    Answered frac_value frac_limit name rule paths old new (record { state = before; events = none; answers = given }) (record { state = after; events = events; answers = answers }) → Grew (map paths old) (map paths new) answers (events_in frac_value events)
 grew_answered name rule paths old new answers none events empty a = λ k.
     let shown : events ≡ a.shown = a.events ∙ ap (λ es. es ++ a.shown) empty in
     a.grown k
@@ -123,7 +123,7 @@ pub grown_none : (solvers : Solvers) (answers : List (Answer Frac)) → HaveGrow
 grown_none solvers answers = record { names = refl; rules = refl; paths = grew_none solvers.paths answers }
 
 -- two extensions in sequence, with more answers
-pub grown_more : (rules : List SolverRule) (old mid new : Solvers) (answers fresh all : List (Answer Frac)) (first second : List Event) → all ≡ answers ++ fresh → AreAnswered frac_value number_limit rules answers first →
+pub grown_more : (rules : List SolverRule) (old mid new : Solvers) (answers fresh all : List (Answer Frac)) (first second : List Event) → all ≡ answers ++ fresh → AreAnswered frac_value frac_limit rules answers first →
     HaveGrown old mid answers first → HaveGrown mid new all second → HaveGrown old new all (first ++ second)
 grown_more rules old mid new answers fresh all first second same are p q =
     record { names = q.names ∙ p.names; rules = q.rules ∙ p.rules; paths = grew_more rules old.paths mid.paths new.paths answers fresh all first second same are p.paths q.paths }
@@ -134,6 +134,6 @@ grown_quiet old new answers es more quiet p = record { names = p.names; rules = 
 
 -- What a statement says of its solvers, where nothing was shown before it.
 pub grown_answered : {S : Type 0} {before after : State} {given : List (Answer Frac)} (name : S → List ℕ) (rule : S → SolverRule) (paths : S → List (List Pivot)) (old new : List S) (answers : List (Answer Frac)) (none events : List (OwnEvent Frac)) → none ≡ [] →
-    Answered frac_value number_limit name rule paths old new (record { state = before; events = none; answers = given }) (record { state = after; events = events; answers = answers }) → HaveGrown (solver_views name rule paths old) (solver_views name rule paths new) answers (events_in frac_value events)
+    Answered frac_value frac_limit name rule paths old new (record { state = before; events = none; answers = given }) (record { state = after; events = events; answers = answers }) → HaveGrown (solver_views name rule paths old) (solver_views name rule paths new) answers (events_in frac_value events)
 grown_answered name rule paths old new answers none events empty a =
     record { names = a.names; rules = a.rules; paths = grew_answered name rule paths old new answers none events empty a }

@@ -1,7 +1,7 @@
 -- What each answer of a run says is true, from its start and from a save.
 use Rattle.std.proofs.Common.{◌≡◌, ℕ, List, [], length, drop, sym, ap, ◌∙◌, subst}
 use Rattle.gq_frac.specs.declared.frac.Frac.{Frac}
-use Rattle.gq_frac.specs.Frac.{frac_value}
+use Rattle.gq_frac.specs.Frac.{frac_value, frac_limit}
 use Rattle.gms_ast.specs.declared.program.Program.{Program}
 use Rattle.gms_parse.specs.Outcomes.{IsProgram}
 use Rattle.gms_store.specs.State.{State}
@@ -15,7 +15,7 @@ use Rattle.gms_plans.specs.Moments.{AnswersAreSo, run_with_answers}
 use Rattle.gms_plans.proofs.Promised.{plans-from_save, plans-from_start}
 use Rattle.lp_core.specs.declared.answer.Answer.{Answer}
 use Rattle.lp_slot.specs.declared.solver.SolverRule.{SolverRule}
-use Rattle.gms_run.specs.Solving.{Solving, number_limit}
+use Rattle.gms_run.specs.Solving.{Solving}
 use Rattle.gms_run.specs.Scripts.{Script, from_start, from_save, Matter, scripted, unrestored, IsJoint, script_of, joint_script, joint_source, first_line, errors_of_script}
 use Rattle.gms_run.specs.Jobs.{Job, job_of, course_of, HasRightAnswers}
 use Rattle.gms_run.specs.Listings.{IsExecuted}
@@ -23,12 +23,12 @@ use Rattle.gms_run.specs.Laws.{RunsAreAnsweredRightly}
 
 -- what the answers of a program's run say is true
 abbrev FromStart : Type 0
-FromStart = (world : World Frac) (rules : List SolverRule) (answers : List (Answer Frac)) → IsAccepted frac_value world.program → AreAnswered frac_value number_limit rules answers (run_with_answers frac_value number_limit world (loaded frac_value world.program) world.program.statements.items answers).events →
-    AnswersAreSo frac_value number_limit world (loaded frac_value world.program) world.program.statements.items answers
+FromStart = (world : World Frac) (rules : List SolverRule) (answers : List (Answer Frac)) → IsAccepted frac_value world.program → AreAnswered frac_value frac_limit rules answers (run_with_answers frac_value frac_limit world (loaded frac_value world.program) world.program.statements.items answers).events →
+    AnswersAreSo frac_value frac_limit world (loaded frac_value world.program) world.program.statements.items answers
 
 -- and those of a run from a save
 abbrev FromSave : Type 0
-FromSave = (limit : ℕ) (source file : List ℕ) (saved : Program Frac) (world : World Frac) (state : State) (solver : List ℕ) (rules : List SolverRule) (answers : List (Answer Frac)) → IsProgram number_limit source frac_value saved → IsProgram number_limit (joint_source source file) frac_value world.program →
+FromSave = (limit : ℕ) (source file : List ℕ) (saved : Program Frac) (world : World Frac) (state : State) (solver : List ℕ) (rules : List SolverRule) (answers : List (Answer Frac)) → IsProgram frac_limit source frac_value saved → IsProgram frac_limit (joint_source source file) frac_value world.program →
     joint_errors frac_value world.program (first_line source) world.solvers ≡ [] → IsSavedBy saved state solver →
     AreAnswered frac_value limit rules answers (run_with_answers frac_value limit world (resumed frac_value state world.program) (drop (length (saved_statements (first_line source) world.program)) world.program.statements.items) answers).events →
     AnswersAreSo frac_value limit world (resumed frac_value state world.program) (drop (length (saved_statements (first_line source) world.program)) world.program.statements.items) answers
@@ -41,10 +41,10 @@ module _ (solving : Solving) (matter : Matter) (text : List ℕ) (run : IsExecut
   world = record { program = program; solvers = solving.before.names }
 
   -- what holds of the program of a script holds of the program that was run
-  says-so : (script : Script) → run.is_job.script ≡ script → (AreAnswered frac_value number_limit solving.before.rules solving.answers (course_of (job_of script program) solving).events → HasRightAnswers (job_of script program) solving) → HasRightAnswers run.job solving
+  says-so : (script : Script) → run.is_job.script ≡ script → (AreAnswered frac_value frac_limit solving.before.rules solving.answers (course_of (job_of script program) solving).events → HasRightAnswers (job_of script program) solving) → HasRightAnswers run.job solving
   says-so script same so =
       let is : run.job ≡ job_of script program = run.is_job.is_job ∙ ap (λ (s : Script). job_of s program) same in
-      subst (λ (job : Job). HasRightAnswers job solving) (sym is) (so (subst (λ (job : Job). AreAnswered frac_value number_limit solving.before.rules solving.answers (course_of job solving).events) is run.solved.answered))
+      subst (λ (job : Job). HasRightAnswers job solving) (sym is) (so (subst (λ (job : Job). AreAnswered frac_value frac_limit solving.before.rules solving.answers (course_of job solving).events) is run.solved.answered))
 
   from-start : FromStart → (source : List ℕ) → run.is_job.script ≡ script_of source → HasRightAnswers run.job solving
   from-start plans source same =
@@ -56,9 +56,9 @@ module _ (solving : Solving) (matter : Matter) (text : List ℕ) (run : IsExecut
       let source = joint.saved.source.items in
       let is : run.is_job.script ≡ joint_script source joint.saved.store file = same ∙ joint.joint in
       let none : joint_errors frac_value program (first_line source) solving.before.names ≡ [] = subst (λ (s : Script). errors_of_script s.saved s.line program solving.before.names ≡ []) is run.is_job.accepted.no_error in
-      let whole : IsProgram number_limit (joint_source source file) frac_value program = subst (λ (s : Script). IsProgram number_limit s.source frac_value program) is run.is_job.accepted.is_program in
+      let whole : IsProgram frac_limit (joint_source source file) frac_value program = subst (λ (s : Script). IsProgram frac_limit s.source frac_value program) is run.is_job.accepted.is_program in
       let saved = joint.restored.is_save in
-      says-so (joint_script source joint.saved.store file) is (plans number_limit source file joint.saved.program world joint.saved.store joint.restored.solver solving.before.rules solving.answers saved.is_program whole none saved.is_saved)
+      says-so (joint_script source joint.saved.store file) is (plans frac_limit source file joint.saved.program world joint.saved.store joint.restored.solver solving.before.rules solving.answers saved.is_program whole none saved.is_saved)
 
 -- the script of what was executed
 same-script : (solving : Solving) (script : Script) (text : List ℕ) (run : IsExecuted solving (scripted script) text) → run.is_job.script ≡ script
@@ -77,4 +77,4 @@ runs-say-so plans restarted solving (from_save save file) (unrestored fault) tex
     absurd (let e = run.is_job.to_run in cc)
 
 pub answered-rightly : RunsAreAnsweredRightly
-answered-rightly = runs-say-so (plans-from_start frac_value number_limit) plans-from_save
+answered-rightly = runs-say-so (plans-from_start frac_value frac_limit) plans-from_save

@@ -11,7 +11,7 @@ use Rattle.std.proofs.lemmas.List.FromFn.{length-range_with_len}
 use Rattle.std.proofs.lemmas.Option.{slice_get-map}
 use Rattle.gq_number.specs.Number.{Number}
 use Rattle.gq_frac.specs.declared.frac.Frac.{Frac}
-use Rattle.gq_frac.specs.Frac.{frac_value}
+use Rattle.gq_frac.specs.Frac.{frac_value, frac_limit}
 use Rattle.gms_host.specs.Meaning.{Outside}
 use Rattle.gms_host.specs.Rules.{with_output}
 use Rattle.gms_host.specs.Spooling.{Passes, WritesFront}
@@ -37,7 +37,7 @@ use Rattle.gms_run.specs.declared.status.Status.{Status}
 use Rattle.gms_run.specs.declared.status.Status.TheVariants.{Done, Usage, Compile, Execution, ReadFault, WriteFault}
 use Rattle.gms_store.specs.State.{State, fits_at, symbol_of}
 use Rattle.gms_command.specs.CommandLine.{Asked, Origin, in_file, restarted, generated, closing_line}
-use Rattle.gms_run.specs.Solving.{Solving, SolvesNothing, number_limit, numbers_of, solves_in}
+use Rattle.gms_run.specs.Solving.{Solving, SolvesNothing, numbers_of, solves_in}
 use Rattle.gms_save_text.specs.SavedState.{saved_text}
 use Rattle.gms_run.specs.Scripts.{Matter, Script, scripted, errors_of_script}
 use Rattle.gms_run.specs.Jobs.{HaltsSo, IsCutOff, IsRunSolved, Job, body_of, course_of, first_of, job_of, job_text, last_line, save_text, solver_name, status_code}
@@ -103,11 +103,11 @@ pub lists_none : (some : Bool) (errors : List CompileError) (script : Script) (b
 lists_none some errors script before after is lists = subst (λ b. ListsErrors b errors script before after) is lists
 
 -- errors that are listed are those of the program
-pub shows_errors : (solvers : List (List ℕ)) (script : Script) (program : Program Frac) → IsProgram number_limit script.source frac_value program → errors_of_script script.saved script.line program solvers ≢ [] → ShowsErrors solvers script (refused_text (errors_text script (errors_of_script script.saved script.line program solvers)))
+pub shows_errors : (solvers : List (List ℕ)) (script : Script) (program : Program Frac) → IsProgram frac_limit script.source frac_value program → errors_of_script script.saved script.line program solvers ≢ [] → ShowsErrors solvers script (refused_text (errors_text script (errors_of_script script.saved script.line program solvers)))
 shows_errors solvers script program is_program some = record { program = program; is_program = is_program; some = some; listing = refl }
 
 -- Errors of a program were listed, so that there is nothing to run.
-pub prepares_errors : (solving : Solving) (now : Outside) (script : Script) (program : Program Frac) (some : Bool) (spool before after : List ℕ) → IsProgram number_limit script.source frac_value program → some ≡ true → ListsErrors some (errors_of_script script.saved script.line program solving.before.names) script before after →
+pub prepares_errors : (solving : Solving) (now : Outside) (script : Script) (program : Program Frac) (some : Bool) (spool before after : List ℕ) → IsProgram frac_limit script.source frac_value program → some ≡ true → ListsErrors some (errors_of_script script.saved script.line program solving.before.names) script before after →
     SolvesNothing solving → spool ++ before ≡ [] → Prepares Compile solving now now (scripted script) (spool ++ after)
 prepares_errors solving now script program some spool before after is_program is lists none empty =
     let errors = errors_of_script script.saved script.line program solving.before.names in
@@ -184,13 +184,13 @@ remarked status solving request matter text job last solved is_job ends (ranges,
   split,
 )
   where
-    of_spans : SaysRanges job.program.names job.program.labels number_limit 1 (map (lp_numbers frac_value) solved) (numbers_of solving.answers) ranges → TellsSpans solving matter ranges
+    of_spans : SaysRanges job.program.names job.program.labels frac_limit 1 (map (lp_numbers frac_value) solved) (numbers_of solving.answers) ranges → TellsSpans solving matter ranges
     of_spans said =
         record {
           job = job;
           is_job = is_job;
           in_order = ends.kept.in_order;
-          said = subst (λ (programs : List (Lp Number)). SaysRanges job.program.names job.program.labels number_limit 1 programs (numbers_of solving.answers) ranges) ends.kept.shown said;
+          said = subst (λ (programs : List (Lp Number)). SaysRanges job.program.names job.program.labels frac_limit 1 programs (numbers_of solving.answers) ranges) ends.kept.shown said;
         }
 
     spans : (asked : Bool) (s : Status) → HaltsSo s (course_of job solving).halted → IsRanged asked job.program solved solving.answers ranges → TellsRanges asked s solving matter ranges
@@ -231,7 +231,7 @@ saves_job status solving request matter bytes job last programs solvers names na
           text = text;
           is_save =
               saves-state solving is_job.script job is_job.accepted is_job.is_job origin bytes text
-              (subst (λ (s : State). (name : ℕ) → name < length job.program.names → (t : List ℕ) → fits_at number_limit (symbol_of s name).content t ≡ true) (sym ends.comes) is.fit) named;
+              (subst (λ (s : State). (name : ℕ) → name < length job.program.names → (t : List ℕ) → fits_at frac_limit (symbol_of s name).content t ≡ true) (sym ends.comes) is.fit) named;
           placed = placed-last solving is_job.script job is_job.accepted is_job.is_job origin named;
         }
 
@@ -264,19 +264,19 @@ are_closing status solving request matter remarks lines output solves told named
 -- ---- answers of the programs that were kept
 
 -- each answer is one of the program that was kept for its solve
-answered_by : (rules : List SolverRule) (answers : List (Answer Frac)) (programs : List (Lp Frac)) (events : List Event) → KeepsPrograms rules answers programs events → AreSomeAnswers frac_value number_limit programs answers
+answered_by : (rules : List SolverRule) (answers : List (Answer Frac)) (programs : List (Lp Frac)) (events : List Event) → KeepsPrograms rules answers programs events → AreSomeAnswers frac_value frac_limit programs answers
 answered_by rules answers programs events kept =
     let shown : length programs ≡ length (solves_in events) = sym (length-map programs (lp_numbers frac_value)) ∙ ap length kept.shown ∙ length-map (solves_in events) (λ (solved : Solved). solved.lp) in
     let placed : length (solves_in events) ≡ length answers = sym (length-map (solves_in events) (λ (solved : Solved). solved.answer)) ∙ ap length kept.in_order ∙ length-range_with_len 0 (length answers) in
     record { many = shown ∙ placed; each = λ place. at place (slice_get programs place) (kept.answered place) }
   where
-    at : (place : ℕ) (o : Option (Lp Frac)) → IfSome o (IsAnsweredAt rules answers place) → IfSome o (λ (lp : Lp Frac). IfSome (slice_get answers place) (IsSomeAnswer frac_value number_limit lp))
+    at : (place : ℕ) (o : Option (Lp Frac)) → IfSome o (IsAnsweredAt rules answers place) → IfSome o (λ (lp : Lp Frac). IfSome (slice_get answers place) (IsSomeAnswer frac_value frac_limit lp))
     at place None h = tt
     at place (Some lp) (settings, stands) =
-        subst (λ (o : Option (Answer Frac)). IfSome o (IsSomeAnswer frac_value number_limit lp)) (sym stands.stands) (record { formed = stands.formed; iterlim = settings.iterlim; rule = Legal; is_answer = legal_under frac_value number_limit lp settings.iterlim stands.rule stands.given stands.is_answer })
+        subst (λ (o : Option (Answer Frac)). IfSome o (IsSomeAnswer frac_value frac_limit lp)) (sym stands.stands) (record { formed = stands.formed; iterlim = settings.iterlim; rule = Legal; is_answer = legal_under frac_value frac_limit lp settings.iterlim stands.rule stands.given stands.is_answer })
 
 -- each solve of a program that ended is answered
-pub ends_answered : (status : Status) (job : Job) (solving : Solving) (last : State) (programs : List (Lp Frac)) → Ends status job solving last programs → AreSomeAnswers frac_value number_limit programs solving.answers
+pub ends_answered : (status : Status) (job : Job) (solving : Solving) (last : State) (programs : List (Lp Frac)) → Ends status job solving last programs → AreSomeAnswers frac_value frac_limit programs solving.answers
 ends_answered status job solving last programs ends = answered_by solving.before.rules solving.answers programs (course_of job solving).events ends.kept
 
 -- ---- the last line

@@ -5,7 +5,7 @@ use Rattle.std.specs.List.{All}
 use Rattle.std.proofs.lemmas.List.{drop-map, drop_all, map-append, take-map}
 use Rattle.std.proofs.lemmas.Grind.{flat_map-append}
 use Rattle.gq_frac.specs.declared.frac.Frac.{Frac}
-use Rattle.gq_frac.specs.Frac.{frac_value}
+use Rattle.gq_frac.specs.Frac.{frac_value, frac_limit}
 use Rattle.gms_ast.specs.declared.program.Stmt.{Stmt}
 use Rattle.gms_eval.specs.Faults.{Fault}
 use Rattle.gms_event.specs.declared.event.Event.{Event as OwnEvent}
@@ -19,7 +19,7 @@ use Rattle.gms_exec.proofs.Quiet.{Quiet, IsNoSolve, AreQuiet, quiet_all, quiet_s
 use Rattle.gms_list.specs.ListingText.{event_text, events_text}
 use Rattle.gms_run.specs.declared.status.Status.{Status}
 use Rattle.gms_run.specs.declared.status.Status.TheVariants.{Done, Execution}
-use Rattle.gms_run.specs.Solving.{HaveGrown, Solvers, Solving, number_limit}
+use Rattle.gms_run.specs.Solving.{HaveGrown, Solvers, Solving}
 use Rattle.gms_run.specs.Jobs.{IsRunSolved, Job, course_of, first_of, shown_by}
 use Rattle.gms_run.specs.InnerSteps.{Between, Ends, IsListed, KeepsPrograms, course_at}
 use Rattle.gms_run.proofs.Kept.{keeps_programs}
@@ -30,7 +30,7 @@ use Rattle.gms_run.proofs.Settled.{AreSettled, settled_by_standing, settled_more
 
 module _ (job : Job) (before : Solvers) where
   abbrev pub statement_of : Stmt Frac → OfStatement
-  statement_of = of_statement frac_value number_limit (record { program = job.program; solvers = before.names })
+  statement_of = of_statement frac_value frac_limit (record { program = job.program; solvers = before.names })
 
   abbrev pub statements : List OfStatement
   statements = map statement_of job.statements
@@ -42,7 +42,7 @@ module _ (job : Job) (before : Solvers) where
   solving_with at = record { before = before; after = at.solvers; answers = at.answers }
 
   abbrev pub texts : List (Answer Frac) → List Event → List ℕ
-  texts answers es = events_text job.program.names job.program.labels number_limit (map (answer_numbers frac_value) answers) es
+  texts answers es = events_text job.program.names job.program.labels frac_limit (map (answer_numbers frac_value) answers) es
 
   -- the first `i` statements were executed
   abbrev pub Done_so : Bool → ℕ → Between → List ℕ → Type 0
@@ -51,7 +51,7 @@ module _ (job : Job) (before : Solvers) where
   -- each of some statements of the program is quiet without answers
   are_quiet : (ss : List (Stmt Frac)) → AreQuiet (map statement_of ss)
   are_quiet [] = tt
-  are_quiet (s ∷ ss) = (quiet_statement frac_value number_limit (record { program = job.program; solvers = before.names }) s, are_quiet ss)
+  are_quiet (s ∷ ss) = (quiet_statement frac_value frac_limit (record { program = job.program; solvers = before.names }) s, are_quiet ss)
 
   -- What the program shows after a text, with these answers: all are taken, and each answers its
   -- solve.
@@ -60,7 +60,7 @@ module _ (job : Job) (before : Solvers) where
     pub shown : shown_by job (solving_with at) ≡ text ++ later
     pub solved : IsRunSolved job (solving_with at)
 
-  module _ (now : Between) (shown : List (OwnEvent Frac)) (standing : All (IsStanding frac_value number_limit before.rules now.answers) shown) where
+  module _ (now : Between) (shown : List (OwnEvent Frac)) (standing : All (IsStanding frac_value frac_limit before.rules now.answers) shown) where
     -- the events so far
     abbrev so_far : List Event
     so_far = events_in frac_value shown
@@ -75,7 +75,7 @@ module _ (job : Job) (before : Solvers) where
         ap (λ c. texts now.answers (all_events c)) is
         ∙ ap (λ es. texts now.answers (es ++ last_event course.halted)) events
         ∙ ap (texts now.answers) (append_assoc so_far more (last_event course.halted))
-        ∙ flat_map-append (event_text job.program.names job.program.labels number_limit (map (answer_numbers frac_value) now.answers)) so_far (more ++ last_event course.halted)
+        ∙ flat_map-append (event_text job.program.names job.program.labels frac_limit (map (answer_numbers frac_value) now.answers)) so_far (more ++ last_event course.halted)
 
   -- a program whose run is this one
   solved_as : (now : Between) (course : Course) → course_of job (solving_with now) ≡ course → course.left ≡ [] → AreSettled before.rules now.answers course.events → HaveGrown before now.solvers now.answers course.events → IsRunSolved job (solving_with now)

@@ -3,7 +3,7 @@ use Rattle.std.proofs.Common.{◌≡◌, ℕ, List, [], ◌++◌, length, Some, 
 use Rattle.std.proofs.lemmas.List.{length-map, map-append}
 use Rattle.gq_number.specs.Number.{Number}
 use Rattle.gq_frac.specs.declared.frac.Frac.{Frac}
-use Rattle.gq_frac.specs.Frac.{frac_value}
+use Rattle.gq_frac.specs.Frac.{frac_value, frac_limit}
 use Rattle.gms_ast.specs.declared.program.Program.{Program}
 use Rattle.gms_store.specs.State.{State}
 use Rattle.gms_parse.specs.Outcomes.{IsProgram, program_view}
@@ -23,7 +23,7 @@ use Rattle.gms_restart.proofs.ProgramsAlike.{restarted-alike, whole-alike}
 use Rattle.lp_core.specs.declared.answer.Answer.{Answer}
 use Rattle.lp_core.specs.Numbers.{answer_numbers}
 use Rattle.gms_run.specs.declared.status.Status.TheVariants.{Done}
-use Rattle.gms_run.specs.Solving.{Solving, number_limit, numbers_of}
+use Rattle.gms_run.specs.Solving.{Solving, numbers_of}
 use Rattle.gms_run.specs.Scripts.{IsJoint, IsMatter, Matter, Script, first_line, from_save, from_start, joint_script, joint_source, script_of, scripted}
 use Rattle.gms_run.specs.Jobs.{Job, course_of, first_of, job_of, save_text, solver_name}
 use Rattle.gms_run.specs.Listings.{IsAcceptedScript, IsJob, IsListing, SavesLast}
@@ -78,10 +78,10 @@ both-answers one other long e =
 -- A run of a program that ended, and whose last state was saved.
 record IsKept (first : Solving) (source save : List ℕ) (program : Program Frac) : Type 0 where
   accepted : IsAcceptedScript first.before.names (script_of source) program
-  halted : (whole_run frac_value number_limit (world_of program first) (numbers_of first.answers)).halted ≡ None
-  left : (whole_run frac_value number_limit (world_of program first) (numbers_of first.answers)).left ≡ []
-  is_save : IsSaveOf save source program (whole_run frac_value number_limit (world_of program first) (numbers_of first.answers)).state (solver_name first.before.names (whole_run frac_value number_limit (world_of program first) (numbers_of first.answers)).state)
-  placed : place_of_solver first.before.names (solver_name first.before.names (whole_run frac_value number_limit (world_of program first) (numbers_of first.answers)).state) ≡ Some (whole_run frac_value number_limit (world_of program first) (numbers_of first.answers)).state.settings.solver
+  halted : (whole_run frac_value frac_limit (world_of program first) (numbers_of first.answers)).halted ≡ None
+  left : (whole_run frac_value frac_limit (world_of program first) (numbers_of first.answers)).left ≡ []
+  is_save : IsSaveOf save source program (whole_run frac_value frac_limit (world_of program first) (numbers_of first.answers)).state (solver_name first.before.names (whole_run frac_value frac_limit (world_of program first) (numbers_of first.answers)).state)
+  placed : place_of_solver first.before.names (solver_name first.before.names (whole_run frac_value frac_limit (world_of program first) (numbers_of first.answers)).state) ≡ Some (whole_run frac_value frac_limit (world_of program first) (numbers_of first.answers)).state.settings.solver
 
 is-kept : (first : Solving) (source save text : List ℕ) (base : Matter) → IsMatter first.before.names (from_start source) base → IsListing Done first base text → (saves : SavesLast first base save) → IsKept first source save saves.job.program
 is-kept first source save text base starts done saves =
@@ -89,9 +89,9 @@ is-kept first source save text base starts done saves =
     let q = done.0.job.program in
     let s = from-its-start first.before.names source base saves.job starts saves.is_job in
     let r = from-its-start first.before.names source base done.0.job starts done.0.is_job in
-    let views : program_view frac_value q ≡ program_view frac_value p = one_program number_limit source (program_view frac_value q) (program_view frac_value p) r.accepted.is_program s.accepted.is_program in
-    let same : course_of done.0.job first ≡ whole_run frac_value number_limit (world_of p first) (numbers_of first.answers) =
-    ap (λ (job : Job). course_of job first) r.is ∙ whole-alike number_limit (world_of q first) (world_of p first) views refl (numbers_of first.answers) in
+    let views : program_view frac_value q ≡ program_view frac_value p = one_program frac_limit source (program_view frac_value q) (program_view frac_value p) r.accepted.is_program s.accepted.is_program in
+    let same : course_of done.0.job first ≡ whole_run frac_value frac_limit (world_of p first) (numbers_of first.answers) =
+    ap (λ (job : Job). course_of job first) r.is ∙ whole-alike frac_limit (world_of q first) (world_of p first) views refl (numbers_of first.answers) in
     record {
       accepted = s.accepted;
       halted = sym (ap (λ (c : Course). c.halted) same) ∙ done.1;
@@ -135,7 +135,7 @@ module _ (first second long : Solving) (source file : List ℕ) (restart : IsRes
 
   -- the last state of the saved run
   abbrev last : State
-  last = (whole_run frac_value number_limit (world_of saved first) answers).state
+  last = (whole_run frac_value frac_limit (world_of saved first) answers).state
 
   abbrev joint_text : List ℕ
   joint_text = joint_source source file
@@ -154,7 +154,7 @@ module _ (first second long : Solving) (source file : List ℕ) (restart : IsRes
 
   views : (other : Job) → IsJob second.before.names restart.matter other → program_view frac_value job.program ≡ program_view frac_value other.program
   views other is_job =
-      one_program number_limit joint_text (program_view frac_value job.program) (program_view frac_value other.program) of-long.accepted.is_program (of-last other is_job).accepted.is_program
+      one_program frac_limit joint_text (program_view frac_value job.program) (program_view frac_value other.program) of-long.accepted.is_program (of-last other is_job).accepted.is_program
 
   clean : joint_errors frac_value job.program (first_line source) long.before.names ≡ []
   clean =
@@ -166,14 +166,14 @@ module _ (first second long : Solving) (source file : List ℕ) (restart : IsRes
   taken : numbers_of long.answers ≡ answers ++ further
   taken = both-answers first second long is_long.answers
 
-  based : base_course source job long ≡ base_run frac_value number_limit (first_line source) (world_of job.program long) (answers ++ further)
+  based : base_course source job long ≡ base_run frac_value frac_limit (first_line source) (world_of job.program long) (answers ++ further)
   based =
       ap (λ (j : Job). course_of (first_of (length (saved_statements (first_line source) job.program)) j) long) of-long.is
-      ∙ ap (base_run frac_value number_limit (first_line source) (world_of job.program long)) taken
+      ∙ ap (base_run frac_value frac_limit (first_line source) (world_of job.program long)) taken
 
-  says : SaysTheSame frac_value number_limit (first_line source) (world_of saved first) (world_of job.program long) answers further
+  says : SaysTheSame frac_value frac_limit (first_line source) (world_of saved first) (world_of job.program long) answers further
   says =
-      says-the-same number_limit number_limit source file (world_of saved first) (world_of job.program long) answers further kept.accepted.is_program of-long.accepted.is_program (first.before.names, kept.accepted.no_error) clean is_long.same_solvers kept.halted kept.left (sym (ap (λ (c : Course). c.halted) based) ∙ reached)
+      says-the-same frac_limit frac_limit source file (world_of saved first) (world_of job.program long) answers further kept.accepted.is_program of-long.accepted.is_program (first.before.names, kept.accepted.no_error) clean is_long.same_solvers kept.halted kept.left (sym (ap (λ (c : Course). c.halted) based) ∙ reached)
 
   -- the long run is that of the saved source's statements, followed by that of the file
   is-both : (other : Job) → IsJob second.before.names restart.matter other → course_of job long ≡ behind_run (base_course source job long) (course_of other second)
@@ -182,9 +182,9 @@ module _ (first second long : Solving) (source file : List ℕ) (restart : IsRes
       let two = world_of other.program second in
       let solvers : long.before.names ≡ second.before.names = is_long.same_solvers ∙ sym restart.same_solvers in
       ap (λ (j : Job). course_of j long) of-long.is
-      ∙ ap (whole_run frac_value number_limit one) taken
+      ∙ ap (whole_run frac_value frac_limit one) taken
       ∙ says.is
-      ∙ ap₂ behind_run (sym based) (restarted-alike number_limit one two (views other is_job) solvers (first_line source) last further ∙ sym (ap (λ (j : Job). course_of j second) (of-last other is_job).is))
+      ∙ ap₂ behind_run (sym based) (restarted-alike frac_limit one two (views other is_job) solvers (first_line source) last further ∙ sym (ap (λ (j : Job). course_of j second) (of-last other is_job).is))
 
   -- what the restarted run keeps is what the long run keeps
   keeps-both : (bytes : List ℕ) → SavesLast second restart.matter bytes → SavesLast long (scripted (script_of joint_text)) bytes
@@ -204,7 +204,7 @@ module _ (first second long : Solving) (source file : List ℕ) (restart : IsRes
         is_job = is_long.is_job;
         text = text;
         is_save = record {
-          is_program = subst (λ (it : List ℕ). IsProgram number_limit it frac_value q) (sym here) of-long.accepted.is_program;
+          is_program = subst (λ (it : List ℕ). IsProgram frac_limit it frac_value q) (sym here) of-long.accepted.is_program;
           is_saved = subst (λ (s : State). IsSavedBy q s (solver_name long.before.names s)) state
               (subst (λ (names : List (List ℕ)). IsSavedBy q old (solver_name names old)) solvers (same-saved other.program q (sym alike) old (solver_name second.before.names old) saves.is_save.is_saved));
           text = text;

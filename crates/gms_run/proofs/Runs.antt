@@ -23,7 +23,7 @@ use Rattle.gms_run.specs.declared.status.Status.TheVariants.{Done, Usage, Compil
 use Rattle.gms_gen.specs.Generator.{generated_model_text}
 use Rattle.gms_command.specs.CommandLine.{Asked, Origin, in_file, restarted, generated, read_fault_line, request_of}
 use Rattle.gms_store.specs.State.{State}
-use Rattle.gms_run.specs.Solving.{Solving, SolvesNothing, number_limit}
+use Rattle.gms_run.specs.Solving.{Solving, SolvesNothing}
 use Rattle.gms_run.specs.Scripts.{Script, Matter, scripted, unrestored, Taken, from_start, from_save, script_of, first_line, joint_script, joint_source, IsMatter, IsUnrestored}
 use Rattle.gms_run.specs.Jobs.{Job}
 use Rattle.gms_run.specs.Listings.{AreClosing, IsExecuted, IsWrittenPrefix, IsJob, IsListing, IsRefusalListing, SavesLast, SavesSo, ShowsRefusal, ShowsWhy, TellsRanges, TellsRun, refusal_text, refused_text, save_file}
@@ -31,6 +31,7 @@ use Rattle.gms_run.specs.Statuses.{CountsSo, EndsByNoFault, HasOrigin, IsFileOf,
 use Rattle.gms_run.specs.InnerReports.{CountsMention, CountsRun, EndsAs, IsUnreadFile, Lists, LosesSave, RanBehind, RanOf, ReadsFile, WritesSave}
 use Rattle.gms_run.specs.InnerSteps.{ComesTo}
 use Rattle.gms_run.proofs.Comings.{failed_with}
+use Rattle.gq_frac.specs.Frac.{frac_limit}
 
 -- ---- sources that are too long
 
@@ -38,7 +39,7 @@ use Rattle.gms_run.proofs.Comings.{failed_with}
 long_refusal : (a b : Script) (text : List ℕ) → most_source_bytes < length a.source → most_source_bytes < length b.source → ShowsRefusal a text → ShowsRefusal b text
 long_refusal a b text long more r = by_fault r.refused
   where
-    by_fault : IsSourceFault number_limit a.source r.fault → ShowsRefusal b text
+    by_fault : IsSourceFault frac_limit a.source r.fault → ShowsRefusal b text
     by_fault (inl too) =
         record { fault = r.fault; refused = inl (more, too.1); listing = r.listing ∙ ap (λ fault. refused_text (refusal_text a fault)) too.1 ∙ sym (ap (λ fault. refused_text (refusal_text b fault)) too.1) }
     by_fault (inr (inl lexical)) = let few : length a.source ≤ most_source_bytes = lexical.short in absurd (omega (arith, long, few))

@@ -10,7 +10,7 @@ use Rattle.std.proofs.lemmas.List.{length-map}
 use Rattle.std.proofs.lemmas.List.Elements.{All-head, All-tail}
 use Rattle.std.proofs.lemmas.Option.{slice_get_past}
 use Rattle.gq_frac.specs.declared.frac.Frac.{Frac}
-use Rattle.gq_frac.specs.Frac.{frac_value}
+use Rattle.gq_frac.specs.Frac.{frac_value, frac_limit}
 use Rattle.gms_ast.specs.declared.program.Program.{Program}
 use Rattle.gms_ast.specs.declared.program.Stmt.{Stmt}
 use Rattle.gms_store.specs.State.{Content, undeclared, alias_of, set_of, parameter_of, variable_of, equation_of, model_with, Symbol, State, no_symbol, alias_target, fits_at, symbol_at, symbol_of, with_content}
@@ -29,7 +29,7 @@ use Rattle.gms_restart.proofs.Placing.{IsFirst, first-placed, loaded-chooses, ru
 use Rattle.gms_restart.proofs.Saved.{state-kept}
 use Rattle.gms_restart.specs.LastStates.{later_state}
 use Rattle.lp_slot.specs.SolverNames.{IsSolverName, may_stand_in_name}
-use Rattle.gms_run.specs.Solving.{Solving, number_limit, numbers_of}
+use Rattle.gms_run.specs.Solving.{Solving, numbers_of}
 use Rattle.gms_run.specs.Scripts.{Script, errors_of_script, first_line, first_state, joint_source, statements_to_run}
 use Rattle.gms_run.specs.Jobs.{Job, course_of, job_of, save_text, solver_name}
 use Rattle.gms_run.specs.Listings.{IsAcceptedScript}
@@ -104,15 +104,15 @@ module _ (solving : Solving) (script : Script) (job : Job) (accepted : IsAccepte
 
   -- the state in which a script's program ends
   abbrev ended : Option State → State
-  ended saved = (run_from frac_value number_limit world (first_state saved job.program) (numbers_of solving.answers) (statements_to_run saved script.line job.program)).state
+  ended saved = (run_from frac_value frac_limit world (first_state saved job.program) (numbers_of solving.answers) (statements_to_run saved script.line job.program)).state
 
   ended-is : (course_of job solving).state ≡ ended script.saved
   ended-is =
-      ap₂ (λ (state : State) (statements : List (Stmt Frac)). (run_from frac_value number_limit world state (numbers_of solving.answers) statements).state) (ap (λ (j : Job). j.state) is_job) (ap (λ (j : Job). j.statements) is_job)
+      ap₂ (λ (state : State) (statements : List (Stmt Frac)). (run_from frac_value frac_limit world state (numbers_of solving.answers) statements).state) (ap (λ (j : Job). j.state) is_job) (ap (λ (j : Job). j.statements) is_job)
 
   -- the numbers of the names of a state fit
   abbrev FitsThere : State → Type 0
-  FitsThere state = (name : ℕ) → name < length job.program.names → (t : List ℕ) → fits_at number_limit (symbol_of state name).content t ≡ true
+  FitsThere state = (name : ℕ) → name < length job.program.names → (t : List ℕ) → fits_at frac_limit (symbol_of state name).content t ≡ true
 
   abbrev named_by : State → List ℕ
   named_by state = solver_name solving.before.names state
@@ -120,23 +120,23 @@ module _ (solving : Solving) (script : Script) (job : Job) (accepted : IsAccepte
   -- it is a saved state of the program, from the start and from a save
   saved-by : (saved : Option State) → errors_of_script saved script.line job.program solving.before.names ≡ [] → IfSome saved (IsGoneOn solving.before.names script.source script.line) → FitsThere (ended saved) → All IsSolverName solving.before.names → IsSavedBy job.program (ended saved) (named_by (ended saved))
   saved-by None none origin fit named =
-      let kept = state-kept frac_value number_limit world (solving.before.names, none) (has-its-labels number_limit script.source job.program accepted.is_program) (numbers_of solving.answers) in
-      last-saved number_limit script.source world (numbers_of solving.answers) (named_by (ended None)) accepted.is_program none
-      (fits-each number_limit (ended None) (length job.program.names) (counts-as (ended None) job.program kept.lasts.later.declares) fit) (solver-saved solving.before.names (ended None).settings.solver named)
+      let kept = state-kept frac_value frac_limit world (solving.before.names, none) (has-its-labels frac_limit script.source job.program accepted.is_program) (numbers_of solving.answers) in
+      last-saved frac_limit script.source world (numbers_of solving.answers) (named_by (ended None)) accepted.is_program none
+      (fits-each frac_limit (ended None) (length job.program.names) (counts-as (ended None) job.program kept.lasts.later.declares) fit) (solver-saved solving.before.names (ended None).settings.solver named)
   saved-by (Some state) none origin fit named =
-      let joint : IsProgram number_limit (joint_source origin.before origin.file) frac_value job.program = subst (λ (source : List ℕ). IsProgram number_limit source frac_value job.program) origin.joint accepted.is_program in
+      let joint : IsProgram frac_limit (joint_source origin.before origin.file) frac_value job.program = subst (λ (source : List ℕ). IsProgram frac_limit source frac_value job.program) origin.joint accepted.is_program in
       let clean : joint_errors frac_value job.program (first_line origin.before) solving.before.names ≡ [] = ap (λ (n : ℕ). joint_errors frac_value job.program n solving.before.names) (sym origin.begins) ∙ none in
       let one : IsAcceptedBy frac_value origin.program = (solvers_chosen origin.program, origin.is_saved.no_error) in
-      let kept = later-state-kept number_limit origin.before origin.file origin.program world origin.is_program joint one clean number_limit state origin.solver origin.is_saved (numbers_of solving.answers) in
+      let kept = later-state-kept frac_limit origin.before origin.file origin.program world origin.is_program joint one clean frac_limit state origin.solver origin.is_saved (numbers_of solving.answers) in
       subst (λ (s : State). IsSavedBy job.program s (named_by s)) (sym (later-is state origin))
-      (later-saved number_limit origin.before origin.file origin.program world state origin.solver (named_by (later state origin)) (numbers_of solving.answers) origin.is_program joint clean origin.is_saved
-      (fits-each number_limit (later state origin) (length job.program.names) (counts-as (later state origin) job.program kept.lasts.later.declares) (subst FitsThere (later-is state origin) fit)) (solver-saved solving.before.names (later state origin).settings.solver named))
+      (later-saved frac_limit origin.before origin.file origin.program world state origin.solver (named_by (later state origin)) (numbers_of solving.answers) origin.is_program joint clean origin.is_saved
+      (fits-each frac_limit (later state origin) (length job.program.names) (counts-as (later state origin) job.program kept.lasts.later.declares) (subst FitsThere (later-is state origin) fit)) (solver-saved solving.before.names (later state origin).settings.solver named))
     where
       later : (s : State) → IsGoneOn solving.before.names script.source script.line s → State
-      later s gone = later_state frac_value number_limit (first_line gone.before) world s (numbers_of solving.answers)
+      later s gone = later_state frac_value frac_limit (first_line gone.before) world s (numbers_of solving.answers)
 
       later-is : (s : State) (gone : IsGoneOn solving.before.names script.source script.line s) → ended (Some s) ≡ later s gone
-      later-is s gone = ap (λ (n : ℕ). later_state frac_value number_limit n world s (numbers_of solving.answers)) gone.begins
+      later-is s gone = ap (λ (n : ℕ). later_state frac_value frac_limit n world s (numbers_of solving.answers)) gone.begins
 
   -- The place of the solver that it names is the one that its settings have.
   pub placed-last : IfSome script.saved (IsGoneOn solving.before.names script.source script.line) → All IsSolverName solving.before.names → place_of_solver solving.before.names (named_by (course_of job solving).state) ≡ Some (course_of job solving).state.settings.solver
@@ -145,7 +145,7 @@ module _ (solving : Solving) (script : Script) (job : Job) (accepted : IsAccepte
     where
       chosen : (saved : Option State) → IsFirst solving.before.names (first_state saved job.program).settings.solver → IsFirst solving.before.names (ended saved).settings.solver
       chosen saved first =
-          run-chooses frac_value number_limit world named (first_state saved job.program) (numbers_of solving.answers) (statements_to_run saved script.line job.program) first
+          run-chooses frac_value frac_limit world named (first_state saved job.program) (numbers_of solving.answers) (statements_to_run saved script.line job.program) first
 
       by : (saved : Option State) → IfSome saved (IsGoneOn solving.before.names script.source script.line) → IsFirst solving.before.names (ended saved).settings.solver
       by None gone = chosen None (loaded-chooses frac_value job.program solving.before.names named)
@@ -155,14 +155,14 @@ module _ (solving : Solving) (script : Script) (job : Job) (accepted : IsAccepte
   pub saves-state : IfSome script.saved (IsGoneOn solving.before.names script.source script.line) → (bytes : List ℕ) → bytes ≡ save_text job solving → FitsThere (course_of job solving).state → All IsSolverName solving.before.names →
       IsSaveOf bytes job.source job.program (course_of job solving).state (named_by (course_of job solving).state)
   saves-state origin bytes text fit named = record {
-    is_program = subst (λ (source : List ℕ). IsProgram number_limit source frac_value job.program) (sym (ap (λ (j : Job). j.source) is_job)) accepted.is_program;
+    is_program = subst (λ (source : List ℕ). IsProgram frac_limit source frac_value job.program) (sym (ap (λ (j : Job). j.source) is_job)) accepted.is_program;
     is_saved = subst (λ (s : State). IsSavedBy job.program s (named_by s)) (sym ended-is) (saved-by script.saved accepted.no_error origin (subst FitsThere ended-is fit) named);
     text = text;
   }
 
 -- what is to be saved, where the text is made and the numbers were examined
 pub keeps_state : {E : Type 0} (r : Result (Vec ℕ Global) E) (file : Option (List ℕ)) (solvers : List (List ℕ)) (source : List ℕ) (program : Program Frac) (last : State) → IfOk r (λ bytes. bytes.items ≡ saved_text source program.names last (solver_name solvers last)) →
-    ((name : ℕ) → name < length program.names → (t : List ℕ) → fits_at number_limit (symbol_of last name).content t ≡ true) → IfOk r (λ bytes. IfSome file (λ _. KeepsState solvers source program last bytes.items))
+    ((name : ℕ) → name < length program.names → (t : List ℕ) → fits_at frac_limit (symbol_of last name).content t ≡ true) → IfOk r (λ bytes. IfSome file (λ _. KeepsState solvers source program last bytes.items))
 keeps_state (Err e) file solvers source program last text fit = tt
 keeps_state (Ok bytes) None solvers source program last text fit = tt
 keeps_state (Ok bytes) (Some file) solvers source program last text fit = record { text = text; fit = fit }

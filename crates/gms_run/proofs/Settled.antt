@@ -5,7 +5,7 @@ use Rattle.std.specs.List.{All}
 use Rattle.std.proofs.lemmas.List.Elements.{All-nil, All-cons, All-head, All-tail, All-append, All-weaker}
 use Rattle.gq_number.specs.Number.{Number}
 use Rattle.gq_frac.specs.declared.frac.Frac.{Frac}
-use Rattle.gq_frac.specs.Frac.{frac_value}
+use Rattle.gq_frac.specs.Frac.{frac_value, frac_limit}
 use Rattle.gms_store.specs.declared.settings.Settings.{Settings}
 use Rattle.gms_event.specs.declared.event.Event.{Event as OwnEvent}
 use Rattle.gms_event.specs.declared.event.Event.TheVariants as own
@@ -28,7 +28,6 @@ use Rattle.gms_exec.specs.Answering.{AreAnswered, IsAnswered}
 use Rattle.gms_exec.specs.Standing.{IsStanding, IsStandingSolve}
 use Rattle.gms_exec.proofs.Quiet.{IsNoSolve}
 use Rattle.gms_exec.proofs.Standing.{answered_by_standing}
-use Rattle.gms_run.specs.Solving.{number_limit}
 use Rattle.gms_run.specs.Searches.{IsEnough, SearchEnds, SearchesEnd}
 use Rattle.gms_run.proofs.Completeness.{one_value}
 
@@ -38,47 +37,47 @@ improving_turns first pivots d q (inl improves) turned = absurd (improves.0 turn
 improving_turns first pivots d q (inr bland) turned = bland.1
 
 -- with enough pivots no answer under a rule is interrupted
-ends_under : (lp : Lp Frac) (iterlim : ℕ) → IsWellFormed frac_value lp → (rule : SolverRule) (answer : Answer Frac) → IsAnswerUnder frac_value number_limit lp iterlim rule answer → IsEnough rule (variable_count frac_value lp) iterlim → ¬ (IsInterrupted answer.end)
-ends_under lp iterlim formed Bland answer is enough = comes_to_end frac_value number_limit lp iterlim answer formed is enough
-ends_under lp iterlim formed LargestCoefficient answer is enough = comes_to_end_by_turn frac_value number_limit lp iterlim IsNext largest_turns answer formed is enough
-ends_under lp iterlim formed Turning answer is enough = comes_to_end_by_turn frac_value number_limit lp iterlim IsNextImproving improving_turns answer formed is enough
+ends_under : (lp : Lp Frac) (iterlim : ℕ) → IsWellFormed frac_value lp → (rule : SolverRule) (answer : Answer Frac) → IsAnswerUnder frac_value frac_limit lp iterlim rule answer → IsEnough rule (variable_count frac_value lp) iterlim → ¬ (IsInterrupted answer.end)
+ends_under lp iterlim formed Bland answer is enough = comes_to_end frac_value frac_limit lp iterlim answer formed is enough
+ends_under lp iterlim formed LargestCoefficient answer is enough = comes_to_end_by_turn frac_value frac_limit lp iterlim IsNext largest_turns answer formed is enough
+ends_under lp iterlim formed Turning answer is enough = comes_to_end_by_turn frac_value frac_limit lp iterlim IsNextImproving improving_turns answer formed is enough
 ends_under lp iterlim formed Legal answer is enough = absurd enough
 
 module _ (rules : List SolverRule) (answers : List (Answer Frac)) where
   -- each solve among the events is answered, and its search ends
   abbrev pub AreSettled : List Event → Type 0
-  AreSettled events = AreAnswered frac_value number_limit rules answers events × SearchesEnd rules answers events
+  AreSettled events = AreAnswered frac_value frac_limit rules answers events × SearchesEnd rules answers events
 
   -- ---- what stands
 
-  solve_ends : (lp : Lp Frac) (place : ℕ) (settings : Settings) → IsStandingSolve frac_value number_limit rules answers lp place settings →
+  solve_ends : (lp : Lp Frac) (place : ℕ) (settings : Settings) → IsStandingSolve frac_value frac_limit rules answers lp place settings →
       (rule : SolverRule) → slice_get rules settings.solver ≡ Some rule → IsEnough rule (variable_count (λ (x : Number). x) (lp_numbers frac_value lp)) settings.iterlim →
       IfSome (slice_get answers place) (λ answer. ¬ (IsInterrupted answer.end))
   solve_ends lp place settings is rule chosen enough =
-      let under : IsAnswerUnder frac_value number_limit lp settings.iterlim rule is.given = subst (λ r. IsAnswerUnder frac_value number_limit lp settings.iterlim r is.given) (one_value is.chosen chosen) is.is_answer in
+      let under : IsAnswerUnder frac_value frac_limit lp settings.iterlim rule is.given = subst (λ r. IsAnswerUnder frac_value frac_limit lp settings.iterlim r is.given) (one_value is.chosen chosen) is.is_answer in
       let pivots : IsEnough rule (variable_count frac_value lp) settings.iterlim = subst (λ n. IsEnough rule n settings.iterlim) (same_count frac_value lp) enough in
       subst (λ (o : Option (Answer Frac)). IfSome o (λ answer. ¬ (IsInterrupted answer.end))) (sym is.stands)
       (ends_under lp settings.iterlim is.formed rule is.given under pivots)
 
-  one_ends : (e : OwnEvent Frac) → IsStanding frac_value number_limit rules answers e → SearchEnds rules answers (event_in frac_value e)
+  one_ends : (e : OwnEvent Frac) → IsStanding frac_value frac_limit rules answers e → SearchEnds rules answers (event_in frac_value e)
   one_ends (own.Display line items) is = tt
   one_ends (own.Abort line items) is = tt
   one_ends (own.Fault stop) is = tt
   one_ends (own.Solve line model equations lp answer solver settings level) is = solve_ends lp answer settings is
 
-  all_end : (shown : List (OwnEvent Frac)) → All (IsStanding frac_value number_limit rules answers) shown → SearchesEnd rules answers (events_in frac_value shown)
+  all_end : (shown : List (OwnEvent Frac)) → All (IsStanding frac_value frac_limit rules answers) shown → SearchesEnd rules answers (events_in frac_value shown)
   all_end [] is = All-nil (SearchEnds rules answers)
   all_end (e ∷ shown) is =
-      All-cons (SearchEnds rules answers) (event_in frac_value e) (events_in frac_value shown) (one_ends e (All-head (IsStanding frac_value number_limit rules answers) e shown is))
-      (all_end shown (All-tail (IsStanding frac_value number_limit rules answers) e shown is))
+      All-cons (SearchEnds rules answers) (event_in frac_value e) (events_in frac_value shown) (one_ends e (All-head (IsStanding frac_value frac_limit rules answers) e shown is))
+      (all_end shown (All-tail (IsStanding frac_value frac_limit rules answers) e shown is))
 
   -- Valid events are settled.
-  pub settled_by_standing : (shown : List (OwnEvent Frac)) → All (IsStanding frac_value number_limit rules answers) shown → AreSettled (events_in frac_value shown)
-  settled_by_standing shown is = (answered_by_standing frac_value number_limit rules answers shown is, all_end shown is)
+  pub settled_by_standing : (shown : List (OwnEvent Frac)) → All (IsStanding frac_value frac_limit rules answers) shown → AreSettled (events_in frac_value shown)
+  settled_by_standing shown is = (answered_by_standing frac_value frac_limit rules answers shown is, all_end shown is)
 
   -- ---- what is no solve
 
-  unsolved-answered : (e : Event) → IsNoSolve e → IsAnswered frac_value number_limit rules answers e
+  unsolved-answered : (e : Event) → IsNoSolve e → IsAnswered frac_value frac_limit rules answers e
   unsolved-answered (displays line items) is = tt
   unsolved-answered (aborts line items) is = tt
   unsolved-answered (stops fault) is = tt
@@ -93,6 +92,6 @@ module _ (rules : List SolverRule) (answers : List (Answer Frac)) where
   -- Further events without a solve change nothing.
   pub settled_more : (events more : List Event) → AreSettled events → All IsNoSolve more → AreSettled (events ++ more)
   settled_more events more settled unsolved = (
-    All-append (IsAnswered frac_value number_limit rules answers) events more settled.0 (All-weaker IsNoSolve (IsAnswered frac_value number_limit rules answers) unsolved-answered more unsolved),
+    All-append (IsAnswered frac_value frac_limit rules answers) events more settled.0 (All-weaker IsNoSolve (IsAnswered frac_value frac_limit rules answers) unsolved-answered more unsolved),
     All-append (SearchEnds rules answers) events more settled.1 (All-weaker IsNoSolve (SearchEnds rules answers) unsolved-ends more unsolved),
   )

@@ -3,7 +3,7 @@
 use Rattle.std.proofs.Common.{◌≡◌, ℕ, List, Option, Some, None, refl, sym, ap, ap₂, ◌∙◌, subst}
 use Rattle.std.specs.Prelude.{◌↔◌}
 use Rattle.gq_frac.specs.declared.frac.Frac.{Frac}
-use Rattle.gq_frac.specs.Frac.{frac_value}
+use Rattle.gq_frac.specs.Frac.{frac_value, frac_limit}
 use Rattle.gms_ast.specs.declared.program.Program.{Program}
 use Rattle.gms_host.specs.Meaning.{Meaning, Outside}
 use Rattle.gms_store.specs.State.{State}
@@ -14,7 +14,7 @@ use Rattle.gms_save.specs.declared.fault.SaveFault.{SaveFault}
 use Rattle.gms_command.specs.CommandLine.{Asked}
 use Rattle.gms_run.specs.declared.status.Status.{Status}
 use Rattle.gms_run.specs.declared.status.Status.TheVariants.{Done, Usage, Compile, Execution, ReadFault, WriteFault}
-use Rattle.gms_run.specs.Solving.{Solving, number_limit, numbers_of}
+use Rattle.gms_run.specs.Solving.{Solving, numbers_of}
 use Rattle.gms_run.specs.Scripts.{Script, joint_script, Matter, scripted, unrestored, Taken, from_start, from_save, IsMatter}
 use Rattle.gms_run.specs.Jobs.{Job, job_of, course_of, HaltsSo}
 use Rattle.gms_run.specs.Listings.{IsAcceptedScript, IsExecuted, IsJob}
@@ -34,8 +34,8 @@ module _ (one other : Program Frac) (alike : program_view frac_value one ≡ pro
     where
       by : (source file : List ℕ) (line : ℕ) (saved : Option State) →
           course_of (job_of (record { source = source; file = file; line = line; saved = saved }) one) solving ≡ course_of (job_of (record { source = source; file = file; line = line; saved = saved }) other) solving
-      by source file line None = whole-alike number_limit (world_of one) (world_of other) alike refl (numbers_of solving.answers)
-      by source file line (Some state) = restarted-alike number_limit (world_of one) (world_of other) alike refl line state (numbers_of solving.answers)
+      by source file line None = whole-alike frac_limit (world_of one) (world_of other) alike refl (numbers_of solving.answers)
+      by source file line (Some state) = restarted-alike frac_limit (world_of one) (world_of other) alike refl line state (numbers_of solving.answers)
 
 -- ---- the run of an input
 
@@ -47,7 +47,7 @@ module _ (solving : Solving) where
       let is-b : script ≡ jb.script = one_script jb.to_run in
       let program-a = subst (λ (s : Script). IsAcceptedScript solving.before.names s a.program) (sym is-a) ja.accepted in
       let program-b = subst (λ (s : Script). IsAcceptedScript solving.before.names s b.program) (sym is-b) jb.accepted in
-      let alike = one_program number_limit script.source (program_view frac_value a.program) (program_view frac_value b.program) program-a.is_program program-b.is_program in
+      let alike = one_program frac_limit script.source (program_view frac_value a.program) (program_view frac_value b.program) program-a.is_program program-b.is_program in
       ap (λ (j : Job). course_of j solving) (ja.is_job ∙ ap (λ (s : Script). job_of s a.program) (sym is-a))
       ∙ same-course a.program b.program alike solving script
       ∙ sym (ap (λ (j : Job). course_of j solving) (jb.is_job ∙ ap (λ (s : Script). job_of s b.program) (sym is-b)))

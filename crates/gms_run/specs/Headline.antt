@@ -4,11 +4,11 @@
 -- listing (`HasListing`), what is outside before the run and after it is as `WritesListing` says.
 -- Restarts, saves, ranges (how far right sides and costs may move) and generated models
 -- (`--generate`) are additions to it, in the modules after this one. Texts and names are lists of
--- bytes. Numbers are exact fractions; `number_limit` bounds their numerators and denominators, and
+-- bytes. Numbers are exact fractions; `frac_limit` bounds their numerators and denominators, and
 -- `frac_value` is the number that a stored fraction means.
 use Rattle.std.specs.Prelude.{◌≡◌, ◌≢◌, ℕ, ◌⊎◌, false, List, [], length, None}
 use Rattle.gq_frac.specs.declared.frac.Frac.{Frac}
-use Rattle.gq_frac.specs.Frac.{frac_value}
+use Rattle.gq_frac.specs.Frac.{frac_value, frac_limit}
 use Rattle.gms_ast.specs.declared.program.Program.{Program}
 use Rattle.gms_parse.specs.declared.fault.SourceFault.{SourceFault}
 use Rattle.gms_parse.specs.Outcomes.{IsProgram, IsSourceFault}
@@ -23,7 +23,7 @@ use Rattle.gms_host.specs.Rules.{with_said}
 use Rattle.gms_command.specs.CommandLine.{Asked, in_file, closing_line}
 use Rattle.gms_run.specs.declared.status.Status.{Status}
 use Rattle.gms_run.specs.declared.status.Status.TheVariants.{Done, Usage, Compile, Execution, ReadFault, WriteFault}
-use Rattle.gms_run.specs.Solving.{Solving, SolvesNothing, number_limit, numbers_of}
+use Rattle.gms_run.specs.Solving.{Solving, SolvesNothing, numbers_of}
 use Rattle.gms_run.specs.Jobs.{HaltsSo, status_code}
 use Rattle.gms_run.specs.Statuses.{IsFileOf, with_source_read, with_file}
 
@@ -34,20 +34,20 @@ use Rattle.gms_run.specs.Statuses.{IsFileOf, with_source_read, with_file}
 -- rules, before the run and after it, and these answers.
 abbrev pub run_of : Program Frac → Solving → Course
 run_of program solving =
-    run_from frac_value number_limit (record { program = program; solvers = solving.before.names }) (loaded frac_value program) (numbers_of solving.answers) program.statements.items
+    run_from frac_value frac_limit (record { program = program; solvers = solving.before.names }) (loaded frac_value program) (numbers_of solving.answers) program.statements.items
 
 -- ---- listings
 
 -- The source is no program: the listing names its first fault.
 pub record IsFaultListing (source text : List ℕ) : Type 0 where
   pub fault : SourceFault
-  pub is_first : IsSourceFault number_limit source fault
+  pub is_first : IsSourceFault frac_limit source fault
   pub listing : text ≡ refused_listing 1 source fault
 
 -- The source is a program that has compile errors: the listing has each of them.
 pub record IsErrorListing (solvers : List (List ℕ)) (source text : List ℕ) : Type 0 where
   pub program : Program Frac
-  pub is_program : IsProgram number_limit source frac_value program
+  pub is_program : IsProgram frac_limit source frac_value program
   pub some : compile_errors frac_value program solvers ≢ []
   pub listing : text ≡ errors_listing 1 source (compile_errors frac_value program solvers)
 
@@ -58,13 +58,13 @@ pub record IsErrorListing (solvers : List (List ℕ)) (source text : List ℕ) :
 -- the text of the events of the run, which echoes the source from line 1.
 pub record IsRunListing (status : Status) (solving : Solving) (source text : List ℕ) : Type 0 where
   pub program : Program Frac
-  pub is_program : IsProgram number_limit source frac_value program
+  pub is_program : IsProgram frac_limit source frac_value program
   pub no_error : compile_errors frac_value program solving.before.names ≡ []
   pub all_taken : (run_of program solving).left ≡ []
-  pub answered : AreAnswered frac_value number_limit solving.before.rules solving.answers (run_of program solving).events
-  pub says_so : AnswersAreSo frac_value number_limit (record { program = program; solvers = solving.before.names }) (loaded frac_value program) program.statements.items solving.answers
+  pub answered : AreAnswered frac_value frac_limit solving.before.rules solving.answers (run_of program solving).events
+  pub says_so : AnswersAreSo frac_value frac_limit (record { program = program; solvers = solving.before.names }) (loaded frac_value program) program.statements.items solving.answers
   pub ends : HaltsSo status (run_of program solving).halted
-  pub listing : text ≡ run_listing program.names program.labels number_limit 1 source (numbers_of solving.answers) (all_events (run_of program solving)) (status_code status)
+  pub listing : text ≡ run_listing program.names program.labels frac_limit 1 source (numbers_of solving.answers) (all_events (run_of program solving)) (status_code status)
 
 -- the listing of a source for a run that ends with a status; the other statuses have none
 abbrev pub IsListingOf : Status → Solving → List ℕ → List ℕ → Type 0

@@ -4,7 +4,7 @@ use Rattle.std.specs.List.{All}
 use Rattle.std.specs.declared.alloc.Global.{Global}
 use Rattle.std.specs.declared.alloc.AllocError.{AllocError}
 use Rattle.gq_frac.specs.declared.frac.Frac.{Frac}
-use Rattle.gq_frac.specs.Frac.{frac_value}
+use Rattle.gq_frac.specs.Frac.{frac_value, frac_limit}
 use Rattle.gms_host.specs.declared.host.Failed.{Failed}
 use Rattle.gms_host.specs.declared.host.Failed.TheVariants.{Fault as FailedSo, Memory}
 use Rattle.gms_host.specs.Meaning.{Meaning, Outside, Counts}
@@ -32,7 +32,7 @@ use Rattle.gms_run.specs.declared.status.Status.TheVariants.{Compile, ReadFault,
 use Rattle.gms_run.specs.declared.script.Script.{Script as OwnScript}
 use Rattle.gms_run.specs.declared.script.Matter.{Matter as OwnMatter}
 use Rattle.gms_run.specs.declared.script.Matter.TheVariants.{ToRun, Unrestored}
-use Rattle.gms_run.specs.Solving.{Solving, SolvesNothing, number_limit, numbers_of}
+use Rattle.gms_run.specs.Solving.{Solving, SolvesNothing, numbers_of}
 use Rattle.gms_run.specs.Scripts.{Script, Matter, scripted, unrestored, Taken, from_save, IsMatter, first_line, first_state, joint_source}
 use Rattle.gms_run.specs.Jobs.{solver_name, status_code}
 use Rattle.gms_run.specs.Listings.{AreRemarks, IsAcceptedScript, IsListing, IsModelLine, SavesSo, errors_text, save_file}
@@ -68,7 +68,7 @@ pub record IsGoneOn (solvers : List (List ℕ)) (source : List ℕ) (line : ℕ)
   pub solver : List ℕ
   pub joint : source ≡ joint_source before file
   pub begins : line ≡ first_line before
-  pub is_program : IsProgram number_limit before frac_value program
+  pub is_program : IsProgram frac_limit before frac_value program
   pub is_saved : IsSavedBy program state solver
   pub placed : place_of_solver solvers solver ≡ Some state.settings.solver
 
@@ -79,7 +79,7 @@ pub record CanGoOn (solvers : List (List ℕ)) (source : List ℕ) (line : ℕ) 
   pub origin : IsGoneOn solvers source line state
   pub settings : AreValidSettings (length solvers) state.settings
   pub arity : (name : ℕ) → All (λ t. length t ≡ length (symbol_at state name).domain) (members_in (symbol_at state name).content)
-  pub declares : (program : Program Frac) → IsProgram number_limit source frac_value program → (name : ℕ) → IsAlike (resumed frac_value state program) (declared_state program) name
+  pub declares : (program : Program Frac) → IsProgram frac_limit source frac_value program → (name : ℕ) → IsAlike (resumed frac_value state program) (declared_state program) name
 
 -- a run of a source can resume from this state; without a state nothing is required
 abbrev pub IsSound : List (List ℕ) → List ℕ → ℕ → Option State → Type 0
@@ -247,7 +247,7 @@ IsTold (restarted saved file) program last answers line = line ≡ []
 -- what is printed of ranges, if they are requested, for a run that solved these linear programs
 abbrev pub IsRanged : Bool → Program Frac → List (Lp Frac) → List (Answer Frac) → List ℕ → Type 0
 IsRanged true program solved answers text =
-    SaysRanges program.names program.labels number_limit 1 (map (lp_numbers frac_value) solved) (numbers_of answers) text
+    SaysRanges program.names program.labels frac_limit 1 (map (lp_numbers frac_value) solved) (numbers_of answers) text
 IsRanged false program solved answers text = text ≡ []
 
 -- the remarks on a run, by its program, its last state and the linear programs that it solved
@@ -264,7 +264,7 @@ HasRemarks request program run =
 -- the limit.
 pub record KeepsState (solvers : List (List ℕ)) (source : List ℕ) (program : Program Frac) (last : State) (bytes : List ℕ) : Type 0 where
   pub text : bytes ≡ saved_text source program.names last (solver_name solvers last)
-  pub fit : (name : ℕ) → name < length program.names → (t : List ℕ) → fits_at number_limit (symbol_of last name).content t ≡ true
+  pub fit : (name : ℕ) → name < length program.names → (t : List ℕ) → fits_at frac_limit (symbol_of last name).content t ≡ true
 
 -- the bytes are the save of the last state, if the run is to be saved
 abbrev pub IsSave : Status → Asked → List (List ℕ) → List ℕ → Program Frac → State → List ℕ → Type 0

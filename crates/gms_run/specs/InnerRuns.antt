@@ -1,7 +1,7 @@
 -- The contracts between the functions that execute a run: the run as a whole, and its host.
 use Rattle.std.specs.Prelude.{◌≡◌, ℕ, Bool, List, [], ◌++◌, Result, string_bytes}
 use Rattle.gq_frac.specs.declared.frac.Frac.{Frac}
-use Rattle.gq_frac.specs.Frac.{frac_value}
+use Rattle.gq_frac.specs.Frac.{frac_value, frac_limit}
 use Rattle.gms_host.specs.declared.host.Failed.{Failed}
 use Rattle.gms_host.specs.Meaning.{Meaning}
 use Rattle.gms_ast.specs.declared.program.Program.{Program}
@@ -11,7 +11,7 @@ use Rattle.lp_core.specs.declared.answer.Pivot.{Pivot}
 use Rattle.lp_slot.specs.declared.solver.SolverRule.{SolverRule}
 use Rattle.gms_run.specs.declared.execution.Run.{Run}
 use Rattle.gms_run.specs.declared.status.Status.{Status}
-use Rattle.gms_run.specs.Solving.{Solvers, Solving, number_limit, solver_views}
+use Rattle.gms_run.specs.Solving.{Solvers, Solving, solver_views}
 use Rattle.gms_run.specs.Jobs.{Job}
 use Rattle.gms_run.specs.InnerSteps.{Between, BreaksBehind, ComesTo, EndsBehind, IsListed}
 
@@ -41,7 +41,7 @@ between solvers run =
 -- A statement of a program was executed and listed; the solvers are given before it and after it.
 abbrev pub ListsStatement : Bool → Program Frac → Stmt Frac → Solvers → Run → Solvers → Run → Type 0
 ListsStatement goes_on program s before old after new =
-    IsListed goes_on (of_statement frac_value number_limit (record { program = program; solvers = before.names }) s []) program before.rules (between before old) (between after new) old.outlet.listing new.outlet.listing
+    IsListed goes_on (of_statement frac_value frac_limit (record { program = program; solvers = before.names }) s []) program before.rules (between before old) (between after new) old.outlet.listing new.outlet.listing
 
 -- ---- moments
 

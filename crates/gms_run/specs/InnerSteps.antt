@@ -2,7 +2,7 @@
 use Rattle.std.specs.Prelude.{◌≡◌, ℕ, ◌+◌, ◌≤◌, Bool, true, false, List, [], ◌∷◌, ◌++◌, length, map, slice_get, Option, Some, None, option_map, IfSome, Result, Ok, Err}
 use Rattle.std.specs.List.{All, range_with_len}
 use Rattle.gq_frac.specs.declared.frac.Frac.{Frac}
-use Rattle.gq_frac.specs.Frac.{frac_value}
+use Rattle.gq_frac.specs.Frac.{frac_value, frac_limit}
 use Rattle.gq_number.specs.Number.{Number}
 use Rattle.gms_host.specs.declared.host.Failed.{Failed}
 use Rattle.gms_host.specs.declared.host.Failed.TheVariants.{Fault as FailedSo, Memory}
@@ -27,7 +27,7 @@ use Rattle.gms_exec.specs.Stepping.{AreValidSettings}
 use Rattle.gms_exec.specs.Standing.{IsStanding, IsStandingSolve}
 use Rattle.gms_list.specs.ListingText.{events_text}
 use Rattle.gms_run.specs.declared.status.Status.{Status}
-use Rattle.gms_run.specs.Solving.{Solvers, Solving, HaveGrown, number_limit, numbers_of, places_of, programs_of, solves_in}
+use Rattle.gms_run.specs.Solving.{Solvers, Solving, HaveGrown, numbers_of, places_of, programs_of, solves_in}
 use Rattle.gms_run.specs.Jobs.{Job, IsRunSolved, HaltsSo, course_of, first_of, shown_by}
 
 -- what work over a host results in: `Done` on success, `Broken` on a host fault; out of memory
@@ -41,7 +41,7 @@ ComesTo (Err Memory) Done Broken = Unit {0}
 
 -- the answer at a place is one of a program, by the settings of some solve
 abbrev pub IsAnsweredAt : List SolverRule → List (Answer Frac) → ℕ → Lp Frac → Type 0
-IsAnsweredAt rules answers place lp = (settings : Settings) × IsStandingSolve frac_value number_limit rules answers lp place settings
+IsAnsweredAt rules answers place lp = (settings : Settings) × IsStandingSolve frac_value frac_limit rules answers lp place settings
 
 -- The programs of the solves among events are kept, in order. They are those that the solves show,
 -- one for each answer, and each answer is one of the program at its place.
@@ -95,11 +95,11 @@ pub record IsListed (goes_on : Bool) (does : Course → Course) (program : Progr
   pub fresh : List (Answer Frac)
   pub answers : new.answers ≡ old.answers ++ fresh
   pub programs : new.programs ≡ old.programs ++ programs_in shown
-  pub standing : All (IsStanding frac_value number_limit rules new.answers) shown
+  pub standing : All (IsStanding frac_value frac_limit rules new.answers) shown
   pub grown : HaveGrown old.solvers new.solvers new.answers (events_in frac_value shown)
   pub comes : (events : List Event) (more : List (Answer Number)) →
       does (course_at old events (numbers_of fresh ++ more) None) ≡ course_at new (events ++ events_in frac_value shown) more fault
-  pub text : after ≡ before ++ events_text program.names program.labels number_limit (numbers_of new.answers) (events_in frac_value shown ++ last_event (option_map stopped fault))
+  pub text : after ≡ before ++ events_text program.names program.labels frac_limit (numbers_of new.answers) (events_in frac_value shown ++ last_event (option_map stopped fault))
 
 -- ---- programs to run
 

@@ -1,7 +1,7 @@
 -- A program to run, how far its run goes with the solvers' answers, and the text of that.
 use Rattle.std.specs.Prelude.{◌≡◌, ℕ, ◌+◌, ◌≤◌, ◌⊎◌, List, [], ◌++◌, length, take, Option, Some, None}
 use Rattle.gq_frac.specs.declared.frac.Frac.{Frac}
-use Rattle.gq_frac.specs.Frac.{frac_value}
+use Rattle.gq_frac.specs.Frac.{frac_value, frac_limit}
 use Rattle.gms_ast.specs.declared.program.Program.{Program}
 use Rattle.gms_ast.specs.declared.program.Stmt.{Stmt}
 use Rattle.gms_store.specs.State.{State}
@@ -16,7 +16,7 @@ pub use Rattle.gms_restart.specs.Restarts.{solver_name}
 use Rattle.gms_run.specs.Searches.{SearchesEnd}
 use Rattle.gms_save_text.specs.SavedState.{saved_text}
 use Rattle.gms_run.specs.Scripts.{Script, first_state, statements_to_run}
-use Rattle.gms_run.specs.Solving.{Solving, HaveGrown, SolvesNothing, number_limit, numbers_of}
+use Rattle.gms_run.specs.Solving.{Solving, HaveGrown, SolvesNothing, numbers_of}
 
 -- What is run: statements of a program, from a state. `source` is the source of the program; the
 -- lines of `file` are echoed, and `line` is the number of the first.
@@ -42,14 +42,14 @@ first_of n job = record job { statements = take n job.statements }
 -- the run of a program with these answers
 abbrev pub course_of : Job → Solving → Course
 course_of job solving =
-    run_from frac_value number_limit (record { program = job.program; solvers = solving.before.names }) job.state (numbers_of solving.answers) job.statements
+    run_from frac_value frac_limit (record { program = job.program; solvers = solving.before.names }) job.state (numbers_of solving.answers) job.statements
 
 -- The run takes all answers. Each solve has an answer of the linear program that its model means at
 -- that point, under the rule of the solver that is chosen there. No search that has pivots enough
 -- for that rule is interrupted. The pivots of each answer are appended to the paths of its solver.
 pub record IsRunSolved (job : Job) (solving : Solving) : Type 0 where
   pub all_taken : (course_of job solving).left ≡ []
-  pub answered : AreAnswered frac_value number_limit solving.before.rules solving.answers (course_of job solving).events
+  pub answered : AreAnswered frac_value frac_limit solving.before.rules solving.answers (course_of job solving).events
   pub ended : SearchesEnd solving.before.rules solving.answers (course_of job solving).events
   pub grown : HaveGrown solving.before solving.after solving.answers (course_of job solving).events
 
@@ -57,7 +57,7 @@ pub record IsRunSolved (job : Job) (solving : Solving) : Type 0 where
 -- data at the moment of its solve
 abbrev pub HasRightAnswers : Job → Solving → Type 0
 HasRightAnswers job solving =
-    AnswersAreSo frac_value number_limit (record { program = job.program; solvers = solving.before.names }) job.state job.statements solving.answers
+    AnswersAreSo frac_value frac_limit (record { program = job.program; solvers = solving.before.names }) job.state job.statements solving.answers
 
 -- the number of a status
 abbrev pub status_code : Status → ℕ
@@ -85,7 +85,7 @@ last_line (Some waiting) solves = []
 -- what the statements show, and the fault that stops them, as far as the answers go
 abbrev pub shown_by : Job → Solving → List ℕ
 shown_by job solving =
-    events_text job.program.names job.program.labels number_limit (numbers_of solving.answers) (all_events (course_of job solving))
+    events_text job.program.names job.program.labels frac_limit (numbers_of solving.answers) (all_events (course_of job solving))
 
 -- the echo of the file, and what the statements show
 abbrev pub body_of : Job → Solving → List ℕ

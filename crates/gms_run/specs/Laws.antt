@@ -1,12 +1,12 @@
 -- Laws of the run of a program, what its answers say, and what a restarted run says.
 use Rattle.std.specs.Prelude.{◌≡◌, ℕ, List, [], ◌++◌, length, map, None}
 use Rattle.gq_frac.specs.declared.frac.Frac.{Frac}
-use Rattle.gq_frac.specs.Frac.{frac_value}
+use Rattle.gq_frac.specs.Frac.{frac_value, frac_limit}
 use Rattle.gms_ast.specs.declared.program.Stmt.{Stmt}
 use Rattle.gms_exec.specs.Run.{Course, of_statement, one_after_another}
 use Rattle.gms_run_laws.specs.JointRun.{behind_run}
 use Rattle.gms_save.specs.JointErrors.{saved_statements}
-use Rattle.gms_run.specs.Solving.{Solving, number_limit}
+use Rattle.gms_run.specs.Solving.{Solving}
 use Rattle.gms_run.specs.declared.status.Status.TheVariants.{Done}
 use Rattle.gms_run.specs.Scripts.{Taken, Matter, IsMatter, first_line, from_save, from_start, joint_source, script_of, scripted}
 use Rattle.gms_run.specs.Jobs.{Job, course_of, first_of, HasRightAnswers}
@@ -19,7 +19,7 @@ with_statements job statements = record job { statements = statements }
 -- the run of further statements from the state that a run has reached
 abbrev pub run_on : Job → Solving → Course → List (Stmt Frac) → Course
 run_on job solving course statements =
-    one_after_another (map (of_statement frac_value number_limit (record { program = job.program; solvers = solving.before.names })) statements) [] course
+    one_after_another (map (of_statement frac_value frac_limit (record { program = job.program; solvers = solving.before.names })) statements) [] course
 
 -- the run of statements followed by others is the run of the others from where the first end
 abbrev pub RunsJoin : Type 0

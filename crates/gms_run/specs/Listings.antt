@@ -4,7 +4,7 @@ use Rattle.std.specs.Prelude.{◌≡◌, ◌≢◌, ℕ, pos, ◌⊎◌, Bool, t
 use Rattle.std.specs.List.{range_with_len}
 use Rattle.gq_number.specs.Number.{Number, whole}
 use Rattle.gq_frac.specs.declared.frac.Frac.{Frac}
-use Rattle.gq_frac.specs.Frac.{frac_value}
+use Rattle.gq_frac.specs.Frac.{frac_value, frac_limit}
 use Rattle.gms_ast.specs.declared.program.Program.{Program}
 use Rattle.gms_labels.specs.Labels.{place_of}
 use Rattle.gms_parse.specs.declared.fault.SourceFault.{SourceFault}
@@ -22,7 +22,7 @@ use Rattle.gms_command.specs.CommandLine.{Asked, Origin, in_file, restarted, gen
 use Rattle.gms_range_lines.specs.RangeTexts.{SaysRanges}
 use Rattle.gms_run.specs.declared.status.Status.{Status}
 use Rattle.gms_run.specs.declared.status.Status.TheVariants.{Done, Usage, Compile, Execution, ReadFault, WriteFault}
-use Rattle.gms_run.specs.Solving.{Solving, SolvesNothing, number_limit, numbers_of, places_of, programs_of, solves_in}
+use Rattle.gms_run.specs.Solving.{Solving, SolvesNothing, numbers_of, places_of, programs_of, solves_in}
 use Rattle.gms_run.specs.Scripts.{Script, Matter, scripted, unrestored, errors_of_script}
 use Rattle.gms_run.specs.Jobs.{Job, job_of, course_of, job_text, save_text, solver_name, IsRunSolved, IsCutOff, HaltsSo, status_code}
 
@@ -30,7 +30,7 @@ use Rattle.gms_run.specs.Jobs.{Job, job_of, course_of, job_text, save_text, solv
 
 -- The source of a script is a program that has no error.
 pub record IsAcceptedScript (solvers : List (List ℕ)) (script : Script) (program : Program Frac) : Type 0 where
-  pub is_program : IsProgram number_limit script.source frac_value program
+  pub is_program : IsProgram frac_limit script.source frac_value program
   pub no_error : errors_of_script script.saved script.line program solvers ≡ []
 
 -- The program that is run of the loaded input, where it is accepted.
@@ -61,13 +61,13 @@ refused_text listed = listed ++ end_text 2 0
 -- The source is no program, and the text is the listing that says why, and where.
 pub record ShowsRefusal (script : Script) (text : List ℕ) : Type 0 where
   pub fault : SourceFault
-  pub refused : IsSourceFault number_limit script.source fault
+  pub refused : IsSourceFault frac_limit script.source fault
   pub listing : text ≡ refused_listing script.line script.file fault
 
 -- The source is a program with errors, and the text is the listing that has them.
 pub record ShowsErrors (solvers : List (List ℕ)) (script : Script) (text : List ℕ) : Type 0 where
   pub program : Program Frac
-  pub is_program : IsProgram number_limit script.source frac_value program
+  pub is_program : IsProgram frac_limit script.source frac_value program
   pub some : errors_of_script script.saved script.line program solvers ≢ []
   pub listing : text ≡ errors_listing script.line script.file (errors_of_script script.saved script.line program solvers)
 
@@ -181,7 +181,7 @@ pub record TellsSpans (solving : Solving) (matter : Matter) (text : List ℕ) : 
   pub job : Job
   pub is_job : IsJob solving.before.names matter job
   pub in_order : places_of (solves_of job solving) ≡ range_with_len 0 (length solving.answers)
-  pub said : SaysRanges job.program.names job.program.labels number_limit 1 (programs_of (solves_of job solving)) (numbers_of solving.answers) text
+  pub said : SaysRanges job.program.names job.program.labels frac_limit 1 (programs_of (solves_of job solving)) (numbers_of solving.answers) text
 
 -- what is printed of ranges for an input that was run; for any other, nothing
 abbrev pub TellsRangesOf : Status → Solving → Matter → List ℕ → Type 0

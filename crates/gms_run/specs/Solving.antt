@@ -11,10 +11,6 @@ use Rattle.lp_core.specs.declared.program.Lp.{Lp}
 use Rattle.lp_core.specs.Numbers.{answer_numbers}
 use Rattle.gms_event.specs.Events.{Event, Solved, solves}
 
--- the limit of the numbers of a run, 2^127 - 1
-abbrev pub number_limit : ℕ
-number_limit = 2 ^ 127 - 1
-
 -- The view of the solvers: their names, their rules, and their paths, in order.
 pub record Solvers : Type 0 where
   pub names : List (List ℕ)

@@ -3,7 +3,7 @@
 use Rattle.std.specs.Prelude.{◌≡◌, ℕ, ◌≢◌, ◌+◌, ◌≤◌, ◌⊎◌, true, false, List, [], ◌∷◌, ◌++◌, drop, length, Option, Some, None, option_map, IfSome}
 use Rattle.std.specs.FinMap as files_map
 use Rattle.gq_frac.specs.declared.frac.Frac.{Frac}
-use Rattle.gq_frac.specs.Frac.{frac_value}
+use Rattle.gq_frac.specs.Frac.{frac_value, frac_limit}
 use Rattle.gms_host.specs.Meaning.{Meaning, Outside, Counts, Files, Rose}
 use Rattle.gms_host.specs.Rules.{IsThere, with_asked, with_emptied, with_kept, with_opened, with_output, with_said}
 use Rattle.gms_host.specs.Spooling.{SaysFront}
@@ -17,7 +17,7 @@ use Rattle.gms_save.specs.Saves.{most_save_bytes, IsRestored, IsSaveOf, place_of
 use Rattle.gms_command.specs.CommandLine.{Asked, Origin, in_file, restarted, generated, request_of, usage_line, read_fault_line}
 use Rattle.gms_run.specs.declared.status.Status.{Status}
 use Rattle.gms_run.specs.declared.status.Status.TheVariants.{Done, Usage, Compile, Execution, ReadFault, WriteFault}
-use Rattle.gms_run.specs.Solving.{Solving, SolvesNothing, number_limit}
+use Rattle.gms_run.specs.Solving.{Solving, SolvesNothing}
 use Rattle.gms_run.specs.Scripts.{Script, Matter, Taken, from_start, from_save, script_of, joint_script, errors_of_script, IsMatter}
 use Rattle.gms_run.specs.Jobs.{Job, course_of, HaltsSo}
 use Rattle.gms_run.specs.Listings.{IsJob, IsListing, IsWrittenPrefix, AreClosing, SavesLast, SavesSo, save_file}
@@ -257,7 +257,7 @@ IsContentOf o origin taken = ⊥
 -- program with this view has no error, wherever its parts are in memory.
 pub record IsGood (solvers : List (List ℕ)) (script : Script) : Type 0 where
   pub view : ProgramView
-  pub has_program : HasProgram number_limit script.source view
+  pub has_program : HasProgram frac_limit script.source view
   pub no_error : (program : Program Frac) → program_view frac_value program ≡ view → errors_of_script script.saved script.line program solvers ≡ []
 
 -- A save can be restored: it is not too long, it is the save of a state of a program, and a solver

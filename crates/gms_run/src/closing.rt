@@ -1,7 +1,7 @@
 //! What is done at the end of a run: the remarks are printed, the last state is saved, and the
 //! closing line is printed.
 ghost use Rattle.std.specs.Prelude.{◌≡◌, ◌<◌, ◌++◌, ℕ, List, true, codes, length, map, option_map, slice_get, unwrap_or, IfOk, OnOk, string_bytes};
-ghost use Rattle.gq_frac.specs.Frac.{frac_value};
+ghost use Rattle.gq_frac.specs.Frac.{frac_value, frac_limit};
 ghost use Rattle.gms_store.specs.State.{fits_at, symbol_of};
 ghost use Rattle.gms_range_lines.specs.Answered.{AreSomeAnswers};
 ghost use Rattle.gms_command.specs.CommandLine.{asked_by, closing_line, origin};
@@ -10,7 +10,6 @@ ghost use Rattle.gms_run.specs.InnerReports.{IsRanged, IsRemarked, IsSave, IsTol
 ghost use Rattle.gms_run.specs.InnerSteps.{ComesTo};
 ghost use Rattle.gms_run.specs.Jobs.{solver_name, status_code};
 ghost use Rattle.gms_run.specs.Listings.{IsModelLine, model_status, objective_level, pivots_of, save_file};
-ghost use Rattle.gms_run.specs.Solving.{number_limit};
 
 use crate::execution::Run;
 use crate::status::Status;
@@ -65,7 +64,7 @@ fn solver_name(solvers: &[Box<dyn LpSolver>], place: u32) -> &str
 /// Looks at each of the first `names` names of a state: its numbers are within the limit, by the
 /// invariant of the store.
 fn look_at_numbers(store: &Store<Frac>, names: u32)
-    ensures { (name : ℕ) → name < names → (t : List ℕ) → fits_at number_limit (symbol_of store.now name).content t ≡ true }
+    ensures { (name : ℕ) → name < names → (t : List ℕ) → fits_at frac_limit (symbol_of store.now name).content t ≡ true }
 {
     for name in 0..names {
         let _given = store.given(name);
@@ -149,7 +148,7 @@ impl Run {
         program: &Program<Frac>,
         answers: &[Answer<Frac>],
     ) -> Result<String, AllocError>
-        requires { AreSomeAnswers frac_value number_limit self.now.solved.items answers.now }
+        requires { AreSomeAnswers frac_value frac_limit self.now.solved.items answers.now }
         ensures { IfOk result (λ text. IsRanged asked program.now self.now.solved.items answers.now (string_bytes text)) }
     {
         if !asked {
@@ -167,7 +166,7 @@ impl Run {
         program: &Program<Frac>,
         answers: &[Answer<Frac>],
     ) -> Result<String, AllocError>
-        requires { AreSomeAnswers frac_value number_limit self.now.solved.items answers.now }
+        requires { AreSomeAnswers frac_value frac_limit self.now.solved.items answers.now }
         ensures { IfOk result (λ text. IsRemarked (asked_by request.entry) program.now self.now.store self.now.solved.items answers.now (string_bytes text)) }
     {
         let mut text = self.ranged(alloc, request.ranges, program, answers)?;

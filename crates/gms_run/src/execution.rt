@@ -1,7 +1,7 @@
 //! The execution of a program, whose listing is written statement by statement.
 ghost use Rattle.std.specs.Prelude.{◌≡◌, ◌<◌, ◌≤◌, ◌^◌, ◌∷◌, ◌++◌, [], true, length, map, option_to_list, IfOk, OnOk};
 ghost use Rattle.std.specs.List.{All};
-ghost use Rattle.gq_frac.specs.Frac.{frac_value};
+ghost use Rattle.gq_frac.specs.Frac.{frac_value, frac_limit};
 ghost use Rattle.gms_eval.specs.Gives.{fault_of};
 ghost use Rattle.gms_event.specs.EventView.{events_in};
 ghost use Rattle.gms_event.specs.Events.{stops};
@@ -19,7 +19,7 @@ ghost use Rattle.gms_run.specs.InnerReports.{Begins, HasRemarks, HasRest, HasSav
 ghost use Rattle.gms_run.specs.InnerRuns.{ExecutesJob, IsFresh, IsUnsolved, ListsStatement, moment, pending};
 ghost use Rattle.gms_run.specs.InnerSteps.{CanExecute, ComesTo, programs_in, work};
 ghost use Rattle.gms_run.specs.Scripts.{scripted, statements_to_run};
-ghost use Rattle.gms_run.specs.Solving.{number_limit, numbers_of, solver_views};
+ghost use Rattle.gms_run.specs.Solving.{numbers_of, solver_views};
 
 use crate::outlet::Outlet;
 use crate::restart::statements_of;
@@ -77,7 +77,7 @@ fn list_events(
     listing: &mut Listing,
 ) -> Result<(), AllocError>
     requires { All (IsListable frac_value answers.now) events.now }
-    ensures { OnOk result (listing.new ≡ listing.old ++ events_text program.now.names program.now.labels number_limit (numbers_of answers.now) (events_in frac_value events.now)) }
+    ensures { OnOk result (listing.new ≡ listing.old ++ events_text program.now.names program.now.labels frac_limit (numbers_of answers.now) (events_in frac_value events.now)) }
 {
     for event in events {
         listing.event(alloc, program, event, answers)?;
@@ -117,7 +117,7 @@ fn show(
     listing: &mut Listing,
 ) -> Result<(), AllocError>
     requires { All (IsListable frac_value answers.now) events.items }
-    ensures listed { OnOk result (listing.new ≡ listing.old ++ events_text program.now.names program.now.labels number_limit (numbers_of answers.now) (events_in frac_value events.items)) }
+    ensures listed { OnOk result (listing.new ≡ listing.old ++ events_text program.now.names program.now.labels frac_limit (numbers_of answers.now) (events_in frac_value events.items)) }
     ensures kept { OnOk result (solved.new.items ≡ solved.old.items ++ programs_in events.items) }
 {
     list_events(alloc, program, &events, answers, listing)?;
@@ -137,13 +137,13 @@ fn step_alone(
     requires few { length solvers.old.items < 2 ^ 32 }
     requires settings { AreValidSettings (length solvers.old.items) store.old.settings }
     requires plain { AreOneDimensional store.old program.now.statements.items }
-    ensures runs { Runs frac_value result (of_statement frac_value number_limit (record { program = program.now; solvers = map name solvers.old.items }) s.now [])
+    ensures runs { Runs frac_value result (of_statement frac_value frac_limit (record { program = program.now; solvers = map name solvers.old.items }) s.now [])
         (record { state = store.old; events = events.old.items; answers = answers.old.items })
         (record { state = store.new; events = events.new.items; answers = answers.new.items }) }
-    ensures solvers { UnlessMemory result (Answered frac_value number_limit name rule paths solvers.old.items solvers.new.items
+    ensures solvers { UnlessMemory result (Answered frac_value frac_limit name rule paths solvers.old.items solvers.new.items
         (record { state = store.old; events = events.old.items; answers = answers.old.items })
         (record { state = store.new; events = events.new.items; answers = answers.new.items })) }
-    ensures standing { UnlessMemory result (ShowsStanding frac_value number_limit (map rule solvers.old.items) answers.new.items events.old.items events.new.items) }
+    ensures standing { UnlessMemory result (ShowsStanding frac_value frac_limit (map rule solvers.old.items) answers.new.items events.old.items events.new.items) }
     ensures settings { UnlessMemory result (AreValidSettings (length solvers.old.items) store.new.settings) }
     ensures plain { UnlessMemory result (AreOneDimensional store.new program.now.statements.items) }
 {
@@ -159,7 +159,7 @@ fn list_fault(
     answers: &[Answer<Frac>],
     listing: &mut Listing,
 ) -> Result<(), AllocError>
-    ensures { OnOk result (listing.new ≡ listing.old ++ event_text program.now.names program.now.labels number_limit (numbers_of answers.now) (stops (fault_of frac_value stop))) }
+    ensures { OnOk result (listing.new ≡ listing.old ++ event_text program.now.names program.now.labels frac_limit (numbers_of answers.now) (stops (fault_of frac_value stop))) }
 {
     listing.event(alloc, program, &Event::Fault(stop), answers)
 }

@@ -1,7 +1,7 @@
 //! The listing of the loaded input, as it is written.
 ghost use Rattle.std.specs.Prelude.{◌≡◌, ◌<◌, ◌^◌, ◌++◌, true, length, map, IfOk, OnOk, string_bytes};
 ghost use Rattle.std.specs.List.{All};
-ghost use Rattle.gq_frac.specs.Frac.{frac_value};
+ghost use Rattle.gq_frac.specs.Frac.{frac_value, frac_limit};
 ghost use Rattle.gms_host.specs.Rules.{CountsWriting};
 ghost use Rattle.gms_store.specs.State.{State};
 ghost use Rattle.gms_parse.specs.Outcomes.{IsProgram};
@@ -12,7 +12,6 @@ ghost use Rattle.gms_run.specs.InnerRuns.{IsFresh, moment};
 ghost use Rattle.gms_list.specs.ListingText.{has_echo};
 ghost use Rattle.gms_run.specs.Listings.{refusal_text, unrestored_text};
 ghost use Rattle.gms_run.specs.Scripts.{errors_of_script, scripted};
-ghost use Rattle.gms_run.specs.Solving.{number_limit};
 
 use crate::execution::Run;
 use crate::outlet::Outlet;
@@ -152,7 +151,7 @@ fn checked<H: Host>(
     requires open { (H.meaning host.old).outside.writing ≡ true }
     requires few { length solvers.old.items < 2 ^ 32 }
     requires fresh { IsFresh run.old }
-    requires is_program { IsProgram number_limit script.source.now frac_value program.now }
+    requires is_program { IsProgram frac_limit script.source.now frac_value program.now }
     requires sound { IsSoundMatter (map name solvers.old.items) (scripted (script_in script run.old.store)) }
     ensures outside { ListsBody result (scripted (script_in script.entry run.old.store))
         (moment name rule paths (H.meaning host.old) solvers.old.items run.old)

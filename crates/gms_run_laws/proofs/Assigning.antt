@@ -15,7 +15,7 @@ use Rattle.gms_eval.specs.Faults.{Answer, ◌and_then◌}
 use Rattle.gms_eval.specs.References.{tuple_of}
 use Rattle.gms_eval.specs.Value.{value, values, labels, domain, control_over}
 use Rattle.gms_rows.specs.Rows.{each_once, sets_among}
-use Rattle.gms_exec.specs.Assignment.{is_set_content, newly_controlled, where_taken, given_under, element_under, given_elements, given_by}
+use Rattle.gms_exec.specs.Assignment.{newly_controlled, where_taken, given_under, element_under, given_elements, given_by}
 use Rattle.gms_exec.specs.Given.{Given, member, AllGiven}
 use Rattle.gms_exec.specs.Membership.{joined_membership, in_sum, in_product, membership, memberships}
 use Rattle.gms_run_laws.specs.Agreeing.{AgreeOn}
@@ -23,6 +23,7 @@ use Rattle.gms_run_laws.specs.Names.{Each, names_in_tree, part_names, index_name
 use Rattle.gms_run_laws.proofs.Eaches.{each-left, each-right}
 use Rattle.gms_run_laws.proofs.ModelRows.{filter-each, sets-each}
 use Rattle.gms_run_laws.proofs.Values.{value-same, values-same, holds-same, indices-same, where-same}
+use Rattle.gms_store.specs.Declarations.{is_set}
 
 module _ (test : ℕ → Bool) (one other : State) (agree : AgreeOn test one other) {F : Type 0} (v : F → Number) (limit : ℕ) where
   mutual
@@ -58,7 +59,7 @@ module _ (test : ℕ → Bool) (one other : State) (agree : AgreeOn test one oth
   module _ (target : Target F) (right_at : Place) (right : tree.Tree F) (is : test target.name ≡ true) (indices : Each test (index_names target.indices)) (rights : Each test (names_in_tree right)) where
     abbrev chosen : Symbol → Pairs → Answer Bool → Answer Extended → Answer Given
     chosen symbol binding so x =
-        if is_set_content symbol.content then so and_then (λ x. Ok (member x)) else x and_then where_taken target.suffix right_at binding
+        if is_set symbol.content then so and_then (λ x. Ok (member x)) else x and_then where_taken target.suffix right_at binding
 
     under-same : (binding : Pairs) → given_under v limit other target right_at right binding ≡ given_under v limit one target right_at right binding
     under-same binding =

@@ -5,7 +5,7 @@ use Rattle.std.specs.Prelude.{pos}
 use Rattle.gq_number.specs.Number.{Number, whole}
 use Rattle.gq_field.specs.Fits.{fits}
 use Rattle.gq_frac.specs.declared.frac.Frac.{Frac}
-use Rattle.gq_frac.specs.Frac.{frac_value, frac_within, frac_same_value, frac_each_number}
+use Rattle.gq_frac.specs.Frac.{frac_value, frac_within, frac_same_value, frac_each_number, frac_limit}
 use Rattle.gq_extended.specs.declared.extended.Ext.{Ext}
 use Rattle.gq_extended.specs.declared.extended.Ext.TheVariants as extended
 use Rattle.gms_ast.specs.declared.declaration.Decl.{Decl}
@@ -18,29 +18,28 @@ use Rattle.gms_ast.specs.Numbers.{in_numbers, parts_in_numbers, indices_in_numbe
 use Rattle.gms_ast.specs.StatementView.{extended_in, item_in, declared_in, setting_in, shown_tree}
 use Rattle.gms_ast.specs.Trees.{Tree, number, plus_infinity, not_available, yes, no, reference, place_in_set, size_of_set, call, fold_over, negated, sum, product, power, relation, not_so, all_of, one_of, guarded, Parts, no_part, part, Indices, no_index, label, set, lagged, Control, over, over_where}
 use Rattle.gms_ast.specs.TreeView.{tree_of}
-use Rattle.gms_save.specs.Saves.{greatest_part}
 
 -- ---- values
 
 -- 0 is the number of a value
-pub zero_fits : fits greatest_part (whole (pos 0)) ≡ true
+pub zero_fits : fits frac_limit (whole (pos 0)) ≡ true
 unfolding whole
 zero_fits = refl
 
 -- the value that means a number, where the number fits
-abbrev value_where : (x : Number) (b : Bool) → fits greatest_part x ≡ b → Frac
+abbrev value_where : (x : Number) (b : Bool) → fits frac_limit x ≡ b → Frac
 value_where x true e = (frac_each_number x e).0
 value_where x false e = (frac_each_number (whole (pos 0)) zero_fits).0
 
 abbrev pub value_of : Number → Frac
-value_of x = value_where x (fits greatest_part x) refl
+value_of x = value_where x (fits frac_limit x) refl
 
 pub value_back : (v : Frac) → value_of (frac_value v) ≡ v
-value_back v = by (fits greatest_part (frac_value v)) refl
+value_back v = by (fits frac_limit (frac_value v)) refl
   where
-    by : (b : Bool) (e : fits greatest_part (frac_value v) ≡ b) → value_where (frac_value v) b e ≡ v
+    by : (b : Bool) (e : fits frac_limit (frac_value v) ≡ b) → value_where (frac_value v) b e ≡ v
     by true e = frac_same_value (value_where (frac_value v) true e) v (frac_each_number (frac_value v) e).1
-    by false e = let within : fits greatest_part (frac_value v) ≡ true = frac_within v in absurd cc
+    by false e = let within : fits frac_limit (frac_value v) ≡ true = frac_within v in absurd cc
 
 -- ---- trees
 

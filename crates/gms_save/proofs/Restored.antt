@@ -5,7 +5,7 @@ use Rattle.std.specs.Result.{IsErrAnd, MatchResult}
 use Rattle.std.proofs.lemmas.Bool.{eqb-true}
 use Rattle.std.proofs.lemmas.Result.{err_from_is_err_and}
 use Rattle.gq_frac.specs.declared.frac.Frac.{Frac}
-use Rattle.gq_frac.specs.Frac.{frac_value}
+use Rattle.gq_frac.specs.Frac.{frac_value, frac_limit}
 use Rattle.gms_ast.specs.declared.program.Program.{Program}
 use Rattle.gms_store.specs.State.{State}
 use Rattle.gms_parse.specs.declared.fault.SourceFaultOrMemory.{SourceFaultOrMemory}
@@ -22,7 +22,7 @@ use Rattle.gms_save.specs.declared.fault.SaveFaultOrMemory.TheVariants.{Memory, 
 use Rattle.gms_save.specs.declared.saved.Saved.{Saved}
 use Rattle.gms_save.specs.Faults.{fault_of_reading, fault_of_source}
 use Rattle.gms_save.specs.InnerRestoreSteps.{IsFaulty, IsFaultyBy, IsFree, IsNoStateBy, IsSavedIn, IsStateOf, IsUnplacedBy}
-use Rattle.gms_save.specs.Saves.{GivesBack, IsNoSave, IsSaveOf, IsUnfit, Restores, most_save_bytes, greatest_part, place_of_solver, with_solver}
+use Rattle.gms_save.specs.Saves.{GivesBack, IsNoSave, IsSaveOf, IsUnfit, Restores, most_save_bytes, place_of_solver, with_solver}
 use Rattle.gms_save.proofs.SavedNames.{saved-placed, text-placed}
 use Rattle.gms_save.proofs.SeenPrograms.{same-names, same-saved}
 
@@ -48,9 +48,9 @@ no-save : (bytes : List ℕ) → IsNoSave bytes → (source : List ℕ) (program
 no-save bytes none source program state solver save = by (none source program.names state solver save.text)
   where
     by : IsUnfit source program.names state solver → ⊥
-    by (inl (fault, is_fault)) = program_or_fault greatest_part source (program_view frac_value program) fault save.is_program is_fault
+    by (inl (fault, is_fault)) = program_or_fault frac_limit source (program_view frac_value program) fault save.is_program is_fault
     by (inr (found, is_program, unfit)) =
-        let alike = one_program greatest_part source (program_view frac_value program) (program_view frac_value found) save.is_program is_program in
+        let alike = one_program frac_limit source (program_view frac_value program) (program_view frac_value found) save.is_program is_program in
         unfit (same-names program found alike) (same-saved program found alike state solver save.is_saved)
 
 shapeless : (solvers : List (List ℕ)) (bytes : List ℕ) → length bytes ≤ most_save_bytes → IsNoSave bytes → Both solvers bytes (Err (Fault SaveShape))
@@ -90,10 +90,10 @@ wanting r solvers bytes h = answered r Memory solvers bytes h (memoryless solver
 -- ---- the program
 
 -- a source without a program is refused
-pub refused : (r : Result (Program Frac) SaveFaultOrMemory) (f : SourceFaultOrMemory) (source : List ℕ) → IsErrAnd r (λ e. e ≡ fault_of_source f) → IsSourceRefusal greatest_part source f → MatchResult r (λ program. IsFree source program) (λ fault. IsFaultyBy source fault)
+pub refused : (r : Result (Program Frac) SaveFaultOrMemory) (f : SourceFaultOrMemory) (source : List ℕ) → IsErrAnd r (λ e. e ≡ fault_of_source f) → IsSourceRefusal frac_limit source f → MatchResult r (λ program. IsFree source program) (λ fault. IsFaultyBy source fault)
 refused r f source h refusal = let p = err_from_is_err_and r h in rw (p.1, p.2) (by f refusal)
   where
-    by : (f : SourceFaultOrMemory) → IsSourceRefusal greatest_part source f → IsFaultyBy source (fault_of_source f)
+    by : (f : SourceFaultOrMemory) → IsSourceRefusal frac_limit source f → IsFaultyBy source (fault_of_source f)
     by parsed.Memory refusal = tt
     by (parsed.Fault fault) refusal = inl (fault, refusal)
 
@@ -156,7 +156,7 @@ module _ (solvers : List (List ℕ)) (bytes source text : List ℕ) (short : len
     here : (other : List ℕ) (found : Program Frac) (state : State) (name : List ℕ) → IsSaveOf bytes other found state name → IsHere source text program other found state name
     here other found state name save =
         let parts = splits other (state_text found.names state name) save.text in
-        let alike = one_program greatest_part source (program_view frac_value program) (program_view frac_value found) free.is_program (subst (λ (s : List ℕ). IsProgram greatest_part s frac_value found) (sym parts.0) save.is_program) in
+        let alike = one_program frac_limit source (program_view frac_value program) (program_view frac_value found) free.is_program (subst (λ (s : List ℕ). IsProgram frac_limit s frac_value found) (sym parts.0) save.is_program) in
         record {
           source_is = parts.0;
           alike = alike;

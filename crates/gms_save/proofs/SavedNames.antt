@@ -6,7 +6,7 @@ use Rattle.std.proofs.lemmas.Bool.{ltb-true, lt-ltb}
 use Rattle.std.proofs.lemmas.Bool.Decides.{nat_tests}
 use Rattle.std.proofs.lemmas.List.Elements.{All-nil, All-weaker}
 use Rattle.gq_frac.specs.declared.frac.Frac.{Frac}
-use Rattle.gq_frac.specs.Frac.{frac_value}
+use Rattle.gq_frac.specs.Frac.{frac_value, frac_limit}
 use Rattle.gms_ast.specs.declared.program.Program.{Program}
 use Rattle.gms_tuple.specs.TupleSet.{has}
 use Rattle.gms_tuple.proofs.Ordered.{ordered-nil}
@@ -21,7 +21,7 @@ use Rattle.gms_check.specs.Past.{is_among}
 use Rattle.gms_check.proofs.PastFacts.{stands-first}
 use Rattle.gms_save_text.specs.SavedState.{saved_line, part, parts_from, settings_line, state_text}
 use Rattle.gms_save_text.specs.Validity.{IsGivenWell, are_in_range, declared_symbols, emptied, is_solver_name, stands_in}
-use Rattle.gms_save.specs.Saves.{greatest_part, with_solver}
+use Rattle.gms_save.specs.Saves.{with_solver}
 use Rattle.gms_save.specs.InnerRestoreSteps.{IsSavedAt, IsSavedIn}
 use Rattle.gms_save.proofs.LoadedNames.{blanked, declared-count, loaded-declares, same-at}
 
@@ -110,14 +110,14 @@ module _ (program : Program Frac) (state first : State) (marks : List Bool) (lab
     at-name : (n : ℕ) → n < length program.names → IsSavedAt labels (marked marks) first state n
     at-name n below = all n (omega (arith, names_are, below))
 
-    given-at : (n : ℕ) → IsGivenWell greatest_part (length program.labels) state (symbol_at state n)
+    given-at : (n : ℕ) → IsGivenWell frac_limit (length program.labels) state (symbol_at state n)
     given-at n = by (nat_lt n (length program.names)) refl
       where
-        by : (b : Bool) → nat_lt n (length program.names) ≡ b → IsGivenWell greatest_part (length program.labels) state (symbol_at state n)
-        by true e = subst (λ (count : ℕ). IsGivenWell greatest_part count state (symbol_at state n)) labels_are (at-name n (ltb-true n (length program.names) e)).given
+        by : (b : Bool) → nat_lt n (length program.names) ≡ b → IsGivenWell frac_limit (length program.labels) state (symbol_at state n)
+        by true e = subst (λ (count : ℕ). IsGivenWell frac_limit count state (symbol_at state n)) labels_are (at-name n (ltb-true n (length program.names) e)).given
         by false e =
             let past : length program.names ≤ n = grind (arith, nat_tests) in
-            subst (IsGivenWell greatest_part (length program.labels) state) (sym (state-past n past)) (none-well greatest_part (length program.labels) state)
+            subst (IsGivenWell frac_limit (length program.labels) state) (sym (state-past n past)) (none-well frac_limit (length program.labels) state)
 
     static-at : (n : ℕ) → is_among (dynamic_sets program) n ≡ false → members_in (symbol_at state n).content ≡ members_in (symbol_at (loaded frac_value program) n).content
     static-at n fixed = by (nat_lt n (length program.names)) refl
@@ -138,7 +138,7 @@ module _ (program : Program Frac) (state first : State) (marks : List Bool) (lab
   names-from-saved saved n within =
       let below : n < length program.names = omega (arith, names_are, within) in
       record {
-        given = subst (λ (count : ℕ). IsGivenWell greatest_part count state (symbol_at state n)) (sym labels_are) (saved.given n);
+        given = subst (λ (count : ℕ). IsGivenWell frac_limit count state (symbol_at state n)) (sym labels_are) (saved.given n);
         static = λ fixed. saved.static n (sym (ap (λ (ms : List Bool). marked ms n) marks_are ∙ marked-is program n below) ∙ fixed) ∙ ap (λ (s : State). members_in (symbol_at s n).content) (sym first_is);
       }
 
@@ -167,7 +167,7 @@ module _ (labels : ℕ) (state : State) (settings : Settings) where
 saved-settled : (program : Program Frac) (state : State) (settings : Settings) (solver : List ℕ) → are_in_range settings ≡ true → IsSavedIn program state solver → IsSavedIn program (with_settings state settings) solver
 saved-settled program state settings solver ranges saved = record {
   declares = saved.declares;
-  given = λ n. given-settled (length program.labels) state settings greatest_part (symbol_at state n) (saved.given n);
+  given = λ n. given-settled (length program.labels) state settings frac_limit (symbol_at state n) (saved.given n);
   static = saved.static;
   ranges = ranges;
   named = saved.named;

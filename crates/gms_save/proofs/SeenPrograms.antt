@@ -7,7 +7,7 @@ use mathlib.Core.Path.{fun_ext}
 use Rattle.std.proofs.lemmas.List.{map-append}
 use Rattle.gq_number.specs.Number.{Number}
 use Rattle.gq_frac.specs.declared.frac.Frac.{Frac}
-use Rattle.gq_frac.specs.Frac.{frac_value}
+use Rattle.gq_frac.specs.Frac.{frac_value, frac_limit}
 use Rattle.gms_labels.specs.declared.place.Place.{Place}
 use Rattle.gms_ast.specs.declared.program.Program.{Program}
 use Rattle.gms_ast.specs.declared.program.Stmt.{Stmt}
@@ -27,7 +27,7 @@ use Rattle.gms_check.specs.Loaded.{loaded, sound}
 use Rattle.gms_check.specs.Past.{Past, Known, after_statement, declared_names, is_among, is_defined, is_unordered, models_after}
 use Rattle.gms_check.specs.Uses.{Uses}
 use Rattle.gms_save_text.specs.Validity.{IsSavedOf}
-use Rattle.gms_save.specs.Saves.{IsSavedBy, greatest_part, solvers_chosen, solvers_in}
+use Rattle.gms_save.specs.Saves.{IsSavedBy, solvers_chosen, solvers_in}
 use Rattle.gms_save.proofs.SeenActs.{Told, assigned_of, chosen_of, same-assigned, same-chosen, same-told, same-uses, shown, told, told-errors, told_by, uses_of}
 
 -- ---- statements
@@ -243,8 +243,8 @@ module _ (one other : Program Frac) (alike : program_view frac_value one ≡ pro
   pub same-saved : (state : State) (solver : List ℕ) → IsSavedBy one state solver → IsSavedBy other state solver
   same-saved state solver saved = record {
     no_error = sym (same-errors (solvers_chosen other)) ∙ ap (compile_errors frac_value one) (sym same-solvers) ∙ saved.no_error;
-    is_saved = subst (λ (count : ℕ). IsSavedOf greatest_part count (declared_state other) (loaded frac_value other) (is_among (dynamic_sets other)) state solver) (ap (λ (labels : List (List ℕ)). length labels) same-labels)
-        (subst (λ (declared : State). IsSavedOf greatest_part (length one.labels) declared (loaded frac_value other) (is_among (dynamic_sets other)) state solver) same-declared
-        (subst (λ (first : State). IsSavedOf greatest_part (length one.labels) (declared_state one) first (is_among (dynamic_sets other)) state solver) same-loaded
-        (subst (λ (dynamic : List ℕ). IsSavedOf greatest_part (length one.labels) (declared_state one) (loaded frac_value one) (is_among dynamic) state solver) same-assigned-sets saved.is_saved)));
+    is_saved = subst (λ (count : ℕ). IsSavedOf frac_limit count (declared_state other) (loaded frac_value other) (is_among (dynamic_sets other)) state solver) (ap (λ (labels : List (List ℕ)). length labels) same-labels)
+        (subst (λ (declared : State). IsSavedOf frac_limit (length one.labels) declared (loaded frac_value other) (is_among (dynamic_sets other)) state solver) same-declared
+        (subst (λ (first : State). IsSavedOf frac_limit (length one.labels) (declared_state one) first (is_among (dynamic_sets other)) state solver) same-loaded
+        (subst (λ (dynamic : List ℕ). IsSavedOf frac_limit (length one.labels) (declared_state one) (loaded frac_value one) (is_among dynamic) state solver) same-assigned-sets saved.is_saved)));
   }

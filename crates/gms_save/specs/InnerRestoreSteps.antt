@@ -1,7 +1,7 @@
 -- What the steps of restoring find: a program, and a state of it.
 use Rattle.std.specs.Prelude.{◌≡◌, ◌⊎◌, ℕ, Bool, false, List, [], length, Some, None}
 use Rattle.gq_frac.specs.declared.frac.Frac.{Frac}
-use Rattle.gq_frac.specs.Frac.{frac_value}
+use Rattle.gq_frac.specs.Frac.{frac_value, frac_limit}
 use Rattle.gms_ast.specs.declared.program.Program.{Program}
 use Rattle.gms_store.specs.State.{State, members_in, symbol_at}
 use Rattle.gms_store.specs.Declarations.{declared_state}
@@ -16,19 +16,19 @@ use Rattle.gms_save_text.specs.Validity.{IsGivenWell, IsSavedOf}
 use Rattle.gms_save.specs.declared.fault.SaveFault.TheVariants.{SaveTooLong, SaveShape, SaveSolver}
 use Rattle.gms_save.specs.declared.fault.SaveFaultOrMemory.{SaveFaultOrMemory}
 use Rattle.gms_save.specs.declared.fault.SaveFaultOrMemory.TheVariants.{Memory, Fault}
-use Rattle.gms_save.specs.Saves.{greatest_part, place_of_solver, solvers_chosen, with_solver}
+use Rattle.gms_save.specs.Saves.{place_of_solver, solvers_chosen, with_solver}
 
 -- ---- the program
 
 -- The program of a source, which has no error with solvers of the names that it chooses.
 pub record IsFree (source : List ℕ) (program : Program Frac) : Type 0 where
-  pub is_program : IsProgram greatest_part source frac_value program
+  pub is_program : IsProgram frac_limit source frac_value program
   pub no_error : compile_errors frac_value program (solvers_chosen program) ≡ []
 
 -- a source that has no such program: it has a fault, or a program with errors
 abbrev pub IsFaulty : List ℕ → Type 0
 IsFaulty source =
-    ((fault : SourceFault) × IsSourceFault greatest_part source fault) ⊎ ((program : Program Frac) × IsProgram greatest_part source frac_value program × (compile_errors frac_value program (solvers_chosen program) ≡ [] → ⊥))
+    ((fault : SourceFault) × IsSourceFault frac_limit source fault) ⊎ ((program : Program Frac) × IsProgram frac_limit source frac_value program × (compile_errors frac_value program (solvers_chosen program) ≡ [] → ⊥))
 
 -- why there is no such program: the source has none, or memory ran out
 abbrev pub IsFaultyBy : List ℕ → SaveFaultOrMemory → Type 0
@@ -42,12 +42,12 @@ IsFaultyBy source (Fault SaveSolver) = ⊥
 -- a state is a saved one of what a program declares
 abbrev pub IsSavedIn : Program Frac → State → List ℕ → Type 0
 IsSavedIn program state solver =
-    IsSavedOf greatest_part (length program.labels) (declared_state program) (loaded frac_value program) (is_among (dynamic_sets program)) state solver
+    IsSavedOf frac_limit (length program.labels) (declared_state program) (loaded frac_value program) (is_among (dynamic_sets program)) state solver
 
 -- what a saved state has at a name: its data are valid, and the members of a set that is not
 -- assigned are those of the data
 pub record IsSavedAt (labels : ℕ) (assigned : ℕ → Bool) (loaded state : State) (name : ℕ) : Type 0 where
-  pub given : IsGivenWell greatest_part labels state (symbol_at state name)
+  pub given : IsGivenWell frac_limit labels state (symbol_at state name)
   pub static : assigned name ≡ false → members_in (symbol_at state name).content ≡ members_in (symbol_at loaded name).content
 
 -- A state is a saved one of a program. Any saved state with this text is this state with the first

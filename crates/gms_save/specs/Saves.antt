@@ -3,7 +3,7 @@
 use Rattle.std.specs.Prelude.{◌≡◌, ◌⊎◌, ℕ, ◌-◌, ◌^◌, ◌<◌, ◌≤◌, ◌==◌, List, [], ◌∷◌, length, flat_map, Option, Some, None, position, codes, Result, Ok, Err, if◌then◌else◌}
 use Rattle.std.specs.Str.{bytes_eq, str_eq_ignore_ascii_case}
 use Rattle.gq_frac.specs.declared.frac.Frac.{Frac}
-use Rattle.gq_frac.specs.Frac.{frac_value}
+use Rattle.gq_frac.specs.Frac.{frac_value, frac_limit}
 use Rattle.gms_ast.specs.declared.word.Word.{Word}
 use Rattle.gms_ast.specs.declared.program.Program.{Program}
 use Rattle.gms_ast.specs.declared.program.Setting.{Setting}
@@ -25,10 +25,6 @@ use Rattle.gms_save.specs.declared.saved.Saved.{Saved}
 use Rattle.gms_save.specs.declared.fault.SaveFault.TheVariants.{SaveTooLong, SaveShape, SaveSolver}
 use Rattle.gms_save.specs.declared.fault.SaveFaultOrMemory.{SaveFaultOrMemory}
 use Rattle.gms_save.specs.declared.fault.SaveFaultOrMemory.TheVariants.{Memory, Fault}
-
--- the greatest magnitude that the numerator or the denominator of a number may have
-abbrev pub greatest_part : ℕ
-greatest_part = 2 ^ 127 - 1
 
 -- how many bytes a save has at most
 abbrev pub most_save_bytes : ℕ
@@ -66,11 +62,11 @@ place_of_solver solvers solver =
 -- a state is a saved one of a program without errors, for solvers of the names that it chooses
 pub record IsSavedBy (program : Program Frac) (state : State) (solver : List ℕ) : Type 0 where
   pub no_error : compile_errors frac_value program (solvers_chosen program) ≡ []
-  pub is_saved : IsSavedOf greatest_part (length program.labels) (declared_state program) (loaded frac_value program) (is_among (dynamic_sets program)) state solver
+  pub is_saved : IsSavedOf frac_limit (length program.labels) (declared_state program) (loaded frac_value program) (is_among (dynamic_sets program)) state solver
 
 -- Bytes are the save of a state of a program, with a solver of this name and the program's source.
 pub record IsSaveOf (bytes source : List ℕ) (program : Program Frac) (state : State) (solver : List ℕ) : Type 0 where
-  pub is_program : IsProgram greatest_part source frac_value program
+  pub is_program : IsProgram frac_limit source frac_value program
   pub is_saved : IsSavedBy program state solver
   pub text : bytes ≡ saved_text source program.names state solver
 
@@ -78,7 +74,7 @@ pub record IsSaveOf (bytes source : List ℕ) (program : Program Frac) (state : 
 -- names, or does not have the state as a saved one.
 abbrev pub IsUnfit : List ℕ → List (List ℕ) → State → List ℕ → Type 0
 IsUnfit source names state solver =
-    ((fault : SourceFault) × IsSourceFault greatest_part source fault) ⊎ ((program : Program Frac) × IsProgram greatest_part source frac_value program × (names ≡ program.names → IsSavedBy program state solver → ⊥))
+    ((fault : SourceFault) × IsSourceFault frac_limit source fault) ⊎ ((program : Program Frac) × IsProgram frac_limit source frac_value program × (names ≡ program.names → IsSavedBy program state solver → ⊥))
 
 -- Bytes are no save: whenever they are the text of a state with a source, that source has no such
 -- saved state.

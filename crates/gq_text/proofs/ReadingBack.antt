@@ -12,9 +12,10 @@ use Rattle.gq_field.specs.declared.field.Limit.{Limit}
 use Rattle.gq_field.specs.Fits.{fits, Answers}
 use Rattle.gq_text.specs.Numeral.{AreDigits, spelled, IsNumeral}
 use Rattle.gq_text.specs.InnerParts.{BeginsNoDigit, BeginsOther, SplitsDigits, SplitsSign}
-use Rattle.gq_text.specs.ExactText.{whole_text, exact_text, signed_whole}
+use Rattle.gq_text.specs.ExactText.{whole_text, exact_text}
 use Rattle.gq_text.proofs.Exacts.{numeral_is, fitting, either}
 use Rattle.gq_text.proofs.Splits.{one_split, all_in_front}
+use Rattle.gq_field.specs.Values.{signed}
 
 -- if a value exists exactly when a fact holds, and the fact holds, the value exists
 some-iff : (o : Option ℕ) (P : Type 0) (v : ℕ) → SomeIff o P v → P → IsSomeAnd o (λ m. m ≡ v)
@@ -53,7 +54,7 @@ over_begins x = by (x.denominator == 1)
 -- the sign and the magnitude of a text
 pub record HasMagnitude (z : ℤ) (negative : Bool) (unsigned tail : List ℕ) : Type 0 where
   pub magnitude : ℕ
-  pub signed_is : z ≡ signed_whole negative magnitude
+  pub signed_is : z ≡ signed negative magnitude
   pub size : magnitude ≡ nat_abs z
   pub text_is : unsigned ≡ decimal magnitude ++ tail
 
@@ -74,13 +75,13 @@ sign_split (pos n) text tail negative unsigned small is split =
       | inl minus ↦ absurd (first_digit n tail unsigned 45 (omega (arith, small)) (omega arith) (sym is ∙ minus.0))
       | inr rest ↦ elim rest [
         | inl plus ↦ absurd (first_digit n tail unsigned 43 (omega (arith, small)) (omega arith) (sym is ∙ plus.0))
-        | inr none ↦ record { magnitude = n; signed_is = ap (λ b. signed_whole b n) (sym none.1); size = refl; text_is = sym none.0 ∙ is }
+        | inr none ↦ record { magnitude = n; signed_is = ap (λ b. signed b n) (sym none.1); size = refl; text_is = sym none.0 ∙ is }
       ]
     ]
 sign_split (negsuc n) text tail negative unsigned small is split =
     let begins : text ≡ 45 ∷ (decimal (n + 1) ++ tail) = is in
     elim split [
-      | inl minus ↦ record { magnitude = suc n; signed_is = ap (λ b. signed_whole b (suc n)) (sym minus.1); size = refl; text_is = (behind_first 45 45 unsigned (decimal (n + 1) ++ tail) (sym minus.0 ∙ begins)).1 ∙ ap (λ k. decimal k ++ tail) (add-one n) }
+      | inl minus ↦ record { magnitude = suc n; signed_is = ap (λ b. signed b (suc n)) (sym minus.1); size = refl; text_is = (behind_first 45 45 unsigned (decimal (n + 1) ++ tail) (sym minus.0 ∙ begins)).1 ∙ ap (λ k. decimal k ++ tail) (add-one n) }
       | inr rest ↦ elim rest [
         | inl plus ↦ absurd (let same = (behind_first 43 45 unsigned (decimal (n + 1) ++ tail) (sym plus.0 ∙ begins)).0 in omega (arith, same))
         | inr none ↦ absurd (let other : BeginsOther 45 (45 ∷ (decimal (n + 1) ++ tail)) = subst (BeginsOther 45) begins none.2 in other refl)
@@ -89,7 +90,7 @@ sign_split (negsuc n) text tail negative unsigned small is split =
 
 -- a numerator's digits, and what follows them
 pub record HasParts (x : Number) (negative : Bool) (digits rest : List ℕ) : Type 0 where
-  pub signed_is : x.numerator ≡ signed_whole negative (spelled digits)
+  pub signed_is : x.numerator ≡ signed negative (spelled digits)
   pub small : spelled digits < 2 ^ 127
   pub rest_is : rest ≡ over_text x
 
@@ -100,7 +101,7 @@ parts_back x text unsigned digits rest negative small is sign split =
     let m = numeral_is front.magnitude (omega (arith, size, small)) in
     let same = one_split digits (decimal front.magnitude) rest (over_text x) split.are_digits m.digits split.all (over_begins x) (sym split.text_is ∙ front.text_is) in
     let spells : spelled digits ≡ front.magnitude = ap spelled same.0 ∙ m.spells in
-    record { signed_is = front.signed_is ∙ ap (signed_whole negative) (sym spells); small = omega (arith, spells, size, small); rest_is = same.1 }
+    record { signed_is = front.signed_is ∙ ap (signed negative) (sym spells); small = omega (arith, spells, size, small); rest_is = same.1 }
 
 -- what follows a numerator is read as the denominator
 pub below_back : (x : Number) (rest : List ℕ) (o : Option ℕ) → x.denominator < 2 ^ 127 → rest ≡ over_text x → (rest ≡ [] → IsSomeAnd o (λ d. d ≡ 1)) → ((n : ℕ) → n < 2 ^ 128 → rest ≡ 47 ∷ decimal n → IsSomeAnd o (λ d. d ≡ n)) → IsSomeAnd o (λ d. d ≡ x.denominator)
@@ -143,8 +144,8 @@ negative_is n small =
     ap (λ z. to_z w128 (of_z w128 (pos 0 -ℤ z))) (to_z_pos w128 n small) ∙ ap (λ z. to_z w128 (of_z w128 z)) (minus_is n) ∙ to_z-of_z w128 (neg_ℤ (pos n)) (fits_signed_from_abs w128 (neg_ℤ (pos n)) (omega (arith, size, small)))
 
 -- its bits, by its sign
-pub signed_true : (bits n : ℕ) (negative : Bool) → n < 2 ^ 127 → to_z w128 bits ≡ to_z w128 (of_z w128 (pos 0 -ℤ to_z w128 n)) → negative ≡ true → to_z w128 bits ≡ signed_whole negative n
-signed_true bits n negative small is so = is ∙ negative_is n small ∙ ap (λ b. signed_whole b n) (sym so)
+pub signed_true : (bits n : ℕ) (negative : Bool) → n < 2 ^ 127 → to_z w128 bits ≡ to_z w128 (of_z w128 (pos 0 -ℤ to_z w128 n)) → negative ≡ true → to_z w128 bits ≡ signed negative n
+signed_true bits n negative small is so = is ∙ negative_is n small ∙ ap (λ b. signed b n) (sym so)
 
-pub signed_false : (bits n : ℕ) (negative : Bool) → n < 2 ^ 127 → to_z w128 bits ≡ to_z w128 n → negative ≡ false → to_z w128 bits ≡ signed_whole negative n
-signed_false bits n negative small is so = is ∙ to_z_pos w128 n small ∙ ap (λ b. signed_whole b n) (sym so)
+pub signed_false : (bits n : ℕ) (negative : Bool) → n < 2 ^ 127 → to_z w128 bits ≡ to_z w128 n → negative ≡ false → to_z w128 bits ≡ signed negative n
+signed_false bits n negative small is so = is ∙ to_z_pos w128 n small ∙ ap (λ b. signed b n) (sym so)

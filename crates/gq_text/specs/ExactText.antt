@@ -10,8 +10,3 @@ whole_text (negsuc n) = codes "-" ++ decimal (n + 1)
 -- a number exactly: its numerator, and if the denominator is not 1 then `/` and the denominator
 abbrev pub exact_text : Number → List ℕ
 exact_text x = whole_text x.numerator ++ (if x.denominator == 1 then [] else codes "/" ++ decimal x.denominator)
-
--- a magnitude with a sign
-abbrev pub signed_whole : Bool → ℕ → ℤ
-signed_whole true n = neg_ℤ (pos n)
-signed_whole false n = pos n

@@ -2,7 +2,8 @@
 ghost use Rattle.std.specs.Prelude.{◌≡◌, ◌<◌, ◌^◌, ◌∷◌, [], ℕ, true, decimal, IfSome, IsSomeAnd};
 ghost use Rattle.gq_number.specs.Number.{Number};
 ghost use Rattle.gq_field.specs.Fits.{fits};
-ghost use Rattle.gq_text.specs.ExactText.{exact_text, signed_whole};
+ghost use Rattle.gq_text.specs.ExactText.{exact_text};
+ghost use Rattle.gq_field.specs.Values.{signed};
 
 use crate::digits::Digits;
 use crate::literal::spelled;
@@ -81,7 +82,7 @@ fn denominator_in(text: &[u8]) -> Option<u128>
 
 /// The value of a magnitude with a sign over a denominator, if this is a number within the limit.
 fn fraction<F: ExactField>(negative: bool, above: u128, below: u128) -> Option<F>
-    ensures { (x : Number) → fits F.limit x ≡ true → x.numerator ≡ signed_whole negative above → x.denominator ≡ below →
+    ensures { (x : Number) → fits F.limit x ≡ true → x.numerator ≡ signed negative above → x.denominator ≡ below →
         IsSomeAnd result (λ y. F.value y ≡ x) }
 {
     if above > F::limit() || below == 0 {

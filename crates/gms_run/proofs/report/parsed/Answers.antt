@@ -7,9 +7,10 @@ use Rattle.gms_command.specs.CommandLine.{asked_by}
 use Rattle.gms_run.specs.InnerReports.{script_in}
 use Rattle.gms_run.specs.Listings.{refusal_text}
 use Rattle.gms_run.specs.Scripts.{scripted}
-use Rattle.gms_run.specs.Solving.{number_limit, solving}
+use Rattle.gms_run.specs.Solving.{solving}
 use Rattle.gms_run.proofs.Reports.{nothing_follows, prepares_why}
 use Rattle.gms_run.proofs.report.parsed.Goals as goal
+use Rattle.gq_frac.specs.Frac.{frac_limit}
 
 pub returns-in-Ok-clause-outside : goal.returns-in-Ok-clause-outside
 returns-in-Ok-clause-outside g c = c.checked.ensures.outside
@@ -25,7 +26,7 @@ returns-in_ok-status-in-Err-Fault-clause-outside g c =
     let refusal = c.in_ok-status-in-Err-Fault.ensures in
     prepares_why c.in_ok-status-in-Err-Fault.status (solving (λ b. (goal.LpSolver-dyn g (b.vtable, b.value)).name b.value) (λ b. (goal.LpSolver-dyn g (b.vtable, b.value)).rule b.value) (λ b. (goal.LpSolver-dyn g (b.vtable, b.value)).paths b.value) c.args.solvers.now.items c.args.solvers.now.items c.args.run.now.answers.items) (g.H.Host.meaning c.args.host.now).outside (scripted (script_in c.args.script c.args.run.now.store)) c.args.run.now.outlet.spool c.args.run.now.outlet.listing c.refused.new.outlet.spool c.refused.new.outlet.listing (refusal_text (script_in c.args.script c.args.run.now.store) c.in-Err-Fault.fault)
     refusal.status (c.requires.fresh.start.unanswered, refl) c.requires.fresh.unlisted refusal.spool (refusal.text c.args.run.now.store)
-    (inl (record { fault = c.in-Err-Fault.fault; refused = subst (λ e. IsSourceRefusal number_limit c.args.script.source.now e) c.in-Err-Fault.field-0-is c.in-Err-Fault.ensures; listing = refl }))
+    (inl (record { fault = c.in-Err-Fault.fault; refused = subst (λ e. IsSourceRefusal frac_limit c.args.script.source.now e) c.in-Err-Fault.field-0-is c.in-Err-Fault.ensures; listing = refl }))
 
 pub returns-in_ok-status-in-Err-Fault-clause-follows : goal.returns-in_ok-status-in-Err-Fault-clause-follows
 returns-in_ok-status-in-Err-Fault-clause-follows g c =

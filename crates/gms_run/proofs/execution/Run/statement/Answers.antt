@@ -1,5 +1,5 @@
 use Rattle.std.proofs.Common.{◌++◌, ◌∙◌, [], map, ap}
-use Rattle.gq_frac.specs.Frac.{frac_value}
+use Rattle.gq_frac.specs.Frac.{frac_value, frac_limit}
 use Rattle.gms_eval.specs.Gives.{fault_of}
 use Rattle.gms_event.specs.Events.{stops}
 use Rattle.gms_event.specs.EventView.{events_in}
@@ -8,7 +8,7 @@ use Rattle.gms_exec.proofs.Behind.{behind_statement}
 use Rattle.gms_exec.specs.Run.{of_statement}
 use Rattle.gms_list.specs.ListingText.{event_text, events_text}
 use Rattle.gms_run.specs.InnerRuns.{between}
-use Rattle.gms_run.specs.Solving.{number_limit, solver_views}
+use Rattle.gms_run.specs.Solving.{solver_views}
 use Rattle.gms_run.proofs.Executed.{all_stand, all_listable, listed_on, listed_stop}
 use Rattle.gms_run.proofs.Paths.{grown_answered}
 use Rattle.gms_run.proofs.execution.Run.statement.Goals as goal
@@ -33,16 +33,16 @@ returns-in_ok-show-in-Ok-clause-listed g c =
     let answers = c.step_alone-stepped.new.answers.items in
     let events = c.step_alone-stepped.new.events.items in
     let before = c.args.self.now.outlet.listing in
-    listed_on program rules (of_statement frac_value number_limit (record { program = program; solvers = names }) c.args.s.now []) (between (solver_views (λ b. (goal.LpSolver-dyn g (b.vtable, b.value)).name b.value) (λ b. (goal.LpSolver-dyn g (b.vtable, b.value)).rule b.value) (λ b. (goal.LpSolver-dyn g (b.vtable, b.value)).paths b.value) c.args.solvers.now.items) c.args.self.now)
+    listed_on program rules (of_statement frac_value frac_limit (record { program = program; solvers = names }) c.args.s.now []) (between (solver_views (λ b. (goal.LpSolver-dyn g (b.vtable, b.value)).name b.value) (λ b. (goal.LpSolver-dyn g (b.vtable, b.value)).rule b.value) (λ b. (goal.LpSolver-dyn g (b.vtable, b.value)).paths b.value) c.args.solvers.now.items) c.args.self.now)
     (record { state = c.step_alone-stepped.new.store; answers = answers; programs = c.show.new.solved.items; solvers = (solver_views (λ b. (goal.LpSolver-dyn g (b.vtable, b.value)).name b.value) (λ b. (goal.LpSolver-dyn g (b.vtable, b.value)).rule b.value) (λ b. (goal.LpSolver-dyn g (b.vtable, b.value)).paths b.value) c.step_alone-stepped.new.solvers.items) }) events
-    (λ front course. behind_statement frac_value number_limit (record { program = program; solvers = names }) c.args.s.now front [] course)
+    (λ front course. behind_statement frac_value frac_limit (record { program = program; solvers = names }) c.args.s.now front [] course)
     c.in-Ok.field-0 c.new-events.result.items before c.show.new.listing c.new-events.ensures.items
     c.in-Ok.ensures.runs
     (all_stand rules answers c.new-events.result.items events c.new-events.ensures.items c.in-Ok.ensures.standing)
     (grown_answered (λ b. (goal.LpSolver-dyn g (b.vtable, b.value)).name b.value) (λ b. (goal.LpSolver-dyn g (b.vtable, b.value)).rule b.value) (λ b. (goal.LpSolver-dyn g (b.vtable, b.value)).paths b.value) c.args.solvers.now.items c.step_alone-stepped.new.solvers.items answers
     c.new-events.result.items events c.new-events.ensures.items c.in-Ok.ensures.solvers)
     c.in_ok-show-in-Ok.ensures.kept
-    (c.in_ok-show-in-Ok.ensures.listed ∙ ap (λ all. before ++ events_text program.names program.labels number_limit (map (answer_numbers frac_value) all) (events_in frac_value events)) c.as_slice-answers.ensures.value)
+    (c.in_ok-show-in-Ok.ensures.listed ∙ ap (λ all. before ++ events_text program.names program.labels frac_limit (map (answer_numbers frac_value) all) (events_in frac_value events)) c.as_slice-answers.ensures.value)
 
 pub returns-in_ok-show-in-Ok-clause-can_execute : goal.returns-in_ok-show-in-Ok-clause-can_execute
 returns-in_ok-show-in-Ok-clause-can_execute g c = record { settings = c.in-Ok.ensures.settings; plain = c.in-Ok.ensures.plain }
@@ -61,9 +61,9 @@ returns-in_ok-list_fault-in-Err-Fault-clause-listed g c =
     let answers = c.step_alone-stepped.new.answers.items in
     let events = c.step_alone-stepped.new.events.items in
     let before = c.args.self.now.outlet.listing in
-    listed_stop program rules (of_statement frac_value number_limit (record { program = program; solvers = names }) c.args.s.now []) (between (solver_views (λ b. (goal.LpSolver-dyn g (b.vtable, b.value)).name b.value) (λ b. (goal.LpSolver-dyn g (b.vtable, b.value)).rule b.value) (λ b. (goal.LpSolver-dyn g (b.vtable, b.value)).paths b.value) c.args.solvers.now.items) c.args.self.now)
+    listed_stop program rules (of_statement frac_value frac_limit (record { program = program; solvers = names }) c.args.s.now []) (between (solver_views (λ b. (goal.LpSolver-dyn g (b.vtable, b.value)).name b.value) (λ b. (goal.LpSolver-dyn g (b.vtable, b.value)).rule b.value) (λ b. (goal.LpSolver-dyn g (b.vtable, b.value)).paths b.value) c.args.solvers.now.items) c.args.self.now)
     (record { state = c.step_alone-stepped.new.store; answers = answers; programs = c.show-in-Err-Fault.new.solved.items; solvers = (solver_views (λ b. (goal.LpSolver-dyn g (b.vtable, b.value)).name b.value) (λ b. (goal.LpSolver-dyn g (b.vtable, b.value)).rule b.value) (λ b. (goal.LpSolver-dyn g (b.vtable, b.value)).paths b.value) c.step_alone-stepped.new.solvers.items) }) events
-    (λ front course. behind_statement frac_value number_limit (record { program = program; solvers = names }) c.args.s.now front [] course)
+    (λ front course. behind_statement frac_value frac_limit (record { program = program; solvers = names }) c.args.s.now front [] course)
     c.in-Err-Fault.stop c.new-events.result.items before c.show-in-Err-Fault.new.listing c.list_fault.new.listing c.new-events.ensures.items
     (rw c.in-Err-Fault.field-0-is at c.in-Err-Fault.ensures.runs)
     (all_stand rules answers c.new-events.result.items events c.new-events.ensures.items (rw c.in-Err-Fault.field-0-is at c.in-Err-Fault.ensures.standing))
@@ -71,9 +71,9 @@ returns-in_ok-list_fault-in-Err-Fault-clause-listed g c =
     c.new-events.result.items events c.new-events.ensures.items (rw c.in-Err-Fault.field-0-is at c.in-Err-Fault.ensures.solvers))
     c.in_ok-show-in-Err-Fault.ensures.kept
     (c.in_ok-show-in-Err-Fault.ensures.listed
-    ∙ ap (λ all. before ++ events_text program.names program.labels number_limit (map (answer_numbers frac_value) all) (events_in frac_value events)) c.as_slice-answers.ensures.value)
+    ∙ ap (λ all. before ++ events_text program.names program.labels frac_limit (map (answer_numbers frac_value) all) (events_in frac_value events)) c.as_slice-answers.ensures.value)
     (c.in_ok-list_fault-in-Err-Fault.ensures
-    ∙ ap (λ all. c.show-in-Err-Fault.new.listing ++ event_text program.names program.labels number_limit (map (answer_numbers frac_value) all) (stops (fault_of frac_value c.in-Err-Fault.stop))) c.as_slice-answers.ensures.value)
+    ∙ ap (λ all. c.show-in-Err-Fault.new.listing ++ event_text program.names program.labels frac_limit (map (answer_numbers frac_value) all) (stops (fault_of frac_value c.in-Err-Fault.stop))) c.as_slice-answers.ensures.value)
 
 pub returns-in_ok-list_fault-in-Err-Fault-clause-can_execute : goal.returns-in_ok-list_fault-in-Err-Fault-clause-can_execute
 returns-in_ok-list_fault-in-Err-Fault-clause-can_execute g c =

@@ -3,13 +3,13 @@ use Rattle.std.proofs.Common.{List, subst, sym}
 use Rattle.std.specs.Prelude.{string_bytes}
 use Rattle.std.proofs.lemmas.Result.{err_from_is_err_and}
 use Rattle.gq_frac.specs.declared.frac.Frac.{Frac}
-use Rattle.gq_frac.specs.Frac.{frac_value}
+use Rattle.gq_frac.specs.Frac.{frac_value, frac_limit}
 use Rattle.lp_core.specs.declared.answer.Answer.{Answer}
 use Rattle.gms_host.proofs.Counting.{writing_done, writing_more}
 use Rattle.gms_range_lines.specs.Answered.{AreSomeAnswers}
 use Rattle.gms_command.specs.CommandLine.{asked_by}
 use Rattle.gms_run.specs.InnerReports.{IsRemarked}
-use Rattle.gms_run.specs.Solving.{number_limit, solving}
+use Rattle.gms_run.specs.Solving.{solving}
 use Rattle.gms_run.proofs.Comings.{comes_err, writing_err, writing_memory}
 use Rattle.gms_run.proofs.Reports.{ends_answered}
 use Rattle.gms_run.proofs.execution.Run.to_end.Goals as goal
@@ -17,7 +17,7 @@ use Rattle.gms_run.proofs.execution.Run.to_end.Goals as goal
 -- each answer is one of the linear program that was kept for it
 pub remark-requires : goal.remark-requires
 remark-requires g c =
-    subst (λ (given : List (Answer Frac)). AreSomeAnswers frac_value number_limit c.statements.new.self.solved.items given) (sym c.as_slice-given.ensures.value)
+    subst (λ (given : List (Answer Frac)). AreSomeAnswers frac_value frac_limit c.statements.new.self.solved.items given) (sym c.as_slice-given.ensures.value)
     (ends_answered _ _ (solving (λ b. (goal.LpSolver-dyn g (b.vtable, b.value)).name b.value) (λ b. (goal.LpSolver-dyn g (b.vtable, b.value)).rule b.value) (λ b. (goal.LpSolver-dyn g (b.vtable, b.value)).paths b.value) c.args.solvers.now.items c.statements.new.solvers.items c.statements.new.self.answers.items) _ _ c.in_ok-status.ensures.outside.ends)
 
 pub statements-requires-clause-can_execute : goal.statements-requires-clause-can_execute
