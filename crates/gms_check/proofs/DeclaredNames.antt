@@ -1,4 +1,5 @@
 -- What a statement without an error does to a name, and that it changes no other.
+use Rattle.std.proofs.lemmas.Bool.{and_parts}
 use Rattle.std.proofs.Common.{◌≡◌, ◌≢◌, ℕ, Bool, true, false, not, ◌&&◌, ◌||◌, List, [], ◌∷◌, length, refl, sym, ap, ◌∙◌, Option, Some, None, Result, if◌then◌else◌}
 use Rattle.std.specs.Prelude.{nat_lt}
 use Rattle.std.specs.FinMap as finite
@@ -266,11 +267,6 @@ set-again s old =
     by (equation_of entries) = refl
     by (model_with model solver) = refl
 
-both-second : (a b : Bool) → (a && b) ≡ true → b ≡ true
-both-second true b e = e
-both-second false b e = absurd cc
-
--- a name is another than each that may become declared
 abbrev pub IsApart : State → ℕ → ℕ → Type 0
 IsApart state n m = has_no_declaration state m ≡ true → n ≢ m
 
@@ -285,7 +281,7 @@ module _ (state : State) (n : ℕ) where
 
   join-other : (old new : ℕ) → can_join state old new ≡ true → IsApart state n new → symbol_at (join_name state old new) n ≡ symbol_at state n
   join-other old new can apart =
-      put-other state new n (alias_symbol (base_of state old)) (apart (both-second (is_set (symbol_at state old).content) (has_no_declaration state new) can))
+      put-other state new n (alias_symbol (base_of state old)) (apart ((and_parts (is_set (symbol_at state old).content) (has_no_declaration state new) can).1))
 
   pub model-other : (m : ℕ) → IsApart state n m → symbol_at (declare_model state m) n ≡ symbol_at state n
   model-other m apart = by (has_no_declaration state m) refl

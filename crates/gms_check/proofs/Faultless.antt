@@ -1,4 +1,5 @@
 -- Parts of a declaration that have no error, and what follows for its data.
+use Rattle.std.proofs.lemmas.Bool.{and_from, not-false}
 use Rattle.std.proofs.Common.{◌≡◌, ◌∙◌, ◌+◌, ◌<◌, ◌≤◌, ◌&&◌, ◌||◌, ℕ, zero, suc, Bool, true, false, not, List, [], ◌∷◌, ◌++◌, length, map, take, All, Option, Some, None, Result, Ok, Err, refl, sym, ap, cond, arith, if◌then◌else◌}
 use Rattle.std.specs.Prelude.{filter, flat_map, nat_le, take_while}
 use Rattle.std.specs.List.{list_all, prefix_len, slice_index_or}
@@ -61,13 +62,6 @@ none-kind at test (kind ∷ kinds) e = by (test kind) refl (none-kind at test ki
     by true is rest e = absurd cc
     by false is rest e = (is, rest e)
 
-and-left : (a b : Bool) → a ≡ true → b ≡ true → (a && b) ≡ true
-and-left a b e f = ap (λ (a : Bool). a && b) e ∙ f
-
-not-false : (a : Bool) → not a ≡ false → a ≡ true
-not-false true e = refl
-not-false false e = absurd cc
-
 not-false-2 : (a b : Bool) → (not a && not b) ≡ false → (a || b) ≡ true
 not-false-2 true b e = refl
 not-false-2 false true e = refl
@@ -120,7 +114,7 @@ module _ {F : Type 0} where
   none-domain known (None ∷ domain) e = none-domain known domain e
   none-domain known (Some named ∷ domain) e =
       let here = faultless-part known named.at (bounding named.name) (none-left (errors_at known (named.at, bounding named.name)) (errors_of known (flat_map domain_use domain)) e) in
-      and-left (is_index_set known.state named.name) (list_all (is_usable_in known.state) (names_of domain)) (not-false (is_index_set known.state named.name) here.1.1.0) (none-domain known domain (none-right (errors_at known (named.at, bounding named.name)) (errors_of known (flat_map domain_use domain)) e))
+      and_from (is_index_set known.state named.name) (list_all (is_usable_in known.state) (names_of domain)) (not-false (is_index_set known.state named.name) here.1.1.0) (none-domain known domain (none-right (errors_at known (named.at, bounding named.name)) (errors_of known (flat_map domain_use domain)) e))
 
   -- items that have no error have their parts
   none-items : (known : Known F) (domain : List (Option ℕ)) (items : List (Item F)) → errors_of known (map (λ (item : Item F). (item.at, placing (length domain) (length item.parts))) items) ≡ [] → list_all (has_all_parts domain) items ≡ true
@@ -129,7 +123,7 @@ module _ {F : Type 0} where
       let used = placing (length domain) (length item.parts) in
       let rest = errors_of known (map (λ (item : Item F). (item.at, placing (length domain) (length item.parts))) items) in
       let here = faultless-part known item.at used (none-left (errors_at known (item.at, used)) rest e) in
-      and-left (has_all_parts domain item) (list_all (has_all_parts domain) items) (ap not here.1.1.1.0) (none-items known domain items (none-right (errors_at known (item.at, used)) rest e))
+      and_from (has_all_parts domain item) (list_all (has_all_parts domain) items) (ap not here.1.1.1.0) (none-items known domain items (none-right (errors_at known (item.at, used)) rest e))
 
   -- What holds of a name that is declared without an error.
   pub record IsFaultless (known : Known F) (kind : DeclKind) (item : Decl F) : Type 0 where
@@ -155,7 +149,7 @@ module _ {F : Type 0} where
       let few : nat_le (length positions) 10 ≡ true = not-false (nat_le (length positions) 10) (not-within (length positions) 10 ∙ here.1.1.1.0) in
       record {
         new = or-weaker (has_no_declaration known.state named.name) (is_free (symbol_at known.state named.name).content) _ (not-false-2 (has_no_declaration known.state named.name) (may_be_typed known kind named.name domain) here.1.0);
-        usable = and-left (nat_le (length positions) 10) (list_all (is_usable_in known.state) positions) few (usable-positions known.state kind domain (none-domain known item.domain (none-left (errors_of known sets) (errors_of known (places ++ elements)) both)));
+        usable = and_from (nat_le (length positions) 10) (list_all (is_usable_in known.state) positions) few (usable-positions known.state kind domain (none-domain known item.domain (none-left (errors_of known sets) (errors_of known (places ++ elements)) both)));
         whole = none-items known positions item.items (none-left (errors_of known places) (errors_of known elements) last);
         given = none-expansion known positions item.items (none-right (errors_of known places) (errors_of known elements) last);
       }

@@ -2,7 +2,7 @@
 -- members of a set are in order and have a label for each of its positions.
 use Rattle.std.proofs.Common.{◌≡◌, ◌⊎◌, ℕ, zero, suc, Bool, true, false, ◌==◌, ◌&&◌, List, [], ◌∷◌, ◌++◌, length, set, filter, slice_get, refl, sym, ap, ◌∙◌, subst, cond, Option, Some, None, unwrap_or, Result, Ok, Err, inl, inr}
 use Rattle.std.specs.List.{All, fold}
-use Rattle.std.proofs.lemmas.Bool.{eqb-true}
+use Rattle.std.proofs.lemmas.Bool.{eqb-true, and_parts}
 use Rattle.std.proofs.lemmas.List.Elements.{All-nil, All-cons, All-append, All-filter}
 use Rattle.gq_number.specs.Number.{Number}
 use Rattle.gq_extended.specs.Extended as extended
@@ -201,14 +201,9 @@ grows-fresh old new none there empty fits = (
   inl none,
 )
 
--- the second of two tests that both hold
-second-holds : (a b : Bool) → (a && b) ≡ true → b ≡ true
-second-holds true b e = e
-second-holds false b e = cc
-
 grows-join : (state : State) (old new : ℕ) → can_join state old new ≡ true → Grows state (join_name state old new)
 grows-join state old new can =
-    grows-put state new (alias_symbol (base_of state old)) (grows-fresh (symbol_at state new) (alias_symbol (base_of state old)) (second-holds (is_set (symbol_at state old).content) (is_undeclared (symbol_at state new).content) can) refl refl)
+    grows-put state new (alias_symbol (base_of state old)) (grows-fresh (symbol_at state new) (alias_symbol (base_of state old)) ((and_parts (is_set (symbol_at state old).content) (is_undeclared (symbol_at state new).content) can).1) refl refl)
 
 grows-alias : (state : State) (first second : ℕ) → Grows state (declare_alias state first second)
 grows-alias state first second = by (can_join state first second) (can_join state second first) refl refl

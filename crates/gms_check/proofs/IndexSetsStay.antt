@@ -3,7 +3,7 @@
 use Rattle.std.proofs.Common.{◌≡◌, ℕ, zero, suc, Bool, true, false, ◌&&◌, List, [], ◌∷◌, length, slice_get, refl, sym, ap, ◌∙◌, subst, Option, unwrap_or, inl, inr}
 use Rattle.std.specs.Prelude.{replicate}
 use Rattle.std.specs.List.{fold}
-use Rattle.std.proofs.lemmas.Bool.{eqb-true}
+use Rattle.std.proofs.lemmas.Bool.{eqb-true, and_parts}
 use Rattle.std.proofs.lemmas.List.{map-append}
 use Rattle.std.proofs.lemmas.List.Elements.{All-nil}
 use Rattle.std.proofs.lemmas.List.Sums.{fold-append}
@@ -21,11 +21,6 @@ use Rattle.gms_check.specs.Loaded.{sound, loaded}
 use Rattle.gms_check.specs.Names.{is_variable}
 use Rattle.gms_check.specs.Past.{state_after, after_statement}
 use Rattle.gms_check.proofs.Growing.{IsFitting, IsAfter, IsLater, HaveLength, Grows, grows-past}
-
--- where two tests hold, each does
-first-holds : (a b : Bool) → (a && b) ≡ true → a ≡ true
-first-holds true b e = refl
-first-holds false b e = cc
 
 second-holds : (a b : Bool) → (a && b) ≡ true → b ≡ true
 second-holds true b e = e
@@ -92,7 +87,7 @@ stays-one old new fits grows set is = by (grows set (fits set)).1
     one = eqb-true (length (symbol_of old set).domain) 1 (second-holds (is_set_name old set) (has_one_position old set) is)
 
     declared : is_undeclared (symbol_at old set).content ≡ false
-    declared = set-declared (symbol_at old set).content (first-holds (is_set_name old set) (has_one_position old set) is)
+    declared = set-declared (symbol_at old set).content ((and_parts (is_set_name old set) (has_one_position old set) is).0)
 
     by : IsLater (symbol_at old set) (symbol_at new set) → IsOverOne new set
     by (inl none) = absurd (let no : true ≡ false = sym none ∙ declared in cc)

@@ -2,7 +2,7 @@
 use Rattle.std.proofs.Common.{◌≡◌, ◌<◌, ◌≤◌, ◌⊎◌, ◌+◌, ℕ, zero, suc, Bool, true, false, not, ◌==◌, ◌&&◌, ◌||◌, List, [], ◌∷◌, ◌++◌, length, get_or, map, set, refl, sym, ap, ◌∙◌, subst, append_assoc, Option, Some, None, Result, Ok, Err, unwrap_or, if◌then◌else◌, arith, inl, inr, eq-eqb}
 use Rattle.std.specs.Prelude.{filter, nat_lt}
 use Rattle.std.specs.List.{fold}
-use Rattle.std.proofs.lemmas.Bool.{ltb-true, eqb-true}
+use Rattle.std.proofs.lemmas.Bool.{ltb-true, eqb-true, and_parts}
 use Rattle.std.proofs.lemmas.Bool.Decides.{nat_tests}
 use Rattle.std.proofs.lemmas.List.{append-nil, map-append, set_past, get_or_past, get_or-set_same, get_or-set_other}
 use Rattle.std.proofs.lemmas.List.Elements.{filter-append}
@@ -410,10 +410,6 @@ set-not (variable_of type entries) p = refl
 set-not (equation_of entries) p = refl
 set-not (model_with model solver) p = refl
 
-first-true : (a b : Bool) → (a && b) ≡ true → a ≡ true
-first-true true b e = refl
-first-true false b e = absurd cc
-
 second-true : (a b : Bool) → (a && b) ≡ true → b ≡ true
 second-true true b e = e
 second-true false b e = absurd cc
@@ -472,7 +468,7 @@ alias-goes count facts first second known size =
 
     forward : can_join facts.state first second ≡ true → Goes count (drawn facts.state) (drawn (join_name facts.state first second)) facts.declared ((facts.declared ++ entry count facts.declared first None) ++ entry count facts.declared second None) facts.equations facts.equations (first ∷ second ∷ []) []
     forward q =
-        let old : is_set_name (drawn facts.state) first ≡ true = set-drawn facts.state first ∙ first-true (is_set_name facts.state first) (has_no_declaration facts.state second) q in
+        let old : is_set_name (drawn facts.state) first ≡ true = set-drawn facts.state first ∙ (and_parts (is_set_name facts.state first) (has_no_declaration facts.state second) q).0 in
         let new : has_no_declaration (drawn facts.state) second ≡ true = unknown-drawn facts.state second ∙ second-true (is_set_name facts.state first) (has_no_declaration facts.state second) q in
         let one = name-again count (drawn facts.state) facts.declared facts.equations first None known (set-not (symbol_at (drawn facts.state) first).content old) in
         subst (λ (after : State). Goes count (drawn facts.state) after facts.declared ((facts.declared ++ entry count facts.declared first None) ++ entry count facts.declared second None) facts.equations facts.equations (first ∷ second ∷ []) []) (joined first second)
@@ -480,7 +476,7 @@ alias-goes count facts first second known size =
 
     backward : can_join facts.state second first ≡ true → Goes count (drawn facts.state) (drawn (join_name facts.state second first)) facts.declared ((facts.declared ++ entry count facts.declared first None) ++ entry count facts.declared second None) facts.equations facts.equations (first ∷ second ∷ []) []
     backward q =
-        let old : is_set_name (drawn facts.state) second ≡ true = set-drawn facts.state second ∙ first-true (is_set_name facts.state second) (has_no_declaration facts.state first) q in
+        let old : is_set_name (drawn facts.state) second ≡ true = set-drawn facts.state second ∙ (and_parts (is_set_name facts.state second) (has_no_declaration facts.state first) q).0 in
         let new : has_no_declaration (drawn facts.state) first ≡ true = unknown-drawn facts.state first ∙ second-true (is_set_name facts.state second) (has_no_declaration facts.state first) q in
         let after = put_at (drawn facts.state) first (alias_symbol (base_of (drawn facts.state) second)) in
         let one = join-goes count (drawn facts.state) facts.declared facts.equations second first known old new in

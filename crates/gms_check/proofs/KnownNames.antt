@@ -1,8 +1,9 @@
 -- The names that are declared in sequence, and the set that each is directly below.
+use mathlib.Core.Bool.{and-false, or-false, or-true}
 use Rattle.std.proofs.Common.{◌≡◌, ◌<◌, ◌≤◌, ◌⊎◌, ◌+◌, ℕ, zero, suc, Bool, true, false, not, ◌==◌, ◌&&◌, ◌||◌, List, [], ◌∷◌, ◌++◌, length, get_or, map, set, refl, sym, ap, ◌∙◌, subst, Option, Some, None, unwrap_or, if◌then◌else◌, arith, inl, inr, eq-eqb}
 use Rattle.std.specs.Prelude.{nat_lt, slice_get}
 use Rattle.std.specs.List.{list_any}
-use Rattle.std.proofs.lemmas.Bool.{ltb-true, eqb-true}
+use Rattle.std.proofs.lemmas.Bool.{ltb-true, eqb-true, and_parts}
 use Rattle.std.proofs.lemmas.Bool.Decides.{nat_tests}
 use Rattle.std.proofs.lemmas.List.{append-nil, map-append, length-set, set_past, get_or_past, get_or-set_same, get_or-set_other}
 use Rattle.std.proofs.lemmas.List.Folds.{list_any-append}
@@ -15,22 +16,6 @@ use Rattle.gms_check.specs.Above.{directly_above}
 use Rattle.gms_check.proofs.Outlines.{read-at}
 
 -- ---- tests
-
-pub both : (a b : Bool) → a ≡ true → b ≡ true → (a && b) ≡ true
-both true b p q = q
-both false b p q = absurd cc
-
-no_right : (a : Bool) → (a && false) ≡ false
-no_right true = refl
-no_right false = refl
-
-or_true : (a : Bool) → (a || true) ≡ true
-or_true true = refl
-or_true false = refl
-
-or_false : (a : Bool) → (a || false) ≡ a
-or_false true = refl
-or_false false = refl
 
 clash : {X : Type 0} → true ≡ false → X
 clash e = absurd cc
@@ -186,10 +171,6 @@ alias-or n (model_with model solver) = inr refl
 first_set : (s : Bool) → s ≡ true → (r : Bool) → (s && r) ≡ r
 first_set s e r = ap (λ b. b && r) e
 
-and-first : (a b : Bool) → (a && b) ≡ true → a ≡ true
-and-first true b e = refl
-and-first false b e = absurd cc
-
 and-second : (a b : Bool) → (a && b) ≡ true → b ≡ true
 and-second true b e = e
 and-second false b e = absurd cc
@@ -229,8 +210,8 @@ module _ (count : ℕ) (state : State) (es : DeclarationList) (known : IsKnown c
       twice : (n : ℕ) (s : Bool) → (name == n) ≡ s → (is_entered es n || (s || false)) ≡ not (has_no_declaration state n)
       twice n true q =
           let same = eqb-true name n q in
-          or_true (is_entered es n) ∙ sym (ap (λ (k : ℕ). not (has_no_declaration state k)) (sym same) ∙ ap not old)
-      twice n false q = or_false (is_entered es n) ∙ known.entered n
+          or-true (is_entered es n) ∙ sym (ap (λ (k : ℕ). not (has_no_declaration state k)) (sym same) ∙ ap not old)
+      twice n false q = or-false (is_entered es n) ∙ known.entered n
 
       in_again : (n : ℕ) (domain : List (Option ℕ)) → superset_in state (names_of_entries es ++ name ∷ []) n domain ≡ superset_in state (names_of_entries es) n domain
       in_again n [] = refl
@@ -284,8 +265,8 @@ module _ (count : ℕ) (state : State) (es : DeclarationList) (known : IsKnown c
             let same = eqb-true s name q in
             let out : is_met_before (names_of_entries es) s (base_of state n) ≡ false = met-not (names_of_entries es) s (base_of state n) (ap (is_in (names_of_entries es)) same ∙ unknown-in name new) in
             ap (λ b. if is_index_set (put_at state name symbol) s && b then Some (base_of (put_at state name symbol) s) else None) out
-            ∙ ap (λ b. if b then Some (base_of (put_at state name symbol) s) else None) (no_right (is_index_set (put_at state name symbol) s))
-            ∙ sym (ap (λ b. if is_index_set state s && b then Some (base_of state s) else None) out ∙ ap (λ b. if b then Some (base_of state s) else None) (no_right (is_index_set state s)))
+            ∙ ap (λ b. if b then Some (base_of (put_at state name symbol) s) else None) (and-false (is_index_set (put_at state name symbol) s))
+            ∙ sym (ap (λ b. if is_index_set state s && b then Some (base_of state s) else None) out ∙ ap (λ b. if b then Some (base_of state s) else None) (and-false (is_index_set state s)))
         by false q =
             ap (λ b. if b && is_met_before (names_of_entries es) s (base_of state n) then Some (base_of (put_at state name symbol) s) else None) (index-kept s (apart s name q))
             ∙ ap (λ (b : ℕ). if is_index_set state s && is_met_before (names_of_entries es) s (base_of state n) then Some b else None) (base-kept s (apart s name q))
@@ -299,7 +280,7 @@ module _ (count : ℕ) (state : State) (es : DeclarationList) (known : IsKnown c
         ∙ by (is_index_set state n) refl)
       where
         by : (s : Bool) → is_index_set state n ≡ s → (if s then superset_in (put_at state name symbol) (names_of_entries es ++ name ∷ []) n (positions state n) else None) ≡ (if s then superset_in state (names_of_entries es) n (positions state n) else None)
-        by true q = in-kept n ne (set-known (symbol_at state n).content (and-first (is_set_name state n) (has_one_position state n) q)) (positions state n)
+        by true q = in-kept n ne (set-known (symbol_at state n).content ((and_parts (is_set_name state n) (has_one_position state n) q).0)) (positions state n)
         by false q = refl
 
     -- a new name, with what it is directly below
@@ -320,9 +301,9 @@ module _ (count : ℕ) (state : State) (es : DeclarationList) (known : IsKnown c
         entered_after : (n : ℕ) (s : Bool) → (name == n) ≡ s → (is_entered es n || (s || false)) ≡ not (has_no_declaration (put_at state name symbol) n)
         entered_after n true q =
             let same = eqb-true name n q in
-            or_true (is_entered es n) ∙ sym (ap (λ (k : ℕ). not (has_no_declaration (put_at state name symbol) k)) (sym same) ∙ ap (λ (s : Symbol). not (is_undeclared s.content)) here ∙ ap not declared)
+            or-true (is_entered es n) ∙ sym (ap (λ (k : ℕ). not (has_no_declaration (put_at state name symbol) k)) (sym same) ∙ ap (λ (s : Symbol). not (is_undeclared s.content)) here ∙ ap not declared)
         entered_after n false q =
-            or_false (is_entered es n) ∙ known.entered n ∙ sym (ap (λ (s : Symbol). not (is_undeclared s.content)) (other-after n (λ e. apart name n q (sym e))))
+            or-false (is_entered es n) ∙ known.entered n ∙ sym (ap (λ (s : Symbol). not (is_undeclared s.content)) (other-after n (λ e. apart name n q (sym e))))
 
         kept_plain : (b : ℕ) → is_plain (symbol_at state b).content ≡ true → is_plain (symbol_at (put_at state name symbol) b).content ≡ true
         kept_plain b plain =
@@ -367,7 +348,7 @@ module _ (count : ℕ) (state : State) (es : DeclarationList) (known : IsKnown c
             at false r =
                 let ne = apart s name r in
                 let index : is_index_set state s ≡ true = sym (index-kept s ne) ∙ q in
-                let old : has_no_declaration state s ≡ false = set-known (symbol_at state s).content (and-first (is_set_name state s) (has_one_position state s) index) in
+                let old : has_no_declaration state s ≡ false = set-known (symbol_at state s).content ((and_parts (is_set_name state s) (has_one_position state s) index).0) in
                 ap (is_entered es) (base-kept s ne) ∙ sym (entered-in es (base_of state s)) ∙ known-in (base_of state s) (base-known s old) ∙ sym (known-in s old)
 
         firsts : (domain : List (Option ℕ)) → (length domain == 1) ≡ true → among es (first_base (put_at state name symbol) domain) ≡ superset_in (put_at state name symbol) (names_of_entries es ++ name ∷ []) name domain

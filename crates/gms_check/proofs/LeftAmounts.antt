@@ -1,5 +1,6 @@
 -- The left sides of a program without errors: each set has one dimension, and each amount of a lag
 -- is a number or a scalar.
+use Rattle.std.proofs.lemmas.Bool.{not-false}
 use Rattle.std.proofs.Common.{◌≡◌, ℕ, zero, suc, Bool, true, false, not, ◌&&◌, List, [], ◌∷◌, ◌++◌, refl, sym, ap, ◌∙◌, subst, Option, option_map}
 use Rattle.std.specs.Prelude.{flat_map}
 use Rattle.gq_number.specs.Number.{Number}
@@ -34,7 +35,7 @@ use Rattle.gms_check.specs.StatementUses.{index_list, left_uses, right_standing,
 use Rattle.gms_check.specs.Uses.{condition_uses, control_uses, index_sets, sets_of_control, shift_uses, uses}
 use Rattle.gms_check.proofs.ActUses.{uses-Assign, uses-Loop, uses-act}
 use Rattle.gms_check.proofs.NoErrors.{AreClean, clean-left, clean-right}
-use Rattle.gms_check.proofs.Soundness.{after-sound, neither-first, neither-second, not-false, statement-clean}
+use Rattle.gms_check.proofs.Soundness.{after-sound, neither-first, neither-second, statement-clean}
 
 -- what is no variable is not of their kind
 no-variable : (c : Content) → is_variable c ≡ false → not (is_variable_kind (kind_in c)) ≡ true

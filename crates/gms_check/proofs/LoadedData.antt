@@ -1,4 +1,5 @@
 -- The data of a program without errors can be given.
+use Rattle.std.proofs.lemmas.Bool.{and_from, not-false}
 use Rattle.std.proofs.Common.{◌≡◌, ◌≤◌, ◌<◌, ◌+◌, ℕ, Bool, true, false, not, ◌==◌, ◌&&◌, ◌||◌, List, [], ◌∷◌, ◌++◌, length, map, take, drop, get_or, refl, sym, ap, ◌∙◌, subst, append_assoc, Option, Some, None, Result, Ok, Err, arith, if◌then◌else◌}
 use Rattle.std.specs.Prelude.{All, flat_map, is_none, nat_le, nat_lt, take_while}
 use Rattle.std.specs.List.{fold, list_all, AllByRecursion}
@@ -35,7 +36,7 @@ use Rattle.gms_check.specs.Loaded.{IsAccepted, loaded, sound}
 use Rattle.gms_check.specs.Past.{Known, Past, after_act, after_statement, state_after, with_item, with_name}
 use Rattle.gms_check.specs.Uses.{Use, Uses, bounding, failing, naming, placing}
 use Rattle.gms_check.proofs.NoErrors.{AreClean, IsClean, are-clean, clean-left, clean-right, nil-left, nil-right, none-first}
-use Rattle.gms_check.proofs.Soundness.{after-sound, at-most, not-false, right-count}
+use Rattle.gms_check.proofs.Soundness.{after-sound, at-most, right-count}
 
 positions-usable : (test : Option ℕ → Bool) (kind : DeclKind) (domain : List (Option ℕ)) → test None ≡ true → list_all test domain ≡ true → list_all test (positions_of kind domain) ≡ true
 positions-usable test declaring.Set [] n e = ap (λ b. b && true) n
@@ -49,10 +50,6 @@ positions-usable test declaring.Negative domain n e = e
 positions-usable test declaring.Discrete domain n e = e
 positions-usable test declaring.Equation domain n e = e
 
-both : (a b : Bool) → a ≡ true → b ≡ true → (a && b) ≡ true
-both true b p q = q
-both false b p q = absurd cc
-
 within : (n m : ℕ) → n ≤ m → nat_le n m ≡ true
 within n m l = grind (arith, nat_tests)
 
@@ -61,7 +58,7 @@ module _ {F : Type 0} where
   usable known [] clean = refl
   usable known (None ∷ domain) clean = usable known domain clean
   usable known (Some named ∷ domain) clean =
-      both (is_index_set known.state named.name) (list_all (is_usable_in known.state) (names_of domain)) (not-false (is_index_set known.state named.name) (clean.0 WrongKind)) (usable known domain clean.1)
+      and_from (is_index_set known.state named.name) (list_all (is_usable_in known.state) (names_of domain)) (not-false (is_index_set known.state named.name) (clean.0 WrongKind)) (usable known domain clean.1)
 
   -- the items as parts
   abbrev placed_items : List (Option ℕ) → List (Item F) → Uses F
@@ -95,7 +92,7 @@ module _ {F : Type 0} where
       let data_clean = clean-right known (flat_map domain_use item.domain) (data_uses known positions item.items) clean.1 in
       let items = clean-left known (placed_items positions item.items) (expansion_uses known positions item.items) data_clean in
       let expansion = clean-right known (placed_items positions item.items) (expansion_uses known positions item.items) data_clean in
-      let usable_positions : are_usable known positions ≡ true = both (nat_le (length positions) 10) (list_all (is_usable_in known.state) positions) (within (length positions) 10 few) (positions-usable (is_usable_in known.state) kind (names_of item.domain) refl (usable known item.domain domain)) in
+      let usable_positions : are_usable known positions ≡ true = and_from (nat_le (length positions) 10) (list_all (is_usable_in known.state) positions) (within (length positions) 10 few) (positions-usable (is_usable_in known.state) kind (names_of item.domain) refl (usable known item.domain domain)) in
       let failed : AreClean known (failure (expanded known.state positions item.items)) = subst (λ (b : Bool). AreClean known (if b then failure (expanded known.state positions item.items) else [])) usable_positions (subst (λ (given : List (Item F)). AreClean known (if are_usable known positions then failure (expanded known.state positions given) else [])) (all-taken known positions item.items items) expansion) in
       record {
         parts = All-from_recursion (λ (i : Item F). length i.parts ≡ length positions) item.items (all-parts known positions item.items items);

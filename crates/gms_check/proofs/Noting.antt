@@ -1,4 +1,5 @@
 -- A check in progress: what it finds in parts, in sequence.
+use mathlib.Core.Bool.{or-false}
 use Rattle.std.proofs.Common.{◌≡◌, ◌<◌, ◌+◌, length, take, get_or, ℕ, Bool, true, false, not, ◌&&◌, ◌||◌, List, [], ◌∷◌, ◌++◌, map, Option, Some, None, refl, sym, ap, ◌∙◌, append_assoc, if◌then◌else◌, arith}
 use Rattle.std.specs.Prelude.{filter, flat_map, nat_le, nat_lt}
 use Rattle.std.proofs.lemmas.Bool.Decides.{nat_tests}
@@ -127,10 +128,6 @@ or-true a b s p e = p ∙ e ∙ sym (ap (λ a. a || b) e)
 
 pub or-right : (a b s : Bool) → s ≡ b → a ≡ false → s ≡ (a || b)
 or-right a b s p e = p ∙ sym (ap (λ a. a || b) e)
-
-pub or-false : (a : Bool) → (a || false) ≡ a
-or-false true = refl
-or-false false = refl
 
 pub alone : (at : Place) (a : Bool) (kind : ErrorKind) (rest : List (Bool × ErrorKind)) → first_fault at ((a, kind) ∷ rest) ≡ first_fault at ((a || false, kind) ∷ rest)
 alone at a kind rest = ap (λ b. first_fault at ((b, kind) ∷ rest)) (sym (or-false a))

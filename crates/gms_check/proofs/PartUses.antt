@@ -1,4 +1,5 @@
 -- What the parts of a node use, one part after another, and its steps.
+use mathlib.Core.Bool.{or-false}
 use Rattle.std.proofs.Common.{◌≡◌, ◌<◌, ◌+◌, ℕ, Bool, false, ◌||◌, List, [], ◌∷◌, ◌++◌, map, length, take, get_or, refl, sym, ap, ◌∙◌, append_assoc, arith}
 use Rattle.std.specs.Prelude.{flat_map}
 use Rattle.std.specs.List.{list_any}
@@ -13,7 +14,6 @@ use Rattle.gms_check.specs.Linearity.{has_variable, have_variable}
 use Rattle.gms_check.specs.Past.{Known}
 use Rattle.gms_check.specs.Standing.{as_part}
 use Rattle.gms_check.specs.Uses.{Uses, later_steps, operation_of, part_uses, place_by_mark, stepping, steps, uses}
-use Rattle.gms_check.proofs.Noting.{or-false}
 
 -- whether one of a list has a property, with one more
 pub any-more : {X : Type 0} (p : X → Bool) (xs : List X) (i : ℕ) (x : X) → i < length xs → x ≡ get_or xs i x → list_any p (take (i + 1) xs) ≡ (list_any p (take i xs) || p x)

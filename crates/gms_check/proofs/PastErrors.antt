@@ -2,7 +2,7 @@
 use Rattle.std.proofs.Common.{◌≡◌, ◌<◌, ◌≤◌, ℕ, Bool, true, false, not, ◌==◌, ◌&&◌, ◌||◌, List, [], ◌∷◌, ◌++◌, length, map, set, get_or, drop, ◌+◌, append_assoc, refl, sym, ap, ◌∙◌, subst, Option, Some, None, if◌then◌else◌, eq-eqb}
 use Rattle.std.specs.Prelude.{filter, is_none}
 use mathlib.Core.Path.{fun_ext}
-use Rattle.std.proofs.lemmas.Bool.{eqb-true}
+use Rattle.std.proofs.lemmas.Bool.{eqb-true, not-false}
 use Rattle.std.proofs.lemmas.List.{append-nil, drop_all, drop_more, get_or-set_other}
 use Rattle.gq_number.specs.Number.{Number}
 use Rattle.gms_ast.specs.declared.word.Named.{Named}
@@ -35,10 +35,6 @@ use Rattle.gms_check.proofs.PastFacts.{Stands, listed_in, stands-first}
 use Rattle.gms_check.proofs.PastSteps.{AreEquations, AreOfEquations, IsListed, stands-after}
 
 -- ---- models without errors are of equations
-
-not-false : (a : Bool) → not a ≡ false → a ≡ true
-not-false true e = refl
-not-false false e = absurd cc
 
 kind-declared : (c : Content) → is_equation (kind_in c) ≡ true → is_undeclared c ≡ true → ⊥
 kind-declared undeclared e f = absurd cc

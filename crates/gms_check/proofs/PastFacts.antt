@@ -1,4 +1,5 @@
 -- What is known before a statement, as a function of the statements before it.
+use mathlib.Core.Bool.{and-false, or-false, or-true}
 use Rattle.std.proofs.Common.{◌≡◌, ◌<◌, ◌≤◌, ◌⊎◌, ◌+◌, ℕ, zero, suc, Bool, true, false, not, ◌==◌, ◌&&◌, ◌||◌, List, [], ◌∷◌, ◌++◌, length, get_or, map, set, replicate, refl, sym, ap, ◌∙◌, subst, append_assoc, Option, Some, None, Result, Ok, Err, unwrap_or, if◌then◌else◌, arith, inl, inr, eq-eqb}
 use Rattle.std.specs.Prelude.{filter, flat_map, is_none, nat_lt, slice_set}
 use Rattle.std.specs.List.{fold, list_any}
@@ -40,18 +41,6 @@ use Rattle.gms_check.proofs.KnownFacts.{AreSettled, FactsGo, Goes, Grows, IsSett
 
 -- ---- marks
 
-no_right : (a : Bool) → (a && false) ≡ false
-no_right true = refl
-no_right false = refl
-
-or_true : (a : Bool) → (a || true) ≡ true
-or_true true = refl
-or_true false = refl
-
-or_false : (a : Bool) → (a || false) ≡ a
-or_false true = refl
-or_false false = refl
-
 or_assoc : (a b c : Bool) → ((a || b) || c) ≡ (a || (b || c))
 or_assoc true b c = refl
 or_assoc false b c = refl
@@ -67,17 +56,17 @@ mark-one marks name n = by (name == n) refl (nat_lt n (length marks)) refl
     by : (s : Bool) → (name == n) ≡ s → (t : Bool) → nat_lt n (length marks) ≡ t → marked (slice_set marks name true) n ≡ (marked marks n || (t && s))
     by true q true r =
         let less = ltb-true n (length marks) r in
-        ap (λ (k : ℕ). get_or (set marks k true) n false) (eqb-true name n q) ∙ get_or-set_same marks n true false less ∙ sym (or_true (marked marks n))
+        ap (λ (k : ℕ). get_or (set marks k true) n false) (eqb-true name n q) ∙ get_or-set_same marks n true false less ∙ sym (or-true (marked marks n))
     by true q false r =
         let same = eqb-true name n q in
         let past : length marks ≤ name = grind (arith, nat_tests) in
-        ap (λ (ms : List Bool). get_or ms n false) (set_past marks name true past) ∙ sym (or_false (marked marks n))
+        ap (λ (ms : List Bool). get_or ms n false) (set_past marks name true past) ∙ sym (or-false (marked marks n))
     by false q t r =
-        get_or-set_other marks name n true false (λ e. absurd (let f = eq-eqb name n (sym e) in cc)) ∙ sym (ap (λ b. marked marks n || b) (no_right t) ∙ or_false (marked marks n))
+        get_or-set_other marks name n true false (λ e. absurd (let f = eq-eqb name n (sym e) in cc)) ∙ sym (ap (λ b. marked marks n || b) (and-false t) ∙ or-false (marked marks n))
 
 -- names that are marked
 mark-all : (names : List ℕ) (marks : List Bool) (n : ℕ) → marked (with_marks marks names) n ≡ (marked marks n || (nat_lt n (length marks) && is_among names n))
-mark-all [] marks n = sym (ap (λ b. marked marks n || b) (no_right (nat_lt n (length marks))) ∙ or_false (marked marks n))
+mark-all [] marks n = sym (ap (λ b. marked marks n || b) (and-false (nat_lt n (length marks))) ∙ or-false (marked marks n))
 mark-all (name ∷ names) marks n =
     mark-all names (slice_set marks name true) n
     ∙ ap (λ (k : ℕ). marked (slice_set marks name true) n || (nat_lt n k && is_among names n)) (length-set marks name true)
@@ -176,9 +165,9 @@ module _ {F : Type 0} (value : F → Number) (program : Program F) where
     named = refl;
     dynamic = λ n. mark-all (dynamic_sets program) (replicate (length program.names) false) n ∙ ap (λ b. b || (nat_lt n (length (replicate (length program.names) false)) && is_among (dynamic_sets program) n)) (default-replicate (length program.names) n false) ∙ ap (λ (k : ℕ). nat_lt n k && is_among (dynamic_sets program) n) (length-replicate (length program.names) false);
     unordered_size = length-replicate (length program.names) false;
-    unordered = λ n. default-replicate (length program.names) n false ∙ sym (no_right (nat_lt n (length program.names)));
+    unordered = λ n. default-replicate (length program.names) n false ∙ sym (and-false (nat_lt n (length program.names)));
     defined_size = length-replicate (length program.names) false;
-    defined = λ n. default-replicate (length program.names) n false ∙ sym (no_right (nat_lt n (length program.names)));
+    defined = λ n. default-replicate (length program.names) n false ∙ sym (and-false (nat_lt n (length program.names)));
     equations = refl;
     settled = tt;
     models = refl;
@@ -198,9 +187,9 @@ module _ {F : Type 0} (value : F → Number) (program : Program F) where
       named = go.named ∙ ap (λ ns. ns ++ filter (in_table (length program.names)) (names_declared p.0.act)) stands.named ∙ sym (ap (filter (in_table (length program.names))) (flat_map-append (λ (p : Stmt F × Bool). names_declared p.0.act) past (p ∷ []) ∙ ap (λ ns. declared_names past ++ ns) (append-nil (names_declared p.0.act))) ∙ filter-append (in_table (length program.names)) (declared_names past) (names_declared p.0.act));
       dynamic = λ n. ap (λ (ms : List Bool). marked ms n) dynamic ∙ stands.dynamic n;
       unordered_size = unordered_size;
-      unordered = λ n. unordered n ∙ ap (λ b. b || (nat_lt n (length program.names) && (p.1 && gives_unordered n p.0.act))) (stands.unordered n) ∙ and-or (nat_lt n (length program.names)) (is_unordered past n) (p.1 && gives_unordered n p.0.act) ∙ ap (λ b. nat_lt n (length program.names) && b) (sym (list_any-append (λ (p : Stmt F × Bool). p.1 && gives_unordered n p.0.act) past (p ∷ []) ∙ ap (λ b. is_unordered past n || b) (or_false (p.1 && gives_unordered n p.0.act))));
+      unordered = λ n. unordered n ∙ ap (λ b. b || (nat_lt n (length program.names) && (p.1 && gives_unordered n p.0.act))) (stands.unordered n) ∙ and-or (nat_lt n (length program.names)) (is_unordered past n) (p.1 && gives_unordered n p.0.act) ∙ ap (λ b. nat_lt n (length program.names) && b) (sym (list_any-append (λ (p : Stmt F × Bool). p.1 && gives_unordered n p.0.act) past (p ∷ []) ∙ ap (λ b. is_unordered past n || b) (or-false (p.1 && gives_unordered n p.0.act))));
       defined_size = defined_size;
-      defined = λ n. defined n ∙ ap (λ b. b || (nat_lt n (length program.names) && defines n p.0.act)) (stands.defined n) ∙ and-or (nat_lt n (length program.names)) (is_defined past n) (defines n p.0.act) ∙ ap (λ b. nat_lt n (length program.names) && b) (sym (list_any-append (λ (p : Stmt F × Bool). defines n p.0.act) past (p ∷ []) ∙ ap (λ b. is_defined past n || b) (or_false (defines n p.0.act))));
+      defined = λ n. defined n ∙ ap (λ b. b || (nat_lt n (length program.names) && defines n p.0.act)) (stands.defined n) ∙ and-or (nat_lt n (length program.names)) (is_defined past n) (defines n p.0.act) ∙ ap (λ b. nat_lt n (length program.names) && b) (sym (list_any-append (λ (p : Stmt F × Bool). defines n p.0.act) past (p ∷ []) ∙ ap (λ b. is_defined past n || b) (or-false (defines n p.0.act))));
       equations = go.equated ∙ ap (λ es. es ++ filter (is_equation_in (drawn after.state)) (equations_declared p.0.act)) (stands.equations ∙ sym (keep (equations_before past) stands.settled)) ∙ sym (ap (filter (is_equation_in (drawn after.state))) equations ∙ filter-append (is_equation_in (drawn after.state)) (equations_before past) (equations_declared p.0.act));
       settled = subst (AreSettled (length program.names) (drawn after.state)) (sym equations) (settled-append (length program.names) (drawn after.state) (equations_before past) (equations_declared p.0.act) (settled-grows (length program.names) (drawn facts.state) (drawn after.state) go.grows (equations_before past) stands.settled) go.settled);
       models = models ∙ ap (λ ms. ms ++ listed_in (length program.names) (drawn after.state) (models_declared_by (equations_before past) p.1 p.0.act)) (stands.models ∙ sym (listed-grows (length program.names) (drawn facts.state) (drawn after.state) keep (models_after [] past) stands.fixed)) ∙ sym (ap (listed_in (length program.names) (drawn after.state)) (models-push [] past p) ∙ listed-append (length program.names) (drawn after.state) (models_after [] past) (models_declared_by (equations_before past) p.1 p.0.act));

@@ -1,4 +1,5 @@
 -- One statement more: what is known after it, and the errors of a program.
+use mathlib.Core.Bool.{and-false, and-true, or-false}
 use Rattle.std.proofs.Common.{◌≡◌, ◌<◌, ◌≤◌, ◌⊎◌, ◌+◌, ℕ, zero, suc, Bool, true, false, not, ◌==◌, ◌&&◌, ◌||◌, List, [], ◌∷◌, ◌++◌, length, get_or, map, set, refl, sym, ap, ◌∙◌, subst, append_assoc, Option, Some, None, Result, Ok, Err, unwrap_or, if◌then◌else◌, arith, inl, inr, eq-eqb}
 use Rattle.std.specs.Prelude.{filter, flat_map, is_none, nat_lt, option_to_list, slice_set}
 use Rattle.std.specs.List.{fold, list_any}
@@ -43,18 +44,6 @@ use Rattle.gms_check.proofs.PastFacts.{AreFixed, Stands, equations_before, liste
 
 -- ---- tests
 
-no_right : (a : Bool) → (a && false) ≡ false
-no_right true = refl
-no_right false = refl
-
-and_true : (a : Bool) → (a && true) ≡ a
-and_true true = refl
-and_true false = refl
-
-or_false : (a : Bool) → (a || false) ≡ a
-or_false true = refl
-or_false false = refl
-
 or_assoc : (a b c : Bool) → ((a || b) || c) ≡ (a || (b || c))
 or_assoc true b c = refl
 or_assoc false b c = refl
@@ -64,7 +53,7 @@ and-or true b c = refl
 and-or false b c = refl
 
 unmarked : (m l : Bool) → m ≡ (m || (l && false))
-unmarked m l = sym (ap (λ b. m || b) (no_right l) ∙ or_false m)
+unmarked m l = sym (ap (λ b. m || b) (and-false l) ∙ or-false m)
 
 -- ---- the order of labels
 
@@ -103,14 +92,14 @@ module _ {F : Type 0} where
     where
       by : (b : Bool) → ((facts : Facts) → marked (ordered facts items).unordered n ≡ (marked facts.unordered n || (nat_lt n (length facts.unordered) && list_any (is_turned n) items))) → marked (ordered (if b then facts else with_unordered facts item.named.name) items).unordered n ≡ (marked facts.unordered n || (nat_lt n (length facts.unordered) && ((item.named.name == n && not b) || list_any (is_turned n) items)))
       by true rest =
-          rest facts ∙ ap (λ c. marked facts.unordered n || (nat_lt n (length facts.unordered) && (c || list_any (is_turned n) items))) (sym (no_right (item.named.name == n)))
+          rest facts ∙ ap (λ c. marked facts.unordered n || (nat_lt n (length facts.unordered) && (c || list_any (is_turned n) items))) (sym (and-false (item.named.name == n)))
       by false rest =
           rest (with_unordered facts item.named.name)
           ∙ ap (λ (k : ℕ). marked (slice_set facts.unordered item.named.name true) n || (nat_lt n k && list_any (is_turned n) items)) (length-set facts.unordered item.named.name true)
           ∙ ap (λ c. c || (nat_lt n (length facts.unordered) && list_any (is_turned n) items)) (mark-one facts.unordered item.named.name n)
           ∙ or_assoc (marked facts.unordered n) (nat_lt n (length facts.unordered) && (item.named.name == n)) (nat_lt n (length facts.unordered) && list_any (is_turned n) items)
           ∙ ap (λ c. marked facts.unordered n || c) (and-or (nat_lt n (length facts.unordered)) (item.named.name == n) (list_any (is_turned n) items))
-          ∙ ap (λ c. marked facts.unordered n || (nat_lt n (length facts.unordered) && (c || list_any (is_turned n) items))) (sym (and_true (item.named.name == n)))
+          ∙ ap (λ c. marked facts.unordered n || (nat_lt n (length facts.unordered) && (c || list_any (is_turned n) items))) (sym (and-true (item.named.name == n)))
 
   order-same : (kind : DeclKind) (facts : Facts) (items : List (Decl F)) → with_order kind facts items ≡ record facts { unordered = (with_order kind facts items).unordered }
   order-same declaring.Set facts items = ordered-same items facts
@@ -281,7 +270,7 @@ module _ {F : Type 0} (value : F → Number) where
     module _ (facts : Facts) (past : Past F) (stands : Stands value program facts past) where
       unmarked-order : (sound : Bool) (n : ℕ) → marked facts.unordered n ≡ (marked facts.unordered n || (nat_lt n (length program.names) && (sound && false)))
       unmarked-order sound n =
-          unmarked (marked facts.unordered n) (nat_lt n (length program.names)) ∙ ap (λ b. marked facts.unordered n || (nat_lt n (length program.names) && b)) (sym (no_right sound))
+          unmarked (marked facts.unordered n) (nat_lt n (length program.names)) ∙ ap (λ b. marked facts.unordered n || (nat_lt n (length program.names) && b)) (sym (and-false sound))
 
       -- an act that declares and defines nothing
       step-none : (act : Act F) (sound : Bool) → facts.state ≡ state_by facts.state act sound → names_declared act ≡ [] → equations_declared act ≡ [] → ((n : ℕ) → gives_unordered n act ≡ false) → ((n : ℕ) → defines n act ≡ false) → models_declared_by (equations_before past) sound act ≡ [] → Step facts facts past act sound

@@ -2,7 +2,7 @@
 use Rattle.std.proofs.Common.{◌≡◌, ◌≤◌, ◌<◌, ℕ, Bool, true, false, not, ◌==◌, ◌&&◌, ◌||◌, List, [], ◌∷◌, ◌++◌, length, map, refl, sym, ap, ◌∙◌, subst, append_assoc, Option, Some, None, arith}
 use Rattle.std.specs.Prelude.{is_none, nat_lt, option_to_list, All}
 use Rattle.std.specs.List.{list_any, AllByRecursion}
-use Rattle.std.proofs.lemmas.Bool.{eqb-true}
+use Rattle.std.proofs.lemmas.Bool.{eqb-true, and_parts, not-false}
 use Rattle.std.proofs.lemmas.Bool.Decides.{nat_tests}
 use Rattle.std.proofs.lemmas.List.{append-nil}
 use Rattle.std.proofs.lemmas.List.Elements.{All-from_recursion}
@@ -41,14 +41,6 @@ neither-first false b e = refl
 pub neither-second : (a b : Bool) → (a || b) ≡ false → b ≡ false
 neither-second true b e = absurd cc
 neither-second false b e = e
-
-pub not-false : (a : Bool) → not a ≡ false → a ≡ true
-not-false true e = refl
-not-false false e = absurd cc
-
-pub both-first : (a b : Bool) → (a && b) ≡ true → a ≡ true
-both-first true b e = refl
-both-first false b e = absurd cc
 
 pub at-most : (m n : ℕ) → nat_lt m n ≡ false → n ≤ m
 at-most m n e = grind (arith, nat_tests)
@@ -90,7 +82,7 @@ module _ {F : Type 0} where
   }
   sound-use known (ordinal standing controlled name) clean =
       let ordered = not-false (is_ordered known name) (clean NotOrdered) in
-      (both-first (is_index_set known.state name) _ ordered, not-false (is_among controlled name) (clean Uncontrolled), ordered)
+      ((and_parts (is_index_set known.state name) _ ordered).0, not-false (is_among controlled name) (clean Uncontrolled), ordered)
   sound-use known (cardinal standing name) clean =
       not-false (is_set_name known.state name) (neither-second (not standing.numbers) (not (is_set_name known.state name)) (clean WrongKind))
   sound-use known (controlling controlled sets) clean =

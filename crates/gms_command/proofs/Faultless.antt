@@ -1,4 +1,5 @@
 -- The command accepts the arguments for which no step of its parse has a fault.
+use Rattle.std.proofs.lemmas.Bool.{and_from}
 use Rattle.std.proofs.Common.{◌≡◌, ◌⊎◌, ◌∙◌, ◌&&◌, ◌||◌, ◌==◌, ℕ, Bool, true, false, not, zero, suc, inl, inr, ⊎_elim, refl, sym, ap, arith, List, [], ◌∷◌, length, drop, min, codes, Option, Some, None, is_some, true≢false, nat_le, nat_lt, if◌then◌else◌}
 use Rattle.std.specs.Prelude.{◌+◌, encode_utf8, slice_get}
 use Rattle.std.proofs.lemmas.Bool.Decides.{nat_tests}
@@ -40,11 +41,6 @@ then_none : (a b : Kinds) → or_else a b ≡ [] → b ≡ []
 then_none [] b e = e
 then_none (k ∷ ks) b e = absurd (some_kind k ks e)
 
-and_both : (a b : Bool) → a ≡ true → b ≡ true → (a && b) ≡ true
-and_both true b p q = q
-and_both false b p q = absurd (true≢false (sym p))
-
--- a fault where one test passes and another does not
 unless_both : (a b : Bool) (ks : Kinds) (k : ErrorKind) → (if a && not b then k ∷ ks else []) ≡ [] → (not a || b) ≡ true
 unless_both true true ks k e = refl
 unless_both true false ks k e = absurd (some_kind k ks e)
@@ -67,7 +63,7 @@ value_clean ignore parser text e = by_test (accepts ignore parser text) refl
 values_clean : (ignore : Bool) (parser : ValueParser) (values : List Text) → values_kinds ignore parser values ≡ [] → list_all (accepts ignore parser) values ≡ true
 values_clean ignore parser [] e = refl
 values_clean ignore parser (v ∷ vs) e =
-    and_both (accepts ignore parser v) (list_all (accepts ignore parser) vs) (value_clean ignore parser v (first_none (value_kinds ignore parser v) (values_kinds ignore parser vs) e)) (values_clean ignore parser vs (then_none (value_kinds ignore parser v) (values_kinds ignore parser vs) e))
+    and_from (accepts ignore parser v) (list_all (accepts ignore parser) vs) (value_clean ignore parser v (first_none (value_kinds ignore parser v) (values_kinds ignore parser vs) e)) (values_clean ignore parser vs (then_none (value_kinds ignore parser v) (values_kinds ignore parser vs) e))
 
 -- the tests of a number of values, none of which has a fault
 range_tests : (no same exact few many : Bool) (a b c d : ErrorKind)
@@ -97,7 +93,7 @@ module _ (a : Rule) where
 
   set_clean : (again : Bool) (values : List Text) (rows : List Row) → set_fault again a values rows ≡ [] → set_passes again a values rows ≡ true
   set_clean again values rows e =
-      and_both (not (has_row a.id rows) || again) (values_pass a values) (unless_both (has_row a.id rows) again [] _ (first_none (repeat_fault again a.id rows) (values_fault a values) e)) (values_clean a.ignore_case (parser_of_value a.parser) values (then_none (repeat_fault again a.id rows) (values_fault a values) e))
+      and_from (not (has_row a.id rows) || again) (values_pass a values) (unless_both (has_row a.id rows) again [] _ (first_none (repeat_fault again a.id rows) (values_fault a values) e)) (values_clean a.ignore_case (parser_of_value a.parser) values (then_none (repeat_fault again a.id rows) (values_fault a values) e))
 
   action_clean : (x : ArgAction) (again : Bool) (values : List Text) (rows : List Row) → action_fault x again a values rows ≡ [] → action_passes x again a values rows ≡ true
   action_clean action.Set again values rows e = set_clean again values rows e
@@ -116,7 +112,7 @@ module _ (a : Rule) where
       let counts = range_kinds least (most_values a) (length values) in
       let does = action_fault (action_of a) again a (values_or_missing a values) rows in
       let within = range_clean least (most_values a) (length values) (first_none counts does e) in
-      and_both (nat_le least (length values)) (nat_le (length values) (most_values a) && action_passes (action_of a) again a (values_or_missing a values) rows) within.0 (and_both (nat_le (length values) (most_values a)) (action_passes (action_of a) again a (values_or_missing a values) rows) within.1 (action_clean (action_of a) again (values_or_missing a values) rows (then_none counts does e)))
+      and_from (nat_le least (length values)) (nat_le (length values) (most_values a) && action_passes (action_of a) again a (values_or_missing a values) rows) within.0 (and_from (nat_le (length values) (most_values a)) (action_passes (action_of a) again a (values_or_missing a values) rows) within.1 (action_clean (action_of a) again (values_or_missing a values) rows (then_none counts does e)))
 
 -- ---- the arguments
 
@@ -136,7 +132,7 @@ module _ (c : List Rule) (again : Bool) where
 
   react_clean : (a : Rule) (values : List Text) (h : Held) → react_fault c again a values h ≡ [] → react_passes c again a values h ≡ true
   react_clean a values h e =
-      and_both (settle_passes c again h) (use_passes again a values (settled c h).rows) (settle_clean h (first_none (settle_fault c again h) (use_fault again a values (settled c h).rows) e)) (use_clean a again values (settled c h).rows (then_none (settle_fault c again h) (use_fault again a values (settled c h).rows) e))
+      and_from (settle_passes c again h) (use_passes again a values (settled c h).rows) (settle_clean h (first_none (settle_fault c again h) (use_fault again a values (settled c h).rows) e)) (use_clean a again values (settled c h).rows (then_none (settle_fault c again h) (use_fault again a values (settled c h).rows) e))
 
   option_clean : (a : Rule) (v : Option Text) (h : Held) → option_fault c again a v h ≡ [] → option_passes c again a v h ≡ true
   option_clean a (Some v) h e = react_clean a (v ∷ []) h e
@@ -163,7 +159,7 @@ module _ (c : List Rule) (again : Bool) where
       by_test false e =
           let uses = react_fault c again a [] h in
           let others = faults (reacted c a [] h) in
-          and_both (react_passes c again a [] h) (passes (reacted c a [] h)) (react_clean a [] h (first_none uses others e)) (after (reacted c a [] h) (then_none uses others e))
+          and_from (react_passes c again a [] h) (passes (reacted c a [] h)) (react_clean a [] h (first_none uses others e)) (after (reacted c a [] h) (then_none uses others e))
 
   bundle_step_clean : (o : Option ℕ) (flags : Text) (skip : ℕ) (h : Held) (faults : Text → ℕ → Held → Kinds) (passes : Text → ℕ → Held → Bool)
       → ((rest : Text) (left : ℕ) (now : Held) → faults rest left now ≡ [] → passes rest left now ≡ true)
@@ -227,7 +223,7 @@ module _ (s : Shape) where
       let met = word_met s.rules names w.is_trailing w.waiting w.position word w.held in
       let reads = word_fault s names w.is_trailing w.waiting word w.held in
       let goes = step_fault s w.position met.0 met.1 in
-      or_clean (is_some w.stopped) (word_passes s names w.is_trailing w.waiting word w.held && step_passes s w.position met.0 met.1) (or_else reads goes) (λ f. and_both (word_passes s names w.is_trailing w.waiting word w.held) (step_passes s w.position met.0 met.1) (word_clean names w.is_trailing w.waiting word w.held (first_none reads goes f)) (step_clean w.position met.0 met.1 (then_none reads goes f))) e
+      or_clean (is_some w.stopped) (word_passes s names w.is_trailing w.waiting word w.held && step_passes s w.position met.0 met.1) (or_else reads goes) (λ f. and_from (word_passes s names w.is_trailing w.waiting word w.held) (step_passes s w.position met.0 met.1) (word_clean names w.is_trailing w.waiting word w.held (first_none reads goes f)) (step_clean w.position met.0 met.1 (then_none reads goes f))) e
 
   walk_clean : (names : Names) (w : Walk) (words : List Text) → walk_fault s names w words ≡ [] → walk_passes s names w words ≡ true
   unfolding walk_fault walk_passes
@@ -235,7 +231,7 @@ module _ (s : Shape) where
   walk_clean names w (word ∷ rest) e =
       let turns = turn_fault s names w word in
       let others = walk_fault s names (walked s.rules names w word) rest in
-      and_both (turn_passes s names w word) (walk_passes s names (walked s.rules names w word) rest) (turn_clean names w word (first_none turns others e)) (walk_clean names (walked s.rules names w word) rest (then_none turns others e))
+      and_from (turn_passes s names w word) (walk_passes s names (walked s.rules names w word) rest) (turn_clean names w word (first_none turns others e)) (walk_clean names (walked s.rules names w word) rest (then_none turns others e))
 
   -- one level without subcommands, where defaults and required values are right for any arguments
   level_clean : (h : Held) (words : List Text) → list_all default_passes s.rules ≡ true → is_valid s (finished s.rules (walk s.rules [] h words).held) false ≡ true
@@ -246,7 +242,7 @@ module _ (s : Shape) where
       let settles = settle_fault s.rules s.args_override_self end in
       let last = or_else (defaults_fault (settled s.rules end).rows s.rules) (check_fault s (finished s.rules end) false) in
       let behind : or_else settles last ≡ [] = then_none walks (or_else settles last) e in
-      and_both (walk_passes s [] (walk_from h) words) (settle_passes s.rules s.args_override_self end && (list_all default_passes s.rules && is_valid s (finished s.rules end) false)) (walk_clean [] (walk_from h) words (first_none walks (or_else settles last) e)) (and_both (settle_passes s.rules s.args_override_self end) (list_all default_passes s.rules && is_valid s (finished s.rules end) false) (settle_clean s.rules s.args_override_self end (first_none settles last behind)) (and_both (list_all default_passes s.rules) (is_valid s (finished s.rules end) false) defaults valid))
+      and_from (walk_passes s [] (walk_from h) words) (settle_passes s.rules s.args_override_self end && (list_all default_passes s.rules && is_valid s (finished s.rules end) false)) (walk_clean [] (walk_from h) words (first_none walks (or_else settles last) e)) (and_from (settle_passes s.rules s.args_override_self end) (list_all default_passes s.rules && is_valid s (finished s.rules end) false) (settle_clean s.rules s.args_override_self end (first_none settles last behind)) (and_from (list_all default_passes s.rules) (is_valid s (finished s.rules end) false) defaults valid))
 
 -- the command accepts arguments that have no fault
 pub takes_faultless : (words : List Text) → fault_of gams25 words ≡ [] → takes gams25 words ≡ true

@@ -1,10 +1,11 @@
 -- Single forms of arguments, and parts that are given twice.
+use mathlib.Core.Bool.{and-false, or-true}
 use Rattle.std.proofs.Common.{◌≡◌, ◌∙◌, ◌&&◌, ◌||◌, ℕ, Bool, true, false, not, List, [], ◌∷◌, ◌++◌, Option, Some, None, option_map, refl, ap, if◌then◌else◌}
 use Rattle.std.proofs.lemmas.Slice.Eq.{bytes_eq-Decides}
 use Rattle.gms_command.specs.CommandLine.{asked, generated, size_of}
 use Rattle.gms_command.specs.Laws.{Argument, differ_from, file_name, has_part, is_no_option, option_with, part_name, ranges_flag, requested, run_of_model, IsOut, IsSave, NamesRestart, IsRanges, IsGenerate, IsRefusedEmpty, IsRefusedBesideGenerate, IsRefusedTwice}
 use Rattle.gms_command.specs.Laws.{out_option, save_option, restart_option, generate_option}
-use Rattle.gms_command.proofs.Parts.{by_parts, given_append, never, or_so}
+use Rattle.gms_command.proofs.Parts.{by_parts, given_append}
 
 -- ---- single forms
 
@@ -46,21 +47,21 @@ seen_later : (between seen after : List Argument) (other : Argument) → has_par
 seen_later [] seen after other there = ap (λ (b : Bool). not b && differ_from (seen ++ other ∷ []) after) there
 seen_later (part ∷ between) seen after other there =
     ap (λ (b : Bool). not (has_part (part_name part) seen) && b) (seen_later between (seen ++ part ∷ []) after other (given_append (part_name other) seen (part ∷ []) ∙ ap (λ (b : Bool). b || has_part (part_name other) (part ∷ [])) there))
-    ∙ never (not (has_part (part_name part) seen))
+    ∙ and-false (not (has_part (part_name part) seen))
 
 named_alike : (one other : Argument) (seen : List Argument) → part_name one ≡ part_name other → has_part (part_name other) (seen ++ one ∷ []) ≡ true
 named_alike one other seen same =
     given_append (part_name other) seen (one ∷ [])
     ∙ ap (λ (b : Bool). has_part (part_name other) seen || (b || false)) ((bytes_eq-Decides (part_name one) (part_name other)).1 same)
-    ∙ or_so (has_part (part_name other) seen)
+    ∙ or-true (has_part (part_name other) seen)
 
 not_once : (before seen between after : List Argument) (one other : Argument) → part_name one ≡ part_name other → differ_from seen (before ++ one ∷ (between ++ other ∷ after)) ≡ false
 not_once [] seen between after one other same =
     ap (λ (b : Bool). not (has_part (part_name one) seen) && b) (seen_later between (seen ++ one ∷ []) after other (named_alike one other seen same))
-    ∙ never (not (has_part (part_name one) seen))
+    ∙ and-false (not (has_part (part_name one) seen))
 not_once (part ∷ before) seen between after one other same =
     ap (λ (b : Bool). not (has_part (part_name part) seen) && b) (not_once before (seen ++ part ∷ []) between after one other same)
-    ∙ never (not (has_part (part_name part) seen))
+    ∙ and-false (not (has_part (part_name part) seen))
 
 pub twice : IsRefusedTwice
 twice before between after one other same plain =

@@ -1,4 +1,6 @@
 -- Words that are written part by part.
+use mathlib.Core.Bool.{and-false, and-true, or-false, or-true}
+use Rattle.std.proofs.lemmas.Bool.{and_parts, not-true}
 use Rattle.std.proofs.Common.{◌≡◌, ◌∙◌, ◌&&◌, ◌||◌, ℕ, Bool, true, false, not, List, [], ◌∷◌, ◌++◌, map, Option, Some, None, option_map, cond, is_some, refl, sym, ap, ap₂, append_assoc, true≢false, if◌then◌else◌}
 use Rattle.std.specs.Prelude.{codes, find, fold, drop, option_and_then, slice_get}
 use Rattle.std.specs.Option.{option_map_or}
@@ -17,14 +19,6 @@ use Rattle.gms_command.proofs.PlainWords.{no_dashes, no_long, no_short, shape}
 
 -- ---- tests
 
-both_true : (a b : Bool) → (a && b) ≡ true → (a ≡ true) × (b ≡ true)
-both_true true b e = (refl, e)
-both_true false b e = absurd (true≢false (sym e))
-
-and_true : (a : Bool) → (a && true) ≡ a
-and_true true = refl
-and_true false = refl
-
 and_assoc : (a b c : Bool) → ((a && b) && c) ≡ (a && (b && c))
 and_assoc true b c = refl
 and_assoc false b c = refl
@@ -32,10 +26,6 @@ and_assoc false b c = refl
 once : (b : Bool) → ((not b || false) && true) ≡ not b
 once true = refl
 once false = refl
-
-not_true : (b : Bool) → not b ≡ true → b ≡ false
-not_true true e = sym e
-not_true false e = refl
 
 either_way : {A : Type 0} (b : Bool) (x : A) → (if b then x else x) ≡ x
 either_way true x = refl
@@ -141,7 +131,7 @@ settles before (Some (option_with generate_option value)) w = once (has_row (cod
 gains : (before : List Argument) (part : Argument) → not (has_part (part_name part) before) ≡ true
     → with_values (part_name part) AsWritten CommandLine (part_value part ∷ []) (without (part_name part) (rows before)) ≡ rows (before ++ part ∷ [])
 gains before part new =
-    added part (rows before) (given_row (part_name part) before ∙ not_true (has_part (part_name part) before) new) ∙ sym (rows_append before (part ∷ []))
+    added part (rows before) (given_row (part_name part) before ∙ not-true (has_part (part_name part) before) new) ∙ sym (rows_append before (part ∷ []))
 
 settled_as : (before : List Argument) (last : Option Argument) → Waits last → is_new before last ≡ true → settled_rows shape.rules (pending last) (rows before) ≡ rows (seen before last)
 settled_as before None w new = refl
@@ -286,10 +276,6 @@ flag_passes all waiting position = refl
 
 -- ---- the state after a part
 
-pub or_none : (b : Bool) → (b || false) ≡ b
-or_none true = refl
-or_none false = refl
-
 no_more : (name : Valued) (value : Text) → has_part (codes "file") (option_with name value ∷ []) ≡ false
 no_more out_option value = refl
 no_more save_option value = refl
@@ -298,17 +284,13 @@ no_more generate_option value = refl
 
 kept_by_option : (name : Valued) (value : Text) (all : List Argument) → place (has_part (codes "file") all) ≡ place (has_part (codes "file") (all ++ option_with name value ∷ []))
 kept_by_option name value all =
-    sym (ap place (given_append (codes "file") all (option_with name value ∷ []) ∙ ap (λ (b : Bool). has_part (codes "file") all || b) (no_more name value) ∙ or_none (has_part (codes "file") all)))
+    sym (ap place (given_append (codes "file") all (option_with name value ∷ []) ∙ ap (λ (b : Bool). has_part (codes "file") all || b) (no_more name value) ∙ or-false (has_part (codes "file") all)))
 
 kept_by_flag : (all : List Argument) → place (has_part (codes "file") all) ≡ place (has_part (codes "file") (all ++ ranges_flag ∷ []))
-kept_by_flag all = sym (ap place (given_append (codes "file") all (ranges_flag ∷ []) ∙ or_none (has_part (codes "file") all)))
-
-pub or_so : (b : Bool) → (b || true) ≡ true
-or_so true = refl
-or_so false = refl
+kept_by_flag all = sym (ap place (given_append (codes "file") all (ranges_flag ∷ []) ∙ or-false (has_part (codes "file") all)))
 
 after_file : (file : Text) (all : List Argument) → 2 ≡ place (has_part (codes "file") (all ++ file_name file ∷ []))
-after_file file all = sym (ap place (given_append (codes "file") all (file_name file ∷ []) ∙ or_so (has_part (codes "file") all)))
+after_file file all = sym (ap place (given_append (codes "file") all (file_name file ∷ []) ∙ or-true (has_part (codes "file") all)))
 
 option_onward : (name : Valued) (value : Text) (before : List Argument) (last : Option Argument) → Waits last → is_no_option value ≡ true → is_new before last ≡ true
     → walked shape.rules [] (walked shape.rules [] (state before last) (dashed name)) value ≡ state (seen before last) (Some (option_with name value))
@@ -332,20 +314,15 @@ flag_onward before last waits new first =
 
 -- ---- the arguments of all parts
 
-pub never : (a : Bool) → (a && false) ≡ false
-never true = refl
-never false = refl
-
--- the arguments are accepted if each part is given once
 are_accepted : (parts before : List Argument) (last : Option Argument) → Waits last → are_plain parts ≡ true
     → ends (state before last) (all_words parts) ≡ (is_new before last && differ_from (seen before last) parts)
 unfolding walk_passes
-are_accepted [] before last waits plain = settles before last waits ∙ sym (and_true (is_new before last))
+are_accepted [] before last waits plain = settles before last waits ∙ sym (and-true (is_new before last))
 are_accepted (option_with name value ∷ parts) before last waits plain =
-    let split = both_true (is_no_option value) (are_plain parts) plain in
+    let split = and_parts (is_no_option value) (are_plain parts) plain in
     let middle = named name (settled_rows shape.rules (pending last) (rows before)) (place (has_part (codes "file") (seen before last))) in
     ends_after (state before last) (dashed name) (value ∷ all_words parts)
-    ∙ ap₂ (λ (t : Bool) (w : Walk). t && ends w (value ∷ all_words parts)) (name_passes name before last ∙ and_true _ ∙ settles before last waits) (at_name name before last)
+    ∙ ap₂ (λ (t : Bool) (w : Walk). t && ends w (value ∷ all_words parts)) (name_passes name before last ∙ and-true _ ∙ settles before last waits) (at_name name before last)
     ∙ guarded (is_new before last) (ends middle (value ∷ all_words parts)) (differ_from (seen before last) (option_with name value ∷ parts))
     (λ new.
     ends_after middle value (all_words parts)
@@ -356,16 +333,16 @@ are_accepted (option_with name value ∷ parts) before last waits plain =
 are_accepted (ranges_flag ∷ parts) before last waits plain =
     let now = seen before last in
     ends_after (state before last) (codes "--ranges") (all_words parts)
-    ∙ ap (λ (t : Bool). t && ends (walked shape.rules [] (state before last) (codes "--ranges")) (all_words parts)) (flag_passes (rows before) (pending last) (place (has_part (codes "file") now)) ∙ and_true _)
+    ∙ ap (λ (t : Bool). t && ends (walked shape.rules [] (state before last) (codes "--ranges")) (all_words parts)) (flag_passes (rows before) (pending last) (place (has_part (codes "file") now)) ∙ and-true _)
     ∙ and_assoc (settle_passes shape.rules false (held before last)) _ _
     ∙ ap (λ (t : Bool). t && (((not (has_row (codes "ranges") (settled_rows shape.rules (pending last) (rows before))) || false) && true) && ends (walked shape.rules [] (state before last) (codes "--ranges")) (all_words parts))) (settles before last waits)
     ∙ guarded (is_new before last) _ (differ_from now (ranges_flag ∷ parts))
     (λ new.
     ap (λ (t : Bool). t && ends (walked shape.rules [] (state before last) (codes "--ranges")) (all_words parts)) (once _ ∙ ap (λ (all : List Row). not (has_row (codes "ranges") all)) (settled_as before last waits new) ∙ ap (λ (b : Bool). not b) (given_row (codes "ranges") now))
     ∙ guarded (not (has_part (codes "ranges") now)) _ (differ_from (now ++ ranges_flag ∷ []) parts)
-    (λ first. ap (λ (w : Walk). ends w (all_words parts)) (flag_onward before last waits new first) ∙ are_accepted parts (now ++ ranges_flag ∷ []) None tt (both_true true (are_plain parts) plain).1))
+    (λ first. ap (λ (w : Walk). ends w (all_words parts)) (flag_onward before last waits new first) ∙ are_accepted parts (now ++ ranges_flag ∷ []) None tt (and_parts true (are_plain parts) plain).1))
 are_accepted (file_name file ∷ parts) before last waits plain =
-    let split = both_true (is_no_option file) (are_plain parts) plain in
+    let split = and_parts (is_no_option file) (are_plain parts) plain in
     by_test split.0 (are_accepted parts (seen before last) (Some (file_name file)) tt split.1) (has_part (codes "file") (seen before last)) refl
   where
     by_test : is_no_option file ≡ true → ends (state (seen before last) (Some (file_name file))) (all_words parts) ≡ differ_from (seen before last) (file_name file ∷ parts) → (b : Bool) → has_part (codes "file") (seen before last) ≡ b
@@ -373,7 +350,7 @@ are_accepted (file_name file ∷ parts) before last waits plain =
     by_test fine rest true there =
         ends_after (state before last) file (all_words parts)
         ∙ ap (λ (t : Bool). t && ends (walked shape.rules [] (state before last) file) (all_words parts)) (ap (λ (b : Bool). turn_passes shape [] (read_by (rows before) (pending last) (place b)) file) there ∙ second_file file (rows before) (pending last) fine)
-        ∙ sym (ap (λ (b : Bool). is_new before last && (not b && differ_from (seen before last ++ file_name file ∷ []) parts)) there ∙ never (is_new before last))
+        ∙ sym (ap (λ (b : Bool). is_new before last && (not b && differ_from (seen before last ++ file_name file ∷ []) parts)) there ∙ and-false (is_new before last))
     by_test fine rest false none =
         ends_after (state before last) file (all_words parts)
         ∙ ap (λ (t : Bool). t && ends (walked shape.rules [] (state before last) file) (all_words parts)) (ap (λ (b : Bool). turn_passes shape [] (read_by (rows before) (pending last) (place b)) file) none ∙ file_passes file (rows before) (pending last) fine ∙ settles before last waits)
@@ -390,24 +367,24 @@ settled_at w = settled_rows shape.rules w.held.pending w.held.rows
 -- the rows that they leave
 rows_left : (parts before : List Argument) (last : Option Argument) → Waits last → are_plain parts ≡ true → (is_new before last && differ_from (seen before last) parts) ≡ true
     → settled_at (fold (walked shape.rules []) (state before last) (all_words parts)) ≡ rows (seen before last ++ parts)
-rows_left [] before last waits plain e = settled_as before last waits (both_true (is_new before last) true e).0 ∙ sym (ap rows (append_nothing (seen before last)))
+rows_left [] before last waits plain e = settled_as before last waits (and_parts (is_new before last) true e).0 ∙ sym (ap rows (append_nothing (seen before last)))
 rows_left (option_with name value ∷ parts) before last waits plain e =
-    let split = both_true (is_no_option value) (are_plain parts) plain in
-    let fine = both_true (is_new before last) (differ_from (seen before last) (option_with name value ∷ parts)) e in
+    let split = and_parts (is_no_option value) (are_plain parts) plain in
+    let fine = and_parts (is_new before last) (differ_from (seen before last) (option_with name value ∷ parts)) e in
     ap (λ (w : Walk). settled_at (fold (walked shape.rules []) w (all_words parts))) (option_onward name value before last waits split.0 fine.0)
     ∙ rows_left parts (seen before last) (Some (option_with name value)) tt split.1 fine.1
     ∙ ap rows (append_assoc (seen before last) (option_with name value ∷ []) parts)
 rows_left (ranges_flag ∷ parts) before last waits plain e =
-    let fine = both_true (is_new before last) (differ_from (seen before last) (ranges_flag ∷ parts)) e in
-    let more = both_true (not (has_part (codes "ranges") (seen before last))) (differ_from (seen before last ++ ranges_flag ∷ []) parts) fine.1 in
+    let fine = and_parts (is_new before last) (differ_from (seen before last) (ranges_flag ∷ parts)) e in
+    let more = and_parts (not (has_part (codes "ranges") (seen before last))) (differ_from (seen before last ++ ranges_flag ∷ []) parts) fine.1 in
     ap (λ (w : Walk). settled_at (fold (walked shape.rules []) w (all_words parts))) (flag_onward before last waits fine.0 more.0)
     ∙ rows_left parts (seen before last ++ ranges_flag ∷ []) None tt plain more.1
     ∙ ap rows (append_assoc (seen before last) (ranges_flag ∷ []) parts)
 rows_left (file_name file ∷ parts) before last waits plain e =
-    let split = both_true (is_no_option file) (are_plain parts) plain in
-    let fine = both_true (is_new before last) (differ_from (seen before last) (file_name file ∷ parts)) e in
-    let more = both_true (not (has_part (codes "file") (seen before last))) (differ_from (seen before last ++ file_name file ∷ []) parts) fine.1 in
-    ap (λ (w : Walk). settled_at (fold (walked shape.rules []) w (all_words parts))) (file_onward file before last waits split.0 fine.0 (not_true (has_part (codes "file") (seen before last)) more.0))
+    let split = and_parts (is_no_option file) (are_plain parts) plain in
+    let fine = and_parts (is_new before last) (differ_from (seen before last) (file_name file ∷ parts)) e in
+    let more = and_parts (not (has_part (codes "file") (seen before last))) (differ_from (seen before last ++ file_name file ∷ []) parts) fine.1 in
+    ap (λ (w : Walk). settled_at (fold (walked shape.rules []) w (all_words parts))) (file_onward file before last waits split.0 fine.0 (not-true (has_part (codes "file") (seen before last)) more.0))
     ∙ rows_left parts (seen before last) (Some (file_name file)) tt split.1 fine.1
     ∙ ap rows (append_assoc (seen before last) (file_name file ∷ []) parts)
 
@@ -522,7 +499,7 @@ leaf_test words = by_stop (walk shape.rules [] nothing_held words).stopped
 takes_when : (words : List Text) → takes gams25 words ≡ ends (walk_from nothing_held) words
 takes_when words =
     leaf_test words
-    ∙ ap (λ (b : Bool). walk_passes shape [] (walk_from nothing_held) words && b) (and_true (settle_passes shape.rules false (walk shape.rules [] nothing_held words).held))
+    ∙ ap (λ (b : Bool). walk_passes shape [] (walk_from nothing_held) words && b) (and-true (settle_passes shape.rules false (walk shape.rules [] nothing_held words).held))
 
 pub by_parts : IsByParts
 by_parts parts plain = by_test (are_once parts) refl

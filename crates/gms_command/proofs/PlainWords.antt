@@ -1,4 +1,5 @@
 -- What one word means that does not begin with `-`.
+use Rattle.std.proofs.lemmas.Bool.{not-true}
 use Rattle.std.proofs.Common.{◌≡◌, ◌∙◌, ◌&&◌, ◌||◌, ◌==◌, ℕ, Bool, true, false, not, List, [], ◌∷◌, Option, Some, None, refl, sym, ap, ap₂, if◌then◌else◌}
 use Rattle.std.specs.Prelude.{option_and_then}
 use Rattle.std.specs.Option.{option_map_or}
@@ -12,21 +13,17 @@ use Rattle.clap.proofs.TakesLemmas.{leaf_takes}
 use Rattle.gms_command.specs.CommandLine.{gams25, request_in}
 use Rattle.gms_command.specs.Laws.{is_no_option, IsFile}
 
-other : (b : Bool) → not b ≡ true → b ≡ false
-other true e = sym e
-other false e = refl
-
 pub no_dashes : (word : Text) → is_no_option word ≡ true → bytes_eq word (45 ∷ 45 ∷ []) ≡ false
 no_dashes [] plain = refl
-no_dashes (b ∷ word) plain = rw (other (b == 45) plain) refl
+no_dashes (b ∷ word) plain = rw (not-true (b == 45) plain) refl
 
 pub no_long : (word : Text) → is_no_option word ≡ true → long_of word ≡ None
 no_long [] plain = refl
-no_long (b ∷ word) plain = rw (other (b == 45) plain) refl
+no_long (b ∷ word) plain = rw (not-true (b == 45) plain) refl
 
 pub no_short : (word : Text) → is_no_option word ≡ true → short_of word ≡ None
 no_short [] plain = refl
-no_short (b ∷ word) plain = rw (other (b == 45) plain) refl
+no_short (b ∷ word) plain = rw (not-true (b == 45) plain) refl
 
 -- such a word is a value
 met : (c : List Rule) (position : ℕ) (word : Text) (h : Held) → is_no_option word ≡ true → word_met c [] false idle position word h ≡ (h, value)

@@ -1,4 +1,5 @@
 -- Products of ascending lists of labels: which elements they have, and that these are in order.
+use Rattle.std.proofs.lemmas.Bool.{and_parts}
 use Rattle.std.proofs.Common.{◌≡◌, ℕ, Bool, true, false, ◌&&◌, ◌||◌, suc, List, [], ◌∷◌, ◌++◌, map, length, get_or, nat_eq, refl, sym, ap, ◌∙◌}
 use Rattle.std.specs.declared.cmp.Ordering.{Ordering}
 use Rattle.std.specs.declared.cmp.Ordering.TheVariants.{Less, Equal, Greater}
@@ -65,17 +66,12 @@ has-product (labels ∷ lists) [] = has_not-behind_each (tuple_product lists) la
 has-product (labels ∷ lists) (l ∷ tuple) =
     has-behind_each (tuple_product lists) labels l tuple ∙ ap (λ b. list_any (λ m. nat_eq m l) labels && b) (has-product lists tuple)
 
-second : (a b : Bool) → (a && b) ≡ true → b ≡ true
-second true b e = e
-second false b e = absurd cc
-
--- each has as many labels as there are lists
 pub all_in-length : (lists : List (List ℕ)) (tuple : List ℕ) → all_in lists tuple ≡ true → length tuple ≡ length lists
 all_in-length [] [] e = refl
 all_in-length [] (l ∷ tuple) e = absurd cc
 all_in-length (labels ∷ lists) [] e = absurd cc
 all_in-length (labels ∷ lists) (l ∷ tuple) e =
-    ap suc (all_in-length lists tuple (second (list_any (λ m. nat_eq m l) labels) (all_in lists tuple) e))
+    ap suc (all_in-length lists tuple ((and_parts (list_any (λ m. nat_eq m l) labels) (all_in lists tuple) e).1))
 
 -- ---- order
 

@@ -1,4 +1,5 @@
 -- Operands that `and` and `or` do not evaluate, and steps that return a fault as it is.
+use Rattle.std.proofs.lemmas.Bool.{not-false, not-true}
 use Rattle.std.proofs.Common.{◌≡◌, ℕ, ◌+◌, ◌<◌, Bool, true, false, not, List, drop, get_or, length, Option, Some, None, Ok, Err, if◌then◌else◌, refl, sym, ap, ◌∙◌}
 use Rattle.gms_labels.specs.declared.place.Place.{Place}
 use Rattle.gq_extended.specs.Extended.{Extended}
@@ -11,15 +12,6 @@ use Rattle.gms_eval.specs.declared.steps.Signed.{Signed}
 use Rattle.gms_eval.specs.declared.steps.Signed.TheVariants.{Sum, Product}
 use Rattle.gms_eval.proofs.Chains.{from_here, chain-left}
 
-not-true : (b : Bool) → not b ≡ true → b ≡ false
-not-true true e = absurd (cc)
-not-true false e = refl
-
-not-false : (b : Bool) → not b ≡ false → b ≡ true
-not-false true e = refl
-not-false false e = absurd (cc)
-
--- the step of a sum or a product takes the fault of its part
 pub signed-takes : (limit : ℕ) (b : Pairs) (kind : Signed) (at : Place) (inverse : Bool) (fault : Fault) (y : Extended) → signed_step limit b kind (tree.signed at inverse) y (Err fault) ≡ Err fault
 signed-takes limit b Sum at inverse fault y = refl
 signed-takes limit b Product at inverse fault y = refl

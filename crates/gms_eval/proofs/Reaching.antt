@@ -1,5 +1,6 @@
 -- The labels of a reference that are known outside, the sets that its tuples do not determine, and
 -- how many elements a traversal by it visits.
+use mathlib.Core.Bool.{and-false, and-true}
 use Rattle.std.proofs.Common.{◌≡◌, ◌⊎◌, inl, inr, ℕ, zero, suc, ◌+◌, ◌-◌, ◌*◌, ◌<◌, ◌≤◌, Bool, true, false, ◌&&◌, ◌||◌, nat_le, ◌==◌, List, [], ◌∷◌, ◌++◌, map, take, drop, get_or, length, Option, Some, None, is_none, Box, if◌then◌else◌, refl, sym, ap, ◌∙◌, append-nil, append_assoc, mul-zero, zero-mul, mul-one, suc-mul, leb-true, arith}
 use Rattle.std.specs.declared.alloc.Global.{Global}
 use Rattle.std.proofs.lemmas.List.{at_drop_more, at_drop_all, take_more}
@@ -26,16 +27,6 @@ use Rattle.gms_eval.proofs.Sizes.{size_from, length-size_of, elements-few}
 pub mul-le : (n a b : ℕ) → a ≤ b → n * a ≤ n * b
 mul-le zero a b le = omega (arith, zero-mul a, zero-mul b)
 mul-le (suc n) a b le = omega (arith, suc-mul n a, suc-mul n b, mul-le n a b le, le)
-
-and-true : (x : Bool) → (x && true) ≡ x
-and-true true = refl
-and-true false = refl
-
-and-false : (x : Bool) → (x && false) ≡ false
-and-false true = refl
-and-false false = refl
-
--- ---- indices
 
 module _ {F : Type 0} where
   tree-Label : (n : ℕ) (rest : tree.Indices F) → index_tree (Label n) rest ≡ tree.label n rest

@@ -1,4 +1,5 @@
 -- A bound on the traversal of a condition, from those of its factors.
+use mathlib.Core.Bool.{and-false, and-true}
 use Rattle.std.proofs.Common.{◌≡◌, ◌⊎◌, inl, inr, ℕ, ◌+◌, ◌-◌, ◌<◌, ◌≤◌, Bool, true, false, ◌&&◌, List, [], ◌∷◌, ◌++◌, take, drop, get_or, length, Option, Some, None, Vec, Box, refl, sym, ap, subst, ◌∙◌, arith}
 use Rattle.std.specs.declared.alloc.Global.{Global}
 use Rattle.std.proofs.lemmas.List.{take_more, take-append-drop, at_drop_more}
@@ -25,16 +26,6 @@ use Rattle.gms_eval.proofs.Reaching.{count-indices}
 not_both : {A : Type 0} (b : Bool) → b ≡ true → b ≡ false → A
 not_both true h g = absurd cc
 not_both false h g = absurd cc
-
-and-left : (b : Bool) → (b && true) ≡ b
-and-left true = refl
-and-left false = refl
-
-and-right : (b : Bool) → (b && false) ≡ false
-and-right true = refl
-and-right false = refl
-
--- ---- trees
 
 module _ {F : Type 0} where
   tree-Number : (n : F) → tree_of (Number n) ≡ tree.number n
@@ -157,7 +148,7 @@ module _ {F : Type 0} where
 
   -- one more, after those that never fail
   more-safe : (xs : List (Expr F)) (x : Expr F) → none_fails (parts_tree xs) ≡ true → none_fails (parts_tree (xs ++ x ∷ [])) ≡ never_fails (tree_of x)
-  more-safe [] x sure = and-left (never_fails (tree_of x))
+  more-safe [] x sure = and-true (never_fails (tree_of x))
   more-safe (y ∷ xs) x sure =
       let both = both-true (never_fails (tree_of y)) (none_fails (parts_tree xs)) sure in
       ap (λ v. v && none_fails (parts_tree (xs ++ x ∷ []))) both.0 ∙ more-safe xs x both.1
@@ -225,7 +216,7 @@ module _ {F : Type 0} where
     guard-more first second result sure told later is =
         is
         ∙ later
-        ∙ sym (and-left (never_fails (tree_of guard)))
+        ∙ sym (and-true (never_fails (tree_of guard)))
         ∙ ap (λ v. never_fails (tree_of guard) && v) (sym sure ∙ told)
         ∙ sym (ap none_fails guard-at)
 
@@ -236,7 +227,7 @@ module _ {F : Type 0} where
 
   behind-fails : (xs ys : List (Expr F)) → none_fails (parts_tree ys) ≡ false → none_fails (parts_tree (xs ++ ys)) ≡ false
   behind-fails [] ys off = off
-  behind-fails (x ∷ xs) ys off = ap (λ v. never_fails (tree_of x) && v) (behind-fails xs ys off) ∙ and-right (never_fails (tree_of x))
+  behind-fails (x ∷ xs) ys off = ap (λ v. never_fails (tree_of x) && v) (behind-fails xs ys off) ∙ and-false (never_fails (tree_of x))
 
   behind-leads : (name : ℕ) (i : tree.Indices F) (xs ys : List (Expr F)) → none_fails (parts_tree ys) ≡ false → LastMayLead name i (parts_tree (xs ++ ys)) → LastMayLead name i (parts_tree ys)
   behind-leads name i [] ys off may = may

@@ -1,4 +1,6 @@
 -- The elements of the product of sets of one dimension.
+use Rattle.std.proofs.lemmas.Bool.{and_parts}
+use mathlib.Core.Bool.{or-true}
 use Rattle.std.proofs.Common.{◌≡◌, ℕ, ◌+◌, ◌<◌, ◌≤◌, Bool, true, false, ◌&&◌, ◌||◌, List, [], ◌∷◌, map, drop, ◌++◌, zero, suc, length, get_or, nat_eq, nat_le, append-nil, append_assoc, if◌then◌else◌, refl, sym, ap, ◌∙◌, arith}
 use Rattle.std.specs.List.{All, list_any}
 use Rattle.std.proofs.lemmas.List.{drop_more, drop_all, length-map, length_push, map_push, get_or_append_left, get_or-append-add}
@@ -20,10 +22,6 @@ AreSingle members = (member : List ℕ) → has members member ≡ true → leng
 
 single-first : (x : List ℕ) (members : List (List ℕ)) → AreSingle (x ∷ members) → length x ≡ 1
 single-first x members single = single x (ap (λ b. b || has members x) (same_tuple_refl x))
-
-or-true : (b : Bool) → (b || true) ≡ true
-or-true true = refl
-or-true false = refl
 
 single-rest : (x : List ℕ) (members : List (List ℕ)) → AreSingle (x ∷ members) → AreSingle members
 single-rest x members single t there = single t (ap (λ b. same_tuple x t || b) there ∙ or-true (same_tuple x t))
@@ -121,10 +119,6 @@ has-map f (x ∷ xs) t e = by (has-map f xs t) (same_tuple x t) refl e
 
 -- ---- labels of elements
 
-first-label : (a b : Bool) → (a && b) ≡ true → a ≡ true
-first-label true b e = refl
-first-label false b e = absurd cc
-
 other-labels : (a b : Bool) → (a && b) ≡ true → b ≡ true
 other-labels true b e = e
 other-labels false b e = absurd cc
@@ -134,7 +128,7 @@ module _ (state : State) where
   all_in-at [] x k e l = absurd (omega arith)
   all_in-at (set ∷ sets) [] k e l = absurd cc
   all_in-at (set ∷ sets) (y ∷ x) zero e l =
-      first-label (list_any (λ m. nat_eq m y) (labels_of state set)) (all_in (map (labels_of state) sets) x) e
+      (and_parts (list_any (λ m. nat_eq m y) (labels_of state set)) (all_in (map (labels_of state) sets) x) e).0
   all_in-at (set ∷ sets) (y ∷ x) (suc k) e l =
       all_in-at sets x k (other-labels (list_any (λ m. nat_eq m y) (labels_of state set)) (all_in (map (labels_of state) sets) x) e) (omega arith)
 
@@ -143,7 +137,7 @@ module _ (state : State) where
   all_in-push [] (z ∷ x) set y e at = absurd cc
   all_in-push (s ∷ sets) [] set y e at = absurd cc
   all_in-push (s ∷ sets) (z ∷ x) set y e at =
-      ap (λ b. b && all_in (map (labels_of state) (sets ++ set ∷ [])) (x ++ y ∷ [])) (first-label (list_any (λ m. nat_eq m z) (labels_of state s)) (all_in (map (labels_of state) sets) x) e)
+      ap (λ b. b && all_in (map (labels_of state) (sets ++ set ∷ [])) (x ++ y ∷ [])) ((and_parts (list_any (λ m. nat_eq m z) (labels_of state s)) (all_in (map (labels_of state) sets) x) e).0)
       ∙ all_in-push sets x set y (other-labels (list_any (λ m. nat_eq m z) (labels_of state s)) (all_in (map (labels_of state) sets) x) e) at
 
   element-all_in : (sets x : List ℕ) → has (elements state sets) x ≡ true → all_in (map (labels_of state) sets) x ≡ true

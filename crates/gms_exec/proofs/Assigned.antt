@@ -4,7 +4,7 @@ use Rattle.std.specs.declared.cmp.Ordering.{Ordering}
 use Rattle.std.specs.declared.cmp.Ordering.TheVariants.{Less, Equal, Greater}
 use Rattle.std.specs.Ordering.{is_eq}
 use Rattle.std.specs.List.{All}
-use Rattle.std.proofs.lemmas.Bool.{and_parts, eq-eqb}
+use Rattle.std.proofs.lemmas.Bool.{and_parts, eq-eqb, not-false}
 use Rattle.std.proofs.lemmas.List.Elements.{All-weaker}
 use Rattle.gq_number.specs.Number.{Number, whole}
 use Rattle.gq_number.specs.Order.{number_cmp}
@@ -44,20 +44,15 @@ attributes-same a b e =
     let third = and_parts (same_number a.level b.level) (same_number a.marginal b.marginal) second.1 in
     λ i. record { lower = bound-same a.lower b.lower first.0 i; upper = bound-same a.upper b.upper second.0 i; level = number-same a.level b.level third.0 i; marginal = number-same a.marginal b.marginal third.1 i }
 
-holds-from_not : (b : Bool) → not b ≡ false → b ≡ true
-holds-from_not true e = refl
-holds-from_not false e = absurd cc
-
--- a value that is not kept is 0
 pub zero-not_given : (x : extended.Extended) → is_given x ≡ false → state_words.zero ≡ x
-zero-not_given (extended.number x) e = ap extended.number (sym (number-same x (whole (pos 0)) (holds-from_not (same_number x (whole (pos 0))) e)))
+zero-not_given (extended.number x) e = ap extended.number (sym (number-same x (whole (pos 0)) (not-false (same_number x (whole (pos 0))) e)))
 zero-not_given extended.plus_infinity e = absurd cc
 zero-not_given extended.minus_infinity e = absurd cc
 zero-not_given extended.na e = absurd cc
 
 -- attributes that are not kept are those of an absent element
 pub absent-not_given : (absent a : Attributes) → not (same_attributes a absent) ≡ false → absent ≡ a
-absent-not_given absent a e = sym (attributes-same a absent (holds-from_not (same_attributes a absent) e))
+absent-not_given absent a e = sym (attributes-same a absent (not-false (same_attributes a absent) e))
 
 -- ---- contents
 

@@ -4,7 +4,7 @@ use Rattle.std.specs.declared.cmp.Ordering.{Ordering}
 use Rattle.std.specs.declared.cmp.Ordering.TheVariants.{Less, Equal, Greater}
 use Rattle.std.specs.Ordering.{is_eq, eq_by_cmp}
 use Rattle.std.specs.FinMap as finite
-use Rattle.std.proofs.lemmas.Bool.{and_parts}
+use Rattle.std.proofs.lemmas.Bool.{and_parts, not-false}
 use Rattle.std.proofs.lemmas.Cmp.{tied_itself}
 use Rattle.std.proofs.lemmas.Grind.{flat_map-append}
 use Rattle.std.proofs.lemmas.List.Elements.{filter-append}
@@ -64,10 +64,6 @@ differs_from absent a = not (same_attributes a absent)
 
 no_difference : (a : Attributes) → differs_from a a ≡ false
 no_difference a = ap not (same_attributes-refl a)
-
-not-false : (b : Bool) → not b ≡ false → b ≡ true
-not-false true e = refl
-not-false false e = absurd cc
 
 nothing-differs : (absent a : Attributes) → differs_from absent a ≡ false → absent ≡ a
 nothing-differs absent a e = sym (same-attributes a absent (not-false (same_attributes a absent) e))

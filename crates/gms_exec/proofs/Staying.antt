@@ -3,7 +3,7 @@
 use Rattle.std.proofs.Common.{◌≡◌, ℕ, Bool, true, false, not, ◌||◌, ◌==◌, List, [], ◌∷◌, ◌++◌, map, filter, reverse, length, refl, sym, ap, subst, ◌∙◌, cond, Option, Some, None, unwrap_or, is_some, inl, inr}
 use Rattle.std.specs.List.{All, fold}
 use Rattle.std.specs.FinMap as finite
-use Rattle.std.proofs.lemmas.Bool.{eqb-true}
+use Rattle.std.proofs.lemmas.Bool.{eqb-true, or_right}
 use Rattle.std.proofs.lemmas.List.Elements.{All-nil, All-cons, All-head, All-tail}
 use Rattle.gms_ast.specs.declared.expression.Suffix.{Suffix}
 use Rattle.gms_tuple.specs.TupleOrder.{tuple_cmp, same_tuple, IsOrdered}
@@ -151,14 +151,10 @@ one-label (u ∷ tuples) t are there = by (one-label tuples t (All-tail (λ (t :
     by rest true same there = ap length (sym ((same_tuple-Decides u t).0 same)) ∙ All-head (λ (t : List ℕ). length t ≡ 1) u tuples are
     by rest false other there = rest there
 
-or-right : (a b : Bool) → b ≡ true → (a || b) ≡ true
-or-right true b e = refl
-or-right false b e = e
-
 singles-from_has : (tuples : List (List ℕ)) → ((t : List ℕ) → has tuples t ≡ true → length t ≡ 1) → AreSingles tuples
 singles-from_has [] one = All-nil (λ (t : List ℕ). length t ≡ 1)
 singles-from_has (u ∷ tuples) one =
-    All-cons (λ (t : List ℕ). length t ≡ 1) u tuples (one u (ap (λ b. b || has tuples u) (same_tuple_refl u))) (singles-from_has tuples (λ t there. one t (or-right (same_tuple u t) (has tuples t) there)))
+    All-cons (λ (t : List ℕ). length t ≡ 1) u tuples (one u (ap (λ b. b || has tuples u) (same_tuple_refl u))) (singles-from_has tuples (λ t there. one t (or_right (same_tuple u t) (has tuples t) there)))
 
 abbrev OneLabel : List ℕ × Bool → Type 0
 OneLabel given = length given.0 ≡ 1

@@ -1,6 +1,6 @@
 -- The state after tokens, token by token.
 use Rattle.std.proofs.Common.{◌≡◌, ℕ, Bool, true, false, not, List, [], ◌∷◌, cond, Some, refl, ap}
-use Rattle.std.proofs.lemmas.Bool.{not-true}
+use Rattle.std.proofs.lemmas.Bool.{not-true, and_parts}
 use Rattle.gms_labels.specs.Labels.{place_of, entered}
 use Rattle.gms_labels.proofs.Places.{place_of-entered_kept}
 use Rattle.gms_lex.specs.declared.token.Token.{Token}
@@ -8,7 +8,6 @@ use Rattle.gms_lex.specs.TokenTexts.{token_text, unquoted}
 use Rattle.gms_grammar.specs.declared.terminal.Terminal.{Terminal}
 use Rattle.gms_grammar.specs.declared.terminal.Terminal.TheVariants.{LeftParen, RightParen, Name, Suffix, Text, Dot}
 use Rattle.gms_grammar.specs.Terminals.{is, is_terminal_among}
-use Rattle.gms_grammar.proofs.Checks.{left_and}
 use Rattle.gms_grammar.proofs.Rules.{all_keep}
 use Rattle.gms_expressions.specs.declared.fault.SyntaxFault.{SyntaxFault}
 use Rattle.gms_expressions.specs.declared.reader.Tables.{Tables}
@@ -31,7 +30,7 @@ pub plain_sound : (limit : ℕ) (source : List ℕ) (w : ExpressionState) (kind 
 plain_sound limit source w kind token h fault (deep e d) = let f : is_plain kind ≡ false = ap is_plain e in cc
 plain_sound limit source w kind token h fault (out_of_range e d) = let f : is_plain kind ≡ false = ap is_plain e in cc
 plain_sound limit source w kind token h fault (many_names n d) =
-    let f : is_plain kind ≡ false = not-true (is_plain kind) (also (is_terminal_among (Name ∷ Suffix ∷ [])) (λ k. not (is_plain k)) refl kind (left_and _ _ n)) in
+    let f : is_plain kind ≡ false = not-true (is_plain kind) (also (is_terminal_among (Name ∷ Suffix ∷ [])) (λ k. not (is_plain k)) refl kind ((and_parts _ _ n).0)) in
     cc
 plain_sound limit source w kind token h fault (many_labels e d) = let f : is_plain kind ≡ false = ap is_plain e in cc
 

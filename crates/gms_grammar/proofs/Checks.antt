@@ -2,7 +2,7 @@
 -- that follow.
 use Rattle.std.proofs.Common.{◌≡◌, ℕ, zero, suc, ◌<◌, if◌then◌else◌, Bool, true, false, not, ◌||◌, ◌&&◌, List, [], ◌∷◌, ◌++◌, length, get_or, refl, sym, ap, ◌∙◌, inl, inr, arith}
 use Rattle.std.specs.List.{list_any}
-use Rattle.std.proofs.lemmas.Bool.{cases_Bool, false≢true, not-true, or_cases}
+use Rattle.std.proofs.lemmas.Bool.{cases_Bool, false≢true, not-true, or_cases, and_parts}
 use Rattle.gms_grammar.specs.Grammar.{Part, one, the, ◌·◌, ◌∣◌, opt, many}
 use Rattle.gms_grammar.specs.LookAhead.{LookAhead, may_be_empty, may_begin, may_go_on, IsDecided, DecidesEach, ends_below, ranks_below}
 use Rattle.gms_grammar.proofs.Basics.{and_both, both_ways}
@@ -22,17 +22,13 @@ is_alike true b h = sym h
 is_alike false true h = cc
 is_alike false false h = refl
 
-pub left_and : (a b : Bool) → (a && b) ≡ true → a ≡ true
-left_and true b h = refl
-left_and false b h = cc
-
 pub right_and : (a b : Bool) → (a && b) ≡ true → b ≡ true
 right_and true b h = h
 right_and false b h = cc
 
 pub every_at : {C : Type 0} (xs : List C) (test : C → Bool) (k : ℕ) (d : C) → every xs test ≡ true → k < length xs → test (get_or xs k d) ≡ true
 every_at [] test k d h l = absurd (omega arith)
-every_at (x ∷ xs) test zero d h l = left_and _ _ h
+every_at (x ∷ xs) test zero d h l = (and_parts _ _ h).0
 every_at (x ∷ xs) test (suc k) d h l = every_at xs test k d (right_and (test x) _ h) (omega arith)
 
 pub any_at : {C : Type 0} (xs : List C) (test : C → Bool) → list_any test xs ≡ true → (c : C) × (test c ≡ true)
@@ -66,7 +62,7 @@ either_way false false f g = refl
 module _ {C : Type 0} where
   every_parts : (xs ys : List C) (test : C → Bool) → every (xs ++ ys) test ≡ true → (every xs test ≡ true) × (every ys test ≡ true)
   every_parts [] ys test h = (refl, h)
-  every_parts (x ∷ xs) ys test h = let k = every_parts xs ys test (right_and (test x) _ h) in (and_both _ _ (left_and _ _ h) k.0, k.1)
+  every_parts (x ∷ xs) ys test h = let k = every_parts xs ys test (right_and (test x) _ h) in (and_both _ _ ((and_parts _ _ h).0) k.0, k.1)
 
   pub covers_either : (f g : C → Bool) (xs ys : List C) → Covers f xs → Covers g ys → Covers (λ c. f c || g c) (xs ++ ys)
   covers_either f g xs ys of_f of_g test h c k =
@@ -82,7 +78,7 @@ module _ {C : Type 0} where
   passing_every test other (x ∷ xs) h = go (test x) (passing_every test other xs) h
     where
       go : (b : Bool) → (every (passing test xs) other ≡ true → every xs (λ c. not (test c) || other c) ≡ true) → every (if b then x ∷ passing test xs else passing test xs) other ≡ true → ((not b || other x) && every xs (λ c. not (test c) || other c)) ≡ true
-      go true later h = and_both _ _ (left_and _ _ h) (later (right_and (other x) _ h))
+      go true later h = and_both _ _ ((and_parts _ _ h).0) (later (right_and (other x) _ h))
       go false later h = later h
 
 -- Below, `firsts` and `follows` are lists of the kinds that are claimed to come first in a
@@ -136,23 +132,23 @@ module _ {C N : Type 0} (kinds : List C) (production : N → Part C N) (ahead : 
     decided_by (one test) f after of_f h = any_at kinds test h
     decided_by (the n) f after of_f h = λ c k. of_f (ahead.follow n) h c k
     decided_by (p · q) f after of_f h =
-        (decided_by p (may_go_on ahead q f) _ (covers_on q f after of_f) (left_and _ _ h), decided_by q f after of_f (right_and (is_decided p (firsts_of q ++ where_so (may_be_empty ahead q) after)) _ h))
+        (decided_by p (may_go_on ahead q f) _ (covers_on q f after of_f) ((and_parts _ _ h).0), decided_by q f after of_f (right_and (is_decided p (firsts_of q ++ where_so (may_be_empty ahead q) after)) _ h))
     decided_by (p ∣ q) f after of_f h =
         let h1 = right_and (not (may_be_empty ahead p)) _ h in
         let h2 = right_and (not (may_be_empty ahead q)) _ h1 in
         let h3 = right_and (every (firsts_of p) (λ c. not (may_begin ahead q c))) _ h2 in
-        (not-true _ (left_and _ _ h), not-true _ (left_and _ _ h1), λ c k l. both_ways _ l (not-true _ (covers_first p (λ c. not (may_begin ahead q c)) (left_and _ _ h2) c k)), decided_by p f after of_f (left_and _ _ h3), decided_by q f after of_f (right_and (is_decided p after) _ h3))
+        (not-true _ ((and_parts _ _ h).0), not-true _ ((and_parts _ _ h1).0), λ c k l. both_ways _ l (not-true _ (covers_first p (λ c. not (may_begin ahead q c)) ((and_parts _ _ h2).0) c k)), decided_by p f after of_f ((and_parts _ _ h3).0), decided_by q f after of_f (right_and (is_decided p after) _ h3))
     decided_by (opt p) f after of_f h =
         let h1 = right_and (not (may_be_empty ahead p)) _ h in
-        (not-true _ (left_and _ _ h), λ c k l. both_ways _ k (not-true _ (of_f (λ c. not (may_begin ahead p c)) (left_and _ _ h1) c l)), decided_by p f after of_f (right_and (every after (λ c. not (may_begin ahead p c))) _ h1))
+        (not-true _ ((and_parts _ _ h).0), λ c k l. both_ways _ k (not-true _ (of_f (λ c. not (may_begin ahead p c)) ((and_parts _ _ h1).0) c l)), decided_by p f after of_f (right_and (every after (λ c. not (may_begin ahead p c))) _ h1))
     decided_by (many p) f after of_f h =
         let h1 = right_and (not (may_be_empty ahead p)) _ h in
-        (not-true _ (left_and _ _ h), λ c k l. both_ways _ k (not-true _ (of_f (λ c. not (may_begin ahead p c)) (left_and _ _ h1) c l)), decided_by p (λ c. may_begin ahead p c || f c) _ (covers_either (may_begin ahead p) f (firsts_of p) after (covers_first p) of_f) (right_and (every after (λ c. not (may_begin ahead p c))) _ h1))
+        (not-true _ ((and_parts _ _ h).0), λ c k l. both_ways _ k (not-true _ (of_f (λ c. not (may_begin ahead p c)) ((and_parts _ _ h1).0) c l)), decided_by p (λ c. may_begin ahead p c || f c) _ (covers_either (may_begin ahead p) f (firsts_of p) after (covers_first p) of_f) (right_and (every after (λ c. not (may_begin ahead p c))) _ h1))
 
     begins_as : (n : N) → begins_right n ≡ true → (c : C) → may_begin ahead (production n) c ≡ ahead.first n c
     begins_as n h c =
         either_way _ _
-        (covers_first (production n) (ahead.first n) (left_and _ _ h) c)
+        (covers_first (production n) (ahead.first n) ((and_parts _ _ h).0) c)
         (of_firsts n (may_begin ahead (production n)) (right_and (every (firsts_of (production n)) (ahead.first n)) _ h) c)
 
     -- where the check holds of each nonterminal, one token decides

@@ -1,13 +1,13 @@
 -- One token decides the grammar of the language: the check is computed.
 use Rattle.std.proofs.Common.{◌≡◌, ltb, Bool, true, List, [], ◌∷◌, length, get_or, refl, sym, ap, ◌∙◌, inl, inr, ltb-true}
-use Rattle.std.proofs.lemmas.Bool.{eqb-true, or_cases}
+use Rattle.std.proofs.lemmas.Bool.{eqb-true, or_cases, and_parts}
 use Rattle.gms_grammar.specs.declared.terminal.Terminal.{Terminal}
 use Rattle.gms_grammar.specs.declared.terminal.Terminal.TheVariants.{Abort}
 use Rattle.gms_grammar.specs.LookAhead.{DecidesEach}
 use Rattle.gms_grammar.specs.Terminals.{terminal_number, terminals, is, is_terminal_among}
 use Rattle.gms_grammar.specs.GamsGrammar.{Nonterminal, Expression, productions}
 use Rattle.gms_grammar.specs.GamsLookAhead.{firsts, follows, look_ahead}
-use Rattle.gms_grammar.proofs.Checks.{every, every_at, left_and, right_and, Covers, IsRight, decides_each}
+use Rattle.gms_grammar.proofs.Checks.{every, every_at, right_and, Covers, IsRight, decides_each}
 
 stands_at : (kind : Terminal) → get_or terminals (terminal_number kind) Abort ≡ kind
 stands_at Abort = refl
@@ -30,7 +30,7 @@ covers_among : (kinds : List Terminal) → Covers (is_terminal_among kinds) kind
 covers_among [] test h kind k = cc
 covers_among (x ∷ kinds) test h kind k =
     elim (or_cases (is kind x) (is_terminal_among kinds kind) k) [
-      | inl same ↦ ap test (same_kind kind x same) ∙ left_and _ _ h
+      | inl same ↦ ap test (same_kind kind x same) ∙ (and_parts _ _ h).0
       | inr later ↦ covers_among kinds test (right_and (test x) _ h) kind later
     ]
 

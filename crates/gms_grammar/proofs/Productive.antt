@@ -1,13 +1,13 @@
 -- Each part has a tree, and what a reader finds is as much as begins a list that the part derives.
 use Rattle.std.proofs.Common.{◌≡◌, inl, inr, ℕ, zero, suc, ◌<◌, Bool, true, ◌||◌, List, [], ◌∷◌, ◌++◌, refl, sym, ap, ◌∙◌, append_assoc, arith, ltb-true}
 use Rattle.std.specs.Prelude.{⊤}
-use Rattle.std.proofs.lemmas.Bool.{or_cases}
+use Rattle.std.proofs.lemmas.Bool.{or_cases, and_parts}
 use Rattle.gms_grammar.specs.Grammar.{Part, one, the, ◌·◌, ◌∣◌, opt, many, DerivationTree, leaf, pair, left, right, none, some, more, node, yield, IsTree, Derives, IsUnexpected, Stops}
 use Rattle.gms_grammar.specs.LookAhead.{LookAhead, may_begin, may_go_on, IsDecided, DecidesEach, ends_below}
 use Rattle.gms_grammar.specs.Reading.{Found, read, stuck, Reads, taken, refused, entered, entered_stuck, both, first_stuck, second_stuck, in_left, in_left_stuck, in_right, in_right_stuck, in_neither, left_out, there, there_stuck, no_more, again, again_stuck, later_stuck, Takes, takes_one, takes_the, takes_first, takes_second, takes_left, takes_right, takes_opt, takes_many, takes_later}
 use Rattle.gms_grammar.proofs.Basics.{end_nil, not_longer, regrouped}
 use Rattle.gms_grammar.proofs.Sound.{sound}
-use Rattle.gms_grammar.proofs.Checks.{left_and, right_and}
+use Rattle.gms_grammar.proofs.Checks.{right_and}
 use Rattle.gms_grammar.proofs.Only.{only}
 
 module _ {C N D : Type 0} (production : N → Part C N) (ahead : LookAhead C N) (ok : DecidesEach ahead production) (known : D) where
@@ -60,7 +60,7 @@ module _ {C N D : Type 0} (production : N → Part C N) (ahead : LookAhead C N) 
   tree_within bound below (one test) after d h = from (leaf (d.0, known)) d.1
   tree_within bound below (the n) after d h = below n (ltb-true (ahead.depth n) bound h)
   tree_within bound below (p · q) after d h =
-      on_first (tree_within bound below p _ d.0 (left_and _ _ h)) (tree_within bound below q after d.1 (right_and (ends_below ahead bound p) _ h))
+      on_first (tree_within bound below p _ d.0 ((and_parts _ _ h).0)) (tree_within bound below q after d.1 (right_and (ends_below ahead bound p) _ h))
   tree_within bound below (p ∣ q) after d h =
       let first : ends_below ahead bound p ≡ true → GoesOn p [] = tree_within bound below p after d.3 in
       let second : ends_below ahead bound q ≡ true → GoesOn q [] = tree_within bound below q after d.4 in

@@ -1,13 +1,13 @@
 -- A reader finds something in all tokens.
 use Rattle.std.proofs.Common.{◌≡◌, ◌⊎◌, inl, inr, ℕ, zero, suc, ◌<◌, ◌≤◌, max, Bool, true, not, List, [], ◌∷◌, ◌++◌, length, refl, ap, subst, arith, ltb-true, lt-ltb, length-append}
-use Rattle.std.proofs.lemmas.Bool.{cases_Bool}
+use Rattle.std.proofs.lemmas.Bool.{cases_Bool, and_parts}
 use Rattle.gms_grammar.specs.Grammar.{Part, one, the, ◌·◌, ◌∣◌, opt, many, DerivationTree, yield}
 use Rattle.gms_grammar.specs.LookAhead.{LookAhead, may_be_empty, IsDecided, DecidesEach, ranks_below}
 use Rattle.gms_grammar.specs.Reading.{Found, read, stuck, leads, Reads, taken, refused, entered, entered_stuck, both, first_stuck, second_stuck, in_left, in_left_stuck, in_right, in_right_stuck, in_neither, left_out, there, there_stuck, no_more, again, again_stuck, later_stuck}
 use Rattle.gms_grammar.proofs.Basics.{both_ways, and_both, or_right}
 use Rattle.gms_grammar.proofs.Starts.{Starts, starts}
 use Rattle.gms_grammar.proofs.Sound.{sound}
-use Rattle.gms_grammar.proofs.Checks.{implied, left_and, right_and}
+use Rattle.gms_grammar.proofs.Checks.{implied, right_and}
 
 module _ {C N : Type 0} (ahead : LookAhead C N) where
   -- a number above the ranks of the nonterminals of a part
@@ -95,7 +95,7 @@ module _ {C N : Type 0} (D : Type 0) (production : N → Part C N) (ahead : Look
   finds_part bound limit shorter below (one test) after d h (token ∷ rest) l = elim (cases_Bool (test token.0)) [ inl e ↦ by (taken e) | inr e ↦ by (refused e) ]
   finds_part bound limit shorter below (the n) after d h tokens l = below n tokens (ltb-true (ahead.rank n) limit h) l
   finds_part bound limit shorter below (p · q) after d h tokens l =
-      finds_pair p q tokens (finds_part bound limit shorter below p _ d.0 (left_and _ _ h) tokens l)
+      finds_pair p q tokens (finds_part bound limit shorter below p _ d.0 ((and_parts _ _ h).0) tokens l)
       (next (finds_part bound limit shorter below q after d.1))
     where
       next : (ranks_below ahead limit q ≡ true → (tokens : List (C × D)) → length tokens ≤ bound → Finds q tokens) → (a : DerivationTree (C × D)) (between : List (C × D)) → Reads production ahead p tokens (read a between) → Finds q between
@@ -105,7 +105,7 @@ module _ {C N : Type 0} (D : Type 0) (production : N → Part C N) (ahead : Look
             | inr k ↦ shorter q after d.1 between (omega arith)
           ]
   finds_part bound limit shorter below (p ∣ q) after d h tokens l =
-      finds_either p q tokens (finds_part bound limit shorter below p after d.3 (left_and _ _ h) tokens l)
+      finds_either p q tokens (finds_part bound limit shorter below p after d.3 ((and_parts _ _ h).0) tokens l)
       (finds_part bound limit shorter below q after d.4 (right_and (ranks_below ahead limit p) _ h) tokens l)
   finds_part bound limit shorter below (opt p) after d h tokens l = finds_opt p tokens (finds_part bound limit shorter below p after d.2 h tokens l)
   finds_part bound limit shorter below (many p) after d h tokens l =

@@ -1,4 +1,6 @@
 -- The first piece of a text is also its first piece with a line feed and more after it.
+use Rattle.std.proofs.lemmas.Bool.{and_parts}
+use mathlib.Core.Bool.{and-false, or-true}
 use Rattle.std.proofs.Common.{◌≡◌, ℕ, suc, ◌+◌, ◌==◌, ◌&&◌, ◌||◌, ◌<◌, ◌≤◌, Bool, true, false, not, nat_lt, nat_le, if◌then◌else◌, List, [], ◌∷◌, length, take, drop, find, is_some, option_map, refl, sym, ap, ap₂, ◌∙◌, arith, inl, inr}
 use Rattle.std.proofs.lemmas.Bool.Decides.{nat_tests}
 use Rattle.std.proofs.lemmas.List.{take-append-le, drop-append-le, length-drop}
@@ -41,14 +43,6 @@ if_alike false x y u v p q = q refl
 
 pub if_same : {A : Type 0} (c d : Bool) (x y u v : A) → c ≡ d → (c ≡ true → x ≡ u) → (c ≡ false → y ≡ v) → (if c then x else y) ≡ (if d then u else v)
 if_same c d x y u v e p q = if_alike c x y u v p q ∙ ap (λ w. if w then u else v) e
-
-pub and_false : (a : Bool) → (a && false) ≡ false
-and_false true = refl
-and_false false = refl
-
-pub or_true : (a : Bool) → (a || true) ≡ true
-or_true true = refl
-or_true false = refl
 
 swapped : (a e s : Bool) → (a && (e && s)) ≡ (e && (a && s))
 swapped true e s = refl
@@ -128,7 +122,7 @@ le_both m n = elim (true_or_false (nat_le m n)) [
 
 pub starts_is : (front text : List ℕ) → begins_with_word text front ≡ starts front text
 starts_is [] text = grind (arith, nat_tests)
-starts_is (c ∷ front) [] = and_false (nat_le (suc (length front)) 0)
+starts_is (c ∷ front) [] = and-false (nat_le (suc (length front)) 0)
 starts_is (c ∷ front) (b ∷ text) =
     let e : Bool = to_ascii_lowercase b == to_ascii_lowercase c in
     let s : Bool = str_eq_ignore_ascii_case (take (length front) text) front in
@@ -143,15 +137,11 @@ pub first_false : (a b c : Bool) → (not a && b) ≡ true → (a && c) ≡ fals
 first_false true b c h = cc
 first_false false b c h = refl
 
-pub second_true : (a b : Bool) → (a && b) ≡ true → b ≡ true
-second_true true b h = h
-second_true false b h = cc
-
 pub starts_fed : (front text rest : List ℕ) → no_feed front ≡ true → starts front (fed text rest) ≡ starts front text
 starts_fed [] text rest h = refl
 starts_fed (c ∷ front) [] rest h = first_false (10 == to_ascii_lowercase c) (no_feed front) (starts front rest) h
 starts_fed (c ∷ front) (b ∷ text) rest h =
-    ap (λ v. (to_ascii_lowercase b == to_ascii_lowercase c) && v) (starts_fed front text rest (second_true (not (10 == to_ascii_lowercase c)) (no_feed front) h))
+    ap (λ v. (to_ascii_lowercase b == to_ascii_lowercase c) && v) (starts_fed front text rest ((and_parts (not (10 == to_ascii_lowercase c)) (no_feed front) h).1))
 
 no_feed_written : (s : Sym) → no_feed (written_symbol s) ≡ true
 no_feed_written EqE = refl
@@ -185,7 +175,7 @@ quoted_fed : (piece : Piece) (mark : ℕ) (text rest : List ℕ) → is_quote ma
 quoted_fed piece mark text rest h =
     let inner : ℕ = quoted_length mark text in
     let within : inner ≤ length text = prefix_len-le-length (λ b. not (b == mark || b == 10)) text in
-    ap (λ n. quoted_by piece mark n (fed text rest)) (run_fed (λ b. not (b == mark || b == 10)) text rest (ap not (or_true (10 == mark))))
+    ap (λ n. quoted_by piece mark n (fed text rest)) (run_fed (λ b. not (b == mark || b == 10)) text rest (ap not (or-true (10 == mark))))
     ∙ ap₂ (λ v t. quoted_of piece v inner (prefix_len is_ascii t))
     (ap (begins (λ b. b == mark)) (drop-append-le inner text (10 ∷ rest) within) ∙ begins_fed (λ b. b == mark) (drop inner text) rest (mark_no_feed mark h))
     (take-append-le inner text (10 ∷ rest) within)

@@ -1,25 +1,10 @@
 -- In which states a reader may be after what a grammar derives, as far as single tokens determine
 -- it: claimed of each nonterminal, and checked by computing.
+use Rattle.std.proofs.lemmas.Bool.{and_parts, or_cases, or_left, or_right}
 use Rattle.std.proofs.Common.{◌≡◌, ℕ, zero, suc, Bool, true, false, not, ◌&&◌, ◌||◌, if◌then◌else◌, List, [], ◌∷◌, ◌++◌, filter, refl, sym, ap, ◌∙◌, subst, append-nil, ◌⊎◌, inl, inr}
 use Rattle.std.specs.List.{list_any}
 use Rattle.gms_lines.proofs.LineLemmas.{true_or_false}
 use Rattle.gms_grammar.specs.Grammar.{Part, one, the, ◌·◌, ◌∣◌, opt, many, DerivationTree, leaf, pair, left, right, none, some, more, node, yield, IsTree}
-
-or_left : (a b : Bool) → a ≡ true → (a || b) ≡ true
-or_left true b h = refl
-or_left false b h = cc
-
-or_right : (a b : Bool) → b ≡ true → (a || b) ≡ true
-or_right true b h = refl
-or_right false b h = h
-
-or_either : (a b : Bool) → (a || b) ≡ true → (a ≡ true) ⊎ (b ≡ true)
-or_either true b h = inl refl
-or_either false b h = inr h
-
-and_left : (a b : Bool) → (a && b) ≡ true → a ≡ true
-and_left true b h = refl
-and_left false b h = cc
 
 and_right : (a b : Bool) → (a && b) ≡ true → b ≡ true
 and_right true b h = h
@@ -78,8 +63,8 @@ module _ {S : Type 0} (same : S → S → Bool) (same_is : (a b : S) → same a 
 
   pub within_has : (xs ys : List S) (s : S) → within xs ys ≡ true → has xs s ≡ true → has ys s ≡ true
   within_has [] ys s w h = cc
-  within_has (x ∷ xs) ys s w h = elim (or_either (same x s) (has xs s) h) [
-    | inl e ↦ ap (has ys) (sym (same_is x s e)) ∙ and_left (has ys x) (within xs ys) w
+  within_has (x ∷ xs) ys s w h = elim (or_cases (same x s) (has xs s) h) [
+    | inl e ↦ ap (has ys) (sym (same_is x s e)) ∙ (and_parts (has ys x) (within xs ys) w).0
     | inr k ↦ within_has xs ys s (and_right (has ys x) (within xs ys) w) k
   ]
 
@@ -87,7 +72,7 @@ module _ {S : Type 0} (same : S → S → Bool) (same_is : (a b : S) → same a 
   filter_none : (xs ys : List S) → within ys xs ≡ true → filter (λ t. not (has xs t)) ys ≡ []
   filter_none xs [] w = refl
   filter_none xs (y ∷ ys) w =
-      ap (λ v. if not v then y ∷ filter (λ t. not (has xs t)) ys else filter (λ t. not (has xs t)) ys) (and_left (has xs y) (within ys xs) w)
+      ap (λ v. if not v then y ∷ filter (λ t. not (has xs t)) ys else filter (λ t. not (has xs t)) ys) ((and_parts (has xs y) (within ys xs) w).0)
       ∙ filter_none xs ys (and_right (has xs y) (within ys xs) w)
 
   merge_none : (xs ys : List S) → within ys xs ≡ true → merge xs ys ≡ xs
@@ -142,7 +127,7 @@ module _ {S : Type 0} (same : S → S → Bool) (same_is : (a b : S) → same a 
 
     kind_has : (states : List S) (c : C) (s t : S) → has states s ≡ true → has (next s c) t ≡ true → has (by_kind states c) t ≡ true
     kind_has [] c s t h k = cc
-    kind_has (x ∷ states) c s t h k = elim (or_either (same x s) (has states s) h) [
+    kind_has (x ∷ states) c s t h k = elim (or_cases (same x s) (has states s) h) [
       | inl e ↦ merge_left (next x c) (by_kind states c) t (ap (λ y. has (next y c) t) (same_is x s e) ∙ k)
       | inr o ↦ merge_right (next x c) (by_kind states c) t (kind_has states c s t o k)
     ]
@@ -174,12 +159,12 @@ module _ {S : Type 0} (same : S → S → Bool) (same_is : (a b : S) → same a 
           test_has test kinds states token.0 last (every_kind token.0) is_tree (ap (has (by_kind states token.0)) l.2 ∙ kind_has states token.0 s l.0 h l.1)
       flows (the n) (node tree) is_tree states ok s last h l =
           within_has (flow (production n) (entry n)) (exit n) last (and_right (is_claimed (production n) (entry n)) _ (claims n))
-          (flows (production n) tree is_tree (entry n) (and_left (is_claimed (production n) (entry n)) _ (claims n)) s last (within_has states (entry n) s ok h) l)
+          (flows (production n) tree is_tree (entry n) ((and_parts (is_claimed (production n) (entry n)) _ (claims n)).0) s last (within_has states (entry n) s ok h) l)
       flows (p · q) (pair a b) is_tree states ok s last h l =
           let between = leads_append (yield a) (yield b) s last l in
           flows q b is_tree.1 (flow p states) (and_right (is_claimed p states) _ ok) between.0 last
-          (flows p a is_tree.0 states (and_left (is_claimed p states) _ ok) s between.0 h between.1) between.2
-      flows (p ∣ q) (left tree) is_tree states ok s last h l = merge_left (flow p states) (flow q states) last (flows p tree is_tree states (and_left (is_claimed p states) _ ok) s last h l)
+          (flows p a is_tree.0 states ((and_parts (is_claimed p states) _ ok).0) s between.0 h between.1) between.2
+      flows (p ∣ q) (left tree) is_tree states ok s last h l = merge_left (flow p states) (flow q states) last (flows p tree is_tree states ((and_parts (is_claimed p states) _ ok).0) s last h l)
       flows (p ∣ q) (right tree) is_tree states ok s last h l = merge_right (flow p states) (flow q states) last (flows q tree is_tree states (and_right (is_claimed p states) _ ok) s last h l)
       flows (opt p) none is_tree states ok s last h l = merge_left states (flow p states) last (ap (has states) l ∙ h)
       flows (opt p) (some tree) is_tree states ok s last h l = merge_right states (flow p states) last (flows p tree is_tree states ok s last h l)
@@ -187,7 +172,7 @@ module _ {S : Type 0} (same : S → S → Bool) (same_is : (a b : S) → same a 
       flows (many p) (more a b) is_tree states ok s last h l =
           let all : List S = grow (flow p) 3 states in
           let closed : within (flow p all) all ≡ true = and_right (is_claimed p all) _ ok in
-          let once : is_claimed p all ≡ true = and_left (is_claimed p all) (within (flow p all) all) ok in
+          let once : is_claimed p all ≡ true = (and_parts (is_claimed p all) (within (flow p all) all) ok).0 in
           let still : grow (flow p) 3 all ≡ all = grow_closed (flow p) 3 all closed in
           let between = leads_append (yield a) (yield b) s last l in
           let behind : has all between.0 ≡ true = within_has (flow p all) all between.0 closed (flows p a is_tree.0 all once s between.0 (grow_first (flow p) 3 states s h) between.1) in

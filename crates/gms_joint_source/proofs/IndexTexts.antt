@@ -2,7 +2,7 @@
 -- enters: it is in parentheses of its statement. So it has the same number if more labels were
 -- entered after it.
 use Rattle.std.proofs.Common.{◌≡◌, ℕ, ◌+◌, ◌-◌, ◌<◌, ◌≤◌, Bool, true, false, not, ◌&&◌, ◌||◌, ◌==◌, if◌then◌else◌, List, [], ◌∷◌, Option, Some, None, is_some, IsSome, refl, sym, ap, ◌∙◌, subst, inl, inr, arith}
-use Rattle.std.proofs.lemmas.Bool.{not-true, eqb-true}
+use Rattle.std.proofs.lemmas.Bool.{not-true, eqb-true, and_parts}
 use Rattle.gms_lines.proofs.LineLemmas.{true_or_false}
 use Rattle.gms_labels.specs.Labels.{place_of}
 use Rattle.gms_labels.proofs.Places.{place_of-entered}
@@ -15,7 +15,7 @@ use Rattle.gms_grammar.specs.Reading.{read, Reads, taken, entered as entered_by,
 use Rattle.gms_grammar.specs.GamsGrammar.{Nonterminal, Expression, Program, Segment, NamedStatement, AfterName, HeadIndices, AfterHeadName, AfterHeadIndex, AfterLag, AfterHead, AfterTarget, Sides, InnerStatement, Assignment, LoopBody, ShownList, Shown, productions}
 use Rattle.gms_grammar.specs.GamsLookAhead.{look_ahead}
 use Rattle.gms_grammar.proofs.Basics.{and_both, not_true}
-use Rattle.gms_grammar.proofs.Checks.{left_and, right_and}
+use Rattle.gms_grammar.proofs.Checks.{right_and}
 use Rattle.gms_grammar.proofs.Sound.{sound}
 use Rattle.gms_expressions.specs.Outcomes.{open_after}
 use Rattle.gms_expressions.proofs.TokenKinds.{implied, also}
@@ -56,8 +56,8 @@ abbrev each : (Depth → Bool) → Bool
 each f = f even && (f inside && f unknown)
 
 each_is : (f : Depth → Bool) → each f ≡ true → (d : Depth) → f d ≡ true
-each_is f h even = left_and (f even) _ h
-each_is f h inside = left_and (f inside) _ (right_and (f even) _ h)
+each_is f h even = (and_parts (f even) _ h).0
+each_is f h inside = (and_parts (f inside) _ (right_and (f even) _ h)).0
 each_is f h unknown = right_and (f inside) _ (right_and (f even) _ h)
 
 -- after a token within a statement
@@ -195,11 +195,11 @@ second_of false b h k = h
 closing : (n : Nonterminal) (tree : Derivation) (depth : Depth) (w : ReaderState) → IsTree productions (productions n) tree → is_formula n ≡ true → entry n depth ≡ true → Has depth w → Closes w.level w.open_count (yield tree)
 closing n tree depth w k formula enters h = elim (true_or_false (is_deep n)) [
   | inl deep ↦
-      let known : is_known depth ≡ true = implied (is_deep n) (is_known depth) (left_and (not (is_deep n) || is_known depth) _ enters) deep in
+      let known : is_known depth ≡ true = implied (is_deep n) (is_known depth) ((and_parts (not (is_deep n) || is_known depth) _ enters).0) deep in
       closes false (fits_the {b = false} deep) (node tree) k w.level w.open_count (known_at depth w.level w.open_count known h)
   | inr other ↦
       let shallow : is_shallow n ≡ true = second_of (is_deep n) (is_shallow n) formula other in
-      let some : is_inside depth ≡ true = implied (is_shallow n) (is_inside depth) (left_and (not (is_shallow n) || is_inside depth) _ (right_and (not (is_deep n) || is_known depth) _ enters)) shallow in
+      let some : is_inside depth ≡ true = implied (is_shallow n) (is_inside depth) ((and_parts (not (is_shallow n) || is_inside depth) _ (right_and (not (is_deep n) || is_known depth) _ enters)).0) shallow in
       closes true (fits_index shallow) (node tree) k w.level w.open_count (inside_at depth w.level w.open_count some h)
 ]
 

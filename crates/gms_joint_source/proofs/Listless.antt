@@ -1,4 +1,5 @@
 -- After the tokens of a program no list of data is open.
+use Rattle.std.proofs.lemmas.Bool.{false_from_ne_true}
 use Rattle.std.proofs.Common.{◌≡◌, ℕ, zero, suc, Bool, true, false, List, [], ◌∷◌, length, get_or, ◌<◌, ltb, refl, sym, ap, ◌∙◌, subst, arith, ltb-true, inl, inr}
 use Rattle.gms_lex.specs.declared.mode.Mode.{Mode}
 use Rattle.gms_lex.specs.declared.mode.Mode.TheVariants as mode
@@ -135,17 +136,12 @@ list_place (mode.Tail s) h = refl
 list_place mode.Code h = absurd (let z : false ≡ true = h in cc)
 list_place _ h = absurd (let z : false ≡ true = h in cc)
 
-by_place : (b : Bool) → (b ≡ true → ⊥) → b ≡ false
-by_place true h = absurd (h refl)
-by_place false h = refl
-
--- where the tokens of a source are those of a program, the last mode is outside lists
 pub no_list : (source : List ℕ) (tokens : List Token) (is : IsTokens source tokens) (tree : DerivationTree (Terminal × Token)) → IsTree productions (the Program) tree → kinded_tokens source (tokens_of source 0 is.has.pieces) ≡ yield tree → in_list_now is.has.last ≡ false
 no_list source tokens is tree is_tree yields =
     let lead = pieces_lead source 0 mode.Code is.has.pieces is.has.last out (omega arith) is.has.made (inl refl) in
     let there : LeadTo out (yield tree) lead.0 = subst (λ ts. LeadTo out ts lead.0) yields lead.1 in
     let found : has same same_is between lead.0 ≡ true = flows same same_is productions terminals every_kind next entry exit all_right (the Program) tree is_tree (out ∷ []) refl out lead.0 refl (same_leads (yield tree) out lead.0 there) in
-    by_place (in_list_now is.has.last)
+    false_from_ne_true (in_list_now is.has.last)
     (λ h. let at_list : lead.0 ≡ list = list_stands lead.0 is.has.last lead.2 (list_place is.has.last h) in
     let wrong : false ≡ true = ap (has same same_is between) (sym at_list) ∙ found in
     cc)

@@ -1,6 +1,7 @@
 -- Each name that a derivation of a program has is one that the traversal of its tokens enters: it
 -- comes after no dot and no `using`, and is in no option. So it has the same number if more names
 -- were entered after it.
+use Rattle.std.proofs.lemmas.Bool.{and_parts}
 use Rattle.std.proofs.Common.{◌≡◌, ℕ, Bool, true, false, not, ◌&&◌, ◌||◌, if◌then◌else◌, List, [], ◌∷◌, Option, Some, None, is_some, IsSome, refl, sym, ap, ◌∙◌}
 use Rattle.gms_labels.specs.Labels.{place_of, entered}
 use Rattle.gms_labels.proofs.Places.{place_of-entered}
@@ -12,7 +13,7 @@ use Rattle.gms_grammar.specs.Reading.{read, Reads}
 use Rattle.gms_grammar.specs.GamsGrammar.{Nonterminal, Expression, Program, Segment, KeywordStatement, SetStatement, ParameterStatement, ScalarStatement, TableStatement, VariableStatement, EquationStatement, ModelStatement, AliasStatement, DisplayStatement, OptionStatement, SolveStatement, AbortStatement, LoopStatement, LoopBody, InnerStatement, Setting, ElementPart, Range, productions}
 use Rattle.gms_grammar.specs.GamsLookAhead.{look_ahead}
 use Rattle.gms_grammar.proofs.Basics.{and_both}
-use Rattle.gms_grammar.proofs.Checks.{left_and, right_and}
+use Rattle.gms_grammar.proofs.Checks.{right_and}
 use Rattle.gms_expressions.proofs.TokenKinds.{implied, also}
 use Rattle.gms_parse.specs.Walks.{KindedToken, ReaderState, last_kind, is_name, reader_after, kind_of, start}
 use Rattle.gms_parse.specs.InnerReadings.{Derivation}
@@ -42,9 +43,9 @@ abbrev each : (Role → Bool) → Bool
 each f = f bare && (f dotted && (f used && f opted))
 
 each_is : (f : Role → Bool) → each f ≡ true → (r : Role) → f r ≡ true
-each_is f h bare = left_and (f bare) _ h
-each_is f h dotted = left_and (f dotted) _ (right_and (f bare) _ h)
-each_is f h used = left_and (f used) _ (right_and (f dotted) _ (right_and (f bare) _ h))
+each_is f h bare = (and_parts (f bare) _ h).0
+each_is f h dotted = (and_parts (f dotted) _ (right_and (f bare) _ h)).0
+each_is f h used = (and_parts (f used) _ (right_and (f dotted) _ (right_and (f bare) _ h))).0
 each_is f h opted = right_and (f used) _ (right_and (f dotted) _ (right_and (f bare) _ h))
 
 -- after a keyword and a last token

@@ -1,6 +1,7 @@
 -- Each range of labels in a derivation of a program has members that the traversal of its tokens
 -- enters, and each table of a program has items. So they mean the same if more labels were entered
 -- after them.
+use Rattle.std.proofs.lemmas.Bool.{and_parts}
 use Rattle.std.proofs.Common.{◌≡◌, ◌≢◌, ℕ, Bool, true, false, ◌&&◌, ◌||◌, if◌then◌else◌, List, [], ◌∷◌, ◌++◌, map, reverse, All, Option, Some, None, is_some, IsSome, refl, sym, ap, ap₂, ◌∙◌, subst, append_assoc}
 use Rattle.std.proofs.lemmas.List.Elements.{All-nil, All-cons}
 use Rattle.gq_number.specs.Number.{Number as Rational}
@@ -16,7 +17,7 @@ use Rattle.gms_grammar.specs.Reading.{read, leads, Reads, taken, entered as ente
 use Rattle.gms_grammar.specs.GamsGrammar.{Nonterminal, Expression, Program, SetList, Element, ElementPart, Range, RangeList, Value, TableStatement, productions, token}
 use Rattle.gms_grammar.specs.GamsLookAhead.{look_ahead}
 use Rattle.gms_grammar.proofs.Basics.{and_both}
-use Rattle.gms_grammar.proofs.Checks.{left_and, right_and}
+use Rattle.gms_grammar.proofs.Checks.{right_and}
 use Rattle.gms_grammar.proofs.Sound.{sound}
 use Rattle.gms_set.specs.Ranges.{is_range, members}
 use Rattle.gms_table.specs.declared.entry.Entry.{Entry}
@@ -55,8 +56,8 @@ abbrev each : (Mark → Bool) → Bool
 each f = f clear && (f labelled && f starred)
 
 each_is : (f : Mark → Bool) → each f ≡ true → (m : Mark) → f m ≡ true
-each_is f h clear = left_and (f clear) _ h
-each_is f h labelled = left_and (f labelled) _ (right_and (f clear) _ h)
+each_is f h clear = (and_parts (f clear) _ h).0
+each_is f h labelled = (and_parts (f labelled) _ (right_and (f clear) _ h)).0
 each_is f h starred = right_and (f labelled) _ (right_and (f clear) _ h)
 
 abbrev is_labelled : Mark → Bool

@@ -1,4 +1,5 @@
 -- The lines of a source with a line feed and more after it, and what remains of them for tokens.
+use Rattle.std.proofs.lemmas.Bool.{and_parts}
 use Rattle.std.proofs.Common.{◌≡◌, ℕ, suc, ◌+◌, ◌==◌, ◌&&◌, ◌||◌, ◌<◌, Bool, true, false, not, if◌then◌else◌, List, [], ◌∷◌, ◌++◌, length, take, map, get_or, take_while, refl, sym, ap, ap₂, ◌∙◌, subst, arith, append_assoc, append-nil, inl, inr}
 use Rattle.std.proofs.lemmas.Bool.Decides.{nat_tests}
 use Rattle.std.proofs.lemmas.List.{map-append}
@@ -15,7 +16,7 @@ use Rattle.gms_lines.specs.LineFaults.{is_bad, IsLineError, StandsInLines}
 use Rattle.gms_lines.specs.Lines.{put_first, lines, is_line_end, before, content, is_blank, class_of, closes, opens, inside_after, blanked, read_as, code_of, code_text}
 use Rattle.gms_lines.proofs.LineLemmas.{true_or_false}
 use Rattle.gms_joint_source.proofs.Feeds.{fed, ends_in_return, content_fed}
-use Rattle.gms_joint_source.proofs.FedTokens.{no_feed, first_false, second_true}
+use Rattle.gms_joint_source.proofs.FedTokens.{no_feed, first_false}
 
 -- ---- lines
 
@@ -98,7 +99,7 @@ before_none : (text : List ℕ) → no_ten text ≡ true → before is_line_end 
 before_none [] h = refl
 before_none (b ∷ text) h =
     let more : before is_line_end (b ∷ text) ≡ 1 + before is_line_end text = ap (λ v. if v then 0 else 1 + before is_line_end text) (no_end b text h) in
-    omega (arith, more, before_none text (second_true (not (b == 10)) (no_ten text) h))
+    omega (arith, more, before_none text ((and_parts (not (b == 10)) (no_ten text) h).1))
 
 content_none : (text : List ℕ) → no_ten text ≡ true → content text ≡ text
 content_none text h = ap (λ n. take n text) (before_none text h) ∙ take-length text
@@ -163,7 +164,7 @@ front_fed : (front text rest : List ℕ) → no_feed front ≡ true → str_eq_i
 front_fed [] text rest h = refl
 front_fed (c ∷ front) [] rest h = first_false (10 == to_ascii_lowercase c) (no_feed front) (str_eq_ignore_ascii_case (take (length front) rest) front) h
 front_fed (c ∷ front) (b ∷ text) rest h =
-    ap (λ v. (to_ascii_lowercase b == to_ascii_lowercase c) && v) (front_fed front text rest (second_true (not (10 == to_ascii_lowercase c)) (no_feed front) h))
+    ap (λ v. (to_ascii_lowercase b == to_ascii_lowercase c) && v) (front_fed front text rest ((and_parts (not (10 == to_ascii_lowercase c)) (no_feed front) h).1))
 
 closes_fed : (text : List ℕ) → closes (fed text []) ≡ closes text
 closes_fed text = front_fed block_end text [] refl

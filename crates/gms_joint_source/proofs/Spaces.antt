@@ -1,5 +1,6 @@
 -- Blanks and line ends before a `;`: they contain no tokens but line ends, and the `;` is a token
 -- in each mode.
+use mathlib.Core.Bool.{and-false}
 use Rattle.std.proofs.Common.{◌≡◌, ℕ, zero, suc, ◌+◌, ◌==◌, ◌&&◌, ◌||◌, ◌<◌, ◌≤◌, Bool, true, false, not, nat_lt, nat_le, cond, if◌then◌else◌, List, [], ◌∷◌, ◌++◌, length, take, drop, All, Ok, Err, option_map, refl, sym, ap, ◌∙◌, subst, arith, inl, inr}
 use Rattle.std.proofs.lemmas.Bool.Decides.{nat_tests}
 use Rattle.std.proofs.lemmas.List.{drop-append-le, drop_all, length-drop}
@@ -37,7 +38,7 @@ use Rattle.gms_lex.proofs.ApartLemmas.{breaks}
 use Rattle.gms_lex.proofs.LineTextLemmas.{length-take_most}
 use Rattle.gms_lex.proofs.ReadingLemmas.{lexeme_within}
 use Rattle.gms_joint_source.proofs.Feeds.{fed, ends_in_return, no_return_behind, no_return_drop, line_end_fed, other_fed, space_all_fed}
-use Rattle.gms_joint_source.proofs.FedTokens.{and_false, starts, starts_is, find_alike}
+use Rattle.gms_joint_source.proofs.FedTokens.{starts, starts_is, find_alike}
 
 -- ---- lists
 
@@ -82,7 +83,7 @@ symbol_semicolon text =
     ap (λ found. symbol_read (option_map (λ s. (length (written_symbol s), s)) found)) (find_alike (λ s. begins_with_word (59 ∷ text) (written_symbol s)) (λ s. starts (written_symbol s) (59 ∷ text)) (λ s. starts_is (written_symbol s) (59 ∷ text)) symbols)
 
 no_value_dot : (shape : Shape) (depth : ℕ) (stage : Stage) (text : List ℕ) → begins_value_dot shape depth stage (59 ∷ text) ≡ false
-no_value_dot Parameter depth Spaced text = and_false (depth == 0)
+no_value_dot Parameter depth Spaced text = and-false (depth == 0)
 no_value_dot shape depth stage text = refl
 
 behind_label_semicolon : (shape : Shape) (depth : ℕ) (stage : Stage) (text : List ℕ) → behind_label shape depth stage (59 ∷ text) ≡ Ok semicolon_piece

@@ -1,6 +1,7 @@
 -- What is known at each point of reading a program, by the states of a small machine that goes from
 -- token to token. For each nonterminal it is claimed in which states it is entered and left, and
 -- the claims are checked by computing.
+use Rattle.std.proofs.lemmas.Bool.{and_parts}
 use Rattle.std.proofs.Common.{◌≡◌, Bool, true, false, not, ◌&&◌, ◌||◌, List, [], ◌∷◌, ◌++◌, reverse, ℕ, sym, ap, ◌∙◌, inl, inr, append_assoc}
 use Rattle.std.proofs.lemmas.List.{reverse-append}
 use Rattle.gms_lines.proofs.LineLemmas.{true_or_false}
@@ -11,7 +12,7 @@ use Rattle.gms_grammar.specs.Reading.{read, Reads, taken, entered, both, in_left
 use Rattle.gms_grammar.specs.GamsGrammar.{Nonterminal, productions}
 use Rattle.gms_grammar.specs.GamsLookAhead.{look_ahead}
 use Rattle.gms_grammar.proofs.Basics.{and_both}
-use Rattle.gms_grammar.proofs.Checks.{left_and, right_and}
+use Rattle.gms_grammar.proofs.Checks.{right_and}
 use Rattle.gms_expressions.proofs.TokenKinds.{implies, implied, also}
 use Rattle.gms_parse.specs.Walks.{KindedToken, ReaderState, reader_after, reader_after_all, kind_of}
 use Rattle.gms_parse.specs.InnerReadings.{Derivation, GamsPart}
@@ -118,10 +119,10 @@ module _ {S : Type 0} (each : (S → Bool) → Bool) (each_is : (f : S → Bool)
         is_ok = also test (λ kind. ok (next s kind)) (right_and (allowed test s) _ k) t.0 h;
         at = step s w t (kind_of rest) a;
         stands = stands_on first second names labels whole w t rest e;
-        all = of_tokens test s w t rest (left_and (allowed test s) _ k) h a e;
+        all = of_tokens test s w t rest ((and_parts (allowed test s) _ k).0) h a e;
       }
       passed (entered {n = n} {tokens = tokens} {rest = rest} {tree = tree} r) ok s w k a e =
-          let enters : entry n s ≡ true = left_and (entry n s) _ k in
+          let enters : entry n s ≡ true = (and_parts (entry n s) _ k).0 in
           let inner : Passed (exit n s) (productions n) tree rest = elim (true_or_false (atom n)) [
             | inl y ↦ of_atoms n tree s w tokens rest y enters a e r
             | inr x ↦ passed r (exit n s) s w (right_has (atom n) n (right_claims n) x s enters) a e
@@ -139,17 +140,17 @@ module _ {S : Type 0} (each : (S → Bool) → Bool) (each_is : (f : S → Bool)
           let other = passed x ok one.state one.walk one.is_ok one.at one.stands in
           record { state = other.state; walk = other.walk; is_ok = other.is_ok; at = other.at; stands = other.stands; all = (one.all, other.all) }
       passed (in_left {p = p} l r) ok s w k a e =
-          let one = passed r ok s w (left_and (passes p ok s) _ k) a e in
+          let one = passed r ok s w ((and_parts (passes p ok s) _ k).0) a e in
           record { state = one.state; walk = one.walk; is_ok = one.is_ok; at = one.at; stands = one.stands; all = one.all }
       passed (in_right {p = p} l m r) ok s w k a e =
           let one = passed r ok s w (right_and (passes p ok s) _ k) a e in
           record { state = one.state; walk = one.walk; is_ok = one.is_ok; at = one.at; stands = one.stands; all = one.all }
-      passed (left_out l) ok s w k a e = record { state = s; walk = w; is_ok = left_and (ok s) _ k; at = a; stands = e; all = tt }
+      passed (left_out l) ok s w k a e = record { state = s; walk = w; is_ok = (and_parts (ok s) _ k).0; at = a; stands = e; all = tt }
       passed (there l r) ok s w k a e =
           let one = passed r ok s w (right_and (ok s) _ k) a e in
           record { state = one.state; walk = one.walk; is_ok = one.is_ok; at = one.at; stands = one.stands; all = one.all }
-      passed (no_more l) ok s w k a e = record { state = s; walk = w; is_ok = left_and (ok s) _ k; at = a; stands = e; all = tt }
+      passed (no_more l) ok s w k a e = record { state = s; walk = w; is_ok = (and_parts (ok s) _ k).0; at = a; stands = e; all = tt }
       passed (again {p = p} l r x) ok s w k a e =
-          let one = passed r ok s w (follows_has ok (λ t. passes p ok t) (right_and (ok s) _ k) s (left_and (ok s) _ k)) a e in
+          let one = passed r ok s w (follows_has ok (λ t. passes p ok t) (right_and (ok s) _ k) s ((and_parts (ok s) _ k).0)) a e in
           let other = passed x ok one.state one.walk (and_both (ok one.state) _ one.is_ok (right_and (ok s) _ k)) one.at one.stands in
           record { state = other.state; walk = other.walk; is_ok = other.is_ok; at = other.at; stands = other.stands; all = (one.all, other.all) }

@@ -1,4 +1,5 @@
 -- A source that passes the tests is accepted.
+use Rattle.std.proofs.lemmas.Bool.{and_parts}
 use Rattle.std.proofs.Common.{◌≡◌, ℕ, ◌^◌, ◌-◌, ◌≤◌, true, List, length, Option, Some, None, refl, leb-true}
 use Rattle.gms_lines.specs.Lines.{code_text}
 use Rattle.gms_lines.specs.declared.lexeme.Lexeme.{Lexeme}
@@ -10,7 +11,7 @@ use Rattle.gms_parse.specs.Walks.{KindedToken}
 use Rattle.gms_laws.specs.Accepted.{IsAcceptedSource}
 use Rattle.gms_laws.proofs.FaultlessStatements.{has_no_error, no_errors}
 use Rattle.gms_laws.proofs.SourcePieces.{Make, pieces_in, made}
-use Rattle.gms_laws.proofs.ShortNumerals.{left, right}
+use Rattle.gms_laws.proofs.ShortNumerals.{right}
 use Rattle.gms_laws.proofs.SourcePrograms.{inner, all_seen, view_by, is_whole, is_plain, program_by}
 use Rattle.gms_laws.proofs.TakenTrees.{Taken, read_part, IsTaken, taken}
 use Rattle.gms_laws.proofs.SourceTests.{by_tree, by_pieces, accepts}
@@ -27,7 +28,7 @@ module _ (solvers : List (List ℕ)) (source : List ℕ) (plain : is_plain sourc
       let view = view_by source ts found.0 in
       record {
         view = view;
-        has_program = program_by frac_limit wide source plain pieces make found.0 found.1 t (left (is_whole source ts found.1) (has_no_error solvers view) h);
+        has_program = program_by frac_limit wide source plain pieces make found.0 found.1 t ((and_parts (is_whole source ts found.1) (has_no_error solvers view) h).0);
         no_error = no_errors solvers view (right (is_whole source ts found.1) (has_no_error solvers view) h);
       }
 
@@ -42,4 +43,4 @@ module _ (solvers : List (List ℕ)) (source : List ℕ) (plain : is_plain sourc
 pub accepted : (solvers : List (List ℕ)) (source : List ℕ) → accepts solvers source ≡ true → IsAcceptedSource solvers source
 accepted solvers source h =
     let pieces = pieces_in (length source) Code (code_text source) in
-    accepted_pieces solvers source (left (is_plain source) (by_pieces solvers source pieces) h) pieces refl (right (is_plain source) (by_pieces solvers source pieces) h)
+    accepted_pieces solvers source ((and_parts (is_plain source) (by_pieces solvers source pieces) h).0) pieces refl (right (is_plain source) (by_pieces solvers source pieces) h)

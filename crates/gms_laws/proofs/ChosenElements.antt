@@ -1,4 +1,5 @@
 -- The elements of a domain.
+use Rattle.std.proofs.lemmas.Bool.{and_parts}
 use Rattle.std.proofs.Common.{◌≡◌, ◌<◌, ◌≤◌, ℕ, zero, suc, Bool, true, false, ◌&&◌, ◌↔◌, List, [], ◌∷◌, filter, map, length, cond, Ok, Err, if◌then◌else◌, nat_lt, refl, sym, ap, ◌∙◌, subst, arith, true≢false}
 use Rattle.std.specs.Prelude.{slice_index}
 use Rattle.std.specs.List.{All}
@@ -21,13 +22,6 @@ use Rattle.gms_eval.proofs.Simple.{has-label, elements-ordered}
 use Rattle.gms_eval.proofs.Sizes.{elements-few}
 use Rattle.gms_laws.specs.Domains.{HasItsMembers, IsWhereItHolds}
 
-both_true : (a b : Bool) → (a && b) ≡ true → (a ≡ true) × (b ≡ true)
-both_true true b e = (refl, e)
-both_true false b e = absurd (true≢false (sym e))
-
--- ---- a test that has an answer at each element
-
--- the answer is that it holds
 abbrev pub holding : Answer Bool → Bool
 holding (Ok b) = b
 holding (Err fault) = false
@@ -75,9 +69,9 @@ module _ (state : State) where
   fits [] tuple simple e i l = absurd (omega (arith, l))
   fits (set ∷ sets) [] simple e i l = absurd (true≢false (sym e))
   fits (set ∷ sets) (label ∷ tuple) simple e zero l =
-      sym (has-label state set label (All-head (IsSimple state) set sets simple)) ∙ (both_true _ (all_in (map (labels_of state) sets) tuple) e).0
+      sym (has-label state set label (All-head (IsSimple state) set sets simple)) ∙ (and_parts _ (all_in (map (labels_of state) sets) tuple) e).0
   fits (set ∷ sets) (label ∷ tuple) simple e (suc i) l =
-      fits sets tuple (All-tail (IsSimple state) set sets simple) (both_true _ (all_in (map (labels_of state) sets) tuple) e).1 i (omega (arith, l))
+      fits sets tuple (All-tail (IsSimple state) set sets simple) (and_parts _ (all_in (map (labels_of state) sets) tuple) e).1 i (omega (arith, l))
 
   all_fit : (sets tuple : List ℕ) → All (IsSimple state) sets → HasItsMembers state sets tuple → all_in (map (labels_of state) sets) tuple ≡ true
   all_fit [] [] simple h = refl
@@ -133,7 +127,7 @@ module _ (state : State) where
         let same : has found element ≡ (has (elements state sets) element && kept (tested condition sets) element) =
         ap (λ (those : List (List ℕ)). has those element) (chosen sets condition found e) ∙ has-filter (kept (tested condition sets)) (elements state sets) element in (
           λ there.
-              let two = both_true (has (elements state sets) element) (kept (tested condition sets) element) (sym same ∙ there) in
+              let two = and_parts (has (elements state sets) element) (kept (tested condition sets) element) (sym same ∙ there) in
               (of_product sets element simple few two.0, holds_so (tested condition sets element) two.1),
           λ h. same ∙ ap (λ (b : Bool). b && kept (tested condition sets) element) (in_product sets element simple few h.0) ∙ ap holding h.1,
         )

@@ -1,4 +1,5 @@
 -- That a program has no compile error, computed from its view.
+use Rattle.std.proofs.lemmas.Bool.{and_parts, not-true}
 use Rattle.std.proofs.Common.{◌≡◌, ℕ, Bool, true, false, not, ◌&&◌, List, [], ◌∷◌, ◌++◌, length, map, Option, Some, None, Result, Ok, cond, if◌then◌else◌, refl, sym, ap, ap₂, ◌∙◌, subst}
 use Rattle.std.specs.Prelude.{flat_map, is_none, option_to_list, take_while}
 use Rattle.std.specs.List.{fold, list_all}
@@ -39,7 +40,7 @@ use Rattle.gms_check.specs.Uses.{Uses, naming, placing}
 use Rattle.gms_save.proofs.FromNumbers.{option_in, value_of, value_back}
 use Rattle.gms_save.proofs.SeenActs.{Told, assigned_of, told_by}
 use Rattle.gms_save.proofs.SeenPrograms.{Seen, seen, listed, listed-is, after_told, seen_declared, seen_error, seen_errors, known_from, known_told, told_defined, told_models, told_unordered, ToldPast, errors-are, declared-is, assigned-are}
-use Rattle.gms_laws.proofs.ShortNumerals.{left, right}
+use Rattle.gms_laws.proofs.ShortNumerals.{right}
 use Rattle.gms_laws.proofs.OrderedData.{all_data, are_fine, given_all}
 
 abbrev pub is_nil : List CompileError → Bool
@@ -53,17 +54,11 @@ nil (e ∷ es) h = absurd (cc)
 none_both : (a b : List CompileError) → a ≡ [] → b ≡ [] → (a ++ b) ≡ []
 none_both a b e f = ap₂ (λ (xs ys : List CompileError). xs ++ ys) e f
 
-is_false : (b : Bool) → not b ≡ true → b ≡ false
-is_false true h = absurd (cc)
-is_false false h = refl
-
--- ---- declarations and their data
-
 all_taken : {X : Type 0} (p : X → Bool) (xs : List X) → list_all p xs ≡ true → take_while p xs ≡ xs
 all_taken p [] h = refl
 all_taken p (x ∷ xs) h =
     take_while-cons p x xs
-    ∙ ap (λ (b : Bool). cond b (x ∷ take_while p xs) []) (left (p x) (list_all p xs) h)
+    ∙ ap (λ (b : Bool). cond b (x ∷ take_while p xs) []) ((and_parts (p x) (list_all p xs) h).0)
     ∙ ap (λ ys. x ∷ ys) (all_taken p xs (right (p x) (list_all p xs) h))
 
 module _ {F : Type 0} where
@@ -80,7 +75,7 @@ module _ {F : Type 0} where
   placing_none known domain [] h = refl
   placing_none known domain (item ∷ items) h =
       none_both _ _
-      (placed_none known item.at (length domain) (length item.parts) (is_false (is_wrong_count (length domain) (length item.parts)) (left (has_all_parts domain item) (list_all (has_all_parts domain) items) h)))
+      (placed_none known item.at (length domain) (length item.parts) (not-true (is_wrong_count (length domain) (length item.parts)) ((and_parts (has_all_parts domain item) (list_all (has_all_parts domain) items) h).0)))
       (placing_none known domain items (right (has_all_parts domain item) (list_all (has_all_parts domain) items) h))
 
   only_if : (known : Known F) (b : Bool) (r : Result (ExpandedData F) SetFault) (all : ExpandedData F) → r ≡ Ok all → errors_of known (if b then failure r else []) ≡ []
@@ -114,7 +109,7 @@ module _ {F : Type 0} where
     tests = right (is_nil (errors_of known of_name)) _ fine
 
     parts : list_all (has_all_parts (domain_of kind item)) item.items ≡ true
-    parts = left (list_all (has_all_parts (domain_of kind item)) item.items) _ tests
+    parts = (and_parts (list_all (has_all_parts (domain_of kind item)) item.items) _ tests).0
 
     given : expanded known.state (domain_of kind item) item.items ≡ Ok (all_data item.items)
     given = given_all known.state (domain_of kind item) item.items (right (list_all (has_all_parts (domain_of kind item)) item.items) _ tests)
@@ -127,7 +122,7 @@ module _ {F : Type 0} where
         (ap (λ (items : List (Item F)). expanded known.state (domain_of kind item) items) (all_taken (has_all_parts (domain_of kind item)) item.items parts) ∙ given))
 
     item_none : errors_of known (item_uses known kind item) ≡ []
-    item_none = both_none known of_name (data_uses known (domain_of kind item) item.items) (nil (errors_of known of_name) (left (is_nil (errors_of known of_name)) _ fine)) data_none
+    item_none = both_none known of_name (data_uses known (domain_of kind item) item.items) (nil (errors_of known of_name) ((and_parts (is_nil (errors_of known of_name)) _ fine).0)) data_none
 
     state_is : with_item known.value kind known.state item ≡ state_after_item known.value kind known.state item
     state_is = ap (λ (r : Result (ExpandedData F) SetFault). with_data known.value (with_name known.value kind known.state item) item.named.name r) given
@@ -141,7 +136,7 @@ module _ {F : Type 0} where
   items_none known kind [] h = refl
   items_none known kind (item ∷ items) h =
       let next = known_in known (state_after_item known.value kind known.state item) in
-      let here = left (fine_item known kind item) (fine_items next kind items) h in
+      let here = (and_parts (fine_item known kind item) (fine_items next kind items) h).0 in
       let others = items_none next kind items (right (fine_item known kind item) (fine_items next kind items) h) in
       none_both (errors_of known (item_uses known kind item)) (declaration_errors (known_after_item known kind item) kind items) (item_none known kind item here)
       (ap (λ (k : Known F). declaration_errors k kind items) (after_is known kind item here) ∙ others)
@@ -150,7 +145,7 @@ module _ {F : Type 0} where
   items_given known kind [] h = refl
   items_given known kind (item ∷ items) h =
       let next = known_in known (state_after_item known.value kind known.state item) in
-      let here = left (fine_item known kind item) (fine_items next kind items) h in
+      let here = (and_parts (fine_item known kind item) (fine_items next kind items) h).0 in
       ap (λ (state : State). fold (with_item known.value kind) state items) (state_is known kind item here)
       ∙ items_given next kind items (right (fine_item known kind item) (fine_items next kind items) h)
 
@@ -175,7 +170,7 @@ option_fine known (word, setting.Name name) =
 
 option_none : (known : Known Frac) → known.value ≡ frac_value → (option : Word × Setting Number) → option_fine known option ≡ true → errors_of known (option_uses (option_in value_of option)) ≡ []
 option_none known same (word, setting.Number at x) h =
-    let is : known.value (value_of x) ≡ x = ap (λ (f : Frac → Number). f (value_of x)) same ∙ value_there x (left (fits frac_limit x) _ h) in
+    let is : known.value (value_of x) ≡ x = ap (λ (f : Frac → Number). f (value_of x)) same ∙ value_there x ((and_parts (fits frac_limit x) _ h).0) in
     let over : errors_of known (option_uses (word, setting.Number at (value_of x))) ≡ errors_of (as_numbers known) (option_uses (word, setting.Number at (known.value (value_of x)))) = refl in
     over ∙ ap (λ (y : Number). errors_of (as_numbers known) (option_uses (word, setting.Number at y))) is ∙ nil _ (right (fits frac_limit x) _ h)
 option_none known same (word, setting.Name name) h =
@@ -186,7 +181,7 @@ options_none : (known : Known Frac) → known.value ≡ frac_value → (options 
 options_none known same [] h = refl
 options_none known same (option ∷ options) h =
     both_none known (option_uses (option_in value_of option)) (flat_map option_uses (map (option_in value_of) options))
-    (option_none known same option (left (option_fine known option) (list_all (option_fine known) options) h))
+    (option_none known same option ((and_parts (option_fine known option) (list_all (option_fine known) options) h).0))
     (options_none known same options (right (option_fine known option) (list_all (option_fine known) options) h))
 
 -- ---- statements
@@ -214,7 +209,7 @@ module _ (known : Known Frac) (same : known.value ≡ frac_value) (at : Place) w
   fine_none : (act : Act Number) → fine_act known at act ≡ true → seen_error known (at, act) ≡ None
   fine_none (declares kind items) h =
       ap first_error
-      (none_both (errors_of known (kind_uses at kind)) (declaration_errors known kind (declared_items items)) (nil (errors_of known (kind_uses at kind)) (left (is_nil (errors_of known (kind_uses at kind))) _ h))
+      (none_both (errors_of known (kind_uses at kind)) (declaration_errors known kind (declared_items items)) (nil (errors_of known (kind_uses at kind)) ((and_parts (is_nil (errors_of known (kind_uses at kind))) _ h).0))
       (items_none known kind (declared_items items) (right (is_nil (errors_of known (kind_uses at kind))) _ h)))
   fine_none (aliases first second) h = none_of _ h
   fine_none (assigns target condition right_at side) h = none_of _ h
@@ -259,7 +254,7 @@ module _ (count : ℕ) (solvers : List (List ℕ)) (dynamic : List ℕ) where
   all_none state past is [] h = refl
   all_none state past is (v ∷ vs) h =
       let known = known_with count solvers dynamic state past in
-      let here = left (fine_act known v.0 v.1) _ h in
+      let here = (and_parts (fine_act known v.0 v.1) _ h).0 in
       let later = past ++ (told_by v.1, true) ∷ [] in
       let none : seen_error (known_told count solvers dynamic past) v ≡ None =
       ap (λ (s : State). seen_error (known_with count solvers dynamic s past) v) (sym is) ∙ fine_none known refl v.0 v.1 here in

@@ -1,11 +1,11 @@
 -- Each generated model is an accepted source: each passes the tests.
 use Rattle.std.proofs.Common.{◌≡◌, inl, inr, ℕ, zero, suc, ◌+◌, ◌<◌, ◌≤◌, true, List, subst, arith}
-use Rattle.std.proofs.lemmas.Bool.{cases_lt}
+use Rattle.std.proofs.lemmas.Bool.{cases_lt, and_parts}
 use Rattle.gms_gen.specs.Generator.{generated_model_text}
 use Rattle.gms_laws.specs.Accepted.{GeneratedAreAccepted}
 use Rattle.gms_laws.proofs.AcceptedSources.{accepted}
 use Rattle.gms_laws.proofs.SourceTests.{is_accepted, all_accepted}
-use Rattle.gms_laws.proofs.ShortNumerals.{left, right}
+use Rattle.gms_laws.proofs.ShortNumerals.{right}
 use Rattle.gms_laws.proofs.ComputedModels.{accepted_to_12, accepted_to_16, accepted_to_19, accepted_to_21, accepted_to_23, accepted_to_24, accepted_to_25, accepted_to_26, accepted_to_27, accepted_to_28, accepted_to_29, accepted_to_30}
 
 -- of sizes that all pass, each does
@@ -14,7 +14,7 @@ each solvers above zero h size low high = absurd (omega arith)
 each solvers above (suc n) h size low high =
     elim (cases_lt (suc above) size) [
       | inl more ↦ each solvers (suc above) n (right (is_accepted solvers (suc above)) (all_accepted solvers (suc above) n) h) size more (omega (arith, high))
-      | inr here ↦ (let same : suc above ≡ size = omega (arith, low, here) in subst (λ k. is_accepted solvers k ≡ true) same (left (is_accepted solvers (suc above)) (all_accepted solvers (suc above) n) h))
+      | inr here ↦ (let same : suc above ≡ size = omega (arith, low, here) in subst (λ k. is_accepted solvers k ≡ true) same ((and_parts (is_accepted solvers (suc above)) (all_accepted solvers (suc above) n) h).0))
     ]
 
 all_sizes : (solvers : List (List ℕ)) (size : ℕ) → 1 ≤ size → size ≤ 30 → is_accepted solvers size ≡ true

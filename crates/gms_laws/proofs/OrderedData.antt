@@ -1,4 +1,5 @@
 -- Data whose tuples ascend and are within their domains have no error: no tuple is given twice.
+use Rattle.std.proofs.lemmas.Bool.{and_parts, not-true}
 use Rattle.std.proofs.Common.{◌≡◌, ℕ, ◌+◌, ◌≤◌, ◌&&◌, ◌||◌, Bool, true, false, not, nat_lt, nat_le, List, [], ◌∷◌, ◌++◌, length, Option, Some, None, Ok, if◌then◌else◌, refl, sym, ap, ap₂, ◌∙◌, subst, arith, append-nil, append_assoc, ltb-true, leb-true, length-append}
 use Rattle.std.specs.declared.cmp.Ordering.{Ordering}
 use Rattle.std.specs.declared.cmp.Ordering.TheVariants.{Less, Equal, Greater}
@@ -30,10 +31,6 @@ abbrev pub ascend : List (List ℕ) → Bool
 ascend [] = true
 ascend (x ∷ xs) = ascend_from x xs
 
-first_of : (a b : Bool) → (a && b) ≡ true → a ≡ true
-first_of true b h = refl
-first_of false b h = absurd (cc)
-
 second_of : (a b : Bool) → (a && b) ≡ true → b ≡ true
 second_of true b h = h
 second_of false b h = absurd (cc)
@@ -46,7 +43,7 @@ less_by Greater h = absurd (cc)
 ordered_from : (x : List ℕ) (xs : List (List ℕ)) → ascend_from x xs ≡ true → IsOrdered (x ∷ xs)
 ordered_from x [] h = ordered-cons x [] (All-nil (λ y. tuple_cmp x y ≡ Less)) ordered-nil
 ordered_from x (y ∷ ys) h =
-    let less : tuple_cmp x y ≡ Less = less_by (tuple_cmp x y) (first_of (is_lt (tuple_cmp x y)) (ascend_from y ys) h) in
+    let less : tuple_cmp x y ≡ Less = less_by (tuple_cmp x y) ((and_parts (is_lt (tuple_cmp x y)) (ascend_from y ys) h).0) in
     let others : IsOrdered (y ∷ ys) = ordered_from y ys (second_of (is_lt (tuple_cmp x y)) (ascend_from y ys) h) in
     ordered-cons x (y ∷ ys)
     (All-cons (λ z. tuple_cmp x z ≡ Less) y ys less (All-weaker (λ z. tuple_cmp y z ≡ Less) (λ z. tuple_cmp x z ≡ Less) (λ z later. tuple_cmp-total.trans x y z less later) ys (first-before y ys others)))
@@ -73,10 +70,6 @@ not_below a b h = by (nat_lt a b) refl
     by : (t : Bool) → nat_lt a b ≡ t → nat_lt a b ≡ false
     by true e = absurd (omega (arith, h, ltb-true a b e))
     by false e = e
-
-is_false : (b : Bool) → not b ≡ true → b ≡ false
-is_false true h = absurd (cc)
-is_false false h = refl
 
 module _ {F : Type 0} where
   -- the tuples of items, and what they give
@@ -118,10 +111,10 @@ module _ {F : Type 0} where
     given_on given (item ∷ items) ordered room within =
         let ts = tuple_product item.parts in
         let own = tuples_with_value item.value ts in
-        let here = first_of (is_within state domain item) (list_all (is_within state domain) items) within in
+        let here = (and_parts (is_within state domain item) (list_all (is_within state domain) items) within).0 in
         let others = second_of (is_within state domain item) (list_all (is_within state domain) items) within in
-        let inside = is_false (has_outside state domain item.parts) (first_of (not (has_outside state domain item.parts)) (not item.bad_range) here) in
-        let range = is_false item.bad_range (second_of (not (has_outside state domain item.parts)) (not item.bad_range) here) in
+        let inside = not-true (has_outside state domain item.parts) ((and_parts (not (has_outside state domain item.parts)) (not item.bad_range) here).0) in
+        let range = not-true item.bad_range (second_of (not (has_outside state domain item.parts)) (not item.bad_range) here) in
         let apart : IsOrdered ((tuples_of given ++ ts) ++ all_tuples items) = subst IsOrdered (sym (append_assoc (tuples_of given) ts (all_tuples items))) ordered in
         let next : tuples_of (given ++ own) ≡ tuples_of given ++ ts = map-append _ given own ∙ ap (λ (us : List (List ℕ)). tuples_of given ++ us) (same_tuples item.value ts) in
         let many : length (ts ++ all_tuples items) ≡ length ts + length (all_tuples items) = length-append ts (all_tuples items) in
@@ -139,5 +132,5 @@ module _ {F : Type 0} where
         let within = list_all (is_within state domain) items in
         let tests = nat_le (length (all_tuples items)) 1048576 && ascend (all_tuples items) in
         let more = second_of within tests fine in
-        let room : length (all_tuples items) ≤ 1048576 = leb-true (length (all_tuples items)) 1048576 (first_of (nat_le (length (all_tuples items)) 1048576) (ascend (all_tuples items)) more) in
-        given_on [] items (ordered_by (all_tuples items) (second_of (nat_le (length (all_tuples items)) 1048576) (ascend (all_tuples items)) more)) (omega (arith, room)) (first_of within tests fine)
+        let room : length (all_tuples items) ≤ 1048576 = leb-true (length (all_tuples items)) 1048576 ((and_parts (nat_le (length (all_tuples items)) 1048576) (ascend (all_tuples items)) more).0) in
+        given_on [] items (ordered_by (all_tuples items) (second_of (nat_le (length (all_tuples items)) 1048576) (ascend (all_tuples items)) more)) (omega (arith, room)) ((and_parts within tests fine).0)

@@ -1,4 +1,5 @@
 -- A numeral of at most nine digits is the text of a number that a literal may have.
+use Rattle.std.proofs.lemmas.Bool.{and_parts}
 use Rattle.std.proofs.Common.{◌≡◌, ◌≢◌, inl, inr, ℕ, zero, suc, ◌*◌, ◌/◌, ◌%◌, ◌^◌, ◌<◌, ◌≤◌, ◌==◌, ◌&&◌, ◌||◌, Bool, true, false, not, nat_lt, nat_le, List, [], ◌∷◌, length, pos, refl, sym, ap, ◌∙◌, subst, arith, ltb-true, leb-true}
 use Rattle.std.proofs.Math.Nat.{pow-succ', pow-le-pow_right}
 use Rattle.std.specs.List.{list_all}
@@ -53,10 +54,6 @@ abbrev pub is_short : List ℕ → Bool
 is_short [] = false
 is_short (b ∷ bs) = is_digit b && (list_all is_digit bs && (nat_lt (length bs) 9 && (is_none_left bs || not (b == 48))))
 
-pub left : (a b : Bool) → (a && b) ≡ true → a ≡ true
-left true b h = refl
-left false b h = absurd (cc)
-
 pub right : (a b : Bool) → (a && b) ≡ true → b ≡ true
 right true b h = h
 right false b h = absurd (cc)
@@ -64,8 +61,8 @@ right false b h = absurd (cc)
 digits : (bs : List ℕ) → list_all is_digit bs ≡ true → AreDigits bs
 digits [] h = tt
 digits (b ∷ bs) h =
-    let here = left (is_digit b) (list_all is_digit bs) h in
-    (leb-true 48 b (left (nat_le 48 b) (nat_le b 57) here), leb-true b 57 (right (nat_le 48 b) (nat_le b 57) here), digits bs (right (is_digit b) (list_all is_digit bs) h))
+    let here = (and_parts (is_digit b) (list_all is_digit bs) h).0 in
+    (leb-true 48 b ((and_parts (nat_le 48 b) (nat_le b 57) here).0), leb-true b 57 (right (nat_le 48 b) (nat_le b 57) here), digits bs (right (is_digit b) (list_all is_digit bs) h))
 
 first_is : (b : ℕ) (bs : List ℕ) → (is_none_left bs || not (b == 48)) ≡ true → 1 < length (b ∷ bs) → slice_index (b ∷ bs) 0 ≢ 48
 first_is b [] h some = absurd (omega arith)
@@ -73,13 +70,13 @@ first_is b (c ∷ cs) h some = λ e. let no : not (48 == 48) ≡ true = subst (�
 
 numeral : (b : ℕ) (bs : List ℕ) → is_short (b ∷ bs) ≡ true → IsNumeral (spelled (b ∷ bs)) (b ∷ bs) × (length bs < 9)
 numeral b bs h =
-    let one = left (is_digit b) (list_all is_digit bs && (nat_lt (length bs) 9 && (is_none_left bs || not (b == 48)))) h in
+    let one = (and_parts (is_digit b) (list_all is_digit bs && (nat_lt (length bs) 9 && (is_none_left bs || not (b == 48)))) h).0 in
     let others = right (is_digit b) (list_all is_digit bs && (nat_lt (length bs) 9 && (is_none_left bs || not (b == 48)))) h in
-    let all = left (list_all is_digit bs) (nat_lt (length bs) 9 && (is_none_left bs || not (b == 48))) others in
+    let all = (and_parts (list_all is_digit bs) (nat_lt (length bs) 9 && (is_none_left bs || not (b == 48))) others).0 in
     let more = right (list_all is_digit bs) (nat_lt (length bs) 9 && (is_none_left bs || not (b == 48))) others in
-    let are : AreDigits (b ∷ bs) = (leb-true 48 b (left (nat_le 48 b) (nat_le b 57) one), leb-true b 57 (right (nat_le 48 b) (nat_le b 57) one), digits bs all) in (
+    let are : AreDigits (b ∷ bs) = (leb-true 48 b ((and_parts (nat_le 48 b) (nat_le b 57) one).0), leb-true b 57 (right (nat_le 48 b) (nat_le b 57) one), digits bs all) in (
       record { digits = are; some = omega arith; first = first_is b bs (right (nat_lt (length bs) 9) (is_none_left bs || not (b == 48)) more); spells = refl },
-      ltb-true (length bs) 9 (left (nat_lt (length bs) 9) (is_none_left bs || not (b == 48)) more),
+      ltb-true (length bs) 9 ((and_parts (nat_lt (length bs) 9) (is_none_left bs || not (b == 48)) more).0),
     )
 
 -- ten to a power at most nine

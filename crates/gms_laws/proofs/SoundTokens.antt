@@ -1,4 +1,5 @@
 -- Tokens without a fault, computed, and the program that they are.
+use Rattle.std.proofs.lemmas.Bool.{and_parts}
 use Rattle.std.proofs.Common.{◌≡◌, ℕ, ◌+◌, ◌^◌, ◌<◌, ◌≤◌, ◌&&◌, ◌||◌, Bool, true, false, not, nat_lt, nat_le, List, [], ◌∷◌, ◌++◌, length, refl, sym, ap, ◌∙◌, subst, arith, ltb-true, leb-true, eqb-true, length-append}
 use Rattle.std.specs.Prelude.{is_some, if◌then◌else◌}
 use Rattle.std.specs.List.{list_all}
@@ -25,13 +26,7 @@ use Rattle.gms_parse.specs.Outcomes.{ProgramView, IsTableOf, HaveItems, HasProgr
 use Rattle.gms_parse.specs.Programs.{statements_of}
 use Rattle.gms_parse.specs.Walks.{KindedToken, ReaderState, start, reader_after, reader_after_all, new_labels, LacksRoom, IsFaulty, deep, out_of_range, many_names, many_labels, in_table, without_lines, AreTokensFaultless}
 use Rattle.gms_laws.proofs.SourcePieces.{Make, tokens_by, has_sound_lines, are_tokens}
-use Rattle.gms_laws.proofs.ShortNumerals.{is_short, short_means, left, right}
-
-pub both_true : (a b : Bool) → a ≡ true → b ≡ true → (a && b) ≡ true
-both_true true b h k = k
-both_true false b h k = absurd (cc)
-
--- ---- one token
+use Rattle.gms_laws.proofs.ShortNumerals.{is_short, short_means, right}
 
 abbrev pub is_no : Terminal → KindedToken → Bool
 is_no kind token = not (is kind token.0)
@@ -61,11 +56,11 @@ parts source walk token ahead h =
     let h3 = right (nat_lt (length walk.names) most_labels) _ h2 in
     let h4 = right (nat_lt (length walk.labels + length (new_labels source walk token ahead)) most_labels) _ h3 in
     record {
-      parens = left (is_no LeftParen token || nat_lt walk.open_count 100) _ h;
-      number = left (is_no Number token || is_short (token_text source token.1)) _ h1;
-      names = ltb-true (length walk.names) most_labels (left (nat_lt (length walk.names) most_labels) _ h2);
-      labels = ltb-true (length walk.labels + length (new_labels source walk token ahead)) most_labels (left (nat_lt (length walk.labels + length (new_labels source walk token ahead)) most_labels) _ h3);
-      no_line = left (is_no TableLine token) _ h4;
+      parens = (and_parts (is_no LeftParen token || nat_lt walk.open_count 100) _ h).0;
+      number = (and_parts (is_no Number token || is_short (token_text source token.1)) _ h1).0;
+      names = ltb-true (length walk.names) most_labels ((and_parts (nat_lt (length walk.names) most_labels) _ h2).0);
+      labels = ltb-true (length walk.labels + length (new_labels source walk token ahead)) most_labels ((and_parts (nat_lt (length walk.labels + length (new_labels source walk token ahead)) most_labels) _ h3).0);
+      no_line = (and_parts (is_no TableLine token) _ h4).0;
       no_head = right (is_no TableLine token) _ h4;
     }
 
@@ -154,7 +149,7 @@ module _ (limit : ℕ) (wide : 10 ^ 9 ≤ limit) (source : List ℕ) where
   sound_all walk (token ∷ tokens) ahead h =
       let here = is_sound source walk token (kind_ahead tokens ahead) in
       let next = reader_after source walk token (kind_ahead tokens ahead) in (
-        faultless walk token (kind_ahead tokens ahead) (parts source walk token (kind_ahead tokens ahead) (left here (all_sound source next tokens ahead) h)),
+        faultless walk token (kind_ahead tokens ahead) (parts source walk token (kind_ahead tokens ahead) ((and_parts here (all_sound source next tokens ahead) h).0)),
         sound_all next tokens ahead (right here (all_sound source next tokens ahead) h),
       )
 
@@ -168,13 +163,13 @@ module _ (limit : ℕ) (wide : 10 ^ 9 ≤ limit) (source : List ℕ) where
       by (line ∷ lines) k =
           let test = is_no TableLine in
           let all : list_all test ((k.before ++ (line ∷ lines)) ++ k.behind) ≡ true = subst (λ (ts : List KindedToken). list_all test ts ≡ true) k.parts none in
-          let front : list_all test (k.before ++ (line ∷ lines)) ≡ true = left _ (list_all test k.behind) (sym (list_all-append test (k.before ++ (line ∷ lines)) k.behind) ∙ all) in
+          let front : list_all test (k.before ++ (line ∷ lines)) ≡ true = (and_parts _ (list_all test k.behind) (sym (list_all-append test (k.before ++ (line ∷ lines)) k.behind) ∙ all)).0 in
           let behind : list_all test (line ∷ lines) ≡ true = right (list_all test k.before) _ (sym (list_all-append test k.before (line ∷ lines)) ∙ front) in
-          no_other TableLine line.0 (All-head (λ (token : KindedToken). token.0 ≡ TableLine) line lines k.are_lines) refl (left (test line) _ behind)
+          no_other TableLine line.0 (All-head (λ (token : KindedToken). token.0 ≡ TableLine) line lines k.are_lines) refl ((and_parts (test line) _ behind).0)
 
   pub has_program : (pieces : List Lexeme) (tree : DerivationTree KindedToken) (rest : List KindedToken) → nat_le (length source) most_source_bytes ≡ true → has_sound_lines source ≡ true → Make Code (code_text source) pieces → IsTree productions (the Program) tree × (kinded_tokens source (tokens_by source pieces) ≡ yield tree ++ rest) → passes source tree rest ≡ true → HasProgram limit source (view_of source tree)
   has_program pieces tree rest short lines make read h =
-      let e = ended rest (left (is_end rest) _ h) in
+      let e = ended rest ((and_parts (is_end rest) _ h).0) in
       let others = right (is_end rest) _ h in
       let sound = sound_all start (yield tree) End (right (has_no_table (yield tree)) _ others) in
       let walk = reader_after_all source start (yield tree) End in
@@ -190,7 +185,7 @@ module _ (limit : ℕ) (wide : 10 ^ 9 ≤ limit) (source : List ℕ) where
           are_sound = sound;
           names_are = refl;
           labels_are = refl;
-          tables = no_items walk.labels (yield tree) (left (has_no_table (yield tree)) _ others);
+          tables = no_items walk.labels (yield tree) ((and_parts (has_no_table (yield tree)) _ others).0);
           statements_are = refl;
         };
       }

@@ -1,4 +1,5 @@
 -- The program of a source, computed.
+use Rattle.std.proofs.lemmas.Bool.{and_from, and_parts}
 use Rattle.std.proofs.Common.{◌≡◌, ℕ, ◌+◌, ◌^◌, ◌≤◌, ◌==◌, ◌&&◌, Bool, true, false, nat_le, List, [], ◌∷◌, ◌++◌, length, map, refl, sym, ap, ap₂, ◌∙◌, subst, arith, eqb-true, length-append}
 use Rattle.std.proofs.lemmas.List.{map-append}
 use Rattle.gms_lines.specs.Lines.{code_text}
@@ -17,8 +18,8 @@ use Rattle.gms_parse.specs.Programs.{statements_of}
 use Rattle.gms_parse.specs.Walks.{KindedToken, ReaderState, start, reader_after_all}
 use Rattle.gms_laws.proofs.LocalTexts.{local_statements, same_statements}
 use Rattle.gms_laws.proofs.SourcePieces.{Make, tokens_by, has_sound_lines}
-use Rattle.gms_laws.proofs.ShortNumerals.{left, right}
-use Rattle.gms_laws.proofs.SoundTokens.{has_no_table, is_end, all_sound, ended, has_program, both_true}
+use Rattle.gms_laws.proofs.ShortNumerals.{right}
+use Rattle.gms_laws.proofs.SoundTokens.{has_no_table, is_end, all_sound, ended, has_program}
 use Rattle.gms_laws.proofs.TextedTokens.{Texted, AreTexts, texted, texts_right, tokens_texted, seen_one, seen_texted, left_by_texts, left_is, sound_by, sound_is}
 
 -- ---- lists
@@ -34,7 +35,7 @@ equal [] [] h = refl
 equal [] (b ∷ bs) h = absurd (cc)
 equal (a ∷ cs) [] h = absurd (cc)
 equal (a ∷ cs) (b ∷ bs) h =
-    ap₂ (λ (x : ℕ) (xs : List ℕ). x ∷ xs) (eqb-true a b (left (a == b) (same_text cs bs) h)) (equal cs bs (right (a == b) (same_text cs bs) h))
+    ap₂ (λ (x : ℕ) (xs : List ℕ). x ∷ xs) (eqb-true a b ((and_parts (a == b) (same_text cs bs) h).0)) (equal cs bs (right (a == b) (same_text cs bs) h))
 
 -- before their last elements equal lists are equal
 same_before : (xs ys : List KindedToken) (x y : KindedToken) → xs ++ x ∷ [] ≡ ys ++ y ∷ [] → xs ≡ ys
@@ -92,15 +93,15 @@ module _ (limit : ℕ) (wide : 10 ^ 9 ≤ limit) (source : List ℕ) (plain : is
 
   pub program_by : (tree : DerivationTree KindedToken) (rest : List KindedToken) → IsTree productions (the Program) tree × (all_seen source ts ≡ yield tree ++ rest) → is_whole source ts rest ≡ true → HasProgram limit source (view_by source ts tree)
   program_by tree rest read h =
-      let end_is = left (is_end rest) _ h in
+      let end_is = (and_parts (is_end rest) _ h).0 in
       let tests = right (is_end rest) _ h in
-      let no_table = left (has_no_table (map seen_one ts)) _ tests in
+      let no_table = (and_parts (has_no_table (map seen_one ts)) _ tests).0 in
       let sound = right (has_no_table (map seen_one ts)) _ tests in
       let e = ended rest end_is in
       let yields : map seen_one ts ≡ yield tree = same_before (map seen_one ts) (yield tree) (End, end_token source) (End, e.end) (read.1 ∙ ap (λ (us : List KindedToken). yield tree ++ us) e.is) in
       let all : all_sound source start (yield tree) End ≡ true = subst (λ (us : List KindedToken). all_sound source start us End ≡ true) yields (sound_is source start ts End texts sound) in
       let none : has_no_table (yield tree) ≡ true = subst (λ (us : List KindedToken). has_no_table us ≡ true) yields no_table in
-      let has = has_program limit wide source pieces tree rest (left (nat_le (length source) most_source_bytes) _ plain) (left (has_sound_lines source) _ others) make (read.0, seen_is ∙ read.1) (both_true _ _ end_is (both_true _ _ none all)) in
+      let has = has_program limit wide source pieces tree rest ((and_parts (nat_le (length source) most_source_bytes) _ plain).0) ((and_parts (has_sound_lines source) _ others).0) make (read.0, seen_is ∙ read.1) (and_from _ _ end_is (and_from _ _ none all)) in
       let walk : reader_after_all source start (yield tree) End ≡ left_by_texts source start ts End = ap (λ (us : List KindedToken). reader_after_all source start us End) (sym yields) ∙ sym (left_is source start ts End texts) in
       let behind = left_by_texts source start ts End in
       subst (λ (ss : Statements Number). HasProgram limit source (record { names = behind.names; labels = behind.labels; statements = ss })) (sym (same_statements source behind.names behind.labels tree))

@@ -1,5 +1,6 @@
 -- Tokens beside their texts: what tokens leave, and that they have no fault, computed without
 -- looking into the source.
+use Rattle.std.proofs.lemmas.Bool.{and_from, and_parts}
 use Rattle.std.proofs.Common.{◌≡◌, ℕ, ◌+◌, ◌-◌, ◌&&◌, ◌||◌, Bool, true, not, nat_lt, List, [], ◌∷◌, ◌++◌, length, map, take, drop, Option, Some, None, refl, sym, ap, ap₂, ◌∙◌, subst, arith}
 use Rattle.std.specs.Prelude.{if◌then◌else◌}
 use Rattle.std.proofs.lemmas.List.{drop-drop}
@@ -20,8 +21,8 @@ use Rattle.gms_expressions.specs.Outcomes.{kinded_tokens, open_after}
 use Rattle.gms_expressions.specs.Words.{terminal_of}
 use Rattle.gms_parse.specs.Tables.{labels_of_lines}
 use Rattle.gms_parse.specs.Walks.{KindedToken, ReaderState, is_keyword, is_name, is_index, range_start, list_labels, range_texts, lines_with, new_labels, reader_after, reader_after_all}
-use Rattle.gms_laws.proofs.ShortNumerals.{is_short, left, right}
-use Rattle.gms_laws.proofs.SoundTokens.{is_no, all_sound, both_true}
+use Rattle.gms_laws.proofs.ShortNumerals.{is_short, right}
+use Rattle.gms_laws.proofs.SoundTokens.{is_no, all_sound}
 
 -- ---- tokens with their texts
 
@@ -166,10 +167,10 @@ sound_is source walk (t ∷ ts) ahead h s =
     let token = seen_one t in
     let test = sound_with t.1 (labels_by source t.1 walk token next) walk token in
     let both = subst (λ (k : Terminal). (sound_with t.1 (labels_by source t.1 walk token k) walk token && sound_by source (walk_by source t.1 walk token k) ts ahead) ≡ true) (ahead_is ts ahead) s in
-    let here : test ≡ true = left test _ both in
+    let here : test ≡ true = (and_parts test _ both).0 in
     let others = right test _ both in
     let plain : sound_with (token_text source t.0) (labels_by source (token_text source t.0) walk token next) walk token ≡ true =
     subst (λ (x : List ℕ). sound_with x (labels_by source x walk token next) walk token ≡ true) (sym h.0) here in
     let sound = subst (λ (ls : List (List ℕ)). sound_with (token_text source t.0) ls walk token ≡ true) (labels_is source walk token next) plain in
     let rest : all_sound source (walk_by source t.1 walk token next) (map seen_one ts) ahead ≡ true = sound_is source (walk_by source t.1 walk token next) ts ahead h.1 others in
-    both_true _ _ sound (subst (λ (w : ReaderState). all_sound source w (map seen_one ts) ahead ≡ true) (walk_is source t.1 walk token next h.0) rest)
+    and_from _ _ sound (subst (λ (w : ReaderState). all_sound source w (map seen_one ts) ahead ≡ true) (walk_is source t.1 walk token next h.0) rest)

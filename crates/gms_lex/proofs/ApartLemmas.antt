@@ -1,5 +1,6 @@
 -- Between the tokens of a source there are blanks, line ends and descriptive texts, and a line end
 -- is a token if it ends something.
+use Rattle.std.proofs.lemmas.Bool.{not-true}
 use Rattle.std.proofs.Common.{◌≡◌, inl, inr, ℕ, ◌+◌, ◌-◌, ◌==◌, ◌≤◌, ◌&&◌, ◌||◌, Bool, true, false, not, nat_lt, nat_le, if◌then◌else◌, List, [], ◌∷◌, ◌++◌, length, take, drop, Ok, Err, refl, sym, ap, ◌∙◌, subst, arith, append_assoc, append-nil}
 use Rattle.std.proofs.lemmas.Bool.Decides.{nat_tests}
 use Rattle.std.proofs.lemmas.List.{length-drop, drop-drop}
@@ -186,17 +187,13 @@ breaks current text n e =
 
 -- ---- no other is one
 
-not_true : (b : Bool) → not b ≡ true → b ≡ false
-not_true true h = cc
-not_true false h = refl
-
 item_goes : (text : List ℕ) → IsEnding EndItem text → ends_or_begins (passes EndItem) text ≡ false
 item_goes [] h = not_both false h refl
-item_goes (b ∷ text) h = not_true (passes EndItem b) h
+item_goes (b ∷ text) h = not-true (passes EndItem b) h
 
 element_goes : (text : List ℕ) → IsEnding EndElement text → ends_or_begins (passes EndElement) text ≡ false
 element_goes [] h = not_both false h refl
-element_goes (b ∷ text) h = not_true (passes EndElement b) h
+element_goes (b ∷ text) h = not-true (passes EndElement b) h
 
 line_end_is : (ends : LineEnds) (text : List ℕ) → IsEnding ends (drop (space_length text) text) → line_end ends text ≡ Ok (break_of (line_end_length text))
 line_end_is Skipped text h = absurd h

@@ -1,17 +1,10 @@
 -- The start of a text: how many of its bytes pass a test, and with what it begins.
+use Rattle.std.proofs.lemmas.Bool.{and_from, and_parts}
 use Rattle.std.proofs.Common.{◌≡◌, inl, inr, ℕ, zero, suc, ◌+◌, ◌<◌, ◌≤◌, ◌&&◌, Bool, true, false, cond, List, [], ◌∷◌, ◌++◌, length, take, refl, sym, ap, subst, arith}
 use Rattle.std.specs.List.{prefix_len, list_all}
 use Rattle.gms_lines.specs.Lines.{begins}
 use Rattle.gms_lines.proofs.LineLemmas.{true_or_false}
 
-pub both_true : (a b : Bool) → (a && b) ≡ true → (a ≡ true) × (b ≡ true)
-both_true true b h = (refl, h)
-both_true false b h = cc
-
-pub and_true : (a b : Bool) → a ≡ true → b ≡ true → (a && b) ≡ true
-and_true a b p q = subst (λ v. (v && b) ≡ true) (sym p) q
-
--- a test has one answer
 pub not_both : {A : Type 0} (b : Bool) → b ≡ true → b ≡ false → A
 not_both true h g = absurd (cc)
 not_both false h g = absurd (cc)
@@ -21,11 +14,11 @@ pub front_most : (test : ℕ → Bool) (n : ℕ) (text : List ℕ) → n ≤ len
 front_most test zero text le h = omega arith
 front_most test (suc n) [] le h = absurd (omega arith)
 front_most test (suc n) (b ∷ text) le h =
-    let both = both_true (test b) (list_all test (take n text)) h in
+    let both = and_parts (test b) (list_all test (take n text)) h in
     subst (λ v. suc n ≤ cond v (1 + prefix_len test text) 0) (sym both.0) (omega (arith, front_most test n text (omega arith) both.1))
 
 front_cons : (test : ℕ → Bool) (b : ℕ) (text : List ℕ) (n : ℕ) → test b ≡ true → list_all test (take n text) ≡ true → list_all test (take (1 + n) (b ∷ text)) ≡ true
-front_cons test b text n t h = subst (λ k. list_all test (take k (b ∷ text)) ≡ true) (let e : suc n ≡ 1 + n = omega arith in e) (and_true (test b) (list_all test (take n text)) t h)
+front_cons test b text n t h = subst (λ k. list_all test (take k (b ∷ text)) ≡ true) (let e : suc n ≡ 1 + n = omega arith in e) (and_from (test b) (list_all test (take n text)) t h)
 
 -- a run of bytes that pass passes
 pub front_all : (test : ℕ → Bool) (text : List ℕ) → list_all test (take (prefix_len test text) text) ≡ true
@@ -39,7 +32,7 @@ front_all test (b ∷ text) = elim (true_or_false (test b)) [
 pub run_over : (test : ℕ → Bool) (front text : List ℕ) → list_all test front ≡ true → prefix_len test (front ++ text) ≡ length front + prefix_len test text
 run_over test [] text h = omega arith
 run_over test (b ∷ front) text h =
-    let both = both_true (test b) (list_all test front) h in
+    let both = and_parts (test b) (list_all test front) h in
     let longer : prefix_len test (b ∷ (front ++ text)) ≡ 1 + prefix_len test (front ++ text) = ap (λ v. cond v (1 + prefix_len test (front ++ text)) 0) both.0 in
     omega (arith, longer, run_over test front text both.1)
 

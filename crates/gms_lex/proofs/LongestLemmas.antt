@@ -1,4 +1,5 @@
 -- The first piece of a text is the longest token, or text, that the mode allows there.
+use Rattle.std.proofs.lemmas.Bool.{and_from, and_parts, not-true}
 use Rattle.std.proofs.Common.{◌≡◌, ◌⊎◌, inl, inr, ℕ, zero, suc, ◌+◌, ◌==◌, ◌<◌, ◌≤◌, ◌&&◌, ◌||◌, Bool, true, false, not, nat_lt, nat_le, if◌then◌else◌, List, [], ◌∷◌, ◌++◌, length, take, drop, Ok, Err, refl, sym, ap, ◌∙◌, subst, arith, length-append, length-take}
 use Rattle.std.proofs.lemmas.Bool.Decides.{nat_tests}
 use Rattle.std.proofs.lemmas.List.{length-take-le}
@@ -32,12 +33,12 @@ use Rattle.gms_lex.specs.Pieces.{passes, ends_or_begins, begins_other, space_len
 use Rattle.gms_lex.specs.Spellings.{IsWord, IsLabel, IsQuoted, IsText, IsSymbol, IsNumberSpelling}
 use Rattle.gms_lex.specs.Longest.{IsCode, IsElementPiece, IsMarkOrText, IsValuePiece, IsBehindElement, IsInList, IsOfTable, IsAllowedPiece, has_text, IsLongest, IsRefusedPiece}
 use Rattle.gms_lex.specs.Apart.{is_space, IsOneLineEnd}
-use Rattle.gms_lex.proofs.FrontLemmas.{both_true, and_true, not_both, front_most, front_all, begins_take, begins_front, begins_apart}
+use Rattle.gms_lex.proofs.FrontLemmas.{not_both, front_most, front_all, begins_take, begins_front, begins_apart}
 use Rattle.gms_lex.proofs.NumberLemmas.{number_most, number_begins, number_positive, number_spelled}
 use Rattle.gms_lex.specs.TokenTexts.{unquoted}
 use Rattle.gms_lex.proofs.UnquotedLemmas.{unquoted_same}
 use Rattle.gms_lex.proofs.SymbolLemmas.{is_outside, symbol_outside, point_symbol}
-use Rattle.gms_lex.proofs.LongestTexts.{Allowing, IsMost, IsRefusedBy, IsLongestRead, if_longest, quoted_begins, not_true, bad_byte, quoted_longest, symbol_longest, symbol_front, remark_longest}
+use Rattle.gms_lex.proofs.LongestTexts.{Allowing, IsMost, IsRefusedBy, IsLongestRead, if_longest, quoted_begins, bad_byte, quoted_longest, symbol_longest, symbol_front, remark_longest}
 
 -- ---- bytes of two kinds
 
@@ -89,7 +90,7 @@ number_front text h = elim (true_or_false (begins is_ascii_digit text)) [
   | inl d ↦ inl d
   | inr d ↦
       let dot : (begins_dot text && begins is_ascii_digit (drop 1 text)) ≡ true = subst (λ v. (v || (begins_dot text && begins is_ascii_digit (drop 1 text))) ≡ true) d h in
-      let both = both_true (begins_dot text) (begins is_ascii_digit (drop 1 text)) dot in
+      let both = and_parts (begins_dot text) (begins is_ascii_digit (drop 1 text)) dot in
       inr (d, both.0, both.1)
 ]
 
@@ -387,7 +388,7 @@ digit_first (b ∷ text) h = digit_no_dot b h
 no_value_dot : (text : List ℕ) (n : ℕ) → (begins_dot text && begins is_ascii_digit (drop 1 text)) ≡ false → IsNumberSpelling (take n text) (drop n text) → begins_dot text ≡ false
 no_value_dot text n none number = elim (number_front text (number_begins n text number)) [
   | inl d ↦ digit_first text d
-  | inr both ↦ not_both (begins_dot text && begins is_ascii_digit (drop 1 text)) (and_true (begins_dot text) (begins is_ascii_digit (drop 1 text)) both.1 both.2) none
+  | inr both ↦ not_both (begins_dot text && begins is_ascii_digit (drop 1 text)) (and_from (begins_dot text) (begins is_ascii_digit (drop 1 text)) both.1 both.2) none
 ]
 
 and_false : (b : Bool) → (b && true) ≡ false → b ≡ false
@@ -399,7 +400,7 @@ parameter_after : (text : List ℕ) → IsLongestRead (λ piece n. IsValuePiece 
 parameter_after text =
     let allowed : Allowing = λ piece n. IsValuePiece After piece (take n text) (drop n text) in
     if_longest allowed text (begins is_element_mark text && true) _ _
-    (λ mark. symbol_longest allowed text (λ s n h. h) (λ other n le h. after_number other n text h (both_true (begins is_element_mark text) true mark).0))
+    (λ mark. symbol_longest allowed text (λ s n h. h) (λ other n le h. after_number other n text h (and_parts (begins is_element_mark text) true mark).0))
     (λ mark.
     let none : begins_dot text ≡ false = no_mark_no_dot text (and_false (begins is_element_mark text) mark) in
     code_longest allowed Label text is_label_quoted (λ piece n h. code_value piece (take n text) (drop n text) (front_no_dot n text none) h) (λ other n le h. value_spelled After other (take n text) (drop n text) h))
@@ -411,15 +412,15 @@ parameter_spaced text =
     let value : Bool = begins_dot text && begins is_ascii_digit (drop 1 text) in
     if_longest allowed text (begins is_element_mark text && not value) _ _
     (λ mark.
-    let both = both_true (begins is_element_mark text) (not value) mark in
-    symbol_longest allowed text (λ s n h. h) (λ other n le h. mark_only text both.0 n (no_value_dot text n (not_true value both.1)) (code_spelled Label other (take n text) (drop n text) h)))
+    let both = and_parts (begins is_element_mark text) (not value) mark in
+    symbol_longest allowed text (λ s n h. h) (λ other n le h. mark_only text both.0 n (no_value_dot text n (not-true value both.1)) (code_spelled Label other (take n text) (drop n text) h)))
     (λ _. code_longest allowed Label text is_label_quoted (λ piece n h. h) (λ other n le h. code_spelled Label other (take n text) (drop n text) h))
 
 -- in a list of another shape outside parentheses
 other_behind : (text : List ℕ) → IsLongestRead (λ piece n. IsMarkOrText is_element_mark piece (take n text)) text (if begins is_element_mark text && true then symbol text else remark text)
 other_behind text =
     if_longest (λ piece n. IsMarkOrText is_element_mark piece (take n text)) text (begins is_element_mark text && true) _ _
-    (λ mark. mark_longest is_element_mark text (both_true (begins is_element_mark text) true mark).0)
+    (λ mark. mark_longest is_element_mark text (and_parts (begins is_element_mark text) true mark).0)
     (λ mark. text_longest is_element_mark text (and_false (begins is_element_mark text) mark))
 
 -- what begins with a mark, and is spelled as a token of a list, is a symbol
@@ -433,7 +434,7 @@ inside_longest : (text : List ℕ) → IsLongestRead (λ piece n. IsElementPiece
 inside_longest text =
     let allowed : Allowing = λ piece n. IsElementPiece piece (take n text) in
     if_longest allowed text (begins is_element_mark text && true) _ _
-    (λ mark. symbol_longest allowed text (λ s n h. h) (λ other n le h. element_mark_only text (both_true (begins is_element_mark text) true mark).0 n (element_spelled other (take n text) h)))
+    (λ mark. symbol_longest allowed text (λ s n h. h) (λ other n le h. element_mark_only text (and_parts (begins is_element_mark text) true mark).0 n (element_spelled other (take n text) h)))
     (λ _. element_longest allowed text (λ piece n h. h) (λ other n le h. element_spelled other (take n text) h))
 
 due_longest : (text : List ℕ) → IsLongestRead (λ piece n. IsElementPiece piece (take n text)) text (label_token text)
@@ -646,8 +647,8 @@ plain_tells current text = read_tells (IsAllowedPiece current text) text (token_
 all_more : (one other : ℕ → Bool) → ((b : ℕ) → one b ≡ true → other b ≡ true) → (text : List ℕ) → list_all one text ≡ true → list_all other text ≡ true
 all_more one other grows [] h = refl
 all_more one other grows (b ∷ text) h =
-    let both = both_true (one b) (list_all one text) h in
-    and_true (other b) (list_all other text) (grows b both.0) (all_more one other grows text both.1)
+    let both = and_parts (one b) (list_all one text) h in
+    and_from (other b) (list_all other text) (grows b both.0) (all_more one other grows text both.1)
 
 blank_space : (b : ℕ) → is_blank b ≡ true → is_space b ≡ true
 blank_space b h = ap (λ v. v || (b == 10 || b == 13)) h
@@ -705,7 +706,7 @@ space_space (b ∷ text) = elim (true_or_false (begins_other (b ∷ text))) [
   | inl t ↦ subst (λ v. list_all is_space (take (if v then 0 else 1 + before begins_other text) (b ∷ text)) ≡ true) (sym t) refl
   | inr f ↦
       let long : suc (before begins_other text) ≡ 1 + before begins_other text = omega arith in
-      let here : list_all is_space (take (1 + before begins_other text) (b ∷ text)) ≡ true = subst (λ k. list_all is_space (take k (b ∷ text)) ≡ true) long (and_true (is_space b) (list_all is_space (take (before begins_other text) text)) (other_space b (begins (λ c. c == 10) text) f) (space_space text)) in
+      let here : list_all is_space (take (1 + before begins_other text) (b ∷ text)) ≡ true = subst (λ k. list_all is_space (take k (b ∷ text)) ≡ true) long (and_from (is_space b) (list_all is_space (take (before begins_other text) text)) (other_space b (begins (λ c. c == 10) text) f) (space_space text)) in
       subst (λ v. list_all is_space (take (if v then 0 else 1 + before begins_other text) (b ∷ text)) ≡ true) (sym f) here
 ]
 

@@ -1,5 +1,6 @@
 -- The longest quoted text, symbol or descriptive text with which a text may begin, or why it begins
 -- with none.
+use Rattle.std.proofs.lemmas.Bool.{and_parts, not-false, not-true}
 use Rattle.std.proofs.Common.{◌≡◌, ◌⊎◌, inl, inr, ℕ, zero, suc, ◌+◌, ◌==◌, ◌<◌, ◌≤◌, ◌&&◌, ◌||◌, Bool, true, false, not, nat_lt, if◌then◌else◌, List, [], ◌∷◌, ◌++◌, length, take, drop, Option, Some, None, option_map, find, Ok, Err, refl, sym, ap, ◌∙◌, subst, arith, append_assoc, length-append, get_or}
 use Rattle.std.proofs.lemmas.Bool.Decides.{nat_tests}
 use Rattle.std.proofs.lemmas.List.{get_or-take, length-take-le, take-append-drop}
@@ -20,7 +21,7 @@ use Rattle.gms_lines.specs.Shapes.{Read, longest_label, symbol_read, symbol, quo
 use Rattle.gms_lines.proofs.WithinLemmas.{closed_more}
 use Rattle.gms_lex.specs.Spellings.{IsQuoted, IsUnquotedText, IsText, IsSymbol}
 use Rattle.gms_lex.specs.Longest.{IsUnlawful}
-use Rattle.gms_lex.proofs.FrontLemmas.{both_true, not_both, front_most, front_all, run_over, run_stops, begins_take, begins_front}
+use Rattle.gms_lex.proofs.FrontLemmas.{not_both, front_most, front_all, run_over, run_stops, begins_take, begins_front}
 use Rattle.gms_lex.proofs.UnquotedLemmas.{unquoted_inner}
 use Rattle.gms_lex.proofs.SymbolLemmas.{is_outside, symbol_length, symbol_outside, IsFirstSymbol, found_first, none_first}
 
@@ -86,14 +87,6 @@ quoted_spelled mark text quote closed =
       spelled = ap (λ t. mark ∷ t) front;
     }
 
-not_false : (b : Bool) → not b ≡ false → b ≡ true
-not_false true h = refl
-not_false false h = cc
-
-pub not_true : (b : Bool) → not b ≡ true → b ≡ false
-not_true true h = cc
-not_true false h = refl
-
 marks_same : (mark : ℕ) → (mark == mark) ≡ true
 marks_same mark = grind (arith, nat_tests)
 
@@ -129,15 +122,15 @@ quoted_longest allowed piece (mark ∷ text) quote may others =
     let inner : ℕ = quoted_length mark text in
     let plain : ℕ = prefix_len is_ascii (take inner text) in
     if_longest allowed (mark ∷ text) (not (is_closed mark text)) _ _
-    (λ unclosed. inl (λ other n le h. not_both (is_closed mark text) (closed_by mark n text (others other n le h)) (not_true _ unclosed)))
+    (λ unclosed. inl (λ other n le h. not_both (is_closed mark text) (closed_by mark n text (others other n le h)) (not-true _ unclosed)))
     (λ closed.
-    let shut : is_closed mark text ≡ true = not_false _ closed in
+    let shut : is_closed mark text ≡ true = not-false _ closed in
     let below : inner < length text = closed_more mark text shut in
     let whole : Lexeme = record { piece = piece; length = inner + 2 } in
     let most : IsMost allowed (mark ∷ text) whole = (may (inner + 2) (quoted_spelled mark text quote shut), λ other n le h. quoted_most mark n text le (others other n le h)) in
     if_longest allowed (mark ∷ text) (is_label piece && nat_lt longest_label inner) _ _
     (λ long.
-    let over : nat_lt longest_label inner ≡ true = (both_true (is_label piece) (nat_lt longest_label inner) long).1 in
+    let over : nat_lt longest_label inner ≡ true = (and_parts (is_label piece) (nat_lt longest_label inner) long).1 in
     let many : longest_label < inner = grind (arith, nat_tests, over) in
     inr (whole, most, inl (refl, subst (λ n. longest_label < n) (sym (unquoted_inner mark text inner quote below)) many)))
     (λ _. if_longest allowed (mark ∷ text) (nat_lt plain inner) _ _

@@ -1,4 +1,5 @@
 -- The number with which a text begins is spelled as a number, and is the longest.
+use Rattle.std.proofs.lemmas.Bool.{and_from, and_parts, not-true}
 use Rattle.std.proofs.Common.{◌≡◌, ◌⊎◌, inl, inr, ℕ, suc, ◌+◌, ◌==◌, ◌<◌, ◌≤◌, ◌&&◌, ◌||◌, Bool, true, false, not, cond, if◌then◌else◌, List, [], ◌∷◌, ◌++◌, length, take, drop, refl, sym, ap, ◌∙◌, subst, arith, append_assoc, length-append}
 use Rattle.std.proofs.lemmas.Bool.Decides.{nat_tests}
 use Rattle.std.proofs.lemmas.List.{drop-drop, take-append-drop, length-take-le}
@@ -13,7 +14,7 @@ use Rattle.gms_lines.specs.Numbers.{digit_count, begins_dot, begins_number, poin
 use Rattle.gms_lines.proofs.WithinLemmas.{run_within}
 use Rattle.gms_lex.specs.Spellings.{AreSomeDigits, IsPoint, IsPower, IsExponentSpelling, IsNumberSpelling}
 use Rattle.gms_lex.proofs.LineTextLemmas.{length-take_most}
-use Rattle.gms_lex.proofs.FrontLemmas.{both_true, and_true, not_both, front_all, run_over, run_stops, begins_append}
+use Rattle.gms_lex.proofs.FrontLemmas.{not_both, front_all, run_over, run_stops, begins_append}
 
 digit_no_sign : (b : ℕ) → is_ascii_digit b ≡ true → is_sign b ≡ false
 digit_no_sign b h = grind (arith, nat_tests, h)
@@ -40,7 +41,7 @@ exponent_at : (b : ℕ) (text : List ℕ) (sign : ℕ) (digits : List ℕ) → (
 exponent_at b text sign digits letter signed rest some =
     let behind : List ℕ = drop (1 + sign_length text) (b ∷ text) in
     let is : behind ≡ digits = ap (λ k. drop k (b ∷ text)) (let e : 1 + sign_length text ≡ suc sign = omega (arith, signed) in e) ∙ rest in
-    let test : ((b == 101 || b == 69) && begins is_ascii_digit behind) ≡ true = and_true (b == 101 || b == 69) (begins is_ascii_digit behind) letter (ap (begins is_ascii_digit) is ∙ some) in
+    let test : ((b == 101 || b == 69) && begins is_ascii_digit behind) ≡ true = and_from (b == 101 || b == 69) (begins is_ascii_digit behind) letter (ap (begins is_ascii_digit) is ∙ some) in
     let long : exponent_length (b ∷ text) ≡ 1 + sign_length text + digit_count behind = ap (λ v. if v then 1 + sign_length text + digit_count behind else 0) test in
     omega (arith, long, signed, ap digit_count is)
 
@@ -68,7 +69,7 @@ number_at text whole point rest more digits behind dot after =
 -- how many bytes a dot takes that no other dot follows, with the digits after it
 point_at : (b : ℕ) (rest : List ℕ) → b ≡ 46 → begins_dot rest ≡ false → point_length (b ∷ rest) ≡ 1 + digit_count rest
 point_at b rest dot none =
-    let test : (begins_dot (b ∷ rest) && not (begins_dot rest)) ≡ true = and_true (begins_dot (b ∷ rest)) (not (begins_dot rest)) (is_dot b dot) (ap not none) in
+    let test : (begins_dot (b ∷ rest) && not (begins_dot rest)) ≡ true = and_from (begins_dot (b ∷ rest)) (not (begins_dot rest)) (is_dot b dot) (ap not none) in
     ap (λ v. if v then 1 + digit_count rest else 0) test
 
 no_point : (b : ℕ) (rest : List ℕ) → (b == 46) ≡ false → point_length (b ∷ rest) ≡ 0
@@ -77,7 +78,7 @@ no_point b rest other = ap (λ v. if v && not (begins_dot rest) then 1 + digit_c
 -- no dot follows digits, of which there may be none
 digits_then : (digits rest : List ℕ) → list_all is_ascii_digit digits ≡ true → (digits ≡ [] → begins_dot rest ≡ false) → begins_dot (digits ++ rest) ≡ false
 digits_then [] rest h none = none refl
-digits_then (d ∷ digits) rest h none = digit_no_dot d (both_true (is_ascii_digit d) (list_all is_ascii_digit digits) h).0
+digits_then (d ∷ digits) rest h none = digit_no_dot d (and_parts (is_ascii_digit d) (list_all is_ascii_digit digits) h).0
 
 -- a dot and digits, before an exponent
 pointed : (whole : List ℕ) (b : ℕ) (digits exponent behind : List ℕ) → list_all is_ascii_digit whole ≡ true → b ≡ 46 → list_all is_ascii_digit digits ≡ true → IsExponentSpelling exponent → begins_dot (digits ++ (exponent ++ behind)) ≡ false → length whole + (suc (length digits) + length exponent) ≤ number_length (whole ++ (b ∷ (digits ++ (exponent ++ behind))))
@@ -127,13 +128,13 @@ number_most n text le h =
 -- a number begins as one
 parts_begin : (whole point rest : List ℕ) → list_all is_ascii_digit whole ≡ true → IsPoint point → (0 < length whole) ⊎ (1 < length point) → begins_number (whole ++ (point ++ rest)) ≡ true
 parts_begin (d ∷ whole) point rest all fraction some =
-    ap (λ v. v || (d == 46 && begins is_ascii_digit (whole ++ (point ++ rest)))) (both_true (is_ascii_digit d) (list_all is_ascii_digit whole) all).0
+    ap (λ v. v || (d == 46 && begins is_ascii_digit (whole ++ (point ++ rest)))) (and_parts (is_ascii_digit d) (list_all is_ascii_digit whole) all).0
 parts_begin [] [] rest all fraction (inl some) = absurd (omega arith)
 parts_begin [] [] rest all fraction (inr some) = absurd (omega arith)
 parts_begin [] (b ∷ []) rest all fraction (inl some) = absurd (omega arith)
 parts_begin [] (b ∷ []) rest all fraction (inr some) = absurd (omega arith)
 parts_begin [] (b ∷ d ∷ digits) rest all fraction some =
-    let test : (b == 46 && is_ascii_digit d) ≡ true = and_true (b == 46) (is_ascii_digit d) (is_dot b fraction.0) (both_true (is_ascii_digit d) (list_all is_ascii_digit digits) fraction.1).0 in
+    let test : (b == 46 && is_ascii_digit d) ≡ true = and_from (b == 46) (is_ascii_digit d) (is_dot b fraction.0) (and_parts (is_ascii_digit d) (list_all is_ascii_digit digits) fraction.1).0 in
     ap (λ v. v || (b == 46 && is_ascii_digit d)) (dot_no_digit b fraction.0) ∙ test
 
 pub number_begins : (n : ℕ) (text : List ℕ) → IsNumberSpelling (take n text) (drop n text) → begins_number text ≡ true
@@ -183,7 +184,7 @@ exponent_spelled (b ∷ text) =
     let is : behind ≡ drop sign text = ap (λ k. drop k (b ∷ text)) (let e : 1 + sign ≡ suc sign = omega arith in e) in
     elim (true_or_false ((b == 101 || b == 69) && begins is_ascii_digit behind)) [
       | inl t ↦
-          let both = both_true (b == 101 || b == 69) (begins is_ascii_digit behind) t in
+          let both = and_parts (b == 101 || b == 69) (begins is_ascii_digit behind) t in
           let power : IsPowerAt text sign = power_spelled text (ap (begins is_ascii_digit) (sym is) ∙ both.1) in
           let long : suc (sign + digit_count (drop sign text)) ≡ 1 + sign + digit_count behind = omega (arith, ap digit_count is) in
           let here : IsExponentSpelling (take (1 + sign + digit_count behind) (b ∷ text)) = subst (λ k. IsExponentSpelling (take k (b ∷ text))) long (both.0, power) in
@@ -198,7 +199,7 @@ point_spelled : (text : List ℕ) → IsPoint (take (point_length text) text)
 point_spelled [] = tt
 point_spelled (b ∷ rest) = elim (true_or_false (begins_dot (b ∷ rest) && not (begins_dot rest))) [
   | inl t ↦
-      let both = both_true (begins_dot (b ∷ rest)) (not (begins_dot rest)) t in
+      let both = and_parts (begins_dot (b ∷ rest)) (not (begins_dot rest)) t in
       let long : suc (digit_count rest) ≡ 1 + digit_count rest = omega arith in
       let here : IsPoint (take (1 + digit_count rest) (b ∷ rest)) = subst (λ k. IsPoint (take k (b ∷ rest))) long (point_is b both.0, front_all is_ascii_digit rest) in
       subst (λ v. IsPoint (take (if v then 1 + digit_count rest else 0) (b ∷ rest))) (sym t) here
@@ -230,7 +231,7 @@ number_some text h = elim (true_or_false (begins is_ascii_digit text)) [
   | inl d ↦ inl (omega (arith, length-prefix_len is_ascii_digit text, run_within is_ascii_digit is_ascii_digit (λ b g. g) text d))
   | inr d ↦
       let dot : (begins_dot text && begins is_ascii_digit (drop 1 text)) ≡ true = subst (λ v. (v || (begins_dot text && begins is_ascii_digit (drop 1 text))) ≡ true) d h in
-      let both = both_true (begins_dot text) (begins is_ascii_digit (drop 1 text)) dot in
+      let both = and_parts (begins_dot text) (begins is_ascii_digit (drop 1 text)) dot in
       inr (subst (λ k. 1 < length (take (point_length (drop k text)) (drop k text))) (sym (no_digits text d)) (point_some text both.0 both.1))
 ]
 
@@ -241,21 +242,16 @@ number_positive text h = elim (number_some text h) [
   | inr some ↦ omega (arith, some, length-take_most (point_length (drop (digit_count text) text)) (drop (digit_count text) text))
 ]
 
-not_true : (b : Bool) → not b ≡ true → b ≡ false
-not_true true h = cc
-not_true false h = refl
-
--- a dot alone has no other dot after it
 point_alone : (text : List ℕ) → take (point_length text) text ≡ 46 ∷ [] → begins_dot (drop (point_length text) text) ≡ false
 point_alone [] h = absurd (omega (arith, ap length h))
 point_alone (b ∷ rest) h = elim (true_or_false (begins_dot (b ∷ rest) && not (begins_dot rest))) [
   | inl t ↦
-      let both = both_true (begins_dot (b ∷ rest)) (not (begins_dot rest)) t in
+      let both = and_parts (begins_dot (b ∷ rest)) (not (begins_dot rest)) t in
       let long : point_length (b ∷ rest) ≡ 1 + digit_count rest = ap (λ v. if v then 1 + digit_count rest else 0) t in
       let le : point_length (b ∷ rest) ≤ length (b ∷ rest) = omega (arith, long, prefix_len-le-length is_ascii_digit rest) in
       let one : point_length (b ∷ rest) ≡ 1 = omega (arith, ap length h, length-take-le (point_length (b ∷ rest)) (b ∷ rest) le) in
       let behind : drop (point_length (b ∷ rest)) (b ∷ rest) ≡ rest = ap (λ k. drop k (b ∷ rest)) one in
-      ap begins_dot behind ∙ not_true (begins_dot rest) both.1
+      ap begins_dot behind ∙ not-true (begins_dot rest) both.1
   | inr f ↦
       let none : point_length (b ∷ rest) ≡ 0 = ap (λ v. if v then 1 + digit_count rest else 0) f in
       let empty : length (take (point_length (b ∷ rest)) (b ∷ rest)) ≡ 0 = ap (λ k. length (take k (b ∷ rest))) none in

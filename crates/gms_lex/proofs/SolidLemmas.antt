@@ -1,4 +1,5 @@
 -- Words, labels and quoted texts are on one line, and are spelled as their kinds.
+use Rattle.std.proofs.lemmas.Bool.{not-false}
 use Rattle.std.proofs.Common.{◌≡◌, inl, inr, ℕ, zero, suc, ◌+◌, ◌-◌, ◌==◌, ◌&&◌, ◌||◌, ◌<◌, ◌≤◌, Bool, true, false, not, nat_lt, nat_le, if◌then◌else◌, List, [], ◌∷◌, length, take, drop, get_or, Option, Some, None, Ok, Err, refl, sym, ap, ◌∙◌, subst, arith}
 use Rattle.std.proofs.lemmas.Bool.Decides.{nat_tests}
 use Rattle.std.proofs.lemmas.List.{get_or-take, length-take-le, drop_more}
@@ -173,11 +174,6 @@ quoted_front mark text inner = ap (λ n. take n (mark ∷ text)) (let e : inner 
 no_more : (plain inner : ℕ) → nat_lt plain inner ≡ false → inner ≤ plain
 no_more plain inner h = grind (arith, nat_tests, h)
 
-not_false : (b : Bool) → not b ≡ false → b ≡ true
-not_false true h = refl
-not_false false h = cc
-
--- a quoted text of code
 quoted_text_named : (text : List ℕ) → begins is_quote text ≡ true → IsNamedRead text (quoted (Token Text) text)
 quoted_text_named [] quote = tt
 quoted_text_named (mark ∷ text) quote =
@@ -187,7 +183,7 @@ quoted_text_named (mark ∷ text) quote =
     (λ _. tt)
     (λ closed. if_named (mark ∷ text) (nat_lt plain inner) _ _
     (λ _. tt)
-    (λ h. let solid = quoted_solid mark text quote (not_false _ closed) (no_more plain inner h) in subst (λ t. IsSolid t × (IsAscii t × (begins is_quote t ≡ true))) (sym (quoted_front mark text inner)) (solid, (solid.ascii, quote))))
+    (λ h. let solid = quoted_solid mark text quote (not-false _ closed) (no_more plain inner h) in subst (λ t. IsSolid t × (IsAscii t × (begins is_quote t ≡ true))) (sym (quoted_front mark text inner)) (solid, (solid.ascii, quote))))
 
 -- a quoted label
 quoted_label_named : (text : List ℕ) → begins is_quote text ≡ true → IsNamedRead text (quoted (Token Label) text)
@@ -202,7 +198,7 @@ quoted_label_named (mark ∷ text) quote =
     (λ short. if_named (mark ∷ text) (nat_lt plain inner) _ _
     (λ _. tt)
     (λ h.
-    let solid = quoted_solid mark text quote (not_false _ closed) (no_more plain inner h) in
+    let solid = quoted_solid mark text quote (not-false _ closed) (no_more plain inner h) in
     let small : inner ≤ longest_label = no_more longest_label inner short in
     let behind = take (inner + 1) text in
     let marks : unquoted (mark ∷ behind) ≡ take (length behind - 1) behind = ap (λ v. if v then take (length behind - 1) behind else mark ∷ behind) quote in

@@ -1,4 +1,5 @@
 -- The symbol with which a text begins is the longest, and begins as no other token does.
+use Rattle.std.proofs.lemmas.Bool.{and_from, and_parts}
 use Rattle.std.proofs.Common.{◌≡◌, ◌⊎◌, inl, inr, ℕ, zero, suc, ◌+◌, ◌==◌, ◌≤◌, ◌&&◌, ◌||◌, Bool, true, false, not, nat_lt, nat_le, cond, List, [], ◌∷◌, length, take, drop, Some, None, find, refl, sym, ap, ◌∙◌, subst, arith}
 use Rattle.std.proofs.lemmas.Bool.Decides.{nat_tests}
 use Rattle.std.proofs.lemmas.List.{length-take-le}
@@ -11,7 +12,7 @@ use Rattle.gms_lines.specs.declared.kind.Sym.TheVariants.{EqE, EqL, EqG, EqN, Po
 use Rattle.gms_lines.specs.Bytes.{is_quote}
 use Rattle.gms_lines.specs.Symbols.{written_symbol, symbols, begins_with_word}
 use Rattle.gms_lex.specs.Spellings.{IsSymbol}
-use Rattle.gms_lex.proofs.FrontLemmas.{both_true, and_true, not_both}
+use Rattle.gms_lex.proofs.FrontLemmas.{not_both}
 
 -- ---- how symbols begin
 
@@ -42,12 +43,12 @@ folded_long : (xs ys : List ℕ) → str_eq_ignore_ascii_case xs ys ≡ true →
 folded_long [] [] h = refl
 folded_long [] (y ∷ ys) h = cc
 folded_long (x ∷ xs) [] h = cc
-folded_long (x ∷ xs) (y ∷ ys) h = omega (arith, folded_long xs ys (both_true _ _ h).1)
+folded_long (x ∷ xs) (y ∷ ys) h = omega (arith, folded_long xs ys (and_parts _ _ h).1)
 
 front_outside : (c : ℕ) (rest text : List ℕ) → to_ascii_lowercase c ≡ c → is_outside c ≡ true → str_eq_ignore_ascii_case text (c ∷ rest) ≡ true → begins is_outside text ≡ true
 front_outside c rest [] low out h = cc
 front_outside c rest (b ∷ text) low out h =
-    let first : (to_ascii_lowercase b == to_ascii_lowercase c) ≡ true = (both_true _ _ h).0 in
+    let first : (to_ascii_lowercase b == to_ascii_lowercase c) ≡ true = (and_parts _ _ h).0 in
     let same : b ≡ c = lower_same b c out (ap (λ k. to_ascii_lowercase b == k) (sym low) ∙ first) in
     ap is_outside same ∙ out
 
@@ -91,7 +92,7 @@ point_no_symbol EqL d text digit h = not_both false h refl
 point_no_symbol EqG d text digit h = not_both false h refl
 point_no_symbol EqN d text digit h = not_both false h refl
 point_no_symbol Power d text digit h = not_both false h refl
-point_no_symbol DotDot d text digit h = digit_no_dot d digit (both_true _ _ h).0
+point_no_symbol DotDot d text digit h = digit_no_dot d digit (and_parts _ _ h).0
 point_no_symbol LessEq d text digit h = not_both false h refl
 point_no_symbol GreaterEq d text digit h = not_both false h refl
 point_no_symbol NotEq d text digit h = not_both false h refl
@@ -171,10 +172,10 @@ longer_first (x ∷ xs) = at_most (symbol_length x) xs && longer_first xs
 at_most_each : (n : ℕ) (xs : List Sym) (s : Sym) → at_most n xs ≡ true → Stands s xs → symbol_length s ≤ n
 at_most_each n [] s h there = absurd there
 at_most_each n (x ∷ xs) s h (inl e) =
-    let first : nat_le (symbol_length x) n ≡ true = (both_true (nat_le (symbol_length x) n) (at_most n xs) h).0 in
+    let first : nat_le (symbol_length x) n ≡ true = (and_parts (nat_le (symbol_length x) n) (at_most n xs) h).0 in
     let le : symbol_length x ≤ n = grind (arith, nat_tests, first) in
     subst (λ t. symbol_length t ≤ n) e le
-at_most_each n (x ∷ xs) s h (inr there) = at_most_each n xs s (both_true (nat_le (symbol_length x) n) (at_most n xs) h).1 there
+at_most_each n (x ∷ xs) s h (inr there) = at_most_each n xs s (and_parts (nat_le (symbol_length x) n) (at_most n xs) h).1 there
 
 -- what is found first in such a list is no shorter than any that passes
 found_longest : (test : Sym → Bool) (xs : List Sym) (x s : Sym) → longer_first xs ≡ true → find test xs ≡ Some x → Stands s xs → test s ≡ true → symbol_length s ≤ symbol_length x
@@ -183,14 +184,14 @@ found_longest test (y ∷ ys) x s sorted found there passes = elim (true_or_fals
   | inl t ↦
       let first : Some y ≡ Some x = ap (λ v. cond v (Some y) (find test ys)) (sym t) ∙ found in
       let same : y ≡ x = cc in
-      let all = both_true (at_most (symbol_length y) ys) (longer_first ys) sorted in
+      let all = and_parts (at_most (symbol_length y) ys) (longer_first ys) sorted in
       let le : symbol_length s ≤ symbol_length y = elim there [
         | inl e ↦ let long : symbol_length y ≡ symbol_length s = ap symbol_length e in omega (arith, long)
         | inr behind ↦ at_most_each (symbol_length y) ys s all.0 behind
       ] in
       subst (λ z. symbol_length s ≤ symbol_length z) same le
   | inr f ↦
-      let all = both_true (at_most (symbol_length y) ys) (longer_first ys) sorted in
+      let all = and_parts (at_most (symbol_length y) ys) (longer_first ys) sorted in
       let rest : find test ys ≡ Some x = ap (λ v. cond v (Some y) (find test ys)) (sym f) ∙ found in
       elim there [
         | inl e ↦ not_both (test s) passes (ap test (sym e) ∙ f)
@@ -203,7 +204,7 @@ front_begins : (s : Sym) (n : ℕ) (text : List ℕ) → n ≤ length text → I
 front_begins s n text le h =
     let long : n ≡ symbol_length s = omega (arith, folded_long (take n text) (written_symbol s) h, length-take-le n text le) in
     let fits : nat_le (symbol_length s) (length text) ≡ true = grind (arith, nat_tests, long, le) in
-    (long, and_true (nat_le (symbol_length s) (length text)) (str_eq_ignore_ascii_case (take (symbol_length s) text) (written_symbol s)) fits (subst (λ k. str_eq_ignore_ascii_case (take k text) (written_symbol s) ≡ true) long h))
+    (long, and_from (nat_le (symbol_length s) (length text)) (str_eq_ignore_ascii_case (take (symbol_length s) text) (written_symbol s)) fits (subst (λ k. str_eq_ignore_ascii_case (take k text) (written_symbol s) ≡ true) long h))
 
 -- The symbol that is found is spelled so, and none that the text begins with is longer.
 pub record IsFirstSymbol (text : List ℕ) (found : Sym) : Type 0 where
@@ -219,7 +220,7 @@ found_passes test (y ∷ xs) x h = elim (true_or_false (test y)) [
 
 pub found_first : (text : List ℕ) (found : Sym) → find (λ s. begins_with_word text (written_symbol s)) symbols ≡ Some found → IsFirstSymbol text found
 found_first text found e = record {
-  spelled = (both_true (nat_le (symbol_length found) (length text)) (str_eq_ignore_ascii_case (take (symbol_length found) text) (written_symbol found)) (found_passes (λ s. begins_with_word text (written_symbol s)) symbols found e)).1;
+  spelled = (and_parts (nat_le (symbol_length found) (length text)) (str_eq_ignore_ascii_case (take (symbol_length found) text) (written_symbol found)) (found_passes (λ s. begins_with_word text (written_symbol s)) symbols found e)).1;
   longest = λ s n le h.
       let begin = front_begins s n text le h in
       let most : symbol_length s ≤ symbol_length found = found_longest (λ s. begins_with_word text (written_symbol s)) symbols found s refl e (each_stands s) begin.1 in

@@ -1,4 +1,5 @@
 -- The search finds the first error of the lines.
+use Rattle.std.proofs.lemmas.Bool.{not-false}
 use Rattle.std.proofs.Common.{◌≡◌, ◌⊎◌, inl, inr, ℕ, suc, ◌+◌, ◌==◌, ◌&&◌, ◌<◌, ◌≤◌, Bool, true, false, not, nat_lt, if◌then◌else◌, List, [], ◌∷◌, ◌++◌, length, Option, Some, None, option_map, refl, sym, ap, ◌∙◌, subst, arith, append_assoc}
 use Rattle.std.proofs.lemmas.Bool.Decides.{nat_tests}
 use Rattle.std.proofs.lemmas.List.Sums.{prefix_len-le-length, prefix_len_passes, prefix_len_stops}
@@ -178,11 +179,6 @@ not_true : (b : Bool) → not b ≡ true → b ≡ true → ⊥
 not_true true h g = let z : ⊥ = cc in z
 not_true false h g = let z : ⊥ = cc in z
 
-not_false : (b : Bool) → not b ≡ false → b ≡ true
-not_false true h = refl
-not_false false h = cc
-
--- the first error of a line
 first_in_line-first : (start : ℕ) (inside : Bool) (line : List ℕ) (others : List (List ℕ)) → IsFirstFault (StandsInLine start inside line others) (first_in_line start inside line others)
 first_in_line-first start inside line others =
     let class = class_of inside line in
@@ -192,7 +188,7 @@ first_in_line-first start inside line others =
         | inr le ↦ le
         | inl lt ↦ absurd (not_true _ (prefix_len_passes (λ b. not (is_bad class b)) (content line) k 0 lt) h.1)
       ];
-      bad = λ more. (more, not_false _ (prefix_len_stops (λ b. not (is_bad class b)) (content line) 0 more));
+      bad = λ more. (more, not-false _ (prefix_len_stops (λ b. not (is_bad class b)) (content line) 0 more));
       stands = head_stands inside line others;
       least = head_least inside line others;
     } in

@@ -1,5 +1,6 @@
 -- The piece with which a text begins has at least one byte and at most all of them; the place of an
 -- error is no further on.
+use Rattle.std.proofs.lemmas.Bool.{and_parts, not-false}
 use Rattle.std.proofs.Common.{◌≡◌, ◌⊎◌, inl, inr, ℕ, suc, ◌+◌, ◌==◌, ◌&&◌, ◌||◌, ◌<◌, ◌≤◌, Bool, true, false, not, nat_lt, nat_le, cond, if◌then◌else◌, List, [], ◌∷◌, length, take, drop, Option, Some, None, option_map, find, refl, sym, ap, ◌∙◌, subst, arith}
 use Rattle.std.proofs.lemmas.Bool.Decides.{nat_tests}
 use Rattle.std.proofs.lemmas.List.{length-drop, length-take-le}
@@ -71,15 +72,11 @@ found_passes test (y ∷ xs) x h = elim (true_or_false (test y)) [
   | inr t ↦ found_passes test xs x (ap (λ v. cond v (Some y) (find test xs)) (sym t) ∙ h)
 ]
 
-both_true : (a b : Bool) → (a && b) ≡ true → (a ≡ true) × (b ≡ true)
-both_true true b h = (refl, h)
-both_true false b h = cc
-
 found_within : (text : List ℕ) (found : Option Sym) → found ≡ find (λ s. begins_with_word text (written_symbol s)) symbols → IsWithinText text (symbol_read (option_map (λ s. (length (written_symbol s), s)) found))
 found_within text None e = omega arith
 found_within text (Some s) e =
     let fits : begins_with_word text (written_symbol s) ≡ true = found_passes (λ s. begins_with_word text (written_symbol s)) symbols s (sym e) in
-    let le : nat_le (length (written_symbol s)) (length text) ≡ true = (both_true _ _ fits).0 in
+    let le : nat_le (length (written_symbol s)) (length text) ≡ true = (and_parts _ _ fits).0 in
     (written_some s, grind (arith, nat_tests, le))
 
 -- the symbol with which a text begins
@@ -87,11 +84,6 @@ pub symbol_within : (text : List ℕ) → IsWithinText text (symbol text)
 unfolding longest_symbol
 symbol_within text = found_within text (find (λ s. begins_with_word text (written_symbol s)) symbols) refl
 
-not_false : (b : Bool) → not b ≡ false → b ≡ true
-not_false true h = refl
-not_false false h = cc
-
--- a text of which something begins has a byte
 pub begins_some : (test : ℕ → Bool) (text : List ℕ) → begins test text ≡ true → 0 < length text
 begins_some test [] h = absurd (cc)
 begins_some test (b ∷ text) h = omega arith
@@ -113,7 +105,7 @@ quoted_within piece (mark ∷ text) =
     (λ _. omega arith)
     (λ _. if_within (mark ∷ text) (nat_lt plain inner) _ _
     (λ h. let below : plain < inner = grind (arith, nat_tests, h) in let ahead : 1 + plain ≤ suc (length text) = omega arith in ahead)
-    (λ _. let more : inner < length text = closed_more mark text (not_false _ closed) in let all : inner + 2 ≤ suc (length text) = omega arith in (omega arith, all))))
+    (λ _. let more : inner < length text = closed_more mark text (not-false _ closed) in let all : inner + 2 ≤ suc (length text) = omega arith in (omega arith, all))))
 
 if_at_most : (b : Bool) (x y n : ℕ) → x ≤ n → y ≤ n → (if b then x else y) ≤ n
 if_at_most true x y n p q = p
@@ -156,7 +148,7 @@ decimal_some : (text : List ℕ) → (begins is_ascii_digit text ≡ true) ⊎ (
 decimal_some text (inl d) h = omega (arith, run_within is_ascii_digit is_ascii_digit (λ b g. g) text d)
 decimal_some text (inr d) h =
     let dot : (begins_dot text && begins is_ascii_digit (drop 1 text)) ≡ true = subst (λ v. (v || (begins_dot text && begins is_ascii_digit (drop 1 text))) ≡ true) d h in
-    let both = both_true _ _ dot in
+    let both = and_parts _ _ dot in
     subst (λ n. 0 < n + point_length (drop n text)) (sym (no_digits text d)) (omega (arith, dot_some text both.0 both.1))
 
 number_within : (text : List ℕ) → begins_number text ≡ true → (0 < number_length text) × (number_length text ≤ length text)

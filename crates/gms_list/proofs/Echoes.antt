@@ -1,4 +1,5 @@
 -- The lines of a source without their ends, from the first on, and a line after its number.
+use Rattle.std.proofs.lemmas.Bool.{and_parts}
 use Rattle.std.proofs.Common.{◌≡◌, ℕ, zero, suc, ◌+◌, ◌-◌, ◌<◌, ◌≤◌, ◌==◌, ◌&&◌, ◌||◌, Bool, true, false, List, [], ◌∷◌, ◌++◌, length, take, drop, map, refl, sym, ap, ◌∙◌, arith, if◌then◌else◌, codes, decimal, length-drop, get_or, ◌≢◌}
 use Rattle.std.proofs.lemmas.Bool.Decides.{nat_tests}
 use Rattle.std.proofs.lemmas.List.{append_assoc, take_all}
@@ -41,11 +42,6 @@ or_second : (a b c : Bool) → a ≡ false → (a || b) ≡ c → b ≡ c
 or_second true b c e f = cc
 or_second false b c e f = f
 
-and_second : (a b : Bool) → (a && b) ≡ true → b ≡ true
-and_second true b f = f
-and_second false b f = cc
-
--- a text that begins with a line end
 ended : (b : ℕ) (t : List ℕ) → is_line_end (b ∷ t) ≡ true → map content (lines (b ∷ t)) ≡ [] ∷ map content (lines (behind_end (b ∷ t)))
 ended b t e =
     either (b == 10) _
@@ -53,9 +49,9 @@ ended b t e =
     (λ other. by_return b t e other (or_second (b == 10) (b == 13 && begins (λ c. c == 10) t) true other e))
   where
     by_return : (b : ℕ) (t : List ℕ) → is_line_end (b ∷ t) ≡ true → (b == 10) ≡ false → (b == 13 && begins (λ c. c == 10) t) ≡ true → map content (lines (b ∷ t)) ≡ [] ∷ map content (lines (behind_end (b ∷ t)))
-    by_return b [] e other f = let g : false ≡ true = and_second (b == 13) false f in cc
+    by_return b [] e other f = let g : false ≡ true = (and_parts (b == 13) false f).1 in cc
     by_return b (c ∷ r) e other f =
-        let feed : (c == 10) ≡ true = and_second (b == 13) (c == 10) f in
+        let feed : (c == 10) ≡ true = (and_parts (b == 13) (c == 10) f).1 in
         ap (map content) (lines_other b (c ∷ r) other ∙ ap (put_first b) (lines_feed c r feed))
         ∙ ap (λ l. l ∷ map content (lines r)) (content_ended b (c ∷ []) e)
         ∙ ap (λ r. [] ∷ map content (lines r)) (sym (behind_end_return b (c ∷ r) other f))

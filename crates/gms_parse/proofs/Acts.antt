@@ -1,6 +1,6 @@
 -- Statements without statements in them: words, what is shown, options, solves and aliases.
 use Rattle.std.proofs.Common.{◌≡◌, ℕ, Bool, true, false, not, ◌==◌, cond, List, [], ◌∷◌, ◌++◌, map, Option as Maybe, option_map, refl, sym, ap, ap₂, ◌∙◌, subst, arith, append_assoc}
-use Rattle.std.proofs.lemmas.Bool.{not-true, eq-eqb}
+use Rattle.std.proofs.lemmas.Bool.{not-true, eq-eqb, and_parts}
 use Rattle.std.proofs.lemmas.List.{map-id}
 use Rattle.gq_number.specs.Number.{Number as Rational}
 use Rattle.gms_labels.specs.Labels.{entered}
@@ -31,7 +31,6 @@ use Rattle.gms_grammar.specs.Terminals.{is, is_terminal_among}
 use Rattle.gms_grammar.specs.GamsGrammar.{Attribute, Condition, Shown, ShownList, Setting, DisplayStatement, AbortStatement, OptionStatement, SolveStatement, AliasStatement, productions, token, any_of, name, word}
 use Rattle.gms_grammar.specs.GamsLookAhead.{look_ahead}
 use Rattle.gms_grammar.proofs.Basics.{and_both, and_second, or_right}
-use Rattle.gms_grammar.proofs.Checks.{left_and}
 use Rattle.gms_expressions.specs.ExpressionTrees.{suffix_of, first_in, second_in}
 use Rattle.gms_expressions.proofs.Valued.{number_in_is}
 use Rattle.gms_expressions.proofs.TokenKinds.{also, same_test}
@@ -127,7 +126,7 @@ module _ {reader : Reader} {at behind : ℕ} {t : Token} {w : ReaderState} (n : 
   text_sound : (limit : ℕ) (fault : SourceFault) → IsFaulty limit reader.source.now w (n.kind, t) (kind_of (seen_from reader behind)) fault → ⊥
   text_sound limit =
       free_sound limit reader.source.now w n.kind t (kind_of (seen_from reader behind)) (also is_text is_free refl n.kind n.passes)
-      (λ e d. let passes = n.passes in let other : not (is_text n.kind) ≡ true = also (is_terminal_among (Name ∷ Suffix ∷ [])) (λ kind. not (is_text kind)) refl n.kind (left_and _ _ e) in cc)
+      (λ e d. let passes = n.passes in let other : not (is_text n.kind) ≡ true = also (is_terminal_among (Name ∷ Suffix ∷ [])) (λ kind. not (is_text kind)) refl n.kind ((and_parts _ _ e).0) in cc)
       (room_for_none w.labels _ (text_new reader.source.now w n.kind t (kind_of (seen_from reader behind)) n.passes k))
 
   text_stays : {tables : Tables} → Has reader tables w → Stays reader tables w (past reader w n.kind t behind)

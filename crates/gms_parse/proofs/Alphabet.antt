@@ -1,10 +1,11 @@
 -- Which kinds of tokens occur anywhere in a part of the grammar.
+use Rattle.std.proofs.lemmas.Bool.{and_parts}
 use Rattle.std.proofs.Common.{◌≡◌, Bool, true, not, ◌&&◌, ◌||◌, List, [], ◌∷◌, ◌++◌}
 use Rattle.std.specs.Bool.{⊤}
 use Rattle.gms_grammar.specs.declared.terminal.Terminal.{Terminal}
 use Rattle.gms_grammar.specs.Grammar.{one, the, ◌·◌, ◌∣◌, opt, many, leaf, pair, left, right, none, some, more, node, yield, IsTree}
 use Rattle.gms_grammar.specs.GamsGrammar.{Nonterminal, productions}
-use Rattle.gms_grammar.proofs.Checks.{left_and, right_and}
+use Rattle.gms_grammar.proofs.Checks.{right_and}
 use Rattle.gms_expressions.proofs.TokenKinds.{implies, implied, also}
 use Rattle.gms_parse.specs.Walks.{KindedToken}
 use Rattle.gms_parse.specs.InnerReadings.{Derivation, GamsPart}
@@ -41,8 +42,8 @@ module _ (known : Nonterminal → Bool) (test : Terminal → Bool) (check : (n :
   all_pass (one t) (leaf token) h k = (also t test k token.0 h, tt)
   all_pass (the n) (node tree) h k = all_pass (productions n) tree h (implied _ _ (check n) k)
   all_pass (p · q) (pair a b) h k =
-      pass_append test (yield a) (yield b) (all_pass p a h.0 (left_and _ _ k)) (all_pass q b h.1 (right_and (only known test p) _ k))
-  all_pass (p ∣ q) (left tree) h k = all_pass p tree h (left_and _ _ k)
+      pass_append test (yield a) (yield b) (all_pass p a h.0 ((and_parts _ _ k).0)) (all_pass q b h.1 (right_and (only known test p) _ k))
+  all_pass (p ∣ q) (left tree) h k = all_pass p tree h ((and_parts _ _ k).0)
   all_pass (p ∣ q) (right tree) h k = all_pass q tree h (right_and (only known test p) _ k)
   all_pass (opt p) none h k = tt
   all_pass (opt p) (some tree) h k = all_pass p tree h k

@@ -1,4 +1,5 @@
 -- Domains: sets and `*` in parentheses after a name.
+use Rattle.std.proofs.lemmas.Bool.{and_parts, not-true}
 use Rattle.std.proofs.Common.{◌≡◌, ℕ, Bool, true, false, cond, List, [], ◌∷◌, Option as Maybe, Some, None, Vec, Result, Ok, Err, not, ◌||◌, refl, sym, ap, ◌∙◌, subst, arith}
 use Rattle.std.specs.declared.alloc.Global.{Global}
 use Rattle.std.proofs.lemmas.List.{map-id}
@@ -19,7 +20,7 @@ use Rattle.gms_parse.specs.declared.reader.Tables.{Tables}
 use Rattle.gms_parse.specs.DataLists.{listed_in}
 use Rattle.gms_parse.specs.Declarations.{position_in}
 use Rattle.gms_labels.specs.declared.place.Place.{Place}
-use Rattle.gms_grammar.proofs.Checks.{left_and, right_and}
+use Rattle.gms_grammar.proofs.Checks.{right_and}
 use Rattle.gms_grammar.proofs.Sound.{sound}
 use Rattle.gms_parse.specs.declared.fault.SourceError.TheVariants as source_error
 use Rattle.gms_table.specs.declared.fault.TableError.TheVariants.{NoHeading}
@@ -68,14 +69,9 @@ pub name_pushed : (x : KindedToken) (before : List KindedToken) → is Table (la
 name_pushed x [] h = refl
 name_pushed x (y ∷ before) h = ap (λ b. cond b x.1.at (table_name (y ∷ before))) h
 
-pub not_no : (b : Bool) → not b ≡ true → b ≡ false
-not_no true h = cc
-not_no false h = refl
-
--- other tokens keep the place of a table's name
 pub name_kept : (source : List ℕ) (w : ReaderState) (u : List KindedToken) (ahead : Terminal) → AllPass no_table u → is Table (last_kind w.before) ≡ false → table_name (reader_after_all source w u ahead).before ≡ table_name w.before
 name_kept source w [] ahead h k = refl
-name_kept source w (t ∷ u) ahead h k = name_kept source (reader_after source w t (kind_ahead u ahead)) u ahead h.1 (not_no (is Table t.0) h.0) ∙ name_pushed t w.before k
+name_kept source w (t ∷ u) ahead h k = name_kept source (reader_after source w t (kind_ahead u ahead)) u ahead h.1 (not-true (is Table t.0) h.0) ∙ name_pushed t w.before k
 
 -- ---- domains
 
@@ -96,7 +92,7 @@ module _ {reader : Reader} {at start : ℕ} {inner : Reader} {old : Tables} {w :
 
       headless : ends_head w (seen_from reader behind) ≡ true → is Table (last_kind w.before) ≡ false → Refuses limit reader.source.now (the Domain) w (seen_from reader at) (Fault (record { error = source_error.Table NoHeading; at = table_name w.before }))
       headless true_there last =
-          let table : Table ≡ w.keyword = same_kind Table w.keyword (left_and _ _ true_there) in
+          let table : Table ≡ w.keyword = same_kind Table w.keyword ((and_parts _ _ true_there).0) in
           let ends = right_and (is Table w.keyword) (ends_statement (kind_of (seen_from reader behind))) true_there in
           let kinds = all_pass is_domain_list no_table domains_other (the DomainList) (node got.tree) (sound productions look_ahead listed.reads).0 refl in
           let where_it_is : table_name got.behind.before ≡ table_name w.before =

@@ -1,4 +1,5 @@
 -- The members of a range are no longer than its labels.
+use Rattle.std.proofs.lemmas.Bool.{and_parts}
 use Rattle.std.proofs.Common.{◌≡◌, ℕ, ◌+◌, ◌-◌, ◌<◌, ◌≤◌, ◌^◌, Bool, true, false, cond, nat_le, List, [], ◌++◌, length, reverse, get_or, replicate, decimal, refl, sym, ap, ◌∙◌, subst, arith, length-append}
 use Rattle.std.specs.Char.{is_ascii_digit, to_ascii_lowercase}
 use Rattle.std.specs.Int.{IsInRange}
@@ -11,7 +12,7 @@ use Rattle.std.proofs.lemmas.List.FromFn.{get_or-map-range_with_len, length-map-
 use Rattle.std.proofs.lemmas.List.Sums.{prefix_len_passes, suffix_len-le-length}
 use Rattle.std.proofs.lemmas.Slice.Eq.{bytes_eq-Decides}
 use Rattle.std.proofs.lemmas.Str.Parse.{numerals_by_value, tells_by_index, digits_value_short}
-use Rattle.gms_grammar.proofs.Checks.{left_and, right_and}
+use Rattle.gms_grammar.proofs.Checks.{right_and}
 use Rattle.gms_set.specs.Ranges.{text_length, text_before_digits, digits_of, number_in_label, is_padded, is_numbered, go_together, is_range, digit_width, padded_digits, members}
 
 -- texts that differ only in case have equal lengths
@@ -61,13 +62,13 @@ ranges_of : (from to : List ℕ) → is_range from to ≡ true → Ranges from t
 ranges_of from to h =
     let behind = right_and (str_eq_ignore_ascii_case (text_before_digits from) (text_before_digits to)) _ h in
     let numbered = right_and (is_numbered from) _ behind in
-    let last = left_and (is_numbered to) _ numbered in
+    let last = (and_parts (is_numbered to) _ numbered).0 in
     let short = right_and (go_together (digits_of from) (digits_of to)) _ (right_and (is_numbered to) _ numbered) in
     record {
-      text = same_length (text_before_digits from) (text_before_digits to) (left_and _ _ h);
-      some = at_least 1 (length (digits_of to)) (left_and _ _ last);
+      text = same_length (text_before_digits from) (text_before_digits to) ((and_parts _ _ h).0);
+      some = at_least 1 (length (digits_of to)) ((and_parts _ _ last).0);
       few = at_least (length (digits_of to)) 9 (right_and (nat_le 1 (length (digits_of to))) _ last);
-      order = at_least (number_in_label from) (number_in_label to) (left_and _ _ short);
+      order = at_least (number_in_label from) (number_in_label to) ((and_parts _ _ short).0);
     }
 
 -- a number up to the last, after the text of the first

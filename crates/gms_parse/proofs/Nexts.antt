@@ -7,8 +7,8 @@ use Rattle.gms_grammar.specs.Reading.{leads, refused}
 use Rattle.gms_grammar.specs.Terminals.{is, is_terminal_among}
 use Rattle.gms_grammar.specs.GamsGrammar.{productions, token, bracketed}
 use Rattle.gms_grammar.specs.GamsLookAhead.{look_ahead}
-use Rattle.gms_grammar.proofs.Checks.{left_and, right_and}
-use Rattle.std.proofs.lemmas.Bool.{not-true}
+use Rattle.gms_grammar.proofs.Checks.{right_and}
+use Rattle.std.proofs.lemmas.Bool.{not-true, and_parts}
 use Rattle.gms_lex.specs.declared.token.Token.{Token}
 use Rattle.gms_labels.specs.Labels.{place_of}
 use Rattle.gms_expressions.specs.Outcomes.{open_after}
@@ -85,7 +85,7 @@ module _ (reader : Reader) (w : ReaderState) (kind : Terminal) (t : Token) (behi
   -- after a plain token
   pub plain_stays : {tables : Tables} → is_plain kind ≡ true → Has reader tables w → Stays reader tables w (past reader w kind t behind)
   plain_stays p h =
-      let q = left_and (is_quiet kind) (not (begins kind)) p in
+      let q = (and_parts (is_quiet kind) (not (begins kind)) p).0 in
       let k = quiet_after reader.source.now w kind t (kind_of (seen_from reader behind)) q in
       stays_by (not-true (begins kind) (right_and (is_quiet kind) (not (begins kind)) p)) h k.open_count (k.names ∙ h.holds.names) (k.labels ∙ h.holds.labels)
 
@@ -115,7 +115,7 @@ gives_quiet {limit = limit} {reader = reader} {behind = behind} {t = t} {w = w} 
 -- of one of some plain kinds
 pub gives_plain : {limit : ℕ} {test : Terminal → Bool} {reader : Reader} {at behind : ℕ} {t : Token} {w : ReaderState} (n : IsNext test reader at t behind) → implies test is_plain ≡ true →
     Gives limit reader.source.now (one test) w (seen_from reader at) (leaf (n.kind, t)) (past reader w n.kind t behind) (seen_from reader behind)
-gives_plain {test = test} n all = gives_quiet n (left_and (is_quiet n.kind) (not (begins n.kind)) (also test is_plain all n.kind n.passes))
+gives_plain {test = test} n all = gives_quiet n ((and_parts (is_quiet n.kind) (not (begins n.kind)) (also test is_plain all n.kind n.passes)).0)
 
 -- of this quiet kind
 pub gives_exact : {limit : ℕ} {kind : Terminal} {reader : Reader} {at behind : ℕ} {t : Token} {w : ReaderState} → IsNext (is kind) reader at t behind → is_quiet kind ≡ true →

@@ -1,6 +1,6 @@
 -- How names and labels are spelled: they are of ASCII, and short.
 use Rattle.std.proofs.Common.{◌≡◌, ℕ, ◌≤◌, Bool, true, false, not, ◌&&◌, cond, ltb, Option, Some, None, List, [], ◌∷◌, length, refl, sym, ap, ◌∙◌}
-use Rattle.std.proofs.lemmas.Bool.{eqb-true, not-true}
+use Rattle.std.proofs.lemmas.Bool.{eqb-true, not-true, and_parts}
 use Rattle.std.specs.Str.{IsAscii}
 use Rattle.gms_lines.specs.declared.kind.Kind.{Kind}
 use Rattle.gms_lines.specs.declared.kind.Kind.TheVariants as kind
@@ -13,7 +13,7 @@ use Rattle.gms_grammar.specs.declared.terminal.Terminal.TheVariants.{Text, LongT
 use Rattle.gms_grammar.specs.Terminals.{is, is_terminal_among, terminal_number}
 use Rattle.gms_lines.specs.ControlWords.{is_word_among as is_listed}
 use Rattle.gms_grammar.proofs.Basics.{both_ways}
-use Rattle.gms_grammar.proofs.Checks.{left_and, right_and}
+use Rattle.gms_grammar.proofs.Checks.{right_and}
 use Rattle.gms_grammar.specs.Keywords.{Words, statement_words, kind_among}
 use Rattle.gms_expressions.specs.Words.{expression_words, other_words, or_else, or_name, terminal_of, terminal_of_word, terminal_of_symbol}
 use Rattle.gms_parse.specs.InnerMeanings.{IsLabelToken}
@@ -47,7 +47,7 @@ among_words word [] h = refl
 among_words word (words ∷ others) h = go (is_listed word words.1) (among_words word others (right_and (is_of_word words.0) _ h))
   where
     go : (b : Bool) → some_of_word (kind_among word others) ≡ true → some_of_word (cond b (Some words.0) (kind_among word others)) ≡ true
-    go true k = left_and _ _ h
+    go true k = (and_parts _ _ h).0
     go false k = k
 
 or_else_word : (o p : Option Terminal) → some_of_word o ≡ true → some_of_word p ≡ true → some_of_word (or_else o p) ≡ true

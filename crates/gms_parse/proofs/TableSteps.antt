@@ -1,4 +1,5 @@
 -- Tables: their lines, the entries that these give, and the statement.
+use Rattle.std.proofs.lemmas.Bool.{not-true}
 use Rattle.std.proofs.Common.{◌≡◌, ℕ, suc, ◌+◌, ◌≤◌, Bool, true, false, not, ◌&&◌, ◌||◌, cond, List, [], ◌∷◌, ◌++◌, map, reverse, take, take_while, length, string_bytes, string_len, All, Option as Maybe, Vec, refl, sym, ap, ap₂, ◌∙◌, subst, arith, append_assoc, inl, inr, ◌⊎◌}
 use Rattle.std.specs.Str.{IsAscii}
 use Rattle.std.specs.List.{prefix_len}
@@ -59,7 +60,7 @@ use Rattle.gms_parse.proofs.TableFaults.{stands_not}
 use Rattle.gms_grammar.proofs.Orders.{some_there}
 use Rattle.gms_parse.proofs.Steps.{got_by, gives_one, gives_both, gives_the, gives_no_more, gives_again, refuses_first, refuses_second, refuses_the, refuses_again, refuses_later, refuses_token, refuses_memory}
 use Rattle.gms_parse.proofs.Nexts.{past, exact, gives_exact, begun_starts, earlier}
-use Rattle.gms_parse.proofs.Domains.{name_pushed, name_kept, not_no}
+use Rattle.gms_parse.proofs.Domains.{name_pushed, name_kept}
 use Rattle.gms_parse.proofs.Views.{view-Declare}
 
 -- ---- how lines are spelled
@@ -261,7 +262,7 @@ told limit labels error.Labels at place before part h = refl
 
 -- a name is no table and no line
 named_other : (kind : Terminal) → is_terminal_among (Name ∷ Suffix ∷ []) kind ≡ true → (is Table kind ≡ false) × (is TableLine kind ≡ false)
-named_other kind h = (not_no _ (also (is_terminal_among (Name ∷ Suffix ∷ [])) no_table refl kind h), not_no _ (also (is_terminal_among (Name ∷ Suffix ∷ [])) no_line refl kind h))
+named_other kind h = (not-true _ (also (is_terminal_among (Name ∷ Suffix ∷ [])) no_table refl kind h), not-true _ (also (is_terminal_among (Name ∷ Suffix ∷ [])) no_line refl kind h))
 
 abbrev in_domain : Nonterminal → Bool
 in_domain Domain = true
@@ -279,11 +280,11 @@ domains_no_table _ = refl
 
 no_run : (source : List ℕ) (w : ReaderState) (u : List KindedToken) (ahead : Terminal) → AllPass no_line u → run_of w.before ≡ [] → run_of (reader_after_all source w u ahead).before ≡ []
 no_run source w [] ahead h k = k
-no_run source w (t ∷ u) ahead h k = no_run source (reader_after source w t (kind_ahead u ahead)) u ahead h.1 (run_other t w.before (not_no (is TableLine t.0) h.0))
+no_run source w (t ∷ u) ahead h k = no_run source (reader_after source w t (kind_ahead u ahead)) u ahead h.1 (run_other t w.before (not-true (is TableLine t.0) h.0))
 
 last_kept : (source : List ℕ) (w : ReaderState) (u : List KindedToken) (ahead : Terminal) → AllPass no_table u → is Table (last_kind w.before) ≡ false → is Table (last_kind (reader_after_all source w u ahead).before) ≡ false
 last_kept source w [] ahead h k = k
-last_kept source w (t ∷ u) ahead h k = last_kept source (reader_after source w t (kind_ahead u ahead)) u ahead h.1 (not_no (is Table t.0) h.0)
+last_kept source w (t ∷ u) ahead h k = last_kept source (reader_after source w t (kind_ahead u ahead)) u ahead h.1 (not-true (is Table t.0) h.0)
 
 -- the name, which is one token
 record NameThere (reader : Reader) (start : ℕ) (before : List KindedToken) (v : ReaderState) : Type 0 where

@@ -2,7 +2,7 @@
 -- is that of an element of the domain, and each element of the domain is an instance.
 use Rattle.std.proofs.Common.{◌≡◌, ℕ, ◌≤◌, ◌+◌, ◌==◌, Bool, true, false, not, ◌||◌, cond, if◌then◌else◌, List, [], ◌∷◌, length, get_or, filter, Option, Some, None, option_map, is_some, Ok, refl, sym, ap, ◌∙◌, subst, arith, eq-eqb, le-leb}
 use Rattle.std.specs.List.{All}
-use Rattle.std.proofs.lemmas.Bool.{eqb-true}
+use Rattle.std.proofs.lemmas.Bool.{eqb-true, or_left, or_right}
 use Rattle.std.proofs.lemmas.List.Elements.{All-nil, All-cons, All-contains, Contains-get_or}
 use Rattle.gq_number.specs.Number.{Number}
 use Rattle.gms_ast.specs.Trees as tree
@@ -33,13 +33,6 @@ use Rattle.gms_rows.proofs.Domains.{given, only_value, first_of, those-All, size
 members : (xs : List (List ℕ)) → All (λ t. has xs t ≡ true) xs
 members xs k d below = has-Contains xs (get_or xs k d) (Contains-get_or xs k d below)
 
-or-first : (a b : Bool) → a ≡ true → (a || b) ≡ true
-or-first a b e = ap (λ c. c || b) e
-
-or-second : (a b : Bool) → b ≡ true → (a || b) ≡ true
-or-second true b e = refl
-or-second false b e = e
-
 module _ (test : List ℕ → Answer Bool) where
   -- those for which a test holds pass it
   those-pass : (xs those : List (List ℕ)) → those_where test xs ≡ Ok those → All (λ t. test t ≡ Ok true) those
@@ -62,10 +55,10 @@ module _ (test : List ℕ → Answer Bool) where
       ∙ by f.holds f.others (λ later. those-have xs f.others t f.rest later is) (same_tuple x t) refl f.tested there
     where
       by : (so : Bool) (others : List (List ℕ)) → (has xs t ≡ true → has others t ≡ true) → (same : Bool) → same_tuple x t ≡ same → test x ≡ Ok so → (same_tuple x t || has xs t) ≡ true → has (if so then x ∷ others else others) t ≡ true
-      by true others later true same tested there = or-first (same_tuple x t) (has others t) same
+      by true others later true same tested there = or_left (same_tuple x t) (has others t) same
       by false others later true same tested there =
           let no : false ≡ true = only_value false true (sym tested ∙ ap test ((same_tuple-Decides x t).0 same) ∙ is) in absurd (cc)
-      by true others later false other tested there = or-second (same_tuple x t) (has others t) (later (sym (ap (λ c. c || has xs t) other) ∙ there))
+      by true others later false other tested there = or_right (same_tuple x t) (has others t) (later (sym (ap (λ c. c || has xs t) other) ∙ there))
       by false others later false other tested there = later (sym (ap (λ c. c || has xs t) other) ∙ there)
 
 module _ {F : Type 0} (v : F → Number) (limit : ℕ) (state : State) (at : Place) (sets : List ℕ) where

@@ -1,5 +1,6 @@
 -- The linear program of a solve: its columns are in order, its objective is one of them, and its
 -- entries name them. Plans with given levels.
+use mathlib.Core.Bool.{or-true}
 use Rattle.std.proofs.Common.{◌≡◌, ℕ, nat_lt, ◌<◌, Bool, true, false, ◌||◌, cond, if◌then◌else◌, pos, List, [], ◌∷◌, length, map, Ok, Err, refl, sym, ap, ◌∙◌, subst, arith}
 use Rattle.std.specs.Prelude.{flat_map}
 use Rattle.std.specs.List.{All}
@@ -28,7 +29,7 @@ use Rattle.gms_rows.proofs.ColumnKeys.{among-ordered}
 use Rattle.gms_rows.proofs.Domains.{given, only_value}
 use Rattle.gms_rows.proofs.KeyLists.{keys-ordered}
 use Rattle.gms_rows.proofs.Placing.{stands-in_place, place-within}
-use Rattle.gms_rows.proofs.Programs.{all-of_map, map-keeps, map-itself, or-true, keys-there}
+use Rattle.gms_rows.proofs.Programs.{all-of_map, map-keeps, map-itself, keys-there}
 use Rattle.gms_plans.proofs.Bounds.{IsPlaced}
 
 -- What is known of the program of a solve.

@@ -1,5 +1,6 @@
 -- A program that has no error with solvers of some names has none with solvers of the names that it
 -- chooses: one error alone depends on the solvers, and it concerns the value of an option.
+use Rattle.std.proofs.lemmas.Bool.{or_left, or_right}
 use Rattle.std.proofs.Common.{◌≡◌, ℕ, Bool, true, false, not, ◌&&◌, ◌||◌, if◌then◌else◌, List, [], ◌∷◌, ◌++◌, length, map, Option, Some, None, option_map, Result, Ok, Err, refl, sym, ap, ap₂, ◌∙◌, subst}
 use Rattle.std.specs.Prelude.{codes, filter, flat_map, is_none, option_to_list}
 use Rattle.std.specs.List.{list_any}
@@ -63,15 +64,6 @@ use Rattle.gms_save.proofs.SeenActs.{AllSuch, Layer, LayerSuch, each-act}
 
 -- ---- names of solvers
 
-or-left : (a b : Bool) → a ≡ true → (a || b) ≡ true
-or-left true b e = refl
-or-left false b e = absurd cc
-
-or-right : (a b : Bool) → b ≡ true → (a || b) ≡ true
-or-right true b e = refl
-or-right false b e = e
-
--- each of some names is one of others
 abbrev AreAmong : List (List ℕ) → List (List ℕ) → Type 0
 AreAmong all [] = Unit {0}
 AreAmong all (name ∷ names) = (is_one_of all name ≡ true) × AreAmong all names
@@ -79,12 +71,12 @@ AreAmong all (name ∷ names) = (is_one_of all name ≡ true) × AreAmong all na
 one-more : (other : List ℕ) (all names : List (List ℕ)) → AreAmong all names → AreAmong (other ∷ all) names
 one-more other all [] among = tt
 one-more other all (name ∷ names) among =
-    (or-right (str_eq_ignore_ascii_case name other) (is_one_of all name) among.0, one-more other all names among.1)
+    (or_right (str_eq_ignore_ascii_case name other) (is_one_of all name) among.0, one-more other all names among.1)
 
 among-themselves : (names : List (List ℕ)) → AreAmong names names
 among-themselves [] = tt
 among-themselves (name ∷ names) =
-    (or-left (str_eq_ignore_ascii_case name name) (is_one_of names name) (is_same_refl name), one-more name names names (among-themselves names))
+    (or_left (str_eq_ignore_ascii_case name name) (is_one_of names name) (is_same_refl name), one-more name names names (among-themselves names))
 
 among-left : (all xs ys : List (List ℕ)) → AreAmong all (xs ++ ys) → AreAmong all xs
 among-left all [] ys among = tt

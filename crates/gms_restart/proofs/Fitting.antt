@@ -3,7 +3,7 @@
 use Rattle.std.proofs.Common.{◌≡◌, ◌⊎◌, ℕ, zero, suc, ℤ, pos, negsuc, nat_lt, nat_le, Bool, true, false, not, ◌&&◌, ◌||◌, ◌==◌, if◌then◌else◌, List, [], ◌∷◌, ◌++◌, length, slice_get, Option, Some, None, option_map, Ok, Err, refl, sym, ap, ◌∙◌, subst, inl, inr, arith}
 use Rattle.std.specs.Prelude.{◌+ℤ◌, neg_ℤ, option_and_then, ok_or}
 use Rattle.std.specs.List.{All}
-use Rattle.std.proofs.lemmas.Bool.{eqb-true}
+use Rattle.std.proofs.lemmas.Bool.{eqb-true, and_from, and_parts, or_right}
 use Rattle.std.proofs.lemmas.List.Elements.{All-head, All-tail}
 use Rattle.gms_labels.specs.declared.place.Place.{Place}
 use Rattle.gq_number.specs.Number.{Number}
@@ -39,7 +39,7 @@ use Rattle.gms_rows.proofs.Domains.{given, only_value}
 use Rattle.gms_save_text.specs.Validity.{stands_at, stands_in}
 use Rattle.gms_run_laws.specs.Names.{Each}
 use Rattle.gms_restart.specs.Labels.{tree_labels, index_labels}
-use Rattle.gms_restart.proofs.Homes.{both-tests, and-made, stands_few, or-second, members-given, index-known, DataStand, IsFixedAt, MayStand, is-label, set-stands, label-stands}
+use Rattle.gms_restart.proofs.Homes.{stands_few, members-given, index-known, DataStand, IsFixedAt, MayStand, is-label, set-stands, label-stands}
 
 -- ---- lags
 
@@ -52,7 +52,7 @@ read-there : (members : List (List ℕ)) (k : ℕ) (t : List ℕ) → slice_get 
 read-there [] k t e = absurd (cc)
 read-there (u ∷ members) zero t e =
     let same : u ≡ t = cc in ap (λ (b : Bool). b || has members t) (subst (λ x. same_tuple x t ≡ true) (sym same) (same_tuple_refl t))
-read-there (u ∷ members) (suc k) t e = or-second (same_tuple u t) (has members t) (read-there members k t e)
+read-there (u ∷ members) (suc k) t e = or_right (same_tuple u t) (has members t) (read-there members k t e)
 
 module _ (members : List (List ℕ)) (single : (t : List ℕ) → has members t ≡ true → length t ≡ 1) where
   place-there : (k : ℤ) (label : ℕ) → label_at members k ≡ Some label → has members (label ∷ []) ≡ true
@@ -144,7 +144,7 @@ module _ (count : ℕ) (first : State) (assigned : ℕ → Bool) where
     member-may set label there =
         let base = base_of state set in
         subst (λ n. MayStand count first assigned n label) ((standing.stays set).alike set) (record {
-          domain = (both-tests (stands_in count first (symbol_at first base).domain (label ∷ [])) true (standing.stand base (label ∷ []) (members-given (symbol_at state base).content (label ∷ []) there))).0;
+          domain = (and_parts (stands_in count first (symbol_at first base).domain (label ∷ [])) true (standing.stand base (label ∷ []) (members-given (symbol_at state base).content (label ∷ []) there))).0;
           member = λ none. sym (ap (λ (members : List (List ℕ)). has members (label ∷ [])) (standing.static base none)) ∙ there;
         })
 
@@ -174,7 +174,7 @@ module _ (count : ℕ) (first : State) (assigned : ℕ → Bool) where
     all-there : (all xs : List (List ℕ)) → ((t : List ℕ) → has xs t ≡ true → has all t ≡ true) → EachHas (λ t. has all t ≡ true) xs
     all-there all [] among = tt
     all-there all (x ∷ xs) among =
-        (among x (ap (λ (b : Bool). b || has xs x) (same_tuple_refl x)), all-there all xs (λ t there. among t (or-second (same_tuple x t) (has xs t) there)))
+        (among x (ap (λ (b : Bool). b || has xs x) (same_tuple_refl x)), all-there all xs (λ t there. among t (or_right (same_tuple x t) (has xs t) there)))
 
     those-has : (P : List ℕ → Type 0) (test : List ℕ → Answer Bool) (xs : List (List ℕ)) → EachHas P xs → OkHas (EachHas P) (those_where test xs)
     those-has P test [] all = tt
@@ -215,7 +215,7 @@ module _ (count : ℕ) (first : State) (assigned : ℕ → Bool) where
       let parts = split l (all_there xs) t e in
       let own = here l refl in
       subst (λ u. stands_in count first (position ∷ domain) u ≡ true) (sym parts.2)
-      (and-made (nat_lt l count) (stands_at first position l && stands_in count first domain parts.0) own.0 (and-made (stands_at first position l) (stands_in count first domain parts.0) own.1 (rest parts.0 parts.1)))
+      (and_from (nat_lt l count) (stands_at first position l && stands_in count first domain parts.0) own.0 (and_from (stands_at first position l) (stands_in count first domain parts.0) own.1 (rest parts.0 parts.1)))
 
   not-not : (b c : Bool) → (not b || c) ≡ false → (b ≡ true) × (c ≡ false)
   not-not true c e = (refl, e)

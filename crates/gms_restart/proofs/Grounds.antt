@@ -3,7 +3,7 @@
 use Rattle.std.proofs.Common.{◌≡◌, ℕ, ◌<◌, ◌≤◌, nat_lt, nat_le, Bool, true, false, not, ◌&&◌, ◌||◌, List, [], ◌∷◌, length, map, Option, Some, None, refl, sym, ap, ap₂, ◌∙◌, subst, inl, inr, arith}
 use Rattle.std.specs.Prelude.{flat_map}
 use Rattle.std.specs.List.{All, fold}
-use Rattle.std.proofs.lemmas.Bool.{both_ways}
+use Rattle.std.proofs.lemmas.Bool.{both_ways, and_from, not-true}
 use Rattle.std.proofs.lemmas.Bool.Decides.{nat_tests}
 use Rattle.std.proofs.lemmas.List.{map-append, length-map}
 use Rattle.std.proofs.lemmas.List.Elements.{All-head, All-tail, All-contains}
@@ -42,7 +42,7 @@ use Rattle.gms_save_text.specs.Validity.{emptied, stands_at, stands_in}
 use Rattle.gms_restart.specs.Labels.{HasItsLabels}
 use Rattle.gms_restart.proofs.Fitting.{Ground}
 use Rattle.gms_restart.proofs.Growth.{Member, member-sound, closed-after}
-use Rattle.gms_restart.proofs.Homes.{and-made, DataStand}
+use Rattle.gms_restart.proofs.Homes.{DataStand}
 
 -- ---- tuples
 
@@ -54,7 +54,7 @@ stand-all count state [] (label ∷ t) long at own = absurd (omega (arith, long)
 stand-all count state (position ∷ domain) [] long at own = absurd (omega (arith, long))
 stand-all count state (position ∷ domain) (label ∷ t) long at own =
     let rest : length t ≡ length domain = omega (arith, long) in
-    and-made (nat_lt label count) (stands_at state position label && stands_in count state domain t) own.0 (and-made (stands_at state position label) (stands_in count state domain t) at.0 (stand-all count state domain t rest at.1 own.1))
+    and_from (nat_lt label count) (stands_at state position label && stands_in count state domain t) own.0 (and_from (stands_at state position label) (stands_in count state domain t) at.0 (stand-all count state domain t rest at.1 own.1))
 
 -- what holds of all tuples holds of each member
 pub has-all : (P : List ℕ → Type 0) (tuples : List (List ℕ)) (t : List ℕ) → All P tuples → has tuples t ≡ true → P t
@@ -67,10 +67,6 @@ has-all P (u ∷ tuples) t all there = by (has-all P tuples t (All-tail P u tupl
 
 pub at-most-ten : (n : ℕ) → n ≤ 10 → nat_le n 10 ≡ true
 at-most-ten n le = grind (arith, nat_tests, le)
-
-not-known : (b : Bool) → not b ≡ true → b ≡ false
-not-known true e = absurd (cc)
-not-known false e = refl
 
 module _ {F : Type 0} (v : F → Number) (program : Program F) (accepted : IsAccepted v program) where
   abbrev count : ℕ
@@ -102,7 +98,7 @@ module _ {F : Type 0} (v : F → Number) (program : Program F) (accepted : IsAcc
   fixed-set : (set : ℕ) → IsFixedSet (of_program program (is_among (dynamic_sets program))) first set → IsFixedSet among first set
   fixed-set set fixed = record {
     declared = fixed.declared;
-    static = by (nat_lt (base_of first set) count) (in-table (base_of first set) (not-known (is_undeclared (symbol_of first set).content) (closed-after v count program.statements.items set (ap not fixed.declared)))) fixed.static;
+    static = by (nat_lt (base_of first set) count) (in-table (base_of first set) (not-true (is_undeclared (symbol_of first set).content) (closed-after v count program.statements.items set (ap not fixed.declared)))) fixed.static;
   }
     where
       by : (b : Bool) → b ≡ true → (b && is_among (dynamic_sets program) (base_of first set)) ≡ false → among (base_of first set) ≡ false
@@ -121,7 +117,7 @@ module _ {F : Type 0} (v : F → Number) (program : Program F) (accepted : IsAcc
 
   pub data-stand : (labels : ℕ) → HasItsLabels labels program.statements.items first → DataStand labels first
   data-stand labels own n t there =
-      and-made (stands_in labels first (symbol_at first n).domain t) (nat_le (length t) 10)
+      and_from (stands_in labels first (symbol_at first n).domain t) (nat_le (length t) 10)
       (stand-all labels first (symbol_at first n).domain t (has-long (length (symbol_at first n).domain) (given_in (symbol_at first n).content) t ((loaded-well v program).tidy n).long there) (has-all (StandAt first (symbol_at first n).domain) (given_in (symbol_at first n).content) t (loaded-stands v program n accepted) there) (own.given n t there))
       (at-most-ten (length t) (has-all (λ (u : List ℕ). length u ≤ 10) (given_in (symbol_at first n).content) t (few-given v 0 (record { program = program; solvers = [] }) first n accepted at_first) there))
 
@@ -165,7 +161,7 @@ module _ {F : Type 0} (v : F → Number) (program : Program F) (accepted : IsAcc
       starts = data-stand labels own;
       fixed = fixed-positions;
       later = later-then;
-      based = λ n known. not-known (is_undeclared (symbol_of now n).content) (closed-after v count before n (ap not known));
+      based = λ n known. not-true (is_undeclared (symbol_of now n).content) (closed-after v count before n (ap not known));
       more = members-then;
       simple = simple-then;
     }

@@ -1,5 +1,6 @@
 -- While a program is loaded members of a set stay members of it, and what a declared name stands
 -- for is declared.
+use Rattle.std.proofs.lemmas.Bool.{and_parts, or_right}
 use Rattle.std.proofs.Common.{◌≡◌, ℕ, Bool, true, false, ◌&&◌, ◌==◌, cond, List, [], ◌∷◌, length, Option, Some, None, Result, Ok, Err, refl, sym, ap, ◌∙◌, subst, inl, inr}
 use Rattle.std.specs.List.{fold}
 use Rattle.gq_extended.specs.Extended.{Extended}
@@ -28,11 +29,6 @@ use Rattle.gms_check.specs.Past.{with_data, with_item, with_name, after_act, aft
 use Rattle.gms_check.proofs.Growing.{put-at, by_parts}
 use Rattle.gms_run_laws.specs.Agreeing.{IsClosed}
 use Rattle.gms_run_laws.proofs.Closing.{closed-item, closed-alias, closed-model, blank-closed}
-use Rattle.gms_restart.proofs.Homes.{or-second}
-
-last-holds : (a b : Bool) → (a && b) ≡ true → b ≡ true
-last-holds true b e = e
-last-holds false b e = absurd (cc)
 
 members-again : (c : Content) (k : DeclKind) → members_in (retyped c (content_of k)) ≡ members_in c
 members-again undeclared k = refl
@@ -119,7 +115,7 @@ module _ (b : ℕ) (t : List ℕ) where
 
   member-join : (s : State) (old new : ℕ) → can_join s old new ≡ true → Member s → Member (join_name s old new)
   member-join s old new can there =
-      member-fresh s new (alias_symbol (base_of s old)) (last-holds (is_set (symbol_at s old).content) (is_undeclared (symbol_at s new).content) can) there
+      member-fresh s new (alias_symbol (base_of s old)) ((and_parts (is_set (symbol_at s old).content) (is_undeclared (symbol_at s new).content) can).1) there
 
   member-alias : (s : State) (one two : ℕ) → Member s → Member (declare_alias s one two)
   member-alias s one two there = by (can_join s one two) (can_join s two one) refl refl
@@ -152,7 +148,7 @@ module _ (b : ℕ) (t : List ℕ) where
   with-member : (c : Content) (u : List ℕ) → Has c → Has (with_membership c u true)
   with-member undeclared u there = there
   with-member (alias_of base) u there = there
-  with-member (set_of members) u there = has-inserted members u t ∙ or-second (same_tuple u t) (has members t) there
+  with-member (set_of members) u there = has-inserted members u t ∙ or_right (same_tuple u t) (has members t) there
   with-member (parameter_of entries) u there = there
   with-member (variable_of type entries) u there = there
   with-member (equation_of entries) u there = there

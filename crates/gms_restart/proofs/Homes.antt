@@ -1,7 +1,7 @@
 -- Labels that may stand for a set, and so for each set that it is below, and at each position that
 -- it fits.
 use Rattle.std.proofs.Common.{◌≡◌, ℕ, zero, suc, nat_lt, nat_le, Bool, true, false, ◌&&◌, ◌||◌, ◌==◌, if◌then◌else◌, List, [], ◌∷◌, length, Option, Some, None, refl, sym, ap, ◌∙◌, subst}
-use Rattle.std.proofs.lemmas.Bool.{eqb-true}
+use Rattle.std.proofs.lemmas.Bool.{eqb-true, and_parts}
 use Rattle.gms_tuple.specs.TupleSet.{has}
 use Rattle.gms_store.specs.Declarations.{is_set, is_undeclared}
 use Rattle.gms_store.specs.State.{State, Content, undeclared, alias_of, set_of, parameter_of, variable_of, equation_of, model_with, symbol_at, symbol_of, base_of, given_in, members_in, members_of}
@@ -12,24 +12,6 @@ use Rattle.gms_check.proofs.Growing.{IsAfter}
 use Rattle.gms_save_text.specs.Validity.{stands_at, stands_in}
 use Rattle.gms_run_laws.specs.LastStates.{IsFixedSet}
 
--- two tests that both hold
-pub both-tests : (a b : Bool) → (a && b) ≡ true → (a ≡ true) × (b ≡ true)
-both-tests true b e = (refl, e)
-both-tests false b e = absurd (cc)
-
-pub and-made : (a b : Bool) → a ≡ true → b ≡ true → (a && b) ≡ true
-and-made a b e f = ap (λ (x : Bool). x && b) e ∙ f
-
--- one of two tests that holds
-pub or-first : (a b : Bool) → a ≡ true → (a || b) ≡ true
-or-first a b e = ap (λ (x : Bool). x || b) e
-
-pub or-second : (a b : Bool) → b ≡ true → (a || b) ≡ true
-or-second true b e = refl
-or-second false b e = e
-
--- each member of a content is a tuple with data
-pub members-given : (c : Content) (t : List ℕ) → has (members_in c) t ≡ true → has (given_in c) t ≡ true
 members-given undeclared t there = absurd (cc)
 members-given (alias_of base) t there = absurd (cc)
 members-given (set_of members) t there = there
@@ -49,7 +31,7 @@ set-known (model_with model solver) e = absurd (cc)
 
 -- an index set is declared
 pub index-known : (s : State) (set : ℕ) → is_index_set s set ≡ true → has_no_declaration s set ≡ false
-index-known s set is = set-known (symbol_at s set).content (both-tests (is_set_name s set) (has_one_position s set) is).0
+index-known s set is = set-known (symbol_at s set).content (and_parts (is_set_name s set) (has_one_position s set) is).0
 
 -- a tuple is in a domain, and has no more labels than a tuple may have
 abbrev pub stands_few : ℕ → State → List (Option ℕ) → List ℕ → Bool
@@ -73,7 +55,7 @@ module _ (count : ℕ) (first : State) (assigned : ℕ → Bool) where
     where
       by : (domain : List (Option ℕ)) → stands_in count first domain (label ∷ []) ≡ true → nat_lt label count ≡ true
       by [] e = absurd (cc)
-      by (position ∷ domain) e = (both-tests (nat_lt label count) (stands_at first position label && stands_in count first domain []) e).0
+      by (position ∷ domain) e = (and_parts (nat_lt label count) (stands_at first position label && stands_in count first domain []) e).0
 
   -- the set of a position, if it has one, is fixed
   abbrev pub IsFixedAt : Option ℕ → Type 0
@@ -84,7 +66,7 @@ module _ (count : ℕ) (first : State) (assigned : ℕ → Bool) where
     -- a label that may stand for a set may stand for the set of its position
     one-up : (a d label : ℕ) → (symbol_at first a).domain ≡ Some d ∷ [] → MayStand a label → MayStand (base_of first d) label
     one-up a d label is may = record {
-      domain = (both-tests (stands_in count first (symbol_of first d).domain (label ∷ [])) true (starts (base_of first d) (label ∷ []) (members-given (symbol_of first d).content (label ∷ []) there))).0;
+      domain = (and_parts (stands_in count first (symbol_of first d).domain (label ∷ [])) true (starts (base_of first d) (label ∷ []) (members-given (symbol_of first d).content (label ∷ []) there))).0;
       member = λ static. there;
     }
       where
@@ -92,7 +74,7 @@ module _ (count : ℕ) (first : State) (assigned : ℕ → Bool) where
         own = subst (λ (domain : List (Option ℕ)). stands_in count first domain (label ∷ []) ≡ true) is may.domain
 
         there : has (members_of first d) (label ∷ []) ≡ true
-        there = (both-tests (has (members_of first d) (label ∷ [])) true (both-tests (nat_lt label count) (has (members_of first d) (label ∷ []) && true) own).1).0
+        there = (and_parts (has (members_of first d) (label ∷ [])) true (and_parts (nat_lt label count) (has (members_of first d) (label ∷ []) && true) own).1).0
 
     module _ (s : State) (declared : List ℕ) (later : (n : ℕ) → has_no_declaration s n ≡ false → IsAfter (symbol_at s n) (symbol_at first n)) where
       base-same : (n : ℕ) → has_no_declaration s n ≡ false → base_of first n ≡ base_of s n
@@ -111,7 +93,7 @@ module _ (count : ℕ) (first : State) (assigned : ℕ → Bool) where
               bound : (c : Bool) → bounds s declared a d ≡ c → (if c then Some (base_of s d) else None) ≡ Some b → MayStand b label
               bound false none e = absurd (cc)
               bound true holds_so e =
-                  let known = index-known s d (both-tests (is_index_set s d) (is_met_before declared d (base_of s a)) holds_so).0 in
+                  let known = index-known s d (and_parts (is_index_set s d) (is_met_before declared d (base_of s a)) holds_so).0 in
                   let same : base_of s d ≡ b = cc in
                   let domain = (later a (index-known s a index)).domain ∙ ap (λ n. (symbol_at s n).domain) (sym own) ∙ is in
                   subst (λ n. MayStand n label) (base-same d known ∙ same) (one-up a d label domain may)
@@ -144,8 +126,8 @@ module _ (count : ℕ) (first : State) (assigned : ℕ → Bool) where
       pub set-stands : (name : ℕ) (position : Option ℕ) (index label : ℕ) → IsFixedAt position → has_no_declaration s index ≡ false → set_fits_position s declared (directly_above s declared) name position index ≡ true → MayStand (base_of first index) label → stands_at first position label ≡ true
       set-stands name None index label fixed known e may = refl
       set-stands name (Some d) index label fixed known e may =
-          let parts = both-tests (bounds s declared name d) (is_below s declared (directly_above s declared) index d) e in
-          let index_set = (both-tests (is_index_set s d) (is_met_before declared d (base_of s name)) parts.0).0 in
+          let parts = and_parts (bounds s declared name d) (is_below s declared (directly_above s declared) index d) e in
+          let index_set = (and_parts (is_index_set s d) (is_met_before declared d (base_of s name)) parts.0).0 in
           let there = below-up (length declared) (base_of s index) (base_of s d) label parts.1 (subst (λ n. MayStand n label) (base-same index known) may) in
           (subst (λ n. MayStand n label) (sym (base-same d (index-known s d index_set))) there).member fixed.static
 
@@ -154,6 +136,6 @@ module _ (count : ℕ) (first : State) (assigned : ℕ → Bool) where
         pub label-stands : (name : ℕ) (position : Option ℕ) (label : ℕ) → label_fits_position s declared name position label ≡ true → stands_at first position label ≡ true
         label-stands name None label e = refl
         label-stands name (Some d) label e =
-            let parts = both-tests (bounds s declared name d) (has (members_of s d) (label ∷ [])) e in
-            let index_set = (both-tests (is_index_set s d) (is_met_before declared d (base_of s name)) parts.0).0 in
+            let parts = and_parts (bounds s declared name d) (has (members_of s d) (label ∷ [])) e in
+            let index_set = (and_parts (is_index_set s d) (is_met_before declared d (base_of s name)) parts.0).0 in
             more d (label ∷ []) (index-known s d index_set) parts.1

@@ -1,5 +1,6 @@
 -- Under bindings that fit, the elements of references are in their domains, in expressions,
 -- definitions and assignments without an error.
+use Rattle.std.proofs.lemmas.Bool.{and_from}
 use Rattle.std.proofs.Common.{◌≡◌, ℕ, nat_lt, nat_le, Bool, true, false, List, [], ◌∷◌, ◌++◌, map, length, get_or, Option, Some, None, is_none, Ok, Err, refl, sym, ap, ◌∙◌, subst}
 use Rattle.std.specs.List.{All}
 use Rattle.std.proofs.lemmas.List.Elements.{All-cons, All-head, All-tail, All-filter}
@@ -41,7 +42,7 @@ use Rattle.gms_run_laws.specs.LastStates.{AreFixed}
 use Rattle.gms_save_text.specs.Validity.{stands_in}
 use Rattle.gms_restart.specs.Labels.{tree_labels, part_labels, index_labels, control_labels}
 use Rattle.gms_restart.proofs.Fitting.{Ground, Standing, Fits, controlled-fits, domain-has, tuple-few, tuple-stands}
-use Rattle.gms_restart.proofs.Homes.{and-made, stands_few}
+use Rattle.gms_restart.proofs.Homes.{stands_few}
 
 pub ok-weaker : {A : Type 0} (P Q : A → Type 0) (a : Answer A) → OkHas P a → ((x : A) → P x → Q x) → OkHas Q a
 ok-weaker P Q (Ok x) has each = each x has
@@ -80,7 +81,7 @@ module _ (count : ℕ) (first : State) (assigned : ℕ → Bool) {F : Type 0} (k
         tuple those e None is = tt
         tuple those e (Some t) is =
             subst (λ (ds : List (Option ℕ)). stands_few count first ds t ≡ true) same
-            (and-made (stands_in count first (positions known.state name) t) (nat_le (length t) 10)
+            (and_from (stands_in count first (positions known.state name) t) (nat_le (length t) 10)
             (tuple-stands count first assigned known.state ground known.declared v limit state standing binding fits name (positions known.state name) indices those t (subst (λ (ds : List (Option ℕ)). AreFixed assigned first ds) (sym same) (ground.fixed (base_of first name))) are.count are.sets
             (sym (ap (λ (above : ℕ → Option ℕ). have_unfit_set known.state known.declared above name (positions known.state name) indices) above_is) ∙ are.below) are.labels own e is)
             (tuple-few those t is))

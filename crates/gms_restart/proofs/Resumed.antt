@@ -2,7 +2,7 @@
 use Rattle.std.proofs.Common.{◌≡◌, ℕ, zero, suc, ◌≤◌, nat_lt, nat_le, Bool, true, false, not, ◌&&◌, ◌||◌, ◌==◌, List, [], ◌∷◌, ◌++◌, map, length, get_or, Option, Some, None, refl, sym, ap, ap₂, ◌∙◌, subst, arith}
 use Rattle.std.specs.Prelude.{flat_map}
 use Rattle.std.specs.List.{All}
-use Rattle.std.proofs.lemmas.Bool.{both_ways, eqb-true}
+use Rattle.std.proofs.lemmas.Bool.{both_ways, eqb-true, and_from, and_parts, not-false, not-true, or_parts}
 use Rattle.std.proofs.lemmas.List.{length-map}
 use Rattle.std.proofs.lemmas.List.Concat.{flat_map-append}
 use Rattle.std.proofs.lemmas.List.Elements.{All-nil}
@@ -20,7 +20,7 @@ use Rattle.gms_check.specs.Loaded.{IsAccepted, loaded}
 use Rattle.gms_check.specs.Past.{is_among}
 use Rattle.gms_exec.proofs.Staying.{Follows, Stays, stays-itself}
 use Rattle.gms_run_laws.specs.Agreeing.{declares}
-use Rattle.gms_run_laws.proofs.Changing.{read, over-at, not-undeclared, is-undeclared, chosen-declared, chosen-undeclared}
+use Rattle.gms_run_laws.proofs.Changing.{read, over-at, chosen-declared, chosen-undeclared}
 use Rattle.gms_run_laws.proofs.Padding.{below-of, test-of}
 use Rattle.gms_run_laws.specs.LastStates.{AreFixed, IsTidy}
 use Rattle.gms_run_laws.proofs.TidyLoaded.{loaded-well}
@@ -30,7 +30,7 @@ use Rattle.gms_restart.specs.Labels.{WritesItsLabels}
 use Rattle.gms_restart.specs.LastStates.{GoesOnBehind}
 use Rattle.gms_restart.proofs.Grounds.{among, at-most-ten, data-stand, fixed-positions, has-all, same-names}
 use Rattle.gms_restart.proofs.Growth.{closed-after}
-use Rattle.gms_restart.proofs.Homes.{and-made, both-tests, stands_few}
+use Rattle.gms_restart.proofs.Homes.{stands_few}
 use Rattle.gms_restart.proofs.Kept.{Kept}
 
 -- ---- contents
@@ -68,8 +68,8 @@ long-in count s [] [] e = refl
 long-in count s [] (l ∷ t) e = absurd (cc)
 long-in count s (p ∷ domain) [] e = absurd (cc)
 long-in count s (p ∷ domain) (l ∷ t) e =
-    let at = both-tests (nat_lt l count) (stands_at s p l && stands_in count s domain t) e in
-    ap suc (long-in count s domain t (both-tests (stands_at s p l) (stands_in count s domain t) at.1).1)
+    let at = and_parts (nat_lt l count) (stands_at s p l && stands_in count s domain t) e in
+    ap suc (long-in count s domain t (and_parts (stands_at s p l) (stands_in count s domain t) at.1).1)
 
 -- symbols that are overlaid with others of the same declarations declare the same
 overlay-declares : (xs ys : List Symbol) → ((n : ℕ) → is_undeclared (read ys n).content ≡ false → blanked (read ys n) ≡ blanked (read xs n)) → map blanked (overlaid_symbols xs ys) ≡ map blanked xs
@@ -84,14 +84,10 @@ overlay-declares (x ∷ xs) (y ∷ ys) same =
 
 -- ---- names among others
 
-or-false : (a b : Bool) → (a || b) ≡ false → (a ≡ false) × (b ≡ false)
-or-false true b e = absurd (cc)
-or-false false b e = (refl, e)
-
 front-none : (f : ℕ → ℕ) (ns ms : List ℕ) (name : ℕ) → is_among (map f (ns ++ ms)) name ≡ false → is_among (map f ns) name ≡ false
 front-none f [] ms name e = refl
 front-none f (n ∷ ns) ms name e =
-    let parts = or-false (f n == name) (is_among (map f (ns ++ ms)) name) e in
+    let parts = or_parts (f n == name) (is_among (map f (ns ++ ms)) name) e in
     ap (λ (b : Bool). b || is_among (map f ns) name) parts.0 ∙ front-none f ns ms name parts.1
 
 module _ {F : Type 0} (v : F → Number) (whole saved : Program F) (firsts others : List (Stmt F)) (accepted : IsAccepted v whole) (accepts : IsAccepted v saved) (own : WritesItsLabels v whole) (goes_on : GoesOnBehind v saved whole firsts others)
@@ -123,7 +119,7 @@ module _ {F : Type 0} (v : F → Number) (whole saved : Program F) (firsts other
   known-there n there =
       ap (λ (s : State). symbol_at s n) (sym goes_on.has_all.same)
       ∙ over-at first.symbols one.symbols n goes_on.has_all.many
-      ∙ chosen-declared (symbol_at first n) (symbol_at one n) (not-undeclared (is_undeclared (symbol_at one n).content) there)
+      ∙ chosen-declared (symbol_at first n) (symbol_at one n) (not-true (is_undeclared (symbol_at one n).content) there)
 
   undeclared-same : (n : ℕ) → is_undeclared (symbol_at state n).content ≡ is_undeclared (symbol_at one n).content
   undeclared-same n = same-read is_undeclared keeps-undeclared state one n same-declared
@@ -131,12 +127,12 @@ module _ {F : Type 0} (v : F → Number) (whole saved : Program F) (firsts other
   later-there : (n : ℕ) → declares one n ≡ true → symbol_at later n ≡ symbol_at state n
   later-there n there =
       over-at first.symbols state.symbols n many
-      ∙ chosen-declared (symbol_at first n) (symbol_at state n) (undeclared-same n ∙ not-undeclared (is_undeclared (symbol_at one n).content) there)
+      ∙ chosen-declared (symbol_at first n) (symbol_at state n) (undeclared-same n ∙ not-true (is_undeclared (symbol_at one n).content) there)
 
   later-elsewhere : (n : ℕ) → declares one n ≡ false → symbol_at later n ≡ symbol_at first n
   later-elsewhere n none =
       over-at first.symbols state.symbols n many
-      ∙ chosen-undeclared (symbol_at first n) (symbol_at state n) (undeclared-same n ∙ is-undeclared (is_undeclared (symbol_at one n).content) none)
+      ∙ chosen-undeclared (symbol_at first n) (symbol_at state n) (undeclared-same n ∙ not-false (is_undeclared (symbol_at one n).content) none)
 
   domain-same : (n : ℕ) → (symbol_at state n).domain ≡ (symbol_at one n).domain
   domain-same n = ap (λ (s : Symbol). s.domain) (same-at state one n same-declared)
@@ -191,7 +187,7 @@ module _ {F : Type 0} (v : F → Number) (whole saved : Program F) (firsts other
       other : (n : ℕ) (b : Bool) → declares one n ≡ b → (base_of first n == name) ≡ false → (base_of (declared_state saved) n == name) ≡ false
       other n true known e =
           ap (λ (m : ℕ). m == name) (base-there n ∙ sym (ap (λ (s : Symbol). alias_target n s.content) (known-there n known))) ∙ e
-      other n false unknown e = ap (λ (m : ℕ). m == name) (base-there n ∙ behind-nothing n (symbol_at one n).content (is-undeclared (is_undeclared (symbol_at one n).content) unknown)) ∙ apart (n == name) refl
+      other n false unknown e = ap (λ (m : ℕ). m == name) (base-there n ∙ behind-nothing n (symbol_at one n).content (not-false (is_undeclared (symbol_at one n).content) unknown)) ∙ apart (n == name) refl
         where
           apart : (b : Bool) → (n == name) ≡ b → (n == name) ≡ false
           apart true same = absurd (both_ways (declares one n) unknown (ap (declares one) (eqb-true n name same) ∙ there))
@@ -200,7 +196,7 @@ module _ {F : Type 0} (v : F → Number) (whole saved : Program F) (firsts other
       swapped : (ns : List ℕ) → is_among (map (base_of first) ns) name ≡ false → is_among (map (base_of (declared_state saved)) ns) name ≡ false
       swapped [] e = refl
       swapped (n ∷ ns) e =
-          let parts = or-false (base_of first n == name) (is_among (map (base_of first) ns) name) e in
+          let parts = or_parts (base_of first n == name) (is_among (map (base_of first) ns) name) e in
           ap (λ (b : Bool). b || is_among (map (base_of (declared_state saved)) ns) name) (other n (declares one n) refl parts.0) ∙ swapped ns parts.1
 
   static : (n : ℕ) → among v whole accepted n ≡ false → members_in (symbol_at later n).content ≡ members_in (symbol_at first n).content
@@ -232,13 +228,13 @@ module _ {F : Type 0} (v : F → Number) (whole saved : Program F) (firsts other
   stands-more [] fixed (l ∷ t) e = absurd (cc)
   stands-more (p ∷ domain) fixed [] e = absurd (cc)
   stands-more (None ∷ domain) fixed (l ∷ t) e =
-      let parts = both-tests (nat_lt l (length saved.labels)) (true && stands_in (length saved.labels) state domain t) e in
-      and-made (nat_lt l labels) (true && stands_in labels first domain t) (further l parts.0) (stands-more domain fixed t parts.1)
+      let parts = and_parts (nat_lt l (length saved.labels)) (true && stands_in (length saved.labels) state domain t) e in
+      and_from (nat_lt l labels) (true && stands_in labels first domain t) (further l parts.0) (stands-more domain fixed t parts.1)
   stands-more (Some set ∷ domain) fixed (l ∷ t) e =
-      let parts = both-tests (nat_lt l (length saved.labels)) (stands_at state (Some set) l && stands_in (length saved.labels) state domain t) e in
-      let here = both-tests (stands_at state (Some set) l) (stands_in (length saved.labels) state domain t) parts.1 in
-      and-made (nat_lt l labels) (stands_at first (Some set) l && stands_in labels first domain t) (further l parts.0)
-      (and-made (stands_at first (Some set) l) (stands_in labels first domain t) (sym (ap (λ (ms : List (List ℕ)). has ms (l ∷ [])) (members-same set fixed.0.declared fixed.0.static)) ∙ here.0) (stands-more domain fixed.1 t here.1))
+      let parts = and_parts (nat_lt l (length saved.labels)) (stands_at state (Some set) l && stands_in (length saved.labels) state domain t) e in
+      let here = and_parts (stands_at state (Some set) l) (stands_in (length saved.labels) state domain t) parts.1 in
+      and_from (nat_lt l labels) (stands_at first (Some set) l && stands_in labels first domain t) (further l parts.0)
+      (and_from (stands_at first (Some set) l) (stands_in labels first domain t) (sym (ap (λ (ms : List (List ℕ)). has ms (l ∷ [])) (members-same set fixed.0.declared fixed.0.static)) ∙ here.0) (stands-more domain fixed.1 t here.1))
 
   stand : (n : ℕ) (t : List ℕ) → has (given_in (symbol_at later n).content) t ≡ true → stands_few labels first (symbol_at first n).domain t ≡ true
   stand n t there = by (declares one n) refl
@@ -249,7 +245,7 @@ module _ {F : Type 0} (v : F → Number) (whole saved : Program F) (firsts other
           let given : has tuples t ≡ true = subst (λ (s : Symbol). has (given_in s.content) t ≡ true) (later-there n known) there in
           let stood = has-all (λ (u : List ℕ). stands_in (length saved.labels) state (symbol_at state n).domain u ≡ true) tuples t (is.given n).stand given in
           let moved = stands-more (symbol_at one n).domain (fixed-positions v saved accepts n) t (subst (λ (ds : List (Option ℕ)). stands_in (length saved.labels) state ds t ≡ true) (domain-same n) stood) in
-          and-made (stands_in labels first (symbol_at first n).domain t) (nat_le (length t) 10)
+          and_from (stands_in labels first (symbol_at first n).domain t) (nat_le (length t) 10)
           (subst (λ (ds : List (Option ℕ)). stands_in labels first ds t ≡ true) (sym (ap (λ (s : Symbol). s.domain) (known-there n known))) moved)
           (at-most-ten (length t) (has-all (λ (u : List ℕ). length u ≤ 10) tuples t (is.given n).few given))
       by false apart = data-stand v whole accepted labels own n t (subst (λ (s : Symbol). has (given_in s.content) t ≡ true) (later-elsewhere n apart) there)

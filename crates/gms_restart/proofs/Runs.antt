@@ -1,4 +1,5 @@
 -- In the last state of an accepted program's run all data are in their domains.
+use Rattle.std.proofs.lemmas.Bool.{and_from, and_parts, or_left, or_right}
 use Rattle.std.proofs.Common.{◌≡◌, ℕ, ◌≤◌, nat_lt, nat_le, Bool, true, false, ◌&&◌, ◌==◌, cond, List, [], ◌∷◌, ◌++◌, map, length, Option, Some, None, option_map, refl, sym, ap, ◌∙◌, subst, append_assoc, eq-eqb, arith}
 use Rattle.std.specs.Prelude.{flat_map}
 use Rattle.std.specs.List.{All}
@@ -49,7 +50,6 @@ use Rattle.gms_save_text.specs.Validity.{are_in_range, stands_at, stands_in}
 use Rattle.gms_restart.specs.Labels.{HasItsLabels, index_labels, tree_labels, condition_labels, labels_step, statement_labels}
 use Rattle.gms_restart.proofs.Fitting.{Standing}
 use Rattle.gms_restart.proofs.Grounds.{among, fixed-positions, data-stand, ground-then}
-use Rattle.gms_restart.proofs.Homes.{both-tests, and-made, or-first, or-second}
 use Rattle.gms_restart.proofs.Kept.{Kept}
 use Rattle.gms_restart.proofs.Passing.{stands_key, definition-passes, tree-passes}
 use Rattle.gms_restart.proofs.Steps.{EachKeeps, all-keep, may_be, statement-keeps}
@@ -64,7 +64,7 @@ each-more p q more (n ∷ ns) all = (more n all.0, each-more p q more ns all.1)
 made-among : (f : ℕ → ℕ) (ns : List ℕ) → Each (λ n. is_among (map f ns) (f n)) ns
 made-among f [] = tt
 made-among f (n ∷ ns) =
-    (or-first (f n == f n) (is_among (map f ns) (f n)) (eq-eqb (f n) (f n) refl), each-more (λ m. is_among (map f ns) (f m)) (λ m. is_among (map f (n ∷ ns)) (f m)) (λ m there. or-second (f n == f m) (is_among (map f ns) (f m)) there) ns (made-among f ns))
+    (or_left (f n == f n) (is_among (map f ns) (f n)) (eq-eqb (f n) (f n) refl), each-more (λ m. is_among (map f ns) (f m)) (λ m. is_among (map f (n ∷ ns)) (f m)) (λ m there. or_right (f n == f m) (is_among (map f ns) (f m)) there) ns (made-among f ns))
 
 module _ {F : Type 0} (v : F → Number) (limit : ℕ) (world : World F) (accepted : IsAccepted v world.program) (labels : ℕ) (own : HasItsLabels labels world.program.statements.items (loaded v world.program)) where
   abbrev program : Program F
@@ -204,19 +204,19 @@ stand-later count first last assigned bases static [] fixed [] e = refl
 stand-later count first last assigned bases static [] fixed (label ∷ t) e = absurd (cc)
 stand-later count first last assigned bases static (position ∷ domain) fixed [] e = absurd (cc)
 stand-later count first last assigned bases static (None ∷ domain) fixed (label ∷ t) e =
-    let parts = both-tests (nat_lt label count) (true && stands_in count first domain t) e in
-    and-made (nat_lt label count) (true && stands_in count last domain t) parts.0 (stand-later count first last assigned bases static domain fixed t parts.1)
+    let parts = and_parts (nat_lt label count) (true && stands_in count first domain t) e in
+    and_from (nat_lt label count) (true && stands_in count last domain t) parts.0 (stand-later count first last assigned bases static domain fixed t parts.1)
 stand-later count first last assigned bases static (Some set ∷ domain) fixed (label ∷ t) e =
-    let parts = both-tests (nat_lt label count) (stands_at first (Some set) label && stands_in count first domain t) e in
-    let here = both-tests (stands_at first (Some set) label) (stands_in count first domain t) parts.1 in
+    let parts = and_parts (nat_lt label count) (stands_at first (Some set) label && stands_in count first domain t) e in
+    let here = and_parts (stands_at first (Some set) label) (stands_in count first domain t) parts.1 in
     let members : members_of last set ≡ members_of first set = ap (λ n. members_in (symbol_at last n).content) (bases set) ∙ static (base_of first set) fixed.0.static in
-    and-made (nat_lt label count) (stands_at last (Some set) label && stands_in count last domain t) parts.0
-    (and-made (stands_at last (Some set) label) (stands_in count last domain t) (ap (λ (ms : List (List ℕ)). has ms (label ∷ [])) members ∙ here.0) (stand-later count first last assigned bases static domain fixed.1 t here.1))
+    and_from (nat_lt label count) (stands_at last (Some set) label && stands_in count last domain t) parts.0
+    (and_from (stands_at last (Some set) label) (stands_in count last domain t) (ap (λ (ms : List (List ℕ)). has ms (label ∷ [])) members ∙ here.0) (stand-later count first last assigned bases static domain fixed.1 t here.1))
 
 all-from_has : (P : List ℕ → Type 0) (tuples : List (List ℕ)) → ((t : List ℕ) → has tuples t ≡ true → P t) → All P tuples
 all-from_has P [] each = All-nil P
 all-from_has P (u ∷ tuples) each =
-    All-cons P u tuples (each u (or-first (same_tuple u u) (has tuples u) (same_tuple_refl u))) (all-from_has P tuples (λ t there. each t (or-second (same_tuple u t) (has tuples t) there)))
+    All-cons P u tuples (each u (or_left (same_tuple u u) (has tuples u) (same_tuple_refl u))) (all-from_has P tuples (λ t there. each t (or_right (same_tuple u t) (has tuples t) there)))
 
 module _ {F : Type 0} (v : F → Number) (program : Program F) (accepted : IsAccepted v program) (labels : ℕ) (last : State) (kept : Kept labels (loaded v program) (among v program accepted) last) where
   -- each tuple with data is in the domain of its name
@@ -226,13 +226,13 @@ module _ {F : Type 0} (v : F → Number) (program : Program F) (accepted : IsAcc
       all-from_has (λ (t : List ℕ). stands_in labels last (symbol_at last name).domain t ≡ true) (given_in (symbol_at last name).content) (λ t there.
       subst (λ (ds : List (Option ℕ)). stands_in labels last ds t ≡ true) (sym (kept.lasts.stays name).domain)
       (stand-later labels first last (among v program accepted) (λ set. (kept.lasts.stays set).alike set) kept.lasts.later.static (symbol_at first name).domain (fixed-positions v program accepted name) t
-      (both-tests (stands_in labels first (symbol_at first name).domain t) (nat_le (length t) 10) (kept.stand name t there)).0))
+      (and_parts (stands_in labels first (symbol_at first name).domain t) (nat_le (length t) 10) (kept.stand name t there)).0))
 
   -- and has at most 10 labels
   pub kept-few : (name : ℕ) → All (λ (t : List ℕ). length t ≤ 10) (given_in (symbol_at last name).content)
   kept-few name =
       let first = loaded v program in
-      all-from_has (λ (t : List ℕ). length t ≤ 10) (given_in (symbol_at last name).content) (λ t there. ten (length t) (both-tests (stands_in labels first (symbol_at first name).domain t) (nat_le (length t) 10) (kept.stand name t there)).1)
+      all-from_has (λ (t : List ℕ). length t ≤ 10) (given_in (symbol_at last name).content) (λ t there. ten (length t) (and_parts (stands_in labels first (symbol_at first name).domain t) (nat_le (length t) 10) (kept.stand name t there)).1)
     where
       ten : (n : ℕ) → nat_le n 10 ≡ true → n ≤ 10
       ten n le = grind (arith, nat_tests, le)

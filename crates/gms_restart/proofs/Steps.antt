@@ -1,5 +1,6 @@
 -- Each statement without an error keeps data in the domains of their names, under a binding that
 -- fits; loops too.
+use Rattle.std.proofs.lemmas.Bool.{and_parts, not-false}
 use Rattle.std.proofs.Common.{◌≡◌, ℕ, nat_lt, Bool, true, false, not, ◌&&◌, ◌||◌, List, [], ◌∷◌, ◌++◌, map, Option, Some, None, option_map, Ok, Err, refl, sym, ◌∙◌, subst}
 use Rattle.std.specs.Prelude.{flat_map, if◌then◌else◌}
 use Rattle.gq_number.specs.Number.{Number}
@@ -27,7 +28,7 @@ use Rattle.gms_check.specs.StatementUses.{UsesOfAct, UsesOfStatement, act_uses_s
 use Rattle.gms_check.specs.Uses.{assigning, control_uses}
 use Rattle.gms_check.specs.Uses as checking
 use Rattle.gms_check.proofs.NoErrors.{AreClean, clean-left, clean-right}
-use Rattle.gms_check.proofs.Soundness.{sound-use, not-false}
+use Rattle.gms_check.proofs.Soundness.{sound-use}
 use Rattle.gms_eval.specs.Bindings.{Pairs, controlled}
 use Rattle.gms_eval.specs.Faults.{Answer as Evaluated, ◌and_then◌}
 use Rattle.gms_eval.specs.Holds.{holds}
@@ -48,7 +49,7 @@ use Rattle.gms_run_laws.proofs.ModelRows.{DefinitionPasses, program-keyed}
 use Rattle.gms_run_laws.proofs.RowElements.{IsOver}
 use Rattle.gms_restart.specs.Labels.{index_labels, tree_labels, condition_labels, control_labels, labels_step, statement_labels}
 use Rattle.gms_restart.proofs.Fitting.{Ground, Standing, Fits}
-use Rattle.gms_restart.proofs.Homes.{both-tests, stands_few}
+use Rattle.gms_restart.proofs.Homes.{stands_few}
 use Rattle.gms_restart.proofs.Kept.{Kept, standing-of, kept-given, kept-end, kept-options}
 use Rattle.gms_restart.proofs.Passing.{stands_key, positions-same, control-simple, element-fits, over-domain, GivenStands, given-stand}
 
@@ -134,7 +135,7 @@ module _ (count : ℕ) (first : State) (assigned : ℕ → Bool) where
     objective-stands : (name : ℕ) → has_no_declaration known.state name ≡ false → not (is_free (symbol_at known.state name).content && is_without_positions (positions known.state name)) ≡ false → stands_key count first (record { symbol = name; tuple = [] }) ≡ true
     objective-stands name there clean =
         let free = not-false (is_free (symbol_at known.state name).content && is_without_positions (positions known.state name)) clean in
-        let none = no-positions (positions known.state name) (both-tests (is_free (symbol_at known.state name).content) (is_without_positions (positions known.state name)) free).1 in
+        let none = no-positions (positions known.state name) (and_parts (is_free (symbol_at known.state name).content) (is_without_positions (positions known.state name)) free).1 in
         subst (λ (ds : List (Option ℕ)). stands_few count first ds [] ≡ true) (sym none ∙ positions-same count first assigned known above_is ground name there) refl
 
     keeps-answered : (c : Course) (left : List (Answer Number)) (solvers : List (List ℕ)) (model : ℕ) (equations : List ℕ) (objective : ℕ) (at : Place) (lp : Lp Number) → IsOver (stands_key count first) lp → P c → P (answered v limit solvers model equations objective at (record c { left = left }) lp)

@@ -16,13 +16,6 @@ use Rattle.gms_eval.specs.Faults.{Answer, nothing, taken, ◌and_then◌}
 use Rattle.gms_rows.specs.PointValues.{exact_sum, exact_difference, exact_product, exact_quotient, exact_sum_step, exact_product_step}
 use Rattle.gms_rows.proofs.Domains.{given, only_value}
 
--- both of two tests hold
-pub both_hold : (a b : Bool) → (a && b) ≡ true → (a ≡ true) × (b ≡ true)
-both_hold true b e = (refl, e)
-both_hold false b e = absurd (cc)
-
--- ---- steps on extended numbers
-
 less_is : (x y : Number) → x -ℚ y ≡ x +ℚ neg_ℚ y
 less_is x y = simp ring_ℚ
 

@@ -1,4 +1,5 @@
 -- Names that are marked, and statements that are noted, by the numbers of names.
+use mathlib.Core.Bool.{or-false, or-true}
 use Rattle.std.proofs.Common.{◌≡◌, ℕ, zero, suc, ◌<◌, Bool, true, false, ◌||◌, ◌==◌, if◌then◌else◌, List, [], ◌∷◌, ◌++◌, map, set, take, get_or, ◌+◌, length, Option, Some, None, refl, sym, ap, subst, ◌∙◌, append-nil, Bor}
 use Rattle.std.specs.Prelude.{slice_index_or, is_some}
 use Rattle.std.proofs.lemmas.Bool.{eqb-true, eqb-false}
@@ -28,15 +29,6 @@ pub once-marked : (marks old : List Bool) (names : List ℕ) (name : ℕ) (there
 once-marked marks old names name there same marked is =
     ap (λ b. if b then names else names ++ name ∷ []) (sym is ∙ same name ∙ marked name)
 
-or_true : (a : Bool) → (a || true) ≡ true
-or_true true = refl
-or_true false = refl
-
-or_false : (a : Bool) → (a || false) ≡ a
-or_false true = refl
-or_false false = refl
-
--- one more name, which is marked
 pub marked-more : (marks old : List Bool) (names : List ℕ) (name : ℕ) → name < length marks → ((n : ℕ) → slice_index_or marks n false ≡ slice_index_or old n false) → AreMarked old names → AreMarked (set marks name true) (names ++ name ∷ [])
 marked-more marks old names name there same marked n = by (name == n) refl
   where
@@ -47,12 +39,12 @@ marked-more marks old names name there same marked n = by (name == n) refl
     by true e =
         ap (λ k. slice_index_or (set marks name true) k false) (sym (eqb-true name n e))
         ∙ get_or-set_same marks name true false there
-        ∙ sym (more ∙ ap (λ b. is_in names n || (b || false)) e ∙ or_true (is_in names n))
+        ∙ sym (more ∙ ap (λ b. is_in names n || (b || false)) e ∙ or-true (is_in names n))
     by false e =
         get_or-set_other marks name n true false (λ s. eqb-false name n e (sym s))
         ∙ same n
         ∙ marked n
-        ∙ sym (more ∙ ap (λ b. is_in names n || (b || false)) e ∙ or_false (is_in names n))
+        ∙ sym (more ∙ ap (λ b. is_in names n || (b || false)) e ∙ or-false (is_in names n))
 
 -- ---- definitions
 

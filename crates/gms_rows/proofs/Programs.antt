@@ -1,4 +1,5 @@
 -- The program of rows: its columns, its size, and that it is well formed.
+use mathlib.Core.Bool.{or-true}
 use Rattle.std.proofs.Common.{◌≡◌, ◌≢◌, ℕ, ◌+◌, ◌<◌, ◌≤◌, Bool, true, false, ◌||◌, List, [], ◌∷◌, ◌++◌, map, length, get_or, refl, sym, ap, ◌∙◌, subst, arith}
 use Rattle.std.specs.Prelude.{flat_map, sum_by}
 use Rattle.std.specs.List.{All, AllPairs}
@@ -73,11 +74,6 @@ keys-differ keys up i j d less below same =
     let tied : key_cmp (get_or keys i d) (get_or keys j d) ≡ Equal = ap (key_cmp (get_or keys i d)) (sym same) ∙ tied_itself key_cmp-total (get_or keys i d) in
     let both : Less ≡ Equal = sym before ∙ tied in cc
 
-pub or-true : (b : Bool) → (b || true) ≡ true
-or-true true = refl
-or-true false = refl
-
--- keys are among themselves
 own-keys : (keys : List Key) → All (λ key. is_among keys key ≡ true) keys
 own-keys [] = All-nil (λ key. is_among [] key ≡ true)
 own-keys (k ∷ keys) =

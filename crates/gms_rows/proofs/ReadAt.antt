@@ -4,7 +4,7 @@ use Rattle.std.proofs.Common.{◌≡◌, ℕ, ◌+◌, suc, pos, Bool, true, fal
 use Rattle.std.specs.Map.{keys_of}
 use Rattle.std.specs.FinMap as finite
 use Rattle.std.specs.FinMap.Entries.{put}
-use Rattle.std.proofs.lemmas.Bool.{both_ways}
+use Rattle.std.proofs.lemmas.Bool.{both_ways, and_parts, not-true}
 use Rattle.gms_labels.specs.declared.place.Place.{Place}
 use Rattle.gq_number.specs.Number.{Number, whole, neg_ℚ, ◌+ℚ◌, ◌*ℚ◌, ◌/ℚ◌}
 use Rattle.gq_number.specs.Sums.{sum_by_ℚ}
@@ -35,7 +35,7 @@ use Rattle.gms_rows.specs.PointValues.{exact_sum_step, exact_product_step, exact
 use Rattle.gms_rows.proofs.ColumnKeys.{no_entries}
 use Rattle.gms_rows.proofs.Domains.{given, only_value}
 use Rattle.gms_rows.proofs.Entries.{not_zero-zero}
-use Rattle.gms_rows.proofs.ExactSteps.{both_hold, sum_step-exact, product_step-exact, chain-behind, zero_tested}
+use Rattle.gms_rows.proofs.ExactSteps.{sum_step-exact, product_step-exact, chain-behind, zero_tested}
 use Rattle.gms_rows.proofs.KeyLists.{tied-turned}
 use Rattle.gms_rows.proofs.PointSums.{number-at, sum_of-at, product_of-at, quotient_of-at, scaled-at}
 
@@ -118,11 +118,6 @@ module _ (point : Key → Number) where
 
 -- ---- the parts from the first with variables on
 
-not_true : (a : Bool) → not a ≡ true → a ≡ false
-not_true true e = absurd (cc)
-not_true false e = refl
-
--- one more element is taken
 take-first : {X : Type 0} (n : ℕ) (x : X) (xs : List X) → take (n + 1) (x ∷ xs) ≡ x ∷ take n xs
 take-first n x xs = let e : n + 1 ≡ suc n = omega arith in ap (λ k. take k (x ∷ xs)) e
 
@@ -162,8 +157,8 @@ module _ {F : Type 0} (state : State) where
     where
       by : (h : Bool) → (are_later_factors state rest ≡ true → IsSingle (behind rest) × IsUpright (behind rest)) → (if h then not (is_inverse mark) && not (some_has_variables state rest) else are_later_factors state rest) ≡ true → IsSingle (if h then tree.part mark e rest else behind rest) × IsUpright (if h then tree.part mark e rest else behind rest)
       by true later so =
-          let each = both_hold (not (is_inverse mark)) (not (some_has_variables state rest)) so in
-          (not_true (some_has_variables state rest) each.1, not_true (is_inverse mark) each.0)
+          let each = and_parts (not (is_inverse mark)) (not (some_has_variables state rest)) so in
+          (not-true (some_has_variables state rest) each.1, not-true (is_inverse mark) each.0)
       by false later so = later so
 
   -- the factors from the first with variables on
@@ -172,7 +167,7 @@ module _ {F : Type 0} (state : State) where
   behind-factors (tree.part mark e rest) so = by (has_variables state e) so
     where
       by : (h : Bool) → (if h then not (some_has_variables state rest) else are_later_factors state rest) ≡ true → (((if h then 0 else in_front state rest + 1) ≡ 0) × IsSingle (if h then tree.part mark e rest else behind rest)) ⊎ (IsSingle (if h then tree.part mark e rest else behind rest) × IsUpright (if h then tree.part mark e rest else behind rest))
-      by true so = inl (refl, not_true (some_has_variables state rest) so)
+      by true so = inl (refl, not-true (some_has_variables state rest) so)
       by false so = inr (behind-later rest so)
 
 -- ---- values of parts and of expressions
@@ -283,7 +278,7 @@ module _ {F : Type 0} (v : F → Number) (limit : ℕ) (state : State) (point : 
         let k = known at b t one.value hold.0 one.is in
         ap (λ a. exact_sum_step b (signed at inverse) (shown point left) a and_then λ y. summed (Some y) (values_at v limit state point b rest)) k.0
         ∙ ap (λ a. a and_then λ y. summed (Some y) (values_at v limit state point b rest)) (sum-shown point limit b at inverse left one.value two.value two.is)
-        ∙ sum-behind rest two.value f hold.1 (both_hold (is_linear state t) (are_linear state rest) so).1 two.next_is
+        ∙ sum-behind rest two.value f hold.1 (and_parts (is_linear state t) (are_linear state rest) so).1 two.next_is
     sum-behind (tree.part mark t rest) left f hold so e = absurd (cc)
 
     sum-starts : (parts : tree.Parts F) (f : Form) → Hold b parts → are_linear state parts ≡ true → (x : Option Number) → Starts b (sum_step limit b) (exact_sum_step b) (plus limit b) (sum_step-exact limit b) x parts f
@@ -294,7 +289,7 @@ module _ {F : Type 0} (v : F → Number) (limit : ℕ) (state : State) (point : 
     sum-starts (tree.part mark t rest) f hold so None e =
         let one = given (form_answer (part_place mark) b t) (λ form. joined_forms (plus limit b) (Some form) (forms v limit state b rest)) f e in
         let k = known (part_place mark) b t one.value hold.0 one.is in
-        let later = both_hold (is_linear state t) (are_linear state rest) (both_hold (is_signed mark) (is_linear state t && are_linear state rest) so).1 in
+        let later = and_parts (is_linear state t) (are_linear state rest) (and_parts (is_signed mark) (is_linear state t && are_linear state rest) so).1 in
         ap (λ a. a and_then λ y. summed (Some y) (values_at v limit state point b rest)) k.0
         ∙ sum-behind rest one.value f hold.1 later.1 one.next_is
 
@@ -317,7 +312,7 @@ module _ {F : Type 0} (v : F → Number) (limit : ℕ) (state : State) (point : 
         let k = known at b t one.value (λ has. absurd (both_ways (has_variables state t) neither.0 has)) one.is in
         ap (λ a. exact_product_step b (signed at inverse) (shown point left) a and_then λ y. multiplied (Some y) (values_at v limit state point b rest)) k.0
         ∙ ap (λ a. a and_then λ y. multiplied (Some y) (values_at v limit state point b rest)) (factor-shown point limit b at inverse left one.value two.value (k.1 neither.0) two.is)
-        ∙ product-behind rest two.value f neither.1 (both_hold (is_linear state t) (are_linear state rest) so).1 two.next_is
+        ∙ product-behind rest two.value f neither.1 (and_parts (is_linear state t) (are_linear state rest) so).1 two.next_is
     product-behind (tree.part mark t rest) left f none so e = absurd (cc)
 
     or_first : (a c : Bool) → a ≡ true → (a || c) ≡ true
@@ -336,7 +331,7 @@ module _ {F : Type 0} (v : F → Number) (limit : ℕ) (state : State) (point : 
     product-first (tree.part mark t rest) f hold so single e =
         let one = given (form_answer (part_place mark) b t) (λ form. joined_forms (times limit b) (Some form) (forms v limit state b rest)) f e in
         let k = known (part_place mark) b t one.value hold.0 one.is in
-        let later = both_hold (is_linear state t) (are_linear state rest) (both_hold (is_signed mark) (is_linear state t && are_linear state rest) so).1 in
+        let later = and_parts (is_linear state t) (are_linear state rest) (and_parts (is_signed mark) (is_linear state t && are_linear state rest) so).1 in
         ap (λ a. a and_then λ y. multiplied (Some y) (values_at v limit state point b rest)) k.0
         ∙ product-behind rest one.value f single later.1 one.next_is
 
@@ -351,7 +346,7 @@ module _ {F : Type 0} (v : F → Number) (limit : ℕ) (state : State) (point : 
         ap (λ y. multiplied (Some (number y)) (values_at v limit state point b (tree.part (signed at inverse) t rest))) (sym (constant-at point x))
         ∙ ap (λ a. exact_product_step b (signed at inverse) (shown point (constant_form x)) a and_then λ y. multiplied (Some y) (values_at v limit state point b rest)) k.0
         ∙ ap (λ a. a and_then λ y. multiplied (Some y) (values_at v limit state point b rest)) (number-times at inverse x one.value two.value upright two.is)
-        ∙ product-behind rest two.value f single (both_hold (is_linear state t) (are_linear state rest) so).1 two.next_is
+        ∙ product-behind rest two.value f single (and_parts (is_linear state t) (are_linear state rest) so).1 two.next_is
     product-after (tree.part mark t rest) f x hold so single upright e = absurd (cc)
 
     product-starts : (parts : tree.Parts F) (f : Form) → Hold b parts → are_linear state parts ≡ true → IsSingle state parts → IsUpright state parts → (x : Option Number) → Starts b (product_step limit b) (exact_product_step b) (times limit b) (product_step-exact limit b) x parts f
@@ -365,7 +360,7 @@ module _ {F : Type 0} (v : F → Number) (limit : ℕ) (state : State) (point : 
 
   behind-linear : (parts : tree.Parts F) → are_linear state parts ≡ true → are_linear state (behind state parts) ≡ true
   behind-linear parts so =
-      behind-keeps state (λ those. are_linear state those ≡ true) (λ mark e rest none holds. (both_hold (is_linear state e) (are_linear state rest) (both_hold (is_signed mark) (is_linear state e && are_linear state rest) holds).1).1) parts so
+      behind-keeps state (λ those. are_linear state those ≡ true) (λ mark e rest none holds. (and_parts (is_linear state e) (are_linear state rest) (and_parts (is_signed mark) (is_linear state e && are_linear state rest) holds).1).1) parts so
 
   -- a product
   multiplied-at : (b : Pairs) (parts : tree.Parts F) (f : Form) → Hold b (behind state parts) → are_linear state (behind state parts) ≡ true → ((in_front state parts ≡ 0) × IsSingle state (behind state parts)) ⊎ (IsSingle state (behind state parts) × IsUpright state (behind state parts)) → chained b (product_step limit b) (times limit b) (in_front state parts) (values v limit state b parts) (forms v limit state b parts) ≡ Ok f → chain (exact_product_step b) (values_at v limit state point b parts) ≡ Ok (shown point f)
@@ -440,13 +435,13 @@ module _ {F : Type 0} (v : F → Number) (limit : ℕ) (state : State) (point : 
     linear-at : (e : tree.Tree F) (b : Pairs) → has_variables state e ≡ true → is_linear state e ≡ true → Holds b e
     linear-at (tree.reference place name suffix indices) b has so at f e = reference-at b at place name indices f e
     linear-at (tree.fold_over place op control body) b has so at f e =
-        let two = both_hold (is_sum_fold op) (is_linear state body) (if_has (has_variables state body) (is_sum_fold op && is_linear state body) has so) in
+        let two = and_parts (is_sum_fold op) (is_linear state body) (if_has (has_variables state body) (is_sum_fold op && is_linear state body) has so) in
         folded-at b place op control body two.0 (λ element. linear-at body (controlled b (sets_of control) element) has two.1) at f e
     linear-at (tree.negated operand) b has so at f e = negated-at b at operand f (linear-at operand b has so) e
     linear-at (tree.sum parts) b has so at f e =
         chained-at b (sum_step limit b) (exact_sum_step b) (plus limit b) (sum_step-exact limit b) parts f (sum-starts b (behind state parts) f (behind-holds b parts (parts-at parts b so)) (behind-linear parts so)) e
     linear-at (tree.product parts) b has so at f e =
-        let two = both_hold (are_linear state parts) (are_factors state parts) so in
+        let two = and_parts (are_linear state parts) (are_factors state parts) so in
         multiplied-at b parts f (behind-holds b parts (parts-at parts b two.0)) (behind-linear parts two.0) (behind-factors state parts two.1) e
     linear-at (tree.guarded operand guards) b has so at f e = guarded-at b at operand guards f (linear-at operand b has so) e
     linear-at other b has so at f e = absurd (cc)
@@ -454,7 +449,7 @@ module _ {F : Type 0} (v : F → Number) (limit : ℕ) (state : State) (point : 
     parts-at : (parts : tree.Parts F) (b : Pairs) → are_linear state parts ≡ true → Hold b parts
     parts-at tree.no_part b so = tt
     parts-at (tree.part mark e rest) b so =
-        let two = both_hold (is_linear state e) (are_linear state rest) (both_hold (is_signed mark) (is_linear state e && are_linear state rest) so).1 in
+        let two = and_parts (is_linear state e) (are_linear state rest) (and_parts (is_signed mark) (is_linear state e && are_linear state rest) so).1 in
         (λ has. linear-at e b has two.0, parts-at rest b two.1)
 
   -- the form of an expression that is linear in the variables

@@ -1,5 +1,6 @@
 -- A point satisfies the rows of a model exactly where it satisfies the definitions of the model's
 -- equations.
+use mathlib.Core.Bool.{or-true}
 use Rattle.std.proofs.Common.{◌≡◌, ◌↔◌, ℕ, nat_lt, ◌+◌, ◌<◌, Bool, true, false, ◌||◌, cond, if◌then◌else◌, pos, List, [], ◌∷◌, ◌++◌, map, length, get_or, Option, Some, None, unwrap_or, is_some, Ok, Err, refl, sym, ap, ◌∙◌, subst, arith}
 use Rattle.std.specs.Prelude.{flat_map}
 use Rattle.std.specs.List.{All, enumerate_from}
@@ -50,7 +51,7 @@ use Rattle.gms_rows.proofs.KeyLists.{tied-turned, keys-ordered}
 use Rattle.gms_rows.proofs.OneRow.{row_at}
 use Rattle.gms_rows.proofs.Placing.{stands-in_place}
 use Rattle.gms_rows.proofs.PointSums.{sum_of-at}
-use Rattle.gms_rows.proofs.Programs.{all-of_map, map-keeps, map-itself, or-true, keys-there}
+use Rattle.gms_rows.proofs.Programs.{all-of_map, map-keeps, map-itself, keys-there}
 use Rattle.gms_rows.proofs.ReadAt.{affine-at}
 use Rattle.gms_rows.proofs.RowKeys.{sourced}
 use Rattle.gms_rows.proofs.RowWalk.{row_of}

@@ -5,7 +5,7 @@ use Rattle.std.specs.Prelude.{nat_le}
 use Rattle.std.specs.List.{All, position}
 use Rattle.std.specs.Result.{IsErrAnd}
 use Rattle.std.specs.Str.{bytes_eq, str_eq_ignore_ascii_case}
-use Rattle.std.proofs.lemmas.Bool.{eqb-true, leb-true}
+use Rattle.std.proofs.lemmas.Bool.{eqb-true, leb-true, and_parts}
 use Rattle.std.proofs.lemmas.List.Elements.{All-nil, All-weaker}
 use Rattle.std.proofs.lemmas.List.Quantifiers.{position-Some}
 use Rattle.std.proofs.lemmas.Result.{err_from_is_err_and}
@@ -19,18 +19,6 @@ use Rattle.gms_joint_source.specs.Fronts.{first_line, joint_source}
 use Rattle.gms_restart.proofs.SavedFits.{saved_fits}
 use Rattle.gms_run.specs.InnerReports.{CanGoOn}
 
--- where two tests hold, each does
-first-holds : (a b : Bool) → (a && b) ≡ true → a ≡ true
-first-holds true b e = refl
-first-holds false b e = cc
-
-second-holds : (a b : Bool) → (a && b) ≡ true → b ≡ true
-second-holds true b e = e
-second-holds false b e = cc
-
--- ---- what was restored
-
--- out of memory: no claim
 pub wanting : (r : Result Saved SaveFaultOrMemory) (solvers : List (List ℕ)) (save : List ℕ) → IsErrAnd r (λ e. e ≡ Memory) → Restores solvers save r
 wanting r solvers save h = let p = err_from_is_err_and r h in rw (p.1, p.2) tt
 
@@ -55,7 +43,7 @@ stands-long labels state [] [] e = refl
 stands-long labels state [] (label ∷ t) e = absurd (let z : ⊥ = cc in z)
 stands-long labels state (set ∷ domain) [] e = absurd (let z : ⊥ = cc in z)
 stands-long labels state (set ∷ domain) (label ∷ t) e =
-    ap suc (stands-long labels state domain t (second-holds (stands_at state set label) _ (second-holds _ _ e)))
+    ap suc (stands-long labels state domain t ((and_parts (stands_at state set label) _ ((and_parts _ _ e).1)).1))
 
 -- what holds of all tuples with data holds of all members
 members-given : (P : List ℕ → Type 0) (content : Content) → All P (given_in content) → All P (members_in content)
@@ -85,7 +73,7 @@ can_go_on solvers save saved restored file =
         placed = restored.placed;
       };
       settings = record {
-        decimals = leb-true settings.decimals 8 (second-holds (nat_le settings.iterlim 2147483647) (nat_le settings.decimals 8) (second-holds (nat_le settings.limcol 2147483647) (nat_le settings.iterlim 2147483647 && nat_le settings.decimals 8) (second-holds (nat_le settings.limrow 2147483647) (nat_le settings.limcol 2147483647 && (nat_le settings.iterlim 2147483647 && nat_le settings.decimals 8)) is.ranges)));
+        decimals = leb-true settings.decimals 8 ((and_parts (nat_le settings.iterlim 2147483647) (nat_le settings.decimals 8) ((and_parts (nat_le settings.limcol 2147483647) (nat_le settings.iterlim 2147483647 && nat_le settings.decimals 8) ((and_parts (nat_le settings.limrow 2147483647) (nat_le settings.limcol 2147483647 && (nat_le settings.iterlim 2147483647 && nat_le settings.decimals 8)) is.ranges).1)).1)).1);
         chosen = placed-below solvers restored.solver settings.solver restored.placed;
       };
       arity = λ name.

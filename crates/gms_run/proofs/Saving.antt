@@ -4,7 +4,7 @@ use Rattle.std.specs.Prelude.{IfOk, IfSome, nat_le, nat_lt}
 use Rattle.std.specs.List.{All, list_all}
 use Rattle.std.specs.Char.{is_ascii_alphabetic}
 use Rattle.std.specs.declared.alloc.Global.{Global}
-use Rattle.std.proofs.lemmas.Bool.{ltb-true}
+use Rattle.std.proofs.lemmas.Bool.{ltb-true, and_from, and_parts}
 use Rattle.std.proofs.lemmas.Bool.Decides.{nat_tests}
 use Rattle.std.proofs.lemmas.List.{length-map}
 use Rattle.std.proofs.lemmas.List.Elements.{All-head, All-tail}
@@ -37,13 +37,6 @@ use Rattle.gms_run.specs.InnerReports.{IsGoneOn, KeepsState}
 
 -- ---- the name of the solver
 
-both-true : (a b : Bool) → a ≡ true → b ≡ true → (a && b) ≡ true
-both-true a b e f = ap₂ (λ (x y : Bool). x && y) e f
-
-second-true : (a b : Bool) → (a && b) ≡ true → b ≡ true
-second-true true b e = e
-second-true false b e = cc
-
 short-rest : (n : ℕ) → n + 1 ≤ 63 → nat_le n 62 ≡ true
 short-rest n few = grind (arith, nat_tests)
 
@@ -51,8 +44,8 @@ short-rest n few = grind (arith, nat_tests)
 name-saved : (name : List ℕ) → IsSolverName name → is_solver_name name ≡ true
 name-saved [] is = absurd (let e : false ≡ true = is.letter in cc)
 name-saved (first ∷ rest) is =
-    both-true (is_ascii_alphabetic first) (list_all is_solver_byte rest && nat_le (length rest) 62) is.letter
-    (both-true (list_all is_solver_byte rest) (nat_le (length rest) 62) (second-true (may_stand_in_name first) (list_all may_stand_in_name rest) is.plain) (short-rest (length rest) (omega (arith, is.short))))
+    and_from (is_ascii_alphabetic first) (list_all is_solver_byte rest && nat_le (length rest) 62) is.letter
+    (and_from (list_all is_solver_byte rest) (nat_le (length rest) 62) ((and_parts (may_stand_in_name first) (list_all may_stand_in_name rest) is.plain).1) (short-rest (length rest) (omega (arith, is.short))))
 
 -- what a save has for the solver of a place
 solver-saved : (names : List (List ℕ)) (place : ℕ) → All IsSolverName names → is_solver_name (unwrap_or (slice_get names place) (codes "none")) ≡ true

@@ -1,4 +1,5 @@
 -- A program that continues a saved one begins with all that the saved one begins with.
+use Rattle.std.proofs.lemmas.Bool.{not-false, not-true}
 use Rattle.std.proofs.Common.{◌≡◌, ℕ, ◌≤◌, Bool, true, false, not, List, ◌++◌, length, refl, sym, ap, ap₂, ◌∙◌, subst}
 use Rattle.std.specs.Prelude.{flat_map}
 use Rattle.std.specs.List.{fold}
@@ -12,7 +13,7 @@ use Rattle.gms_check.specs.Loaded.{IsAccepted, loaded, sound}
 use Rattle.gms_check.specs.Past.{state_after}
 use Rattle.gms_exec.specs.Run.{World}
 use Rattle.gms_run_laws.specs.Agreeing.{declares, HasAll}
-use Rattle.gms_run_laws.proofs.Changing.{read, over-at, over-length, same-lists, chosen-declared, chosen-undeclared, not-undeclared, is-undeclared}
+use Rattle.gms_run_laws.proofs.Changing.{read, over-at, over-length, same-lists, chosen-declared, chosen-undeclared}
 use Rattle.gms_run_laws.proofs.TidyLoaded.{loaded-well}
 use Rattle.gms_run_laws.specs.GoingOn.{DeclaresItsOwn, TypesNone}
 use Rattle.gms_run_laws.proofs.Keeping.{Keeps, keep-behind}
@@ -30,8 +31,8 @@ has-all state other many settings keeps = record {
     each n = by (declares other n) refl ∙ sym (over-at state.symbols other.symbols n many)
       where
         by : (d : Bool) → declares other n ≡ d → read state.symbols n ≡ chosen (read state.symbols n) (read other.symbols n)
-        by true is = keeps n is ∙ sym (chosen-declared (read state.symbols n) (read other.symbols n) (not-undeclared (is_undeclared (read other.symbols n).content) is))
-        by false none = sym (chosen-undeclared (read state.symbols n) (read other.symbols n) (is-undeclared (is_undeclared (read other.symbols n).content) none))
+        by true is = keeps n is ∙ sym (chosen-declared (read state.symbols n) (read other.symbols n) (not-true (is_undeclared (read other.symbols n).content) is))
+        by false none = sym (chosen-undeclared (read state.symbols n) (read other.symbols n) (not-false (is_undeclared (read other.symbols n).content) none))
 
 module _ {F : Type 0} (v : F → Number) (saved joint : World F) (firsts others : List (Stmt F)) (accepted : IsAccepted v joint.program) where
   -- The joint program begins with all that the saved one begins with, where its first statements

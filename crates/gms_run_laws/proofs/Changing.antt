@@ -1,7 +1,7 @@
 -- States of which one has all that the other declares stay so where one name changes in both.
 use Rattle.std.proofs.Common.{◌≡◌, ℕ, zero, suc, ◌<◌, ◌≤◌, Bool, true, false, not, ◌==◌, cond, List, [], ◌∷◌, ◌++◌, length, set, slice_get, Option, unwrap_or, refl, sym, ap, ap₂, ◌∙◌, subst, inl, inr, arith}
 use Rattle.std.specs.List.{fold}
-use Rattle.std.proofs.lemmas.Bool.{both_ways, cases_lt, eqb-true, eq-eqb}
+use Rattle.std.proofs.lemmas.Bool.{both_ways, cases_lt, eqb-true, eq-eqb, not-false, not-true}
 use Rattle.std.proofs.lemmas.List.{length-set}
 use Rattle.std.proofs.lemmas.Option.{slice_get_past}
 use Rattle.gq_number.specs.Number.{Number}
@@ -54,15 +54,6 @@ same-lists (x ∷ xs) (y ∷ ys) many same =
 
 -- ---- what is declared
 
-pub not-undeclared : (b : Bool) → not b ≡ true → b ≡ false
-not-undeclared true e = absurd (cc)
-not-undeclared false e = refl
-
-pub is-undeclared : (b : Bool) → not b ≡ false → b ≡ true
-is-undeclared true e = refl
-is-undeclared false e = absurd (cc)
-
--- a name that is declared has a place among the symbols
 pub within : (state : State) (n : ℕ) → declares state n ≡ true → n < length state.symbols
 within state n is = elim (cases_lt n (length state.symbols)) [
   | inl below ↦ below
@@ -257,7 +248,7 @@ module _ (first base : State) where
 
   pub over-first : HasAll base first → Over first base
   over-first has = record {
-    same = λ n is. sym (ap (λ (s : State). symbol_at s n) has.same) ∙ over-at base.symbols first.symbols n has.many ∙ chosen-declared (symbol_at base n) (symbol_at first n) (not-undeclared (is_undeclared (symbol_at first n).content) is);
+    same = λ n is. sym (ap (λ (s : State). symbol_at s n) has.same) ∙ over-at base.symbols first.symbols n has.many ∙ chosen-declared (symbol_at base n) (symbol_at first n) (not-true (is_undeclared (symbol_at first n).content) is);
     rest = λ n none. refl;
     declared = λ n. refl;
     alike = λ n m. refl;
@@ -278,6 +269,6 @@ module _ (first base : State) where
         where
           by : (d : Bool) → declares first n ≡ d → read b.symbols n ≡ chosen (read base.symbols n) (read a.symbols n)
           by true is =
-              over.same n is ∙ sym (chosen-declared (read base.symbols n) (read a.symbols n) (not-undeclared (is_undeclared (read a.symbols n).content) (over.declared n ∙ is)))
+              over.same n is ∙ sym (chosen-declared (read base.symbols n) (read a.symbols n) (not-true (is_undeclared (read a.symbols n).content) (over.declared n ∙ is)))
           by false none =
-              over.rest n none ∙ sym (chosen-undeclared (read base.symbols n) (read a.symbols n) (is-undeclared (is_undeclared (read a.symbols n).content) (over.declared n ∙ none)))
+              over.rest n none ∙ sym (chosen-undeclared (read base.symbols n) (read a.symbols n) (not-false (is_undeclared (read a.symbols n).content) (over.declared n ∙ none)))

@@ -1,7 +1,7 @@
 -- What each name of the state in which an accepted program begins stands for is declared there.
 use Rattle.std.proofs.Common.{◌≡◌, ℕ, Bool, true, false, not, ◌&&◌, cond, List, [], ◌∷◌, length, Option, Some, None, Ok, Err, Result, refl, sym, ap, ◌∙◌, subst, ◌⊎◌, inl, inr}
 use Rattle.std.specs.List.{fold}
-use Rattle.std.proofs.lemmas.Bool.{both_ways}
+use Rattle.std.proofs.lemmas.Bool.{both_ways, and_parts, not-true}
 use Rattle.gq_extended.specs.Extended.{Extended}
 use Rattle.gq_extended.specs.Meaning.{extended as value_shown}
 use Rattle.gq_number.specs.Number.{Number}
@@ -32,11 +32,6 @@ own (variable_of type entries) m e = absurd (cc)
 own (equation_of entries) m e = absurd (cc)
 own (model_with model solver) m e = absurd (cc)
 
-not-undeclared : (b : Bool) → not b ≡ true → b ≡ false
-not-undeclared true e = absurd (cc)
-not-undeclared false e = refl
-
--- a name stands for itself, or for one that is declared
 abbrev StandsWell : State → ℕ → Symbol → Type 0
 StandsWell state name new = (alias_target name new.content ≡ name) ⊎ (declares state (alias_target name new.content) ≡ true)
 
@@ -45,7 +40,7 @@ module _ (state : State) (name : ℕ) (new : Symbol) (gains : Gains (symbol_at s
   next = put_at state name new
 
   old-declared : (n : ℕ) → declares state n ≡ true → is_undeclared (symbol_at state n).content ≡ false
-  old-declared n is = not-undeclared (is_undeclared (symbol_at state n).content) is
+  old-declared n is = not-true (is_undeclared (symbol_at state n).content) is
 
   stays-declared : (n : ℕ) → declares state n ≡ true → declares next n ≡ true
   stays-declared n is = elim (put-at state name new n) [
@@ -94,11 +89,6 @@ closed-declare k domain state name closed =
     closed-put state name (declared_again k domain s) (gains-again k domain s) closed
     (λ none. inl (ap (λ (b : Bool). alias_target name (cond b (symbol_of_kind k domain) (with_content s (retyped s.content (content_of k)))).content) none ∙ new-itself k domain name))
 
--- of two tests that both hold
-first-holds : (a b : Bool) → (a && b) ≡ true → a ≡ true
-first-holds true b e = refl
-first-holds false b e = absurd (cc)
-
 second-holds : (a b : Bool) → (a && b) ≡ true → b ≡ true
 second-holds true b e = e
 second-holds false b e = absurd (cc)
@@ -115,7 +105,7 @@ set-declared (model_with model solver) e = absurd (cc)
 closed-join : (state : State) (old new : ℕ) → can_join state old new ≡ true → IsClosed state → IsClosed (join_name state old new)
 closed-join state old new can closed =
     closed-put state new (alias_symbol (base_of state old)) (gains-fresh (symbol_at state new) (alias_symbol (base_of state old)) (second-holds (is_set (symbol_at state old).content) (is_undeclared (symbol_at state new).content) can)) closed
-    (λ none. inr (closed old (set-declared (symbol_at state old).content (first-holds (is_set (symbol_at state old).content) (is_undeclared (symbol_at state new).content) can))))
+    (λ none. inr (closed old (set-declared (symbol_at state old).content ((and_parts (is_set (symbol_at state old).content) (is_undeclared (symbol_at state new).content) can).0))))
 
 pub closed-alias : (state : State) (first second : ℕ) → IsClosed state → IsClosed (declare_alias state first second)
 closed-alias state first second closed = by (can_join state first second) (can_join state second first) refl refl

@@ -1,7 +1,7 @@
 -- A name that is declared before a statement of a program has the same kind and the same domain in
 -- each state of its run.
 use Rattle.std.proofs.Common.{◌≡◌, ◌<◌, ℕ, zero, suc, Bool, true, false, ◌&&◌, ◌==◌, List, [], ◌∷◌, length, map, slice_get, unwrap_or, refl, sym, ap, ◌∙◌, subst, arith}
-use Rattle.std.proofs.lemmas.Bool.{eqb-true}
+use Rattle.std.proofs.lemmas.Bool.{eqb-true, and_parts}
 use Rattle.gq_number.specs.Number.{Number}
 use Rattle.gms_ast.specs.declared.program.Stmt.{Stmt}
 use Rattle.gms_store.specs.declared.kind.SymbolKind.{SymbolKind}
@@ -150,20 +150,10 @@ pub same-positions : (state known : State) (n : ℕ) → has_elements (declared_
 same-positions state known n elements same_kind same_domain =
     ap (λ m. length (symbol_at known m).domain) (own-base known n (ap has_elements (sym same_kind) ∙ elements)) ∙ ap length (sym same_domain)
 
--- where two tests hold, each does, and where each does both do
-first-holds : (a b : Bool) → (a && b) ≡ true → a ≡ true
-first-holds true b e = refl
-first-holds false b e = e
-
 pub second-holds : (a b : Bool) → (a && b) ≡ true → b ≡ true
 second-holds true b e = e
 second-holds false b e = absurd (cc)
 
-pub both-hold : (a b : Bool) → a ≡ true → b ≡ true → (a && b) ≡ true
-both-hold true b one other = other
-both-hold false b one other = one
-
--- whether a key is of a variable of the state, with as many labels as that has positions
 abbrev pub of_variable : State → Key → Bool
 of_variable state key =
     is_variable_kind (declared_kind state key.symbol) && (length key.tuple == length (symbol_at state key.symbol).domain)
@@ -178,6 +168,6 @@ IsOfEquation state key = IsElement state key × (is_equation (declared_kind stat
 
 pub variable-element : (state : State) (key : Key) → of_variable state key ≡ true → IsOfVariable state key
 variable-element state key is =
-    let variable = first-holds (is_variable_kind (declared_kind state key.symbol)) (length key.tuple == length (symbol_at state key.symbol).domain) is in
+    let variable = (and_parts (is_variable_kind (declared_kind state key.symbol)) (length key.tuple == length (symbol_at state key.symbol).domain) is).0 in
     let long = eqb-true (length key.tuple) (length (symbol_at state key.symbol).domain) (second-holds (is_variable_kind (declared_kind state key.symbol)) (length key.tuple == length (symbol_at state key.symbol).domain) is) in
     (is-element state key (variable-elements (declared_kind state key.symbol) variable) long, variable)

@@ -2,7 +2,7 @@
 -- state: those of forms are of variables, those of rows of equations.
 use Rattle.std.proofs.Common.{◌≡◌, ℕ, suc, pos, Bool, true, false, if◌then◌else◌, List, [], ◌∷◌, ◌++◌, length, map, Option, Some, None, option_map, Ok, Err, refl, sym, ap, ◌∙◌}
 use Rattle.std.specs.Prelude.{nat_le, ◌==◌}
-use Rattle.std.proofs.lemmas.Bool.{eq-eqb}
+use Rattle.std.proofs.lemmas.Bool.{eq-eqb, and_from}
 use Rattle.gq_number.specs.Number.{Number, whole, neg_ℚ}
 use Rattle.gms_labels.specs.declared.place.Place.{Place}
 use Rattle.gms_ast.specs.declared.expression.Suffix.TheVariants as suffix
@@ -28,7 +28,7 @@ use Rattle.gms_rows.specs.Affine.{has_variables, is_variable_content, in_front, 
 use Rattle.gms_rows.specs.Forms.{Form, zero_form, scaled_form, sum_of_forms}
 use Rattle.gms_rows.specs.Rows.{Definition, sense_of, row_form}
 use Rattle.gms_run_laws.proofs.FormKeys.{OkHas, EachHas, then-has, after-has, either-has, IsKeyed, IsElement as IsPassing, PartHas, constant-keyed, element-keyed, sum-keyed, scaled-keyed, plus-keyed, times-keyed, joined-keyed, chained-keyed, constant_at-keyed}
-use Rattle.gms_run_laws.proofs.DeclaredKinds.{has_elements, variable-elements, equation-elements, variable-word, is-element, same-positions, both-hold, of_variable, IsOfEquation}
+use Rattle.gms_run_laws.proofs.DeclaredKinds.{has_elements, variable-elements, equation-elements, variable-word, is-element, same-positions, of_variable, IsOfEquation}
 use Rattle.gms_run_laws.proofs.KeyedRows.{MayHaveKeys, HasRows}
 use Rattle.gms_run_laws.proofs.Labelled.{labels-count}
 
@@ -81,7 +81,7 @@ module _ {F : Type 0} (v : F → Number) (limit : ℕ) (known : Known F) (state 
   column : (name : ℕ) (t : List ℕ) → has_no_declaration known.state name ≡ false → is_variable_content (symbol_at state name).content ≡ true → length t ≡ length (positions known.state name) → Column (record { symbol = name; tuple = t }) ≡ true
   column name t declared variable long =
       let is : is_variable_kind (declared_kind state name) ≡ true = sym (variable-word (symbol_at state name).content) ∙ variable in
-      both-hold (is_variable_kind (declared_kind state name)) (length t == length (symbol_at state name).domain) is
+      and_from (is_variable_kind (declared_kind state name)) (length t == length (symbol_at state name).domain) is
       (eq-eqb (length t) (length (symbol_at state name).domain) (as-long name t declared (variable-elements (declared_kind state name) is) long))
 
   passing : (name : ℕ) (o : Option (List ℕ)) → ((t : List ℕ) → o ≡ Some t → Column (record { symbol = name; tuple = t }) ≡ true) → IsPassing Column name o

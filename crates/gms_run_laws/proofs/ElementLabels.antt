@@ -1,4 +1,5 @@
 -- The labels of an element of sets over one position are members of the sets.
+use Rattle.std.proofs.lemmas.Bool.{and_parts}
 use Rattle.std.proofs.Common.{◌≡◌, ℕ, Bool, true, false, ◌&&◌, List, [], ◌∷◌, map, length, nat_eq, refl, sym, ◌∙◌}
 use Rattle.std.specs.Prelude.{if◌then◌else◌, nat_le}
 use Rattle.std.specs.List.{All, list_any}
@@ -10,10 +11,6 @@ use Rattle.gms_eval.specs.Domain.{elements, labels_of, IsSimple}
 use Rattle.gms_eval.proofs.Ascents.{all_in, has-product}
 use Rattle.gms_eval.proofs.Simple.{has-label}
 use Rattle.gms_run_laws.specs.Labels.{AreMembers}
-
-first-holds : (a b : Bool) → (a && b) ≡ true → a ≡ true
-first-holds true b e = refl
-first-holds false b e = absurd (cc)
 
 second-holds : (a b : Bool) → (a && b) ≡ true → b ≡ true
 second-holds true b e = e
@@ -27,7 +24,7 @@ module _ (state : State) where
   all-members (set ∷ sets) (label ∷ element) simple there =
       let here = list_any (λ m. nat_eq m label) (labels_of state set) in
       let rest = all_in (map (labels_of state) sets) element in
-      (sym (has-label state set label (All-head (IsSimple state) set sets simple)) ∙ first-holds here rest there, all-members sets element (All-tail (IsSimple state) set sets simple) (second-holds here rest there))
+      (sym (has-label state set label (All-head (IsSimple state) set sets simple)) ∙ (and_parts here rest there).0, all-members sets element (All-tail (IsSimple state) set sets simple) (second-holds here rest there))
 
   pub element-members : (sets element : List ℕ) → All (IsSimple state) sets → has (elements state sets) element ≡ true → AreMembers state sets element
   element-members sets element simple there = by (nat_le (length sets) 10) there

@@ -2,7 +2,7 @@
 use Rattle.std.proofs.Common.{◌≡◌, ℕ, ◌<◌, ◌≤◌, nat_lt, Bool, true, false, not, ◌||◌, ◌&&◌, ◌==◌, cond, if◌then◌else◌, List, [], ◌∷◌, ◌++◌, map, filter, length, Some, None, Option, Result, refl, sym, ap, ◌∙◌, subst, append_assoc, inl, inr, arith}
 use Rattle.std.specs.Prelude.{flat_map}
 use Rattle.std.specs.List.{fold, list_any}
-use Rattle.std.proofs.lemmas.Bool.{both_ways, eqb-true}
+use Rattle.std.proofs.lemmas.Bool.{both_ways, eqb-true, and_parts, not-false}
 use Rattle.std.proofs.lemmas.List.{map-append}
 use Rattle.std.proofs.lemmas.List.Concat.{flat_map-append}
 use Rattle.std.proofs.lemmas.List.Sums.{fold-append}
@@ -35,12 +35,12 @@ use Rattle.gms_check.specs.Past.{Known, equations_declared, equations_listed, mo
 use Rattle.gms_check.specs.Uses.{listing}
 use Rattle.gms_check.proofs.Growing.{by_parts}
 use Rattle.gms_check.proofs.NoErrors.{AreClean, are-clean, nil-left, nil-right, none-first}
-use Rattle.gms_check.proofs.Soundness.{after-sound, not-false}
+use Rattle.gms_check.proofs.Soundness.{after-sound}
 use Rattle.gms_rows.specs.Rows.{each_once, listed_equations, found, equations_declared_by, models_of, equations_from}
 use Rattle.gms_run_laws.specs.Names.{Each}
 use Rattle.gms_run_laws.proofs.Eaches.{each-left, each-right, each-both}
 use Rattle.gms_run_laws.proofs.ModelRows.{filter-each}
-use Rattle.gms_run_laws.proofs.Keeping.{one-fails, first-holds, second-holds}
+use Rattle.gms_run_laws.proofs.Keeping.{one-fails, second-holds}
 use Rattle.gms_run_laws.proofs.Models.{Fails, fails-given, fails-item, fails-model, fails-act, has_model, declares_model, none-found, or-right}
 use Rattle.gms_run_laws.proofs.Padding.{Padded, below-of, put-here, padded-item, padded-after}
 
@@ -121,7 +121,7 @@ module _ {F : Type 0} where
           by true e = refl
           by false known_name =
               let may : may_be_typed known declaring.Equation name domain ≡ true = one-fails (has_no_declaration s name) (may_be_typed known declaring.Equation name domain) (clean.0 Redeclared) known_name in
-              let typed = first-holds (is_variable (content_of declaring.Equation)) (repeats_domain s domain (positions s name)) (second-holds (is_free (symbol_at s name).content) (is_variable (content_of declaring.Equation) && repeats_domain s domain (positions s name)) may) in absurd (let e : ◌≡◌ {A = Bool} false true = typed in let z : ⊥ = cc in z)
+              let typed = (and_parts (is_variable (content_of declaring.Equation)) (repeats_domain s domain (positions s name)) (second-holds (is_free (symbol_at s name).content) (is_variable (content_of declaring.Equation) && repeats_domain s domain (positions s name)) may)).0 in absurd (let e : ◌≡◌ {A = Bool} false true = typed in let z : ⊥ = cc in z)
 
       within : name < length s.symbols
       within = subst (λ n. name < n) (sym many) (below-of name count below)

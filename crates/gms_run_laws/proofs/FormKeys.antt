@@ -1,4 +1,5 @@
 -- The elements in the form of an expression pass a test where those of its references do.
+use Rattle.std.proofs.lemmas.Bool.{or_left, or_right}
 use Rattle.std.proofs.Common.{◌≡◌, ℕ, pos, zero, suc, Bool, true, false, not, ◌||◌, cond, List, [], ◌∷◌, ◌++◌, map, take, drop, Option, Some, None, is_some, Result, Ok, Err, refl, sym, ap, ◌∙◌}
 use Rattle.std.specs.Prelude.{if◌then◌else◌}
 use Rattle.std.specs.FinMap as finite
@@ -74,13 +75,6 @@ pub each-any : {A : Type 0} (P : A → Type 0) → ((x : A) → P x) → (xs : L
 each-any P each [] = tt
 each-any P each (x ∷ xs) = (each x, each-any P each xs)
 
-or-left : (a b : Bool) → a ≡ true → (a || b) ≡ true
-or-left a b e = ap (λ (x : Bool). x || b) e
-
-or-right : (a b : Bool) → b ≡ true → (a || b) ≡ true
-or-right true b e = refl
-or-right false b e = e
-
 or-either : (a b c : Bool) → (a ≡ true → c ≡ true) → (b ≡ true → c ≡ true) → (a || b) ≡ true → c ≡ true
 or-either true b c left right e = left refl
 or-either false b c left right e = right e
@@ -99,7 +93,7 @@ module _ (test : Key → Bool) where
   pub keys-from_among : (keys : List Key) → ((q : Key) → is_among keys q ≡ true → test q ≡ true) → AreKeys keys
   keys-from_among [] each = tt
   keys-from_among (key ∷ keys) each =
-      (each key (or-left (same_key key key) (is_among keys key) (same_key_refl key)), keys-from_among keys (λ q there. each q (or-right (same_key q key) (is_among keys q) there)))
+      (each key (or_left (same_key key key) (is_among keys key) (same_key_refl key)), keys-from_among keys (λ q there. each q (or_right (same_key q key) (is_among keys q) there)))
 
   -- the elements of a form pass it
   abbrev pub IsKeyed : Form → Type 0

@@ -3,7 +3,7 @@
 use Rattle.std.proofs.Common.{◌≡◌, ℕ, ◌≤◌, Bool, true, false, not, ◌&&◌, cond, if◌then◌else◌, List, [], ◌∷◌, ◌++◌, length, map, Option, None, Some, Ok, Err, Result, refl, sym, ap, ◌∙◌, subst, append_assoc, inl, inr}
 use Rattle.std.specs.Prelude.{flat_map}
 use Rattle.std.specs.List.{fold}
-use Rattle.std.proofs.lemmas.Bool.{both_ways}
+use Rattle.std.proofs.lemmas.Bool.{both_ways, and_parts, not-true}
 use Rattle.std.proofs.lemmas.List.{length-set, map-append, append-nil}
 use Rattle.std.proofs.lemmas.List.Sums.{fold-append}
 use Rattle.gq_extended.specs.Meaning.{extended as value_shown}
@@ -73,19 +73,10 @@ set-again (variable_of type.Discrete entries) = refl
 set-again (equation_of entries) = refl
 set-again (model_with model solver) = refl
 
-pub first-holds : (a b : Bool) → (a && b) ≡ true → a ≡ true
-first-holds true b e = refl
-first-holds false b e = absurd (cc)
-
 pub second-holds : (a b : Bool) → (a && b) ≡ true → b ≡ true
 second-holds true b e = e
 second-holds false b e = absurd (cc)
 
-not-true : (b : Bool) → not b ≡ true → b ≡ false
-not-true true e = absurd (cc)
-not-true false e = refl
-
--- of two tests that do not fail both, one does not
 pub one-fails : (a b : Bool) → (not a && not b) ≡ false → a ≡ false → b ≡ true
 one-fails true b e none = absurd (cc)
 one-fails false true e none = refl
@@ -255,11 +246,11 @@ module _ (first : State) where
         may known_name = one-fails (has_no_declaration s name) (may_be_typed known k name domain) (clean.0 Redeclared) known_name
 
         free : has_no_declaration s name ≡ false → is_free (symbol_at s name).content ≡ true
-        free known_name = first-holds (is_free (symbol_at s name).content) (is_variable (content_of k) && repeats_domain s domain (positions s name)) (may known_name)
+        free known_name = (and_parts (is_free (symbol_at s name).content) (is_variable (content_of k) && repeats_domain s domain (positions s name)) (may known_name)).0
 
         variable : has_no_declaration s name ≡ false → is_variable (content_of k) ≡ true
         variable known_name =
-            first-holds (is_variable (content_of k)) (repeats_domain s domain (positions s name)) (second-holds (is_free (symbol_at s name).content) (is_variable (content_of k) && repeats_domain s domain (positions s name)) (may known_name))
+            (and_parts (is_variable (content_of k)) (repeats_domain s domain (positions s name)) (second-holds (is_free (symbol_at s name).content) (is_variable (content_of k) && repeats_domain s domain (positions s name)) (may known_name))).0
 
         not-declared : (b : Bool) → has_no_declaration s name ≡ b → declares first name ≡ false
         not-declared true unknown = not-there s name keeps unknown

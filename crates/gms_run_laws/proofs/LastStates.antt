@@ -4,7 +4,7 @@ use Rattle.std.proofs.Common.{◌≡◌, ℕ, Bool, true, false, ◌&&◌, ◌==
 use Rattle.std.specs.Prelude.{nat_le, codes}
 use Rattle.std.specs.List.{fold}
 use Rattle.std.proofs.Math.Seq.{map-set_same}
-use Rattle.std.proofs.lemmas.Bool.{both_ways}
+use Rattle.std.proofs.lemmas.Bool.{both_ways, and_from, and_parts}
 use Rattle.gq_number.specs.Number.{Number}
 use Rattle.gms_ast.specs.declared.expression.Suffix.{Suffix}
 use Rattle.gms_ast.specs.declared.program.Setting.{Setting}
@@ -104,14 +104,6 @@ blank-fitted symbol t content same = by (length t == length symbol.domain)
 
 -- ---- settings
 
-both_tests : (a b : Bool) → (a && b) ≡ true → (a ≡ true) × (b ≡ true)
-both_tests true b e = (refl, e)
-both_tests false b e = absurd (cc)
-
-and-made : (a b : Bool) → a ≡ true → b ≡ true → (a && b) ≡ true
-and-made a b e f = ap (λ (x : Bool). x && b) e ∙ f
-
--- What settings in range have.
 record AreWithin (s : Settings) : Type 0 where
   limrow : nat_le s.limrow 2147483647 ≡ true
   limcol : nat_le s.limcol 2147483647 ≡ true
@@ -120,16 +112,16 @@ record AreWithin (s : Settings) : Type 0 where
 
 within-range : (s : Settings) → are_in_range s ≡ true → AreWithin s
 within-range s e =
-    let one = both_tests (nat_le s.limrow 2147483647) (nat_le s.limcol 2147483647 && (nat_le s.iterlim 2147483647 && nat_le s.decimals 8)) e in
-    let two = both_tests (nat_le s.limcol 2147483647) (nat_le s.iterlim 2147483647 && nat_le s.decimals 8) one.1 in
-    let three = both_tests (nat_le s.iterlim 2147483647) (nat_le s.decimals 8) two.1 in
+    let one = and_parts (nat_le s.limrow 2147483647) (nat_le s.limcol 2147483647 && (nat_le s.iterlim 2147483647 && nat_le s.decimals 8)) e in
+    let two = and_parts (nat_le s.limcol 2147483647) (nat_le s.iterlim 2147483647 && nat_le s.decimals 8) one.1 in
+    let three = and_parts (nat_le s.iterlim 2147483647) (nat_le s.decimals 8) two.1 in
     record { limrow = one.0; limcol = two.0; iterlim = three.0; decimals = three.1 }
 
 range-within : (s : Settings) → AreWithin s → are_in_range s ≡ true
 range-within s w =
-    and-made (nat_le s.limrow 2147483647) (nat_le s.limcol 2147483647 && (nat_le s.iterlim 2147483647 && nat_le s.decimals 8)) w.limrow
-    (and-made (nat_le s.limcol 2147483647) (nat_le s.iterlim 2147483647 && nat_le s.decimals 8) w.limcol
-    (and-made (nat_le s.iterlim 2147483647) (nat_le s.decimals 8) w.iterlim w.decimals))
+    and_from (nat_le s.limrow 2147483647) (nat_le s.limcol 2147483647 && (nat_le s.iterlim 2147483647 && nat_le s.decimals 8)) w.limrow
+    (and_from (nat_le s.limcol 2147483647) (nat_le s.iterlim 2147483647 && nat_le s.decimals 8) w.limcol
+    (and_from (nat_le s.iterlim 2147483647) (nat_le s.decimals 8) w.iterlim w.decimals))
 
 either-way : {A : Type 0} (P : A → Type 0) (b : Bool) (x y : A) → P x → P y → P (if b then x else y)
 either-way P true x y p q = p
@@ -145,7 +137,7 @@ module _ {F : Type 0} (v : F → Number) where
   count-within most old (setting.Number at x) within = by (is_count most (v x)) refl
     where
       by : (b : Bool) → is_count most (v x) ≡ b → nat_le (cond b (whole_magnitude (v x).numerator) old) most ≡ true
-      by true e = size-within most (v x).numerator (both_tests ((v x).denominator == 1) (is_from_zero most (v x).numerator) e).1
+      by true e = size-within most (v x).numerator (and_parts ((v x).denominator == 1) (is_from_zero most (v x).numerator) e).1
       by false e = within
 
   within-option : (solvers : List (List ℕ)) (s : Settings) (word : Word) (set : Setting F) → AreWithin s → AreWithin (after_option v solvers s (word, set))

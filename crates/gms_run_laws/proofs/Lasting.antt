@@ -1,5 +1,6 @@
 -- The names that a statement of a program assigns are assigned by the program, so that each reached
 -- state is later than the first.
+use Rattle.std.proofs.lemmas.Bool.{or_left, or_right}
 use Rattle.std.proofs.Common.{◌≡◌, ℕ, zero, suc, Bool, true, false, ◌||◌, ◌==◌, List, [], ◌∷◌, ◌++◌, map, Vec, refl, sym, ap, ◌∙◌, subst, eq-eqb}
 use Rattle.std.specs.Prelude.{flat_map}
 use Rattle.std.specs.declared.alloc.Global.{Global}
@@ -26,16 +27,9 @@ use Rattle.gms_run_laws.proofs.TidyLoaded.{loaded-well}
 
 -- ---- names among those of a program
 
-or-left : (a b : Bool) → a ≡ true → (a || b) ≡ true
-or-left a b e = ap (λ (x : Bool). x || b) e
-
-or-right : (a b : Bool) → b ≡ true → (a || b) ≡ true
-or-right true b e = refl
-or-right false b e = e
-
 among-behind : (xs ys : List ℕ) (n : ℕ) → is_among ys n ≡ true → is_among (xs ++ ys) n ≡ true
 among-behind [] ys n there = there
-among-behind (x ∷ xs) ys n there = or-right (x == n) (is_among (xs ++ ys) n) (among-behind xs ys n there)
+among-behind (x ∷ xs) ys n there = or_right (x == n) (is_among (xs ++ ys) n) (among-behind xs ys n there)
 
 -- each of some names that hold something
 abbrev Each : (ℕ → Type 0) → List ℕ → Type 0
@@ -58,7 +52,7 @@ each-right P (n ∷ ns) ms all = each-right P ns ms all.1
 among-made : (f : ℕ → ℕ) (ns : List ℕ) → Each (λ n. is_among (map f ns) (f n) ≡ true) ns
 among-made f [] = tt
 among-made f (n ∷ ns) =
-    (or-left (f n == f n) (is_among (map f ns) (f n)) (eq-eqb (f n) (f n) refl), each-weaker (λ m. is_among (map f ns) (f m) ≡ true) (λ m. is_among (map f (n ∷ ns)) (f m) ≡ true) (λ m there. or-right (f n == f m) (is_among (map f ns) (f m)) there) ns (among-made f ns))
+    (or_left (f n == f n) (is_among (map f ns) (f n)) (eq-eqb (f n) (f n) refl), each-weaker (λ m. is_among (map f ns) (f m) ≡ true) (λ m. is_among (map f (n ∷ ns)) (f m) ≡ true) (λ m there. or_right (f n == f m) (is_among (map f ns) (f m)) there) ns (among-made f ns))
 
 module _ {F : Type 0} (P : ℕ → Type 0) where
   -- one of some statements

@@ -2,7 +2,7 @@
 -- its run.
 use Rattle.std.proofs.Common.{◌≡◌, ℕ, Bool, true, false, not, ◌&&◌, ◌||◌, if◌then◌else◌, List, [], ◌∷◌, ◌++◌, refl, sym, ap, ◌∙◌}
 use Rattle.std.specs.List.{list_any}
-use Rattle.std.proofs.lemmas.Bool.{both_ways}
+use Rattle.std.proofs.lemmas.Bool.{both_ways, and_from, false_from_ne_true, not-false, or_right}
 use Rattle.std.proofs.lemmas.List.Folds.{list_any-append}
 use Rattle.gms_labels.specs.declared.place.Place.{Place}
 use Rattle.gms_ast.specs.declared.expression.FoldOp.{FoldOp}
@@ -28,36 +28,18 @@ use Rattle.gms_run_laws.proofs.MarkedTrees.{IsMarked, AreMarked}
 
 -- ---- tests
 
-and-made : (a b : Bool) → a ≡ true → b ≡ true → (a && b) ≡ true
-and-made a b e f = ap (λ (x : Bool). x && b) e ∙ f
-
--- of three tests the first two hold, so that the third does not
 third-fails : (a b c : Bool) → a ≡ true → b ≡ true → (a && (b && c)) ≡ false → c ≡ false
 third-fails a b c e f none = sym (ap (λ (x : Bool). x && (b && c)) e ∙ ap (λ (x : Bool). x && c) f) ∙ none
 
 second-fails : (a c : Bool) → a ≡ true → (a && c) ≡ false → c ≡ false
 second-fails a c e none = sym (ap (λ (x : Bool). x && c) e) ∙ none
 
-not-false : (a : Bool) → not a ≡ false → a ≡ true
-not-false true e = refl
-not-false false e = absurd (cc)
-
-or-right : (a b : Bool) → b ≡ true → (a || b) ≡ true
-or-right true b e = refl
-or-right false b e = e
-
 either-part : (a b c d : Bool) → (a ≡ true → c ≡ true) → (b ≡ true → d ≡ true) → (a || b) ≡ true → (c || d) ≡ true
 either-part true b c d own later e = ap (λ (x : Bool). x || d) (own refl)
-either-part false b c d own later e = or-right c d (later e)
+either-part false b c d own later e = or_right c d (later e)
 
--- what would be so is not, where it cannot be
-false-from : (a : Bool) → (a ≡ true → ⊥) → a ≡ false
-false-from true none = absurd (none refl)
-false-from false none = refl
-
--- a fold without variables, or a sum of what is linear
 summed : (has sums linear : Bool) → (has ≡ true → sums ≡ true) → linear ≡ true → (not has || (sums && linear)) ≡ true
-summed true sums linear is so = and-made sums linear (is refl) so
+summed true sums linear is so = and_from sums linear (is refl) so
 summed false sums linear is so = refl
 
 -- the check's test of a sum implies this one
@@ -111,7 +93,7 @@ module _ {F : Type 0} (known : Known F) (state : State) (kinds : (n : ℕ) → h
     -- a part with variables, after which the check finds none
     not-there : (mark : Mark) (e : Tree F) → AreClean known (own_uses mark e) → has_variable known e ≡ false → has_variables state e ≡ false
     not-there mark e clean none =
-        false-from (has_variables state e) (λ has. both_ways (has_variable known e) none (has-there e (as_part standing) (place_by_mark mark at) around clean has))
+        false_from_ne_true (has_variables state e) (λ has. both_ways (has_variable known e) none (has-there e (as_part standing) (place_by_mark mark at) around clean has))
 
     some-more : (earlier : List (Tree F)) (e : Tree F) → list_any (has_variable known) earlier ≡ true → list_any (has_variable known) (earlier ++ e ∷ []) ≡ true
     some-more earlier e some =
@@ -119,7 +101,7 @@ module _ {F : Type 0} (known : Known F) (state : State) (kinds : (n : ℕ) → h
 
     some-last : (earlier : List (Tree F)) (e : Tree F) → has_variable known e ≡ true → list_any (has_variable known) (earlier ++ e ∷ []) ≡ true
     some-last earlier e has =
-        list_any-append (has_variable known) earlier (e ∷ []) ∙ or-right (list_any (has_variable known) earlier) (has_variable known e || false) (ap (λ (x : Bool). x || false) has)
+        list_any-append (has_variable known) earlier (e ∷ []) ∙ or_right (list_any (has_variable known) earlier) (has_variable known e || false) (ap (λ (x : Bool). x || false) has)
 
     -- after a factor with variables no other has some
     none-later : (earlier : List (Tree F)) (rest : tree.Parts F) → list_any (has_variable known) earlier ≡ true → AreClean known (later_steps standing at earlier rest) → AreClean known (rest_uses rest) → some_has_variables state rest ≡ false
@@ -146,7 +128,7 @@ module _ {F : Type 0} (known : Known F) (state : State) (kinds : (n : ℕ) → h
         by : (h : Bool) → has_variables state e ≡ h → are_later_factors state rest ≡ true → (if h then not inverse && not (some_has_variables state rest) else are_later_factors state rest) ≡ true
         by true has later =
             let own = has-there e (as_part standing) place around (clean-left known (own_uses (signed place inverse) e) (rest_uses rest) there) has in
-            and-made (not inverse) (not (some_has_variables state rest)) (upright place inverse earlier e own (clean.0 Nonlinear)) (ap not (none-later (earlier ++ e ∷ []) rest (some-last earlier e own) clean.1 behind))
+            and_from (not inverse) (not (some_has_variables state rest)) (upright place inverse earlier e own (clean.0 Nonlinear)) (ap not (none-later (earlier ++ e ∷ []) rest (some-last earlier e own) clean.1 behind))
         by false has later = later
     later-factors earlier (tree.part mark e rest) marked clean there = absurd (let no = marked.0 in cc)
 
@@ -186,7 +168,7 @@ module _ {F : Type 0} (known : Known F) (state : State) (kinds : (n : ℕ) → h
     tree-linear (tree.sum parts) standing at around variables marked clean = parts-linear parts (as_part standing) at around variables marked clean
     tree-linear (tree.product parts) standing at around variables marked clean =
         let there = clean-left known (part_uses (as_part standing) at around parts) (steps standing at parts) clean in
-        and-made (are_linear state parts) (are_factors state parts) (parts-linear parts (as_part standing) at around variables marked there) (all-factors standing variables at around parts marked (clean-right known (part_uses (as_part standing) at around parts) (steps standing at parts) clean) there)
+        and_from (are_linear state parts) (are_factors state parts) (parts-linear parts (as_part standing) at around variables marked there) (all-factors standing variables at around parts marked (clean-right known (part_uses (as_part standing) at around parts) (steps standing at parts) clean) there)
     tree-linear (tree.guarded operand guards) standing at around variables marked clean =
         tree-linear operand (as_guarded standing) at around variables marked (clean-left known (uses (as_guarded standing) at around operand) (part_uses as_condition at around guards) clean)
     tree-linear other standing at around variables marked clean = refl
@@ -194,7 +176,7 @@ module _ {F : Type 0} (known : Known F) (state : State) (kinds : (n : ℕ) → h
     parts-linear : (parts : tree.Parts F) (standing : Standing) (at : Place) (around : List ℕ) → standing.variables ≡ true → AreMarked parts → AreClean known (part_uses standing at around parts) → are_linear state parts ≡ true
     parts-linear tree.no_part standing at around variables marked clean = refl
     parts-linear (tree.part mark e rest) standing at around variables marked clean =
-        and-made (is_signed mark) (is_linear state e && are_linear state rest) marked.0
-        (and-made (is_linear state e) (are_linear state rest)
+        and_from (is_signed mark) (is_linear state e && are_linear state rest) marked.0
+        (and_from (is_linear state e) (are_linear state rest)
         (tree-linear e standing (place_by_mark mark at) around variables marked.1.0 (clean-left known (uses standing (place_by_mark mark at) around e) (part_uses standing at around rest) clean))
         (parts-linear rest standing at around variables marked.1.1 (clean-right known (uses standing (place_by_mark mark at) around e) (part_uses standing at around rest) clean)))

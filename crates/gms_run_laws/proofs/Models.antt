@@ -2,7 +2,7 @@
 -- none of its equations.
 use Rattle.std.proofs.Common.{◌≡◌, ℕ, Bool, true, false, not, ◌||◌, ◌&&◌, ◌==◌, cond, if◌then◌else◌, List, [], ◌∷◌, ◌++◌, map, length, Some, None, Option, Ok, Err, Result, refl, sym, ap, ◌∙◌, subst, inl, inr}
 use Rattle.std.specs.List.{fold, list_any}
-use Rattle.std.proofs.lemmas.Bool.{both_ways, eq-eqb}
+use Rattle.std.proofs.lemmas.Bool.{both_ways, eq-eqb, and_parts}
 use Rattle.gq_extended.specs.Extended.{Extended}
 use Rattle.gq_extended.specs.Meaning.{extended as value_shown}
 use Rattle.gq_number.specs.Number.{Number}
@@ -101,14 +101,6 @@ no-kind (variable_of type entries) e = absurd (cc)
 no-kind (equation_of entries) e = absurd (cc)
 no-kind (model_with model solver) e = absurd (cc)
 
-second-holds : (a b : Bool) → (a && b) ≡ true → b ≡ true
-second-holds true b e = e
-second-holds false b e = absurd (cc)
-
--- ---- a test of kinds at each step of a load
-
--- A test of kinds that fails at a name still does, if the kind that the name gets when it is
--- declared fails it, or an undeclared name passes it.
 module _ (test : SymbolKind → Bool) (m : ℕ) where
   abbrev pub Fails : State → Type 0
   Fails s = test (declared_kind s m) ≡ false
@@ -143,7 +135,7 @@ module _ (test : SymbolKind → Bool) (m : ℕ) where
 
   fails-join : (s : State) (old new : ℕ) → can_join s old new ≡ true → MayGet new kind.Set → Fails s → Fails (join_name s old new)
   fails-join s old new can may fails =
-      fails-fresh s new (alias_symbol (base_of s old)) (second-holds (is_set (symbol_at s old).content) (is_undeclared (symbol_at s new).content) can) may fails
+      fails-fresh s new (alias_symbol (base_of s old)) ((and_parts (is_set (symbol_at s old).content) (is_undeclared (symbol_at s new).content) can).1) may fails
 
   pub fails-alias : (s : State) (one two : ℕ) → ((i : ℕ) → MayGet i kind.Set) → Fails s → Fails (declare_alias s one two)
   fails-alias s one two may fails = by (can_join s one two) (can_join s two one) refl refl

@@ -4,7 +4,7 @@ use Rattle.std.proofs.Common.{◌≡◌, ◌≢◌, ℕ, zero, suc, Bool, true, 
 use Rattle.std.specs.Prelude.{nat_lt, if◌then◌else◌, ◌==◌}
 use Rattle.std.specs.List.{All, AllPairs, list_any}
 use Rattle.std.proofs.lemmas.List.Elements.{All-nil, All-cons, All-head, All-tail, All-weaker}
-use Rattle.std.proofs.lemmas.Bool.{eq-eqb}
+use Rattle.std.proofs.lemmas.Bool.{eq-eqb, and_from, not-false}
 use Rattle.std.specs.declared.cmp.Ordering.TheVariants.{Less}
 use Rattle.gq_number.specs.Number.{Number}
 use Rattle.gms_labels.specs.declared.place.Place.{Place}
@@ -37,7 +37,7 @@ use Rattle.gms_check.specs.Uses.{defining, optimizing, index_sets, uses}
 use Rattle.gms_check.proofs.ActUses.{uses-act, uses-Define, uses-Solve}
 use Rattle.gms_check.proofs.LeftAmounts.{program-inner}
 use Rattle.gms_check.proofs.NoErrors.{AreClean, IsClean, clean-left, clean-right}
-use Rattle.gms_check.proofs.Soundness.{after-sound, neither-first, not-false, sound-use, statement-clean}
+use Rattle.gms_check.proofs.Soundness.{after-sound, neither-first, sound-use, statement-clean}
 use Rattle.gms_exec.proofs.Staying.{AreSingles}
 use Rattle.gms_exec.specs.Elements.{IsElement, IsNot, AreElements, program_elements}
 use Rattle.gms_exec.specs.Run.{World}
@@ -61,7 +61,7 @@ use Rattle.gms_rows.proofs.KeyLists.{keys-ordered}
 use Rattle.gms_rows.proofs.ModelKeys.{model-apart}
 use Rattle.gms_run_laws.proofs.FormKeys.{OkHas, EachHas}
 use Rattle.gms_run_laws.specs.Reached.{IsStatementOf}
-use Rattle.gms_run_laws.proofs.DeclaredKinds.{kind-now, domain-now, has_elements, variable-elements, equation-elements, not-both, own-base, same-positions, second-holds, both-hold, of_variable, variable-element, IsOfVariable, IsOfEquation}
+use Rattle.gms_run_laws.proofs.DeclaredKinds.{kind-now, domain-now, has_elements, variable-elements, equation-elements, not-both, own-base, same-positions, second-holds, of_variable, variable-element, IsOfVariable, IsOfEquation}
 use Rattle.gms_run_laws.proofs.EachDefinition.{one-definition, all-definitions, model-definitions}
 use Rattle.gms_run_laws.proofs.ElementForms.{row-elements}
 use Rattle.gms_run_laws.proofs.Lasting.{IsLasting}
@@ -291,7 +291,7 @@ module _ {F : Type 0} (v : F → Number) (limit : ℕ) (world : World F) (accept
       let variable : is_variable_kind (declared_kind state objective.name) ≡ true = ap is_variable_kind same ∙ not-false (is_variable_kind (declared_kind known.state objective.name)) (clean WrongKind) in
       let free = not-false (is_free (symbol_at known.state objective.name).content && is_without_positions (positions known.state objective.name)) (clean Objective) in
       let none = second-holds (is_free (symbol_at known.state objective.name).content) (is_without_positions (positions known.state objective.name)) free in
-      both-hold (is_variable_kind (declared_kind state objective.name)) (0 == length (symbol_at state objective.name).domain) variable
+      and_from (is_variable_kind (declared_kind state objective.name)) (0 == length (symbol_at state objective.name).domain) variable
       (eq-eqb 0 (length (symbol_at state objective.name).domain)
       (no-positions (positions known.state objective.name) none ∙ same-positions state known.state objective.name (variable-elements (declared_kind state objective.name) variable) same (domain-now v limit world state lasts before of_program.outer of_program.stands objective.name declared)))
 

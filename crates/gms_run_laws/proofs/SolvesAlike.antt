@@ -3,7 +3,7 @@
 use Rattle.std.proofs.Common.{◌≡◌, ℕ, ◌<◌, ◌≤◌, nat_lt, Bool, true, false, not, ◌||◌, ◌&&◌, ◌==◌, cond, if◌then◌else◌, List, [], ◌∷◌, ◌++◌, map, length, Option, option_map, refl, sym, ap, ap₂, ◌∙◌, subst, append_assoc, arith}
 use Rattle.std.specs.Prelude.{flat_map}
 use Rattle.std.specs.List.{list_any}
-use Rattle.std.proofs.lemmas.Bool.{both_ways, eqb-true}
+use Rattle.std.proofs.lemmas.Bool.{both_ways, eqb-true, and_from, and_parts, not-false, or_left}
 use Rattle.std.proofs.lemmas.List.{map-append}
 use Rattle.std.proofs.lemmas.List.Concat.{flat_map-append}
 use Rattle.std.proofs.lemmas.List.Folds.{list_any-append}
@@ -30,7 +30,7 @@ use Rattle.gms_check.specs.Uses.{solving, control_uses, sets_of_control}
 use Rattle.gms_check.proofs.ActUses.{uses-act, uses-Define}
 use Rattle.gms_check.proofs.Growing.{by_parts}
 use Rattle.gms_check.proofs.NoErrors.{IsClean, AreClean, clean-left, clean-right}
-use Rattle.gms_check.proofs.Soundness.{after-sound, statement-clean, not-false, neither-first, neither-second}
+use Rattle.gms_check.proofs.Soundness.{after-sound, statement-clean, neither-first, neither-second}
 use Rattle.gms_rows.specs.ModelPoints.{definitions_of_model}
 use Rattle.gms_rows.specs.Rows.{Definition, models_of, defined_at, definitions, definition_of, equations_of}
 use Rattle.gms_exec.specs.Run.{World}
@@ -56,25 +56,9 @@ second-fails : (a b : Bool) → a ≡ true → (a && b) ≡ false → b ≡ fals
 second-fails true b e none = none
 second-fails false b e none = absurd (cc)
 
-both-hold : (a b : Bool) → a ≡ true → b ≡ true → (a && b) ≡ true
-both-hold true b e f = f
-both-hold false b e f = absurd (cc)
-
-first-of : (a b : Bool) → (a && b) ≡ true → a ≡ true
-first-of true b e = refl
-first-of false b e = absurd (cc)
-
 second-of : (a b : Bool) → (a && b) ≡ true → b ≡ true
 second-of true b e = e
 second-of false b e = absurd (cc)
-
-or-first : (a b : Bool) → a ≡ true → (a || b) ≡ true
-or-first true b e = refl
-or-first false b e = absurd (cc)
-
-or-second : (a b : Bool) → b ≡ true → (a || b) ≡ true
-or-second true b e = refl
-or-second false b e = e
 
 none-missing : (test : ℕ → Bool) (ns : List ℕ) → list_any (λ n. not (test n)) ns ≡ false → Each test ns
 none-missing test [] none = tt
@@ -148,7 +132,7 @@ module _ {F : Type 0} (v : F → Number) (joint : Program F) (accepted : IsAccep
       P a = s.act ≡ a → defines q a ≡ false
 
       defined_now : known.defined q ≡ true
-      defined_now = both-hold (nat_lt q (length joint.names)) (is_defined (sound before) q) below (defined-sound before q ∙ there)
+      defined_now = and_from (nat_lt q (length joint.names)) (is_defined (sound before) q) below (defined-sound before q ∙ there)
 
       clean : AreClean known (statement_uses s known.state [])
       clean = statement-clean known s (after-sound v joint accepted.0 before [] s rest (sym (ap (errors_after v joint accepted.0 []) is) ∙ accepted.1))
@@ -176,7 +160,7 @@ module _ {F : Type 0} (v : F → Number) (joint : Program F) (accepted : IsAccep
   not-behind before [] is q below there = refl
   not-behind before (s ∷ rest) is q below there =
       ap (λ (b : Bool). b || defined_in rest q) (not-again before s rest is q below there)
-      ∙ not-behind (before ++ s ∷ []) rest (is ∙ sym (append_assoc before (s ∷ []) rest)) q below (list_any-append (λ (s : Stmt F). defines q s.act) before (s ∷ []) ∙ or-first (defined_in before q) (defined_in (s ∷ []) q) there)
+      ∙ not-behind (before ++ s ∷ []) rest (is ∙ sym (append_assoc before (s ∷ []) rest)) q below (list_any-append (λ (s : Stmt F). defines q s.act) before (s ∷ []) ∙ or_left (defined_in before q) (defined_in (s ∷ []) q) there)
 
 -- ---- models of the saved program
 
@@ -205,7 +189,7 @@ module _ {F : Type 0} (v : F → Number) (saved joint : World F) (others : List 
 
         declared : declares_model m front ≡ true
         declared =
-            ap (declares_model m) stands ∙ list_any-append (λ (s : Stmt F). has_model m (models_of s.act)) before (outer ∷ tail) ∙ or-first (declares_model m before) (declares_model m (outer ∷ tail)) declared_before
+            ap (declares_model m) stands ∙ list_any-append (λ (s : Stmt F). has_model m (models_of s.act)) before (outer ∷ tail) ∙ or_left (declares_model m before) (declares_model m (outer ∷ tail)) declared_before
 
         below : nat_lt m (length saved.program.names) ≡ true
         below =
@@ -224,9 +208,9 @@ module _ {F : Type 0} (v : F → Number) (saved joint : World F) (others : List 
 
         behind : (q : ℕ) → known.defined q ≡ true → defined_in others q ≡ false
         behind q is =
-            let low = first-of (nat_lt q (length saved.program.names)) (is_defined (sound before) q) is in
+            let low = (and_parts (nat_lt q (length saved.program.names)) (is_defined (sound before) q) is).0 in
             let there = sym (defined-sound before q) ∙ second-of (nat_lt q (length saved.program.names)) (is_defined (sound before) q) is in
-            not-behind v joint.program both firsts others statements q (test-of q (length joint.program.names) (further q (below-of q (length saved.program.names) low))) (defined_same q ∙ ap (λ (ss : List (Stmt F)). defined_in ss q) stands ∙ list_any-append (λ (s : Stmt F). defines q s.act) before (outer ∷ tail) ∙ or-first (defined_in before q) (defined_in (outer ∷ tail) q) there)
+            not-behind v joint.program both firsts others statements q (test-of q (length joint.program.names) (further q (below-of q (length saved.program.names) low))) (defined_same q ∙ ap (λ (ss : List (Stmt F)). defined_in ss q) stands ∙ list_any-append (λ (s : Stmt F). defines q s.act) before (outer ∷ tail) ∙ or_left (defined_in before q) (defined_in (outer ∷ tail) q) there)
 
     -- ---- statements
 

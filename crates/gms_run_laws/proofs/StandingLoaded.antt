@@ -4,7 +4,7 @@ use Rattle.std.proofs.Common.{◌≡◌, ◌⊎◌, ℕ, ◌+◌, Bool, true, fa
 use Rattle.std.specs.FinMap as finite
 use Rattle.std.specs.Prelude.{flat_map, nat_lt}
 use Rattle.std.specs.List.{All, AllByRecursion, fold, list_any}
-use Rattle.std.proofs.lemmas.Bool.{both_ways}
+use Rattle.std.proofs.lemmas.Bool.{both_ways, and_parts}
 use Rattle.std.proofs.lemmas.List.Elements.{All-nil, All-cons}
 use Rattle.gq_number.specs.Number.{Number}
 use Rattle.gq_extended.specs.Extended.{Extended}
@@ -209,14 +209,10 @@ standing-declare k domain state name all =
     let s = symbol_at state name in
     standing-put state name (declared_again k domain s) (gains-again k domain s) (own-again k domain state s (all name)) all
 
-pub second-holds : (a b : Bool) → (a && b) ≡ true → b ≡ true
-second-holds true b e = e
-second-holds false b e = absurd (cc)
-
 standing-join : (state : State) (old new : ℕ) → can_join state old new ≡ true → AreStanding state → AreStanding (join_name state old new)
 standing-join state old new can all =
     let alias = alias_symbol (base_of state old) in
-    standing-put state new alias (gains-fresh (symbol_at state new) alias (second-holds (is_set (symbol_at state old).content) (is_undeclared (symbol_at state new).content) can)) (λ t there. absurd (has-none [] t refl there)) all
+    standing-put state new alias (gains-fresh (symbol_at state new) alias ((and_parts (is_set (symbol_at state old).content) (is_undeclared (symbol_at state new).content) can).1)) (λ t there. absurd (has-none [] t refl there)) all
 
 standing-alias : (state : State) (first second : ℕ) → AreStanding state → AreStanding (declare_alias state first second)
 standing-alias state first second all = by (can_join state first second) (can_join state second first) refl refl

@@ -3,7 +3,7 @@
 use Rattle.std.proofs.Common.{◌≡◌, ◌⊎◌, ℕ, Bool, true, false, cond, List, [], ◌∷◌, length, Option, Some, None, Result, Ok, Err, refl, sym, ap, ◌∙◌, subst, inl, inr}
 use Rattle.std.specs.Prelude.{flat_map}
 use Rattle.std.specs.List.{fold, list_any}
-use Rattle.std.proofs.lemmas.Bool.{both_ways}
+use Rattle.std.proofs.lemmas.Bool.{both_ways, and_parts}
 use Rattle.gq_number.specs.Number.{Number}
 use Rattle.gq_extended.specs.Meaning.{extended as value_shown}
 use Rattle.gms_ast.specs.declared.word.Named.{Named}
@@ -29,7 +29,7 @@ use Rattle.gms_check.proofs.NoErrors.{AreClean, clean-left}
 use Rattle.gms_check.proofs.Soundness.{neither-first}
 use Rattle.gms_run_laws.specs.LastStates.{IsFixedSet, AreFixed}
 use Rattle.gms_run_laws.proofs.AcceptedWalk.{over-accepted}
-use Rattle.gms_run_laws.proofs.StandingLoaded.{Gains, gains-fresh, gains-put, gains-again, second-holds, IsWithDatum, datum-member, datum-value, either-new, gains-new}
+use Rattle.gms_run_laws.proofs.StandingLoaded.{Gains, gains-fresh, gains-put, gains-again, IsWithDatum, datum-member, datum-value, either-new, gains-new}
 
 module _ (assigned : ℕ → Bool) where
   set-later : (old new : State) → ((n : ℕ) → Gains (symbol_at old n) (symbol_at new n)) → (set : ℕ) → IsFixedSet assigned old set → IsFixedSet assigned new set
@@ -69,7 +69,7 @@ module _ (assigned : ℕ → Bool) where
 
   fixed-join : (state : State) (old new : ℕ) → can_join state old new ≡ true → HasFixed state → HasFixed (join_name state old new)
   fixed-join state old new can all =
-      fixed-put state new (alias_symbol (base_of state old)) (gains-fresh (symbol_at state new) (alias_symbol (base_of state old)) (second-holds (is_set (symbol_at state old).content) (is_undeclared (symbol_at state new).content) can)) tt all
+      fixed-put state new (alias_symbol (base_of state old)) (gains-fresh (symbol_at state new) (alias_symbol (base_of state old)) ((and_parts (is_set (symbol_at state old).content) (is_undeclared (symbol_at state new).content) can).1)) tt all
 
   fixed-alias : (state : State) (first second : ℕ) → HasFixed state → HasFixed (declare_alias state first second)
   fixed-alias state first second all = by (can_join state first second) (can_join state second first) refl refl

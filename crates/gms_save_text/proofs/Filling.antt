@@ -1,4 +1,5 @@
 -- A name without data has a content again, after the content's entries were written in sequence.
+use Rattle.std.proofs.lemmas.Bool.{both_ways}
 use Rattle.std.proofs.Common.{◌≡◌, ℕ, zero, suc, ◌<◌, Bool, true, false, not, ◌||◌, List, [], ◌∷◌, length, set, slice_get, refl, sym, ap, ◌∙◌, Option, Some, None, unwrap_or, arith, eq-eqb}
 use Rattle.std.specs.List.{fold, AllByRecursion}
 use Rattle.std.specs.FinMap as finite
@@ -34,15 +35,11 @@ with_all content old tuples = fold (with_given content) old tuples
 abbrev pub AllDiffer : Content → List (List ℕ) → Type 0
 AllDiffer content tuples = AllByRecursion (λ t. differs_in content t ≡ true) tuples
 
-not_both : (b : Bool) → b ≡ true → b ≡ false → ⊥
-not_both b e f = absurd cc
-
--- a write of what a map has, where that differs from an absent entry
 write_from : {X : Type 0} (m made : Entries X) (t : List ℕ) (differs : X → Bool) (absent : X) → differs absent ≡ false → differs (unwrap_or (finite.get m t) absent) ≡ true → entries_after_write (differs (unwrap_or (finite.get m t) absent)) made t (unwrap_or (finite.get m t) absent) ≡ put_from m made t
 write_from {X} m made t differs absent none some = by (finite.get m t) some
   where
     by : (o : Option X) → differs (unwrap_or o absent) ≡ true → entries_after_write (differs (unwrap_or o absent)) made t (unwrap_or o absent) ≡ put_where o made t
-    by None some = absurd (not_both (differs absent) some none)
+    by None some = absurd (both_ways (differs absent) none some)
     by (Some x) some = ap (λ b. entries_after_write b made t x) some
 
 parameter_all : (m made : Entries extended.Extended) (tuples : List (List ℕ)) → AllDiffer (parameter_of m) tuples → with_all (parameter_of m) (parameter_of made) tuples ≡ parameter_of (put_all_from m made tuples)

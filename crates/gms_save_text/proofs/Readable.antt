@@ -3,7 +3,7 @@ use Rattle.std.proofs.Common.{◌≡◌, ◌≢◌, ℕ, suc, ◌<◌, ◌≤◌
 use Rattle.std.specs.Prelude.{nat_lt, nat_le}
 use Rattle.std.specs.Char.{is_ascii_alphabetic}
 use Rattle.std.specs.List.{AllByRecursion, list_all}
-use Rattle.std.proofs.lemmas.Bool.{ltb-true}
+use Rattle.std.proofs.lemmas.Bool.{ltb-true, and_parts}
 use Rattle.std.proofs.lemmas.Bool.Decides.{nat_tests}
 use Rattle.std.proofs.lemmas.List.Elements.{recursion_from_All}
 use Rattle.gms_tuple.specs.TupleSet.{has}
@@ -16,13 +16,6 @@ use Rattle.gms_save_text.proofs.Declared.{AreBlank, IsBlank, blanked}
 
 -- ---- tuples
 
--- two tests that both succeed
-pub both : (a b : Bool) → (a && b) ≡ true → (a ≡ true) × (b ≡ true)
-both true true e = (refl, refl)
-both true false e = absurd cc
-both false b e = absurd cc
-
--- a tuple in a domain has a label for each position, each below `labels`
 record Standing (labels arity : ℕ) (t : List ℕ) : Type 0 where
   pub count : length t ≡ arity
   pub small : AllByRecursion (λ label. label < labels) t
@@ -32,8 +25,8 @@ standing labels state [] [] e = record { count = refl; small = tt }
 standing labels state [] (label ∷ t) e = absurd cc
 standing labels state (set ∷ domain) [] e = absurd cc
 standing labels state (set ∷ domain) (label ∷ t) e =
-    let first = both (nat_lt label labels) (stands_at state set label && stands_in labels state domain t) e in
-    let second = both (stands_at state set label) (stands_in labels state domain t) first.1 in
+    let first = and_parts (nat_lt label labels) (stands_at state set label && stands_in labels state domain t) e in
+    let second = and_parts (stands_at state set label) (stands_in labels state domain t) first.1 in
     let rest = standing labels state domain t second.1 in
     record { count = ap suc rest.count; small = (ltb-true label labels first.0, rest.small) }
 
@@ -112,7 +105,7 @@ byte_none b e same = absurd (grind (arith, nat_tests))
 
 bytes_none : (bs : List ℕ) → list_all is_solver_byte bs ≡ true → HasNone 10 bs
 bytes_none [] e = tt
-bytes_none (b ∷ bs) e = let parts = both (is_solver_byte b) (list_all is_solver_byte bs) e in (byte_none b parts.0, bytes_none bs parts.1)
+bytes_none (b ∷ bs) e = let parts = and_parts (is_solver_byte b) (list_all is_solver_byte bs) e in (byte_none b parts.0, bytes_none bs parts.1)
 
 letter_none : (b : ℕ) → is_ascii_alphabetic b ≡ true → b ≢ 10
 letter_none b e same = absurd (grind (arith, nat_tests))
@@ -121,6 +114,6 @@ letter_none b e same = absurd (grind (arith, nat_tests))
 pub solver_none : (solver : List ℕ) → is_solver_name solver ≡ true → HasNone 10 solver
 solver_none [] e = absurd cc
 solver_none (first ∷ rest) e =
-    let parts = both (is_ascii_alphabetic first) (list_all is_solver_byte rest && nat_le (length rest) 62) e in
-    let more = both (list_all is_solver_byte rest) (nat_le (length rest) 62) parts.1 in
+    let parts = and_parts (is_ascii_alphabetic first) (list_all is_solver_byte rest && nat_le (length rest) 62) e in
+    let more = and_parts (list_all is_solver_byte rest) (nat_le (length rest) 62) parts.1 in
     (letter_none first parts.0, bytes_none rest more.0)

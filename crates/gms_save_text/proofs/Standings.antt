@@ -1,4 +1,5 @@
 -- Whether tuples are in domains, label by label.
+use Rattle.std.proofs.lemmas.Bool.{and_parts}
 use Rattle.std.proofs.Common.{◌≡◌, ◌∙◌, ℕ, zero, suc, ◌+◌, ◌<◌, Bool, true, false, ◌&&◌, ◌||◌, List, [], ◌∷◌, length, drop, get_or, slice_get, refl, sym, ap, ap₂, Option, Some, arith}
 use Rattle.std.specs.Prelude.{nat_lt}
 use Rattle.std.proofs.lemmas.List.Elements.{All-nil}
@@ -10,7 +11,6 @@ use Rattle.gms_store.specs.State.{Content, undeclared, alias_of, set_of, paramet
 use Rattle.gms_store.specs.Declarations.{is_alias}
 use Rattle.gms_store.proofs.Views.{no_difference}
 use Rattle.gms_save_text.specs.Validity.{IsGivenWell, stands_at, stands_in}
-use Rattle.gms_save_text.proofs.Readable.{both}
 
 module _ (labels : ℕ) (state : State) where
   -- a tuple in a domain has a label for each position
@@ -19,8 +19,8 @@ module _ (labels : ℕ) (state : State) where
   stands-length [] (label ∷ tuple) e = absurd cc
   stands-length (set ∷ domain) [] e = absurd cc
   stands-length (set ∷ domain) (label ∷ tuple) e =
-      let first = both (nat_lt label labels) (stands_at state set label && stands_in labels state domain tuple) e in
-      let second = both (stands_at state set label) (stands_in labels state domain tuple) first.1 in
+      let first = and_parts (nat_lt label labels) (stands_at state set label && stands_in labels state domain tuple) e in
+      let second = and_parts (stands_at state set label) (stands_in labels state domain tuple) first.1 in
       ap suc (stands-length domain tuple second.1)
 
   -- a tuple of another length does not

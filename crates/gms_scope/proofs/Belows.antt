@@ -1,4 +1,5 @@
 -- What is below what, by names and by places.
+use mathlib.Core.Bool.{or-false}
 use Rattle.std.proofs.Common.{◌≡◌, ◌<◌, ◌≤◌, ℕ, zero, suc, ◌-◌, Bool, true, false, ◌==◌, ◌&&◌, ◌||◌, List, [], ◌∷◌, ◌++◌, length, map, refl, sym, ap, ◌∙◌, arith, eq-eqb, subst, if◌then◌else◌, Option, Some, None}
 use Rattle.std.specs.Prelude.{nat_lt, slice_index_or}
 use Rattle.std.specs.List.{list_any}
@@ -56,10 +57,6 @@ same-order names a b i j p q = by (a == b) refl (i == j) refl
         let same : a ≡ b = sym (order-name names a i p) ∙ ap (λ n. slice_index_or names n 0) k ∙ order-name names b j q in
         absurd (let t = eq-eqb a b same in cc)
 
-or_false : (s : Bool) → (s || false) ≡ s
-or_false true = refl
-or_false false = refl
-
 module _ (nodes : List Node) (steps : (place : ℕ) → place < length nodes → IsNodeStep nodes place (node_at nodes place)) where
   step_at : (name place : ℕ) → order_of (names_of_nodes nodes) name ≡ suc place → IsAbove (names_of_nodes nodes) (above_of (entries_of_nodes nodes) name) place (node_at nodes place).above
   step_at name place e =
@@ -72,7 +69,7 @@ module _ (nodes : List Node) (steps : (place : ℕ) → place < length nodes →
   pub below-none : (n a b : ℕ) → order_of (names_of_nodes nodes) b ≡ 0 → is_below_within n (above_of (entries_of_nodes nodes)) a b ≡ (a == b)
   below-none zero a b none = refl
   below-none (suc n) a b none =
-      ap (λ r. (a == b) || r) (by (order_of (names_of_nodes nodes) a) refl (above_of (entries_of_nodes nodes) a) refl (λ c. below-none n c b none)) ∙ or_false (a == b)
+      ap (λ r. (a == b) || r) (by (order_of (names_of_nodes nodes) a) refl (above_of (entries_of_nodes nodes) a) refl (λ c. below-none n c b none)) ∙ or-false (a == b)
     where
       differs : (c i : ℕ) → order_of (names_of_nodes nodes) c ≡ suc i → (c == b) ≡ false
       differs c i e = at (c == b) refl
@@ -90,7 +87,7 @@ module _ (nodes : List Node) (steps : (place : ℕ) → place < length nodes →
 
   pub none-below : (n a b : ℕ) → order_of (names_of_nodes nodes) a ≡ 0 → is_below_within n (above_of (entries_of_nodes nodes)) a b ≡ (a == b)
   none-below zero a b none = refl
-  none-below (suc n) a b none = rw (above-none nodes a none) (or_false (a == b))
+  none-below (suc n) a b none = rw (above-none nodes a none) (or-false (a == b))
 
   pub below-under : (n a b i j : ℕ) → order_of (names_of_nodes nodes) a ≡ suc i → order_of (names_of_nodes nodes) b ≡ suc j → i ≤ n → is_below_within n (above_of (entries_of_nodes nodes)) a b ≡ is_under_within n nodes i j
   below-under zero a b i j p q l = same-order (names_of_nodes nodes) a b i j p q

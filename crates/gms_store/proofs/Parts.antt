@@ -270,15 +270,6 @@ module _ {X : Type 0} (m : Entries X) (t : List ℕ) where
   pub keys-known : (members : List (List ℕ)) → members ≡ inserted (finite.keys m) t → has (finite.keys m) t ≡ true → members ≡ finite.keys m
   keys-known members are known = are ∙ sym (inserted-known (finite.keys m) t known)
 
-pub false_from_not : (b : Bool) → not b ≡ true → b ≡ false
-false_from_not true e = absurd cc
-false_from_not false e = refl
-
-pub true_from_not : (b : Bool) → not b ≡ false → b ≡ true
-true_from_not true e = refl
-true_from_not false e = absurd cc
-
--- a tuple alone is in order
 pub ordered-alone : {X : Type 0} (behind : List (List ℕ × Option X)) (t : List ℕ) → None ≡ slice_get behind (length behind - 1) → IsOrdered (keys_of behind ++ t ∷ [])
 ordered-alone [] t none = ordered-join [] t [] ordered-nil (All-nil (λ y. tuple_cmp y t ≡ Less)) ordered-nil (All-nil (λ y. tuple_cmp t y ≡ Less))
 ordered-alone (e ∷ behind) t none = absurd (none_some _ (none ∙ slice_get-get_or (e ∷ behind) (length (e ∷ behind) - 1) e (omega arith)))

@@ -4,7 +4,7 @@ use Rattle.std.specs.declared.cmp.Ordering.{Ordering}
 use Rattle.std.specs.declared.cmp.Ordering.TheVariants.{Less, Equal, Greater}
 use Rattle.std.specs.Ordering.{is_eq, eq_by_cmp}
 use Rattle.std.specs.FinMap as finite
-use Rattle.std.proofs.lemmas.Bool.{eqb-true, eq-eqb, both_ways}
+use Rattle.std.proofs.lemmas.Bool.{eqb-true, eq-eqb, both_ways, not-false}
 use Rattle.gq_number.specs.Number.{Number, whole}
 use Rattle.gq_number.specs.Order.{number_cmp}
 use Rattle.gq_number.proofs.Compares.{number_cmp_decides}
@@ -236,10 +236,6 @@ same-attributes a b e =
     let second = and_parts (same_bound a.upper b.upper) (same_number a.level b.level && same_number a.marginal b.marginal) first.1 in
     let third = and_parts (same_number a.level b.level) (same_number a.marginal b.marginal) second.1 in
     λ i. record { lower = same-bound a.lower b.lower first.0 i; upper = same-bound a.upper b.upper second.0 i; level = same-number a.level b.level third.0 i; marginal = same-number a.marginal b.marginal third.1 i }
-
-not-false : (b : Bool) → not b ≡ false → b ≡ true
-not-false true e = refl
-not-false false e = absurd cc
 
 attributes-same : (content : Content) (t : List ℕ) (a : Attributes) → has_attributes content ≡ true → attributes_in (with_attributes content t a) t ≡ a
 attributes-same undeclared t a has = absurd cc

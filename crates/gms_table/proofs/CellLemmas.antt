@@ -1,4 +1,5 @@
 -- The rows and headings that are kept in a set.
+use Rattle.std.proofs.lemmas.Bool.{and_parts}
 use Rattle.std.proofs.Common.{◌≡◌, ℕ, ◌-◌, ◌&&◌, ◌||◌, Bool, true, false, List, [], ◌∷◌, ◌++◌, length, take, refl, sym, ap, ◌∙◌, arith}
 use Rattle.std.specs.declared.cmp.Ordering.{Ordering}
 use Rattle.std.specs.declared.cmp.Ordering.TheVariants.{Less, Equal, Greater}
@@ -47,15 +48,9 @@ or_back true false = refl
 or_back false true = refl
 or_back false false = refl
 
-and_true : (a b : Bool) → (a && b) ≡ true → (a ≡ true) × (b ≡ true)
-and_true true true h = (refl, refl)
-and_true true false h = absurd (cc)
-and_true false b h = absurd (cc)
-
--- cells of the same labels are the same for a search
 same_cells : (a b : Cell) (row column : List ℕ) → is_cell a b.row.items b.column.items ≡ true → is_cell a row column ≡ is_cell b row column
 same_cells a b row column h =
-    let both = and_true (same_numbers a.row.items b.row.items) (same_numbers a.column.items b.column.items) h in
+    let both = and_parts (same_numbers a.row.items b.row.items) (same_numbers a.column.items b.column.items) h in
     let rows : a.row.items ≡ b.row.items = (bytes_eq-Decides a.row.items b.row.items).0 both.0 in
     let columns : a.column.items ≡ b.column.items = (bytes_eq-Decides a.column.items b.column.items).0 both.1 in
     (λ i. same_numbers (rows i) row && same_numbers (columns i) column)

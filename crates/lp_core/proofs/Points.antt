@@ -1,4 +1,5 @@
 -- That the check of a point tells whether it is feasible, and how many steps it has.
+use Rattle.std.proofs.lemmas.Bool.{and_parts}
 use Rattle.std.proofs.Common.{◌≡◌, ◌↔◌, ℕ, suc, ◌+◌, ◌*◌, ◌<◌, ◌≤◌, Bool, true, false, not, ◌&&◌, cond, pos, List, [], ◌∷◌, length, Option, Some, None, Result, Ok, Err, refl, sym, ap, ◌∙◌, subst, arith}
 use Rattle.std.specs.Prelude.{IsTrue, sum_by}
 use Rattle.std.specs.declared.cmp.Ordering.{Ordering}
@@ -38,11 +39,6 @@ at_most_by Greater x y h = (λ e. absurd (cc), λ k. absurd (Order.not_above x y
 at_most-tells : (x y : Number) → (at_most x y ≡ true) ↔ (x ≤ℚ y)
 at_most-tells x y = at_most_by (number_cmp x y) x y (number_ranks x y)
 
-pub both_true : (a b : Bool) → (a && b) ≡ true → (a ≡ true) × (b ≡ true)
-both_true true true e = (refl, refl)
-both_true true false e = absurd (cc)
-both_true false b e = absurd (cc)
-
 keeps_lower-tells : (bound : Option Number) (x : Number) → (keeps_lower bound x ≡ true) ↔ KeepsLower bound x
 keeps_lower-tells None x = (λ _. tt, λ _. refl)
 keeps_lower-tells (Some b) x = at_most-tells b x
@@ -53,7 +49,7 @@ keeps_upper-tells (Some b) x = at_most-tells x b
 
 keeps_sense-tells : (s : Sense) (sum right : Number) → (keeps_sense s sum right ≡ true) ↔ KeepsSense s sum right
 keeps_sense-tells sense.E sum right = (
-  λ e. let parts = both_true (at_most sum right) (at_most right sum) e in Order.≤ℚ_antisymm sum right ((at_most-tells sum right).0 parts.0) ((at_most-tells right sum).0 parts.1),
+  λ e. let parts = and_parts (at_most sum right) (at_most right sum) e in Order.≤ℚ_antisymm sum right ((at_most-tells sum right).0 parts.0) ((at_most-tells right sum).0 parts.1),
   λ e. rw ((at_most-tells sum right).1 (Order.≤ℚ_from_≡ sum right e), (at_most-tells right sum).1 (Order.≤ℚ_from_≡ right sum (sym e))) refl,
 )
 keeps_sense-tells sense.L sum right = at_most-tells sum right
@@ -69,8 +65,8 @@ module _ {F : Type 0} (value : F → Number) (limit : ℕ) (x : List Number) whe
       let u = keeps_upper (bound_value value column.upper) (value_of_column x j) in
       let rest = bounds_hold-tells (j + 1) columns in (
         λ e.
-            let parts = both_true (l && u) (bounds_hold value x (j + 1) columns) e in
-            let first = both_true l u parts.0 in
+            let parts = and_parts (l && u) (bounds_hold value x (j + 1) columns) e in
+            let first = and_parts l u parts.0 in
             All-cons (λ (p : ℕ × Column F). KeepsBounds value p.1 (value_of_column x p.0)) (j, column) (enumerate_from (j + 1) columns) ((keeps_lower-tells (bound_value value column.lower) (value_of_column x j)).0 first.0, (keeps_upper-tells (bound_value value column.upper) (value_of_column x j)).0 first.1) (rest.0 parts.1),
         λ all.
             let here = All-head (λ (p : ℕ × Column F). KeepsBounds value p.1 (value_of_column x p.0)) (j, column) (enumerate_from (j + 1) columns) all in

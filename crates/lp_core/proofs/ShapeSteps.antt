@@ -6,13 +6,13 @@ use Rattle.std.proofs.lemmas.List.{take_all, drop_all, take_more}
 use Rattle.std.proofs.lemmas.List.Elements.{All-head, All-tail, All-nil, All-cons, All-more, All-weaker, All-get_or}
 use Rattle.std.proofs.lemmas.List.Kept.{AllPairs-cons}
 use Rattle.std.proofs.lemmas.List.Sums.{sum_by_push}
-use Rattle.std.proofs.lemmas.Bool.{both_ways}
+use Rattle.std.proofs.lemmas.Bool.{both_ways, and_parts}
 use Rattle.std.proofs.lemmas.Bool.Decides.{nat_tests}
 use Rattle.gq_number.specs.Number.{Number, whole}
 use Rattle.lp_core.specs.WellFormed.{AreRowEntries}
 use Rattle.gq_number.proofs.Quotients.{zero_from_numerator}
 use Rattle.lp_core.specs.InnerEntries.{is_zero_number, are_in_order}
-use Rattle.lp_core.proofs.Points.{both_true, AllPairs-first, AllPairs-rest}
+use Rattle.lp_core.proofs.Points.{AllPairs-first, AllPairs-rest}
 use Rattle.lp_form.proofs.Walks.{drop_item}
 
 module _ {X : Type 0} (P : X → Type 0) (xs : List X) (i : ℕ) (x : X) where
@@ -108,9 +108,9 @@ module _ {F : Type 0} (value : F → Number) (n : ℕ) where
       let t = nat_lt e.0 n in
       let z = not (is_zero_number (value e.1)) in (
         λ is.
-            let first = both_true (l && t && z) (are_in_order value n (e.0 + 1) entries) is in
-            let second = both_true (l && t) z first.0 in
-            let third = both_true l t second.0 in
+            let first = and_parts (l && t && z) (are_in_order value n (e.0 + 1) entries) is in
+            let second = and_parts (l && t) z first.0 in
+            let third = and_parts l t second.0 in
             let later = rest.0 first.1 in
             let low : least ≤ e.0 = le_from_test least e.0 third.0 in
             let high : e.0 < n = lt_from_test e.0 n third.1 in (

@@ -1,5 +1,6 @@
 -- The exchange preserves what the equations state: each row after it is a row before it, less a
 -- multiple of the pivot row.
+use mathlib.Core.Bool.{and-false}
 use Rattle.std.proofs.Common.{◌≡◌, ◌≢◌, ℕ, zero, suc, ◌+◌, ◌<◌, ◌==◌, ◌&&◌, inl, inr, Bool, true, false, pos, cond, List, [], ◌∷◌, length, length-set, refl, sym, ap, ap₂, ◌∙◌, subst, arith}
 use Rattle.std.specs.List.{range_with_len}
 use Rattle.std.specs.Prelude.{slice_set}
@@ -31,10 +32,6 @@ sum_same : {X : Type 0} (f g : X → Number) → ((v : X) → f v ≡ g v) → (
 sum_same f g h [] = sum_by_ℚ-nil f ∙ sym (sum_by_ℚ-nil g)
 sum_same f g h (x ∷ xs) = sum_by_ℚ-cons f x xs ∙ ap₂ (λ a b. a +ℚ b) (h x) (sum_same f g h xs) ∙ sym (sum_by_ℚ-cons g x xs)
 
-pub and_false : (b : Bool) → (b && false) ≡ false
-and_false true = refl
-and_false false = refl
-
 pub eq_other : (a b : ℕ) → a ≢ b → (a == b) ≡ false
 eq_other a b h = grind (arith, nat_tests)
 
@@ -49,7 +46,7 @@ row_of_same f g variables x constant numbers =
 module _ (d : Dictionary) (q k : ℕ) (x : List Number) (gone : basic_at d k ≡ 0 → value_of_column x 0 ≡ whole (pos 0)) where
   -- where variable 0 leaves its column counts for nothing
   dropped_constant : (i : ℕ) → (exchanged d q k).numbers i 0 ≡ exchanged_numbers d q k i 0
-  dropped_constant i = ap (λ b. cond b (whole (pos 0)) (exchanged_numbers d q k i 0)) (and_false (basic_at d k == 0))
+  dropped_constant i = ap (λ b. cond b (whole (pos 0)) (exchanged_numbers d q k i 0)) (and-false (basic_at d k == 0))
 
   dropped_number : (i v : ℕ) → (exchanged d q k).numbers i (v + 1) *ℚ value_of_column x v ≡ exchanged_numbers d q k i (v + 1) *ℚ value_of_column x v
   dropped_number i zero =
@@ -59,7 +56,7 @@ module _ (d : Dictionary) (q k : ℕ) (x : List Number) (gone : basic_at d k ≡
       ]
   dropped_number i (suc v) =
       ap (λ t. (cond (basic_at d k == 0 && t) (whole (pos 0)) (exchanged_numbers d q k i (suc v + 1))) *ℚ value_of_column x (suc v)) (eq_other (suc v + 1) 1 (λ is. absurd (omega arith)))
-      ∙ ap (λ b. (cond b (whole (pos 0)) (exchanged_numbers d q k i (suc v + 1))) *ℚ value_of_column x (suc v)) (and_false (basic_at d k == 0))
+      ∙ ap (λ b. (cond b (whole (pos 0)) (exchanged_numbers d q k i (suc v + 1))) *ℚ value_of_column x (suc v)) (and-false (basic_at d k == 0))
 
   pub row_exchanged : (i : ℕ) → row_at (exchanged d q k) i x ≡ row_of (exchanged_numbers d q k i) d.variables x
   row_exchanged i = row_of_same ((exchanged d q k).numbers i) (exchanged_numbers d q k i) d.variables x (dropped_constant i) (dropped_number i)

@@ -1,4 +1,5 @@
 -- An exchange by a legal pivot keeps what each dictionary of a program keeps.
+use mathlib.Core.Bool.{and-false}
 use Rattle.std.proofs.Common.{◌≡◌, ◌≢◌, ℕ, zero, suc, ◌+◌, ◌<◌, ◌≤◌, ◌==◌, ◌&&◌, ◌⊎◌, inl, inr, pos, cond, List, [], ◌∷◌, length, length-set, Some, refl, sym, ap, ap₂, ◌∙◌, subst, subst₂, arith}
 use Rattle.std.specs.Prelude.{slice_get, slice_set}
 use Rattle.std.proofs.lemmas.Bool.{cases_eq}
@@ -12,7 +13,7 @@ use Rattle.lp_core.specs.declared.answer.Pivot.{Pivot}
 use Rattle.lp_core.specs.Dictionary.{Dictionary, basic_at, constant_at, entry_at, OpeningIsDue, ratio_at, IsOpening, IsStep, IsLegal, divided_entry, exchanged_numbers, exchanged}
 use Rattle.lp_fraction_dict.specs.Pivots.{IsProper}
 use Rattle.lp_fraction_dict.proofs.Kept.{get_within, get_index, contains_get}
-use Rattle.lp_fraction_dict.proofs.Equations.{eq_same, eq_other, and_false}
+use Rattle.lp_fraction_dict.proofs.Equations.{eq_same, eq_other}
 
 -- ---- numbers
 
@@ -121,7 +122,7 @@ module _ (d : Dictionary) (p : Pivot) (k : ℕ) (proper : IsProper d) (legal : I
   kept_column i c kept =
       elim (cases_eq c 1) [
         | inl one ↦ ap (λ b. cond (b && (c == 1)) (whole (pos 0)) (exchanged_numbers d p.enter k i c)) (eq_other (basic_at d k) 0 (kept one))
-        | inr other ↦ ap (λ b. cond (basic_at d k == 0 && b) (whole (pos 0)) (exchanged_numbers d p.enter k i c)) (eq_other c 1 other) ∙ ap (λ b. cond b (whole (pos 0)) (exchanged_numbers d p.enter k i c)) (and_false (basic_at d k == 0))
+        | inr other ↦ ap (λ b. cond (basic_at d k == 0 && b) (whole (pos 0)) (exchanged_numbers d p.enter k i c)) (eq_other c 1 other) ∙ ap (λ b. cond b (whole (pos 0)) (exchanged_numbers d p.enter k i c)) (and-false (basic_at d k == 0))
       ]
 
   kept_entry : (i v : ℕ) → v ≢ p.leave → entry_at (exchanged d p.enter k) i v ≡ exchanged_numbers d p.enter k i (v + 1)

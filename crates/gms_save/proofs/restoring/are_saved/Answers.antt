@@ -1,14 +1,12 @@
+use Rattle.std.proofs.lemmas.Bool.{both_ways}
 use Rattle.std.proofs.Common.{◌≡◌, ◌≤◌, Bool, true, false, refl, arith, below_more}
 use Rattle.gms_scope.specs.Facts.{marked}
 use Rattle.gms_save.specs.InnerRestoreSteps.{IsSavedAt}
 use Rattle.gms_save.proofs.restoring.are_saved.Goals as goal
 
-not_both : (b : Bool) → b ≡ true → b ≡ false → ⊥
-not_both b e f = absurd cc
-
 pub returns-then-not-branch : goal.returns-then-not-branch
 returns-then-not-branch c =
-    (λ e. absurd (not_both false e refl), λ all. absurd (not_both c.in_ok-is_saved_at.field-0 (c.in_ok-is_saved_at.ensures.1 (all c.loop-name.name c.loop-name-test.true)) c.if-not-branch.true))
+    (λ e. absurd (both_ways false refl e), λ all. absurd (both_ways c.in_ok-is_saved_at.field-0 c.if-not-branch.true (c.in_ok-is_saved_at.ensures.1 (all c.loop-name.name c.loop-name-test.true))))
 
 pub loop-name-preserved : goal.loop-name-preserved
 loop-name-preserved c =

@@ -1,19 +1,17 @@
+use Rattle.std.proofs.lemmas.Bool.{both_ways}
 use Rattle.std.proofs.Common.{◌≡◌, ◌∙◌, Bool, true, false, refl, sym, ap}
 use Rattle.gms_save_text.specs.Validity.{are_in_range}
 use Rattle.std.proofs.lemmas.Result.{IfOk-weaker}
 use Rattle.gms_save.proofs.SavedNames.{names-from-saved, same-declares, saved-from-names}
 use Rattle.gms_save.proofs.restoring.is_saved.Goals as goal
 
-not_both : (b : Bool) → b ≡ true → b ≡ false → ⊥
-not_both b e f = absurd cc
-
 pub returns-then-not-are_in_range : goal.returns-then-not-are_in_range
 returns-then-not-are_in_range c =
-    (λ e. absurd (not_both false e refl), λ saved. absurd (not_both c.are_in_range.result (c.are_in_range.ensures ∙ ap are_in_range c.settings.ensures ∙ saved.ranges) c.if-not-are_in_range.true))
+    (λ e. absurd (both_ways false refl e), λ saved. absurd (both_ways c.are_in_range.result c.if-not-are_in_range.true (c.are_in_range.ensures ∙ ap are_in_range c.settings.ensures ∙ saved.ranges)))
 
 pub returns-then-not-is_solver_name : goal.returns-then-not-is_solver_name
 returns-then-not-is_solver_name c =
-    (λ e. absurd (not_both false e refl), λ saved. absurd (not_both c.is_solver_name.result (c.is_solver_name.ensures ∙ saved.named) c.if-not-is_solver_name.true))
+    (λ e. absurd (both_ways false refl e), λ saved. absurd (both_ways c.is_solver_name.result c.if-not-is_solver_name.true (c.is_solver_name.ensures ∙ saved.named)))
 
 pub are_saved-requires : goal.are_saved-requires
 are_saved-requires c =

@@ -1,13 +1,11 @@
+use Rattle.std.proofs.lemmas.Bool.{both_ways}
 use Rattle.std.proofs.Common.{◌≡◌, ◌∙◌, Bool, true, false, refl, sym}
 use Rattle.gms_store.specs.State.{symbol_at}
 use Rattle.gms_save.proofs.SavedNames.{alias-members, alias-too, own-members}
 use Rattle.gms_save.proofs.restoring.keeps_members.Goals as goal
 
-not_both : (b : Bool) → b ≡ true → b ≡ false → ⊥
-not_both b e f = absurd cc
-
 pub returns-then-is_set : goal.returns-then-is_set
-returns-then-is_set c = (λ _ fixed. absurd (not_both c.is_set.result c.if-is_set.true (c.is_set.ensures ∙ fixed)), λ _. refl)
+returns-then-is_set c = (λ _ fixed. absurd (both_ways c.is_set.result (c.is_set.ensures ∙ fixed) c.if-is_set.true), λ _. refl)
 
 pub returns-then-is_alias : goal.returns-then-is_alias
 returns-then-is_alias c =

@@ -1,3 +1,4 @@
+use Rattle.std.proofs.lemmas.Bool.{both_ways}
 use Rattle.std.proofs.Common.{◌≡◌, ◌≤◌, ◌^◌, ℕ, Bool, true, false, List, length, sym, subst, arith}
 use Rattle.gq_frac.specs.Frac.{frac_value}
 use Rattle.gms_store.specs.State.{State}
@@ -9,9 +10,6 @@ use Rattle.gms_save.specs.Saves.{with_solver}
 use Rattle.gms_save.proofs.Restored.{unread_state}
 use Rattle.gms_save.proofs.SavedNames.{saved-placed}
 use Rattle.gms_save.proofs.restoring.saved_state.Goals as goal
-
-not_both : (b : Bool) → b ≡ true → b ≡ false → ⊥
-not_both b e f = absurd cc
 
 few_labels : (labels : ℕ) → labels ≤ 65536 → labels ≤ 2 ^ 32
 few_labels labels few = omega (arith, few)
@@ -34,7 +32,7 @@ returns-then-not-branch c =
     let found = c.in_ok-store.ensures.state (length program.labels) (loaded frac_value program) (is_among (dynamic_sets program)) state solver (few_labels (length program.labels) c.len-labels.ensures.labels.few) saved is in
     let placed = saved-placed program state 0 solver saved in
     let here : IsSavedIn program c.in_ok-store.store c.in_ok-store.solver.now = subst (λ (s : State). IsSavedIn program s c.in_ok-store.solver.now) (sym found.0) (subst (λ (n : List ℕ). IsSavedIn program (with_solver state 0) n) (sym found.1) placed) in
-    not_both c.in_ok-is_saved.field-0 (c.in_ok-is_saved.ensures.1 here) c.if-not-branch.true
+    both_ways c.in_ok-is_saved.field-0 c.if-not-branch.true (c.in_ok-is_saved.ensures.1 here)
 
 pub returns : goal.returns
 returns c =

@@ -1,3 +1,4 @@
+use Rattle.std.proofs.lemmas.Bool.{both_ways}
 use Rattle.std.proofs.Common.{◌≡◌, ◌∙◌, ◌≤◌, ◌<◌, ℕ, Bool, true, false, List, [], All, Option, length, get_or, refl, sym, ap, ap₂, subst, arith}
 use Rattle.std.proofs.lemmas.List.{take_all}
 use Rattle.std.proofs.lemmas.List.Elements.{All-get_or, All-more}
@@ -9,9 +10,6 @@ use Rattle.gms_save_text.specs.Validity.{are_statuses, stands_in}
 use Rattle.gms_save_text.proofs.Sorts.{own_symbol}
 use Rattle.gms_save_text.proofs.Standings.{alias_well}
 use Rattle.gms_save_text.proofs.validity.is_given_well.Goals as goal
-
-not_both : (b : Bool) → b ≡ true → b ≡ false → ⊥
-not_both b e f = absurd cc
 
 pub returns-then-is_alias : goal.returns-then-is_alias
 returns-then-is_alias g c = (λ _. alias_well g.F.ExactField.limit c.args.labels c.args.store.now (symbol_at c.args.store.now c.args.name) (sym c.is_alias.ensures ∙ c.if-is_alias.true), λ _. refl)
@@ -29,7 +27,7 @@ returns-then-not-branch g c =
     let within : k < length tuples = subst (λ (n : ℕ). k < n) (c.len-place-end.ensures.len ∙ ap length given) c.loop-place-test.true in
     let tuple : c.as_slice.result.now ≡ get_or tuples k [] = c.as_slice.ensures.value ∙ sym (get_or_from_slice_get _ k _ [] c.get.ensures) ∙ ap (λ (ts : List (List ℕ)). get_or ts k []) given in
     let here : c.in_ok-stands_in.field-0 ≡ stands_in labels store symbol.domain (get_or tuples k []) = c.in_ok-stands_in.ensures ∙ ap₂ (λ (d : List (Option ℕ)) (t : List ℕ). stands_in labels store d t) domain tuple in
-    (λ e. absurd (not_both false e refl), λ well. absurd (not_both c.in_ok-stands_in.field-0 (here ∙ All-get_or (λ t. stands_in labels store symbol.domain t ≡ true) tuples k [] within well.stand) c.if-not-branch.true))
+    (λ e. absurd (both_ways false refl e), λ well. absurd (both_ways c.in_ok-stands_in.field-0 c.if-not-branch.true (here ∙ All-get_or (λ t. stands_in labels store symbol.domain t ≡ true) tuples k [] within well.stand)))
 
 pub loop-place-preserved : goal.loop-place-preserved
 loop-place-preserved g c =

@@ -1,13 +1,12 @@
 use Rattle.std.proofs.Common.{◌≡◌, ◌∙◌, ◌<◌, ◌^◌, ◌&&◌, ◌++◌, ◌∷◌, ℕ, Bool, true, List, codes, decimal, refl, arith}
 use Rattle.std.specs.Prelude.{nat_le}
-use Rattle.std.proofs.lemmas.Bool.{leb-true}
+use Rattle.std.proofs.lemmas.Bool.{leb-true, and_parts}
 use Rattle.gms_store.specs.declared.settings.Settings.{Settings}
 use Rattle.gms_save_text.specs.SavedState.{switch_text, settings_line}
 use Rattle.gms_save_text.specs.Validity.{are_in_range}
 use Rattle.gms_save_text.specs.Reading.{unplaced}
 use Rattle.gms_save_text.proofs.Finding.{handed_on}
 use Rattle.gms_save_text.proofs.Lines.{line_front, line_item, line_last}
-use Rattle.gms_save_text.proofs.Readable.{both}
 use Rattle.gms_save_text.proofs.whole.settings_at.Goals as goal
 
 -- the text after the items of the line
@@ -48,9 +47,9 @@ record AreSmall (s : Settings) : Type 0 where
 
 are_small : (s : Settings) → are_in_range s ≡ true → AreSmall s
 are_small s h =
-    let first = both (nat_le s.limrow 2147483647) (nat_le s.limcol 2147483647 && (nat_le s.iterlim 2147483647 && nat_le s.decimals 8)) h in
-    let second = both (nat_le s.limcol 2147483647) (nat_le s.iterlim 2147483647 && nat_le s.decimals 8) first.1 in
-    let third = both (nat_le s.iterlim 2147483647) (nat_le s.decimals 8) second.1 in
+    let first = and_parts (nat_le s.limrow 2147483647) (nat_le s.limcol 2147483647 && (nat_le s.iterlim 2147483647 && nat_le s.decimals 8)) h in
+    let second = and_parts (nat_le s.limcol 2147483647) (nat_le s.iterlim 2147483647 && nat_le s.decimals 8) first.1 in
+    let third = and_parts (nat_le s.iterlim 2147483647) (nat_le s.decimals 8) second.1 in
     let rows = leb-true s.limrow 2147483647 first.0 in
     let columns = leb-true s.limcol 2147483647 second.0 in
     let most = leb-true s.iterlim 2147483647 third.0 in

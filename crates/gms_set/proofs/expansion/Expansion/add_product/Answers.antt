@@ -1,3 +1,4 @@
+use Rattle.std.proofs.lemmas.Bool.{not-false}
 use Rattle.std.proofs.Common.{◌≡◌, ◌∙◌, ◌<◌, ◌++◌, ◌∷◌, [], Bool, true, false, not, ap, sym, length, get_or, take, refl, arith}
 use Rattle.std.proofs.lemmas.List.{take_all}
 use Rattle.std.proofs.lemmas.Option.{get_or_from_slice_get}
@@ -6,10 +7,6 @@ use Rattle.gms_tuple.specs.Products.{tuple_product}
 use Rattle.gms_set.specs.Expansion.{has_repeat, tuples_of, tuples_with_value}
 use Rattle.gms_set.proofs.Repeats.{repeat-at, tuples_of-with, with_value-more}
 use Rattle.gms_set.proofs.expansion.Expansion.add_product.Goals as goal
-
-not-false : (b : Bool) → not b ≡ false → b ≡ true
-not-false true e = refl
-not-false false e = absurd cc
 
 pub returns-then-not-branch-clause-new : goal.returns-then-not-branch-clause-new
 returns-then-not-branch-clause-new g c =
