@@ -1,4 +1,5 @@
 -- The data of a program without errors can be given.
+use Rattle.gms_check.proofs.Faultless.{none-first, none-left, none-right}
 use Rattle.std.proofs.lemmas.Bool.{and_from, not-false}
 use Rattle.std.proofs.Common.{◌≡◌, ◌≤◌, ◌<◌, ◌+◌, ℕ, Bool, true, false, not, ◌==◌, ◌&&◌, ◌||◌, List, [], ◌∷◌, ◌++◌, length, map, take, drop, get_or, refl, sym, ap, ◌∙◌, subst, append_assoc, Option, Some, None, Result, Ok, Err, arith, if◌then◌else◌}
 use Rattle.std.specs.Prelude.{All, flat_map, is_none, nat_le, nat_lt, take_while}
@@ -35,7 +36,7 @@ use Rattle.gms_check.specs.InnerLoadable.{AreLoadable, IsLoadable, IsLoadableIte
 use Rattle.gms_check.specs.Loaded.{IsAccepted, loaded, sound}
 use Rattle.gms_check.specs.Past.{Known, Past, after_act, after_statement, state_after, with_item, with_name}
 use Rattle.gms_check.specs.Uses.{Use, Uses, bounding, failing, naming, placing}
-use Rattle.gms_check.proofs.NoErrors.{AreClean, IsClean, are-clean, clean-left, clean-right, nil-left, nil-right, none-first}
+use Rattle.gms_check.proofs.NoErrors.{AreClean, IsClean, are-clean, clean-left, clean-right}
 use Rattle.gms_check.proofs.Soundness.{after-sound, at-most, right-count}
 
 positions-usable : (test : Option ℕ → Bool) (kind : DeclKind) (domain : List (Option ℕ)) → test None ≡ true → list_all test domain ≡ true → list_all test (positions_of kind domain) ≡ true
@@ -104,16 +105,16 @@ module _ {F : Type 0} where
   items-loadable kind [] known e = tt
   items-loadable kind (item ∷ items) known e =
       let errors = errors_of known (item_uses known kind item) in
-      let none : errors ≡ [] = nil-left errors (declaration_errors (known_after_item known kind item) kind items) e in
+      let none : errors ≡ [] = none-left errors (declaration_errors (known_after_item known kind item) kind items) e in
       let next : known_after_item known kind item ≡ known_in known (with_item known.value kind known.state item) = ap (λ (es : List CompileError). known_in known (if is_faultless es then with_item known.value kind known.state item else with_name known.value kind known.state item)) none in
-      (item-loadable known kind item (are-clean known (item_uses known kind item) none), items-loadable kind items (known_in known (with_item known.value kind known.state item)) (sym (ap (λ (k : Known F). declaration_errors k kind items) next) ∙ nil-right errors (declaration_errors (known_after_item known kind item) kind items) e))
+      (item-loadable known kind item (are-clean known (item_uses known kind item) none), items-loadable kind items (known_in known (with_item known.value kind known.state item)) (sym (ap (λ (k : Known F). declaration_errors k kind items) next) ∙ none-right errors (declaration_errors (known_after_item known kind item) kind items) e))
 
   act-loadable : (known : Known F) (statement : Stmt F) → statement_error known statement ≡ None → IsLoadable known.value known.state statement.act
   act-loadable known statement = by statement.act
     where
       by : (act : Act F) → first_error (act_errors known statement act) ≡ None → IsLoadable known.value known.state act
       by (Declare kind items) e =
-          items-loadable kind items known (nil-right (errors_of known (kind_uses statement.at kind)) (declaration_errors known kind items) (none-first (act_errors known statement (Declare kind items)) e))
+          items-loadable kind items known (none-right (errors_of known (kind_uses statement.at kind)) (declaration_errors known kind items) (none-first (act_errors known statement (Declare kind items)) e))
       by act e = tt
 
 -- a list around one of its elements

@@ -1,4 +1,5 @@
 -- What a program without errors loads: each name is what its declaration makes it, with its data.
+use Rattle.gms_check.proofs.Faultless.{none-first, none-left, none-right}
 use Rattle.std.proofs.Common.{◌≡◌, ◌≢◌, ◌<◌, ◌≤◌, ℕ, zero, suc, Bool, true, false, ◌||◌, ◌==◌, List, [], ◌∷◌, ◌++◌, length, map, refl, sym, ap, ◌∙◌, subst, append_assoc, append-nil, Option, Some, None, Ok, unwrap_or, if◌then◌else◌, eq-eqb, arith}
 use Rattle.std.specs.Prelude.{nat_lt}
 use Rattle.std.specs.List.{fold}
@@ -40,7 +41,7 @@ use Rattle.gms_check.specs.Past.{Known, after_act, after_statement, is_among, na
 use Rattle.gms_check.proofs.DeclaredNames.{IsApart, IsBare, alias-other, clean-bare, clean-new, given, item-other, item-own, item-size, model-other, new-symbol, set-other, typed-content, variable-quiet}
 use Rattle.gms_check.proofs.GivenData.{AreFit, data-parameter, data-set, data_in, data-quiet, entries_after, expanded-fit, expanded-read, member_taken, members_after, parameter-read, parameter_symbol, reads, set-read, set_symbol, taken, value_taken}
 use Rattle.gms_check.proofs.LoadedData.{item-loadable}
-use Rattle.gms_check.proofs.NoErrors.{AreClean, are-clean, nil-left, nil-right, none-first}
+use Rattle.gms_check.proofs.NoErrors.{AreClean, are-clean}
 use Rattle.gms_check.proofs.Outlines.{read-at}
 use Rattle.gms_check.proofs.Soundness.{after-sound, neither-first, neither-second}
 
@@ -55,9 +56,9 @@ module _ {F : Type 0} (kind : DeclKind) where
   next-known : (known : Known F) (item : Decl F) (items : List (Decl F)) → declaration_errors known kind (item ∷ items) ≡ [] → AreClean known (item_uses known kind item) × (declaration_errors (known_behind known (item ∷ [])) kind items ≡ [])
   next-known known item items e =
       let errors = errors_of known (item_uses known kind item) in
-      let none : errors ≡ [] = nil-left errors (declaration_errors (known_after_item known kind item) kind items) e in
+      let none : errors ≡ [] = none-left errors (declaration_errors (known_after_item known kind item) kind items) e in
       let next : known_after_item known kind item ≡ known_in known (with_item known.value kind known.state item) = ap (λ (es : List CompileError). known_in known (if is_faultless es then with_item known.value kind known.state item else with_name known.value kind known.state item)) none in
-      (are-clean known (item_uses known kind item) none, sym (ap (λ (k : Known F). declaration_errors k kind items) next) ∙ nil-right errors (declaration_errors (known_after_item known kind item) kind items) e)
+      (are-clean known (item_uses known kind item) none, sym (ap (λ (k : Known F). declaration_errors k kind items) next) ∙ none-right errors (declaration_errors (known_after_item known kind item) kind items) e)
 
   -- the names after some
   behind-items : (known : Known F) (first rest : List (Decl F)) → declaration_errors known kind (first ++ rest) ≡ [] → declaration_errors (known_behind known first) kind rest ≡ []
@@ -80,7 +81,7 @@ module _ {F : Type 0} (kind : DeclKind) where
 -- the names of a declaration, of a statement without an error
 declaration-clean : {F : Type 0} (known : Known F) (statement : Stmt F) (kind : DeclKind) (items : List (Decl F)) → statement.act ≡ Declare kind items → statement_error known statement ≡ None → declaration_errors known kind items ≡ []
 declaration-clean known statement kind items is e =
-    nil-right (errors_of known (kind_uses statement.at kind)) (declaration_errors known kind items) (none-first (act_errors known statement (Declare kind items)) (sym (ap (λ (act : Act _). first_error (act_errors known statement act)) is) ∙ e))
+    none-right (errors_of known (kind_uses statement.at kind)) (declaration_errors known kind items) (none-first (act_errors known statement (Declare kind items)) (sym (ap (λ (act : Act _). first_error (act_errors known statement act)) is) ∙ e))
 
 -- before the first statement no name is declared
 blank-at : (k n : ℕ) → symbol_at (blank_state k) n ≡ no_symbol

@@ -1,4 +1,5 @@
 -- Parts without errors.
+use Rattle.gms_check.proofs.Faultless.{none-left, none-right}
 use Rattle.std.proofs.Common.{◌≡◌, ℕ, Bool, true, false, not, List, [], ◌∷◌, ◌++◌, map, refl, sym, ap, ◌∙◌, Option, Some, None, if◌then◌else◌}
 use Rattle.std.specs.Prelude.{filter}
 use Rattle.gms_labels.specs.declared.place.Place.{Place}
@@ -10,20 +11,6 @@ use Rattle.gms_check.specs.Errors.{first_error}
 use Rattle.gms_check.specs.Past.{Known}
 use Rattle.gms_check.specs.Uses.{Use, Uses}
 
--- without a first error there is none
-pub none-first : (errors : List CompileError) → first_error errors ≡ None → errors ≡ []
-none-first [] e = refl
-none-first (error ∷ errors) e = absurd cc
-
-pub nil-left : {X : Type 0} (xs ys : List X) → xs ++ ys ≡ [] → xs ≡ []
-nil-left [] ys e = refl
-nil-left (x ∷ xs) ys e = absurd cc
-
-pub nil-right : {X : Type 0} (xs ys : List X) → xs ++ ys ≡ [] → ys ≡ []
-nil-right [] ys e = e
-nil-right (x ∷ xs) ys e = absurd cc
-
--- a test that no kind passes
 abbrev AllFail : (ErrorKind → Bool) → List ErrorKind → Type 0
 AllFail test [] = Unit {0}
 AllFail test (kind ∷ kinds) = (test kind ≡ false) × AllFail test kinds
@@ -76,7 +63,7 @@ module _ {F : Type 0} where
   pub are-clean : (known : Known F) (uses : Uses F) → errors_of known uses ≡ [] → AreClean known uses
   are-clean known [] e = tt
   are-clean known (u ∷ uses) e =
-      (clean-one known u.0 u.1 (nil-left (errors_at known u) (errors_of known uses) e), are-clean known uses (nil-right (errors_at known u) (errors_of known uses) e))
+      (clean-one known u.0 u.1 (none-left (errors_at known u) (errors_of known uses) e), are-clean known uses (none-right (errors_at known u) (errors_of known uses) e))
 
   pub clean-left : (known : Known F) (xs ys : Uses F) → AreClean known (xs ++ ys) → AreClean known xs
   clean-left known [] ys c = tt

@@ -1,4 +1,5 @@
 -- The errors of a program, by what is known before each statement.
+use Rattle.gms_check.proofs.Faultless.{none-first, none-left, none-right}
 use Rattle.std.proofs.Common.{◌≡◌, ◌<◌, ◌≤◌, ℕ, Bool, true, false, not, ◌==◌, ◌&&◌, ◌||◌, List, [], ◌∷◌, ◌++◌, length, map, set, get_or, drop, ◌+◌, append_assoc, refl, sym, ap, ◌∙◌, subst, Option, Some, None, if◌then◌else◌, eq-eqb}
 use Rattle.std.specs.Prelude.{filter, is_none}
 use mathlib.Core.Path.{fun_ext}
@@ -28,7 +29,7 @@ use Rattle.gms_check.specs.DeclarationUses.{model_uses}
 use Rattle.gms_check.specs.Errors.{first_error}
 use Rattle.gms_check.specs.Past.{Known, Past, is_among, is_defined, is_unordered, models_after, state_after}
 use Rattle.gms_check.specs.Uses.{Uses, listing}
-use Rattle.gms_check.proofs.NoErrors.{AreClean, are-clean, nil-left, nil-right, none-first}
+use Rattle.gms_check.proofs.NoErrors.{AreClean, are-clean}
 use Rattle.gms_check.proofs.Outlines.{base-drawn, bounds-drawn, drawn, index-drawn, kind-drawn, positions-drawn, read-at}
 use Rattle.gms_check.proofs.KnownFacts.{in_table, is_equation_in}
 use Rattle.gms_check.proofs.PastFacts.{Stands, listed_in, stands-first}
@@ -74,8 +75,8 @@ module _ {F : Type 0} where
   models-sound [] known e = tt
   models-sound (model ∷ models) known e =
       let next = known_in known (declare_model known.state model.named.name) in
-      let here = are-clean known (model_uses model) (nil-left (errors_of known (model_uses model)) (model_errors next models) e) in
-      (equations-many (model ∷ models) known.state model.equations (listing-equations known model.equations here.1), models-sound models next (nil-right (errors_of known (model_uses model)) (model_errors next models) e))
+      let here = are-clean known (model_uses model) (none-left (errors_of known (model_uses model)) (model_errors next models) e) in
+      (equations-many (model ∷ models) known.state model.equations (listing-equations known model.equations here.1), models-sound models next (none-right (errors_of known (model_uses model)) (model_errors next models) e))
 
 module _ {F : Type 0} (value : F → Number) where
   -- a statement without an error lists equations alone

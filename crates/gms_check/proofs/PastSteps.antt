@@ -36,7 +36,7 @@ use Rattle.gms_check.specs.DeclarationUses.{model_uses}
 use Rattle.gms_check.specs.Errors.{first_error}
 use Rattle.gms_check.specs.Past.{Known, Past, after_act, after_statement, defines, equations_declared, equations_listed, gives_unordered, is_among, is_defined, is_unordered, models_after, models_declared_by, names_declared, numbers_of_names, state_after, with_data, with_item}
 use Rattle.gms_check.specs.Uses.{Uses, listing, modelling}
-use Rattle.gms_check.proofs.NoErrors.{AreClean, are-clean, nil-left, nil-right, none-first}
+use Rattle.gms_check.proofs.NoErrors.{AreClean, are-clean}
 use Rattle.gms_check.proofs.Outlines.{base-drawn, bounds-drawn, drawn, index-drawn, kind-drawn, positions-drawn, read-at}
 use Rattle.gms_check.proofs.KnownNames.{IsKnown}
 use Rattle.gms_check.proofs.KnownFacts.{AreSettled, FactsGo, Grows, alias-goes, equation_names, goes-none, in_table, is_equation_in, item_names, items-go, items-keeps, kept-equations, model_names-keeps, models-go, settled-grows}

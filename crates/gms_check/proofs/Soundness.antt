@@ -1,4 +1,5 @@
 -- What holds of the parts of a program without errors.
+use Rattle.gms_check.proofs.Faultless.{none-first, none-left, none-right}
 use Rattle.std.proofs.Common.{◌≡◌, ◌≤◌, ◌<◌, ℕ, Bool, true, false, not, ◌==◌, ◌&&◌, ◌||◌, List, [], ◌∷◌, ◌++◌, length, map, refl, sym, ap, ◌∙◌, subst, append_assoc, Option, Some, None, arith}
 use Rattle.std.specs.Prelude.{is_none, nat_lt, option_to_list, All}
 use Rattle.std.specs.List.{list_any, AllByRecursion}
@@ -30,7 +31,7 @@ use Rattle.gms_check.specs.InnerStatements.{act_uses}
 use Rattle.gms_check.specs.StatementUses.{statement_uses}
 use Rattle.gms_check.specs.Uses.{Use, Uses, assigning, cardinal, controlling, defining, index_sets, ordinal, reading}
 use Rattle.gms_check.proofs.ActUses.{uses-Declare, uses-Model, uses-act}
-use Rattle.gms_check.proofs.NoErrors.{AreClean, IsClean, are-clean, nil-left, nil-right, none-first}
+use Rattle.gms_check.proofs.NoErrors.{AreClean, IsClean, are-clean}
 
 -- ---- tests
 
@@ -118,11 +119,11 @@ module _ {F : Type 0} (value : F → Number) (program : Program F) (solvers : Li
   -- if there is no error, each statement has none, and those before it have none
   pub after-sound : (before : List (Stmt F)) (past : Past F) (statement : Stmt F) (rest : List (Stmt F)) → errors_after value program solvers past (before ++ statement ∷ rest) ≡ [] → statement_error (known_after value program solvers (past ++ sound before)) statement ≡ None
   after-sound [] past statement rest e =
-      ap (λ (p : Past F). statement_error (known_after value program solvers p) statement) (append-nil past) ∙ no-option (statement_error (known_after value program solvers past) statement) (nil-left (option_to_list (statement_error (known_after value program solvers past) statement)) (errors_after value program solvers (past ++ (statement, is_none (statement_error (known_after value program solvers past) statement)) ∷ []) rest) e)
+      ap (λ (p : Past F). statement_error (known_after value program solvers p) statement) (append-nil past) ∙ no-option (statement_error (known_after value program solvers past) statement) (none-left (option_to_list (statement_error (known_after value program solvers past) statement)) (errors_after value program solvers (past ++ (statement, is_none (statement_error (known_after value program solvers past) statement)) ∷ []) rest) e)
   after-sound (first ∷ before) past statement rest e =
       let o = statement_error (known_after value program solvers past) first in
-      let none : o ≡ None = no-option o (nil-left (option_to_list o) (errors_after value program solvers (past ++ (first, is_none o) ∷ []) (before ++ statement ∷ rest)) e) in
-      let later : errors_after value program solvers (past ++ (first, true) ∷ []) (before ++ statement ∷ rest) ≡ [] = sym (ap (λ (p : Option CompileError). errors_after value program solvers (past ++ (first, is_none p) ∷ []) (before ++ statement ∷ rest)) none) ∙ nil-right (option_to_list o) (errors_after value program solvers (past ++ (first, is_none o) ∷ []) (before ++ statement ∷ rest)) e in
+      let none : o ≡ None = no-option o (none-left (option_to_list o) (errors_after value program solvers (past ++ (first, is_none o) ∷ []) (before ++ statement ∷ rest)) e) in
+      let later : errors_after value program solvers (past ++ (first, true) ∷ []) (before ++ statement ∷ rest) ≡ [] = sym (ap (λ (p : Option CompileError). errors_after value program solvers (past ++ (first, is_none p) ∷ []) (before ++ statement ∷ rest)) none) ∙ none-right (option_to_list o) (errors_after value program solvers (past ++ (first, is_none o) ∷ []) (before ++ statement ∷ rest)) e in
       ap (λ (p : Past F). statement_error (known_after value program solvers p) statement) (sym (append_assoc past ((first, true) ∷ []) (sound before))) ∙ after-sound before (past ++ (first, true) ∷ []) statement rest later
 
   -- a program without errors

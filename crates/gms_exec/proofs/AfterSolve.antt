@@ -1,4 +1,5 @@
 -- What a solve leaves: its elements have their levels and marginals, and all else stays.
+use Rattle.gms_exec.proofs.Joining.{get-front}
 use Rattle.std.proofs.Common.{◌≡◌, ◌⊎◌, ℕ, zero, suc, ◌+◌, ◌<◌, Bool, true, false, not, ◌==◌, List, [], ◌∷◌, ◌++◌, length, map, set, slice_get, refl, sym, ap, ◌∙◌, cond, subst, Option, Some, None, unwrap_or, option_map, pos, arith, inl, inr}
 use Rattle.std.specs.List.{fold}
 use Rattle.std.proofs.lemmas.List.{length-set, map-append}
@@ -20,11 +21,6 @@ use Rattle.gms_exec.proofs.Levels.{behind-fitted, fits-either}
 
 some-same : {X : Type 0} (x y : X) → Some x ≡ Some y → x ≡ y
 some-same x y e = ap (λ o. unwrap_or o x) e
-
-get-left : {X : Type 0} (xs ys : List X) (i : ℕ) (x : X) → slice_get xs i ≡ Some x → slice_get (xs ++ ys) i ≡ Some x
-get-left [] ys i x at = absurd cc
-get-left (z ∷ xs) ys zero x at = at
-get-left (z ∷ xs) ys (suc i) x at = get-left xs ys i x at
 
 get-right : {X : Type 0} (xs ys : List X) (i k : ℕ) → i ≡ length xs + k → slice_get (xs ++ ys) i ≡ slice_get ys k
 get-right [] ys i k e = let same : i ≡ k = omega arith in ap (slice_get ys) same
@@ -291,7 +287,7 @@ module _ (lp : Lp Number) where
 
       column-put : (j : ℕ) (key : Key) (x d : Number) → slice_get (keys_of_columns lp) j ≡ Some key → slice_get levels j ≡ Some x → IsMarginal marginals j d → attributes_of (fold with_point (after_statuses state model m s) all) key.symbol key.tuple ≡ with_marginal (with_level (attributes_of state key.symbol key.tuple) x) d
       column-put j key x d at at_level at_marginal =
-          element-put state model m s all (program_elements lp) (both-keys levels marginals row_levels row_marginals) are j (record { key = key; level = x; marginal = d }) (get-left (points (keys_of_columns lp) levels marginals) (points (row_keys lp) row_levels row_marginals) j (record { key = key; level = x; marginal = d }) (point-at (keys_of_columns lp) levels marginals j key x d at at_level at_marginal))
+          element-put state model m s all (program_elements lp) (both-keys levels marginals row_levels row_marginals) are j (record { key = key; level = x; marginal = d }) (get-front (points (keys_of_columns lp) levels marginals) (points (row_keys lp) row_levels row_marginals) j (record { key = key; level = x; marginal = d }) (point-at (keys_of_columns lp) levels marginals j key x d at at_level at_marginal))
 
       row-put : (i : ℕ) (key : Key) (x d : Number) → slice_get (row_keys lp) i ≡ Some key → slice_get row_levels i ≡ Some x → IsMarginal row_marginals i d → attributes_of (fold with_point (after_statuses state model m s) all) key.symbol key.tuple ≡ with_marginal (with_level (attributes_of state key.symbol key.tuple) x) d
       row-put i key x d at at_level at_marginal =

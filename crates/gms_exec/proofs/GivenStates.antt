@@ -1,4 +1,6 @@
 -- The state in which elements have what they are given: as one write after another.
+use Rattle.gms_store.proofs.Maps.{same_map}
+use Rattle.gms_exec.proofs.Assigned.{behind-given}
 use Rattle.std.proofs.Common.{◌≡◌, ℕ, Bool, true, false, not, ◌&&◌, ◌==◌, List, [], ◌∷◌, ◌++◌, length, refl, sym, ap, ◌∙◌, cond, Option, Some, None, unwrap_or, pos}
 use Rattle.std.specs.declared.cmp.Ordering.{Ordering}
 use Rattle.std.specs.declared.cmp.Ordering.TheVariants.{Less, Equal, Greater}
@@ -23,7 +25,7 @@ use Rattle.gms_store.specs.State as state_words
 use Rattle.gms_exec.specs.Given.{Given, member, value_is, AllGiven, members_given, values_given, plain_values, overlaid_entries, with_members, number_of_value, bound_of_value, fixed, with_attribute, with_given, fitting, after_given}
 use Rattle.gms_exec.proofs.Changes.{changed, changed-same, changed-as, changed-twice}
 use Rattle.gms_exec.proofs.MemberSets.{with_members-append, with_members-none, with_members-one}
-use Rattle.gms_exec.proofs.Overlays.{same_map, same-tie, overlaid-append, overlaid-none, overlaid-one, overlaid-same, all-kept, IsAllKept, made_over, made-append}
+use Rattle.gms_exec.proofs.Overlays.{same-tie, overlaid-append, overlaid-none, overlaid-one, overlaid-same, all-kept, IsAllKept, made_over, made-append}
 
 -- ---- what is the same
 
@@ -114,16 +116,6 @@ with_given-append s one other (model_with model solver) = refl
 abbrev given_to : Suffix → AllGiven → Symbol → Symbol
 given_to s all symbol = with_content symbol (with_given s (fitting symbol all) symbol.content)
 
-behind-given : (s : Suffix) (all : AllGiven) (content : Content) (n : ℕ) → alias_target n (with_given s all content) ≡ alias_target n content
-behind-given s all undeclared n = refl
-behind-given s all (alias_of base) n = refl
-behind-given s all (set_of members) n = refl
-behind-given s all (parameter_of entries) n = refl
-behind-given s all (variable_of type entries) n = refl
-behind-given s all (equation_of entries) n = refl
-behind-given s all (model_with model solver) n = refl
-
--- elements that are given something, followed by more of them
 pub after_given-append : (s : Suffix) (name : ℕ) (one other : AllGiven) (state : State) → after_given s name other (after_given s name one state) ≡ after_given s name (one ++ other) state
 after_given-append s name one other state =
     let symbol : Symbol = symbol_of state name in

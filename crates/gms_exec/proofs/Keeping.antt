@@ -1,5 +1,6 @@
 -- What statements other than loops keep: settings within their ranges, and definitions over sets of
 -- one dimension.
+use Rattle.gms_exec.proofs.AfterSolve.{settings-after}
 use Rattle.std.proofs.Common.{◌≡◌, ℕ, Bool, true, false, List, [], ◌∷◌, length, get_or, refl, sym, ap, subst, ◌∙◌, Option, Some, None, option_map, Result, Ok, Err, if◌then◌else◌}
 use Rattle.gms_labels.specs.declared.place.Place.{Place}
 use Rattle.gq_number.specs.Number.{Number}
@@ -34,7 +35,7 @@ use Rattle.gms_exec.specs.InnerWalks.{IsOnce}
 use Rattle.gms_exec.specs.Stepping.{RunView, come_to, Runs, AreValidSettings, UnlessMemory}
 use Rattle.gms_exec.proofs.ActSteps.{on-Assign, on-Display, on-Options, on-Abort, on-Solve, on-Declare, on-Alias, on-Define, on-Model}
 use Rattle.gms_exec.proofs.KeptSettings.{kept-options}
-use Rattle.gms_exec.proofs.Staying.{Stays, follows-of, stays-itself, stays-given, stays-end, settings-end}
+use Rattle.gms_exec.proofs.Staying.{Stays, follows-of, stays-itself, stays-given, stays-end}
 
 -- ---- definitions over sets of one dimension
 
@@ -95,7 +96,7 @@ module _ {F : Type 0} (value : F → Number) (limit : ℕ) (world : World F) whe
   keeps-answered : (course : Course) (left : List (Answer Number)) (solvers : List (List ℕ)) (model : ℕ) (equations : List ℕ) (objective : ℕ) (at : Place) (lp : Lp Number) → Kept course.state → Kept (answered value limit solvers model equations objective at (record course { left = left }) lp).state
   keeps-answered course [] solvers model equations objective at lp kept = kept
   keeps-answered course (answer ∷ left) solvers model equations objective at lp kept =
-      kept-stays course.state _ (stays-end course.state model lp answer.end) (settings-end course.state model lp answer.end) kept
+      kept-stays course.state _ (stays-end course.state model lp answer.end) (settings-after course.state model lp answer.end) kept
 
   keeps-program : (course : Course) (program : Evaluated (Lp Number)) (solvers : List (List ℕ)) (model : ℕ) (equations : List ℕ) (objective : ℕ) (at : Place) → Kept course.state → Kept (with_evaluated program (answered value limit solvers model equations objective at course) course).state
   keeps-program course (Ok lp) solvers model equations objective at kept = keeps-answered course course.left solvers model equations objective at lp kept

@@ -1,4 +1,5 @@
 -- Levels and marginals that are written in sequence.
+use Rattle.gms_store.proofs.Writes.{behind-attributes}
 use Rattle.std.proofs.Common.{◌≡◌, ℕ, zero, suc, ◌+◌, ◌<◌, ◌≤◌, Bool, true, false, not, ◌==◌, List, [], ◌∷◌, length, map, set, drop, get_or, refl, sym, ap, ◌∙◌, cond, Some, None, unwrap_or, pos, inl, inr, add-one}
 use Rattle.std.specs.Ordering.{eq_by_cmp}
 use Rattle.std.specs.List.{fold}
@@ -80,17 +81,6 @@ set-twice [] i v w = refl
 set-twice (x ∷ xs) zero v w = refl
 set-twice (x ∷ xs) (suc i) v w = ap (λ ys. x ∷ ys) (set-twice xs i v w)
 
--- writing attributes does not change the set that a name stands for
-pub behind-put : (content : Content) (t : List ℕ) (a : Attributes) (n : ℕ) → alias_target n (with_attributes content t a) ≡ alias_target n content
-behind-put undeclared t a n = refl
-behind-put (alias_of base) t a n = refl
-behind-put (set_of members) t a n = refl
-behind-put (parameter_of entries) t a n = refl
-behind-put (variable_of type entries) t a n = refl
-behind-put (equation_of entries) t a n = refl
-behind-put (model_with model solver) t a n = refl
-
--- what holds of a content and of a new one holds of the result of `if_fits`
 pub fits-either : (P : Content → Type 0) (s : Symbol) (t : List ℕ) (new : Content) → P s.content → P new → P (if_fits s t new).content
 fits-either P s t new old changed = by (length t == length s.domain)
   where
@@ -99,7 +89,7 @@ fits-either P s t new old changed = by (length t == length s.domain)
     by false = old
 
 pub behind-fitted : (s : Symbol) (t : List ℕ) (a : Attributes) (n : ℕ) → alias_target n (if_fits s t (with_attributes s.content t a)).content ≡ alias_target n s.content
-behind-fitted s t a n = fits-either (λ c. alias_target n c ≡ alias_target n s.content) s t (with_attributes s.content t a) refl (behind-put s.content t a n)
+behind-fitted s t a n = fits-either (λ c. alias_target n c ≡ alias_target n s.content) s t (with_attributes s.content t a) refl (behind-attributes s.content t a n)
 
 -- the state with other symbols
 abbrev with_symbols : State → List Symbol → State

@@ -1,5 +1,6 @@
 -- A loop of statements over elements: its invariants before an element and before a statement, and
 -- each step.
+use Rattle.lp_form.proofs.Walks.{drop_item}
 use Rattle.std.proofs.Common.{◌≡◌, ℕ, ◌+◌, ◌<◌, ◌≤◌, List, [], ◌∷◌, length, map, take, drop, get_or, refl, sym, ap, subst, ◌∙◌, Result, Ok, Err, append-nil}
 use Rattle.std.proofs.lemmas.List.{at_drop_more, drop_all, get_or_default, length-map}
 use Rattle.gq_number.specs.Number.{Number}
@@ -20,10 +21,6 @@ use Rattle.gms_exec.proofs.Arms.{unless-any}
 use Rattle.gms_exec.proofs.Joining.{Reaches, LeavesHalted, reaches-more, reaches-stop, reaches-end, statements-halted, each-halted}
 use Rattle.gms_exec.proofs.Keeping.{Keeps}
 use Rattle.gms_exec.proofs.Stepping.{Left, left-start, left-both}
-
--- what remains of a list at a place: the element there, followed by what remains after it
-drop-at : {X : Type 0} (xs : List X) (i : ℕ) (x : X) → i < length xs → x ≡ get_or xs i x → drop i xs ≡ x ∷ drop (i + 1) xs
-drop-at xs i x within is = at_drop_more (λ left. left) xs i x within ∙ ap (λ y. y ∷ drop (i + 1) xs) (sym is)
 
 module _ {F : Type 0} (value : F → Number) (limit : ℕ) (program : Program F) where
   -- what a statement does to a run, by the names of the solvers
@@ -103,7 +100,7 @@ module _ {S F : Type 0} (value : F → Number) (limit : ℕ) (name : S → List 
     -- a statement is next
     next-reached : (i : ℕ) (element : List ℕ) (k : ℕ) (s : Stmt F) (inner : Pairs) (mid_solvers : List S) (mid : RunView F) → Within i element k inner mid_solvers mid → k < length body → s ≡ get_or body k s → Reaches value does (from_statement i element (s ∷ drop (k + 1) body)) old mid
     next-reached i element k s inner mid_solvers mid within in_it is =
-        subst (λ (left : List (Stmt F)). Reaches value does (from_statement i element left) old mid) (drop-at body k s in_it is) within.reached
+        subst (λ (left : List (Stmt F)). Reaches value does (from_statement i element left) old mid) (drop_item body k s in_it is) within.reached
 
     -- a call for it did what it does in this run
     next-runs : {A : Type 0} (result : Result A (ExecStopOrMemory F)) (i : ℕ) (element : List ℕ) (k : ℕ) (s : Stmt F) (inner own : Pairs) (mid_solvers : List S) (mid new : RunView F) → Within i element k inner mid_solvers mid → own ≡ inner → Runs value result (step_of value limit program (map name mid_solvers) s own) mid new → Runs value result (step_of value limit program (map name solvers) s (controlled b sets element)) mid new

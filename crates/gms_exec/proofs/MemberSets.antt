@@ -1,4 +1,6 @@
 -- Sets of which some elements are given to be members or not.
+use Rattle.gms_store.proofs.Views.{has-keys_of_map}
+use Rattle.gms_exec.proofs.Newest.{has-ordered}
 use Rattle.std.proofs.Common.{◌≡◌, ℕ, Bool, true, false, not, ◌||◌, ◌&&◌, List, [], ◌∷◌, ◌++◌, map, filter, reverse, refl, sym, ap, ◌∙◌, cond, Option, Some, None, unwrap_or, is_some, T}
 use Rattle.std.specs.declared.cmp.Ordering.{Ordering}
 use Rattle.std.specs.declared.cmp.Ordering.TheVariants.{Less, Equal, Greater}
@@ -17,7 +19,7 @@ use Rattle.gms_tuple.proofs.Ordered.{tuple_cmp-Equal}
 use Rattle.gms_tuple.proofs.Members.{has-filter, has-inserted, has-removed, IsOrdered-inserted, IsOrdered-filter, same_from_members}
 use Rattle.gms_store.specs.State.{Entries}
 use Rattle.gms_exec.specs.Given.{is_given_among, ordered_tuples, with_members}
-use Rattle.gms_exec.proofs.Overlays.{same-tie, has-keys, first_of, last_at, last_at-append}
+use Rattle.gms_exec.proofs.Overlays.{same-tie, first_of, last_at, last_at-append}
 
 -- ---- the keys of a map are in order
 
@@ -56,12 +58,6 @@ marked-found (t ∷ ts) q = by (eq_by_cmp tuple_cmp q t) (marked-found ts q) ∙
     by true rest = refl
     by false rest = rest
 
-has-ordered : (ts : List (List ℕ)) (q : List ℕ) → has (ordered_tuples ts) q ≡ has ts q
-has-ordered ts q =
-    has-keys (finite.from_entries {R = tuple_cmp} (map (λ t. (t, true)) ts)) q
-    ∙ ap is_some (finite.get-from_entries tuple_cmp-total (map (λ t. (t, true)) ts) q)
-    ∙ marked-found ts q
-
 ordered-ordered : (ts : List (List ℕ)) → IsOrdered (ordered_tuples ts)
 ordered-ordered ts = keys-ordered (finite.from_entries {R = tuple_cmp} (map (λ t. (t, true)) ts))
 
@@ -88,7 +84,7 @@ is_among-last given q =
 put-in : (given : List (List ℕ × Bool)) (q : List ℕ) → has (finite.keys (finite.retain_keys (finite.from_entries {R = tuple_cmp} (reverse given)) (λ t. unwrap_or (finite.get (finite.from_entries {R = tuple_cmp} (reverse given)) t) false))) q ≡ is_some (cond (unwrap_or (last_at given q) false) (last_at given q) None)
 put-in given q =
     let last : Entries Bool = finite.from_entries {R = tuple_cmp} (reverse given) in
-    has-keys (finite.retain_keys last (λ t. unwrap_or (finite.get last t) false)) q
+    has-keys_of_map (finite.retain_keys last (λ t. unwrap_or (finite.get last t) false)) q
     ∙ ap is_some (finite.get-retain_keys last (λ t. unwrap_or (finite.get last t) false) q (λ x e. ap (λ t. unwrap_or (finite.get last t) false) (sym (tuple_cmp-Equal q x e))) ∙ ap (λ o. cond (unwrap_or o false) o None) (finite.get-from_entries tuple_cmp-total (reverse given) q))
 
 pub has-with_members : (given : List (List ℕ × Bool)) (members : List (List ℕ)) (q : List ℕ) → has (with_members given members) q ≡ now_in (last_at given q) (has members q)

@@ -1,5 +1,6 @@
 -- What is read of a map, and of a set, in which some elements are new: the last new one at an
 -- element, or the old one.
+use Rattle.gms_store.proofs.Views.{has-keys_of_map}
 use Rattle.std.proofs.Common.{◌≡◌, ℕ, Bool, true, false, not, ◌||◌, ◌&&◌, List, [], ◌∷◌, ◌++◌, map, reverse, filter, refl, sym, ap, ◌∙◌, cond, Option, Some, None, unwrap_or, option_map, is_some}
 use Rattle.std.specs.declared.cmp.Ordering.TheVariants.{Equal}
 use Rattle.std.specs.Option.{option_or}
@@ -104,11 +105,6 @@ module _ {A B : Type 0} (make : List ℕ → A → B) (t : List ℕ) where
 any-agree : {A : Type 0} (p q : A → Bool) → ((x : A) → p x ≡ q x) → (xs : List A) → list_any p xs ≡ list_any q xs
 any-agree p q agree [] = refl
 any-agree p q agree (x ∷ xs) = ap (λ b. b || list_any p xs) (agree x) ∙ ap (λ b. q x || b) (any-agree p q agree xs)
-
--- the keys of a map have a tuple exactly where the map has an entry there
-pub has-keys_of_map : {X : Type 0} (m : Entries X) (t : List ℕ) → has (finite.keys m) t ≡ is_some (finite.get m t)
-has-keys_of_map m t =
-    any-agree (λ member. same_tuple member t) (eq_by_cmp tuple_cmp t) (λ u. sym (tie-same t u)) (finite.keys m) ∙ sym (finite.contains_key-keys m t)
 
 found-marked : (ts : List (List ℕ)) (t : List ℕ) → is_some (finite.find tuple_cmp t (map (λ u. (u, true)) ts)) ≡ has ts t
 found-marked [] t = refl

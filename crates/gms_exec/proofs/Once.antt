@@ -1,4 +1,5 @@
 -- An assignment gives no element twice: two elements of its sets have two tuples on the left.
+use Rattle.gms_rows.proofs.Domains.{only_value}
 use Rattle.std.proofs.Common.{◌≡◌, ◌⊎◌, ℕ, zero, suc, ◌+◌, ◌-◌, ◌*◌, ◌/◌, ◌%◌, ◌<◌, ◌≤◌, ◌==◌, ℤ, pos, negsuc, ◌+ℤ◌, neg_ℤ, Bool, true, false, not, ◌&&◌, ◌||◌, List, [], ◌∷◌, ◌++◌, map, filter, length, get_or, slice_get, Option, Some, None, is_none, option_map, option_and_then, Result, Ok, Err, refl, sym, ap, ◌∙◌, subst, cond, eq-eqb, arith, inl, inr, if◌then◌else◌}
 use Rattle.std.specs.Prelude.{ok_or, nat_le, nat_lt}
 use Rattle.std.specs.Int.{int_rem_euclid}
@@ -230,11 +231,6 @@ before : {A B : Type 0} (a : Answer A) (next : A → Answer B) (y : B) → (a an
 before (Ok x) next y e = record { found = x; is = refl; goes = e }
 before (Err fault) next y e = absurd cc
 
-ok-same : {A : Type 0} (x y : A) → ◌≡◌ {A = Answer A} (Ok x) (Ok y) → x ≡ y
-ok-same x y e = cc
-
--- ---- the labels of indices
-
 module _ {F : Type 0} (v : F → Number) (limit : ℕ) (state : State) (one other : Pairs) where
   fixed-value : (amount : tree.Tree F) → is_constant_lag amount ≡ true → value v limit state one amount ≡ value v limit state other amount
   fixed-value (tree.number n) e = refl
@@ -268,7 +264,7 @@ module _ {F : Type 0} (v : F → Number) (limit : ℕ) (state : State) (one othe
       let d : (value v limit state other amount and_then λ x. reached_label state other s op at x) ≡ Ok (Some l) = cc in
       let x = before (value v limit state one amount) (λ x. reached_label state one s op at x) (Some l) c in
       let y = before (value v limit state other amount) (λ x. reached_label state other s op at x) (Some l) d in
-      let same : x.found ≡ y.found = ok-same x.found y.found (sym x.is ∙ fixed-value amount left.1.0 ∙ y.is) in
+      let same : x.found ≡ y.found = only_value x.found y.found (sym x.is ∙ fixed-value amount left.1.0 ∙ y.is) in
       by (reaches-same state one other s op x.found y.found l left.0 same (reaches-from state one s op at x.found l x.goes) (reaches-from state other s op at y.found l y.goes)) (labels-same rest t left.1.1 a b set) (s == set) refl among
     where
       by : label_of one s ≡ label_of other s → (list_any (λ m. m == set) (sets_among rest) ≡ true → label_of one set ≡ label_of other set) → (b : Bool) → (s == set) ≡ b → (b || list_any (λ m. m == set) (sets_among rest)) ≡ true → label_of one set ≡ label_of other set
@@ -367,12 +363,12 @@ record AreSome (all es : List (List ℕ)) : Type 0 where
 
 some-where : (test : List ℕ → Answer Bool) (all es : List (List ℕ)) → those_where test all ≡ Ok es → StandOnce all → AreSome all es
 some-where test [] es e once =
-    subst (AreSome []) (ok-same [] es e) (record { once = tt; among = λ e there. there })
+    subst (AreSome []) (only_value [] es e) (record { once = tt; among = λ e there. there })
 some-where test (x ∷ all) es e once =
     let a = before (test x) (λ holds. those_where test all and_then λ others. Ok (if holds then x ∷ others else others)) es e in
     let b = before (those_where test all) (λ others. Ok (if a.found then x ∷ others else others)) es a.goes in
     let rest = some-where test all b.found b.is once.1 in
-    subst (AreSome (x ∷ all)) (ok-same (if a.found then x ∷ b.found else b.found) es b.goes) (by b.found rest a.found)
+    subst (AreSome (x ∷ all)) (only_value (if a.found then x ∷ b.found else b.found) es b.goes) (by b.found rest a.found)
   where
     or-true : (b : Bool) → (b || true) ≡ true
     or-true true = refl
@@ -396,7 +392,7 @@ module _ {F : Type 0} (v : F → Number) (limit : ℕ) (state : State) (binding 
     where
       by : (b : Bool) → (if b then Err (too_large at binding (length all)) else Ok all) ≡ Ok es → all ≡ es
       by true e = absurd cc
-      by false e = ok-same all es e
+      by false e = only_value all es e
 
   domain-some : (sets : List ℕ) (condition : Option (tree.Tree F)) (es : List (List ℕ)) → StandOnce (elements state sets) → domain v limit state binding at (control_over sets condition) ≡ Ok es → AreSome (elements state sets) es
   domain-some sets None es once e =
@@ -435,12 +431,12 @@ module _ {F : Type 0} (v : F → Number) (limit : ℕ) (state : State) (answer :
     each-once : (es : List (List ℕ)) (ys : List (Option (List ℕ × Given))) → StandOnce es → in_order (map answer es) ≡ Ok ys → AllByRecursion (IsOf es) (given_elements v limit state ys) × IsOnce (given_elements v limit state ys)
     unfolding IsDistinct
     each-once [] ys once e =
-        subst (λ ys. AllByRecursion (IsOf []) (given_elements v limit state ys) × IsOnce (given_elements v limit state ys)) (ok-same [] ys e) (tt, tt)
+        subst (λ ys. AllByRecursion (IsOf []) (given_elements v limit state ys) × IsOnce (given_elements v limit state ys)) (only_value [] ys e) (tt, tt)
     each-once (x ∷ es) ys once e =
         let a = before (answer x) (λ y. in_order (map answer es) and_then λ zs. Ok (y ∷ zs)) ys e in
         let b = before (in_order (map answer es)) (λ zs. Ok (a.found ∷ zs)) ys a.goes in
         let rest = each-once es b.found once.1 b.is in
-        subst (λ ys. AllByRecursion (IsOf (x ∷ es)) (given_elements v limit state ys) × IsOnce (given_elements v limit state ys)) (ok-same (a.found ∷ b.found) ys b.goes) (by a.found a.is b.found rest.0 rest.1)
+        subst (λ ys. AllByRecursion (IsOf (x ∷ es)) (given_elements v limit state ys) × IsOnce (given_elements v limit state ys)) (only_value (a.found ∷ b.found) ys b.goes) (by a.found a.is b.found rest.0 rest.1)
       where
         by : (o : Option (List ℕ × Given)) → answer x ≡ Ok o → (zs : List (Option (List ℕ × Given))) → AllByRecursion (IsOf es) (given_elements v limit state zs) → IsOnce (given_elements v limit state zs) → AllByRecursion (IsOf (x ∷ es)) (given_elements v limit state (o ∷ zs)) × IsOnce (given_elements v limit state (o ∷ zs))
         by None is zs each others = (weaker x es (given_elements v limit state zs) each, others)
@@ -465,7 +461,7 @@ module _ {F : Type 0} (v : F → Number) (limit : ℕ) (state : State) (binding 
       by None e = absurd cc
       by (Some t) e =
           let found = before (given_under v limit state target right_at right b) (λ given. Ok (Some (t, given))) (Some a) e in
-          let same : Some (t, found.found) ≡ Some a = ok-same (Some (t, found.found)) (Some a) found.goes in
+          let same : Some (t, found.found) ≡ Some a = only_value (Some (t, found.found)) (Some a) found.goes in
           ap (option_map (λ (p : List ℕ × Given). p.0)) same
 
   module _ (left : AreLeft state target.indices) where
@@ -548,4 +544,4 @@ module _ {F : Type 0} (v : F → Number) (limit : ℕ) (state : State) (binding 
         let simple = All-from_recursion (IsSimple state) sets (all-simple sets (λ set among. sets-simple target.indices left set (newly set among).0)) in
         let some = domain-some v limit state binding at sets condition a.found (ordered-once (elements state sets) (elements-ordered state sets simple)) a.is in
         let long : in_order (map of_element a.found) ≡ Ok b.found = sym (ap in_order (all-long a.found (λ x there. element-length state sets x (some.among x there)))) ∙ b.is in
-        subst IsOnce (ok-same (given_elements v limit state b.found) given b.goes) (each-once v limit state of_element of-injective a.found b.found some.once long).1
+        subst IsOnce (only_value (given_elements v limit state b.found) given b.goes) (each-once v limit state of_element of-injective a.found b.found some.once long).1

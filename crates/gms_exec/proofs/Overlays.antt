@@ -1,4 +1,6 @@
 -- Maps in which some entries are new: what they have at each tuple.
+use Rattle.gms_store.proofs.Views.{has-keys_of_map}
+use Rattle.gms_store.proofs.Maps.{same_map}
 use Rattle.std.proofs.Common.{◌≡◌, ℕ, Bool, true, false, ◌||◌, List, [], ◌∷◌, ◌++◌, map, reverse, refl, sym, ap, ◌∙◌, cond, Option, Some, None, unwrap_or, option_map, is_some}
 use Rattle.std.specs.declared.cmp.Ordering.{Ordering}
 use Rattle.std.specs.declared.cmp.Ordering.TheVariants.{Less, Equal, Greater}
@@ -15,11 +17,6 @@ use Rattle.gms_tuple.proofs.Ordered.{tuple_cmp-Equal}
 use Rattle.gms_store.specs.State.{Entries, entries_after_write}
 use Rattle.gms_exec.specs.Given.{overlaid_entries}
 
--- two maps that have the same at each tuple are the same
-pub same_map : {X : Type 0} (m n : Entries X) → ((q : List ℕ) → finite.get m q ≡ finite.get n q) → m ≡ n
-same_map m n same = finite.same_map tuple_cmp-total tuple_cmp-Equal m n same
-
--- tuples that tie are the same
 pub tied : (q t : List ℕ) → eq_by_cmp tuple_cmp q t ≡ true → q ≡ t
 tied q t e = tuple_cmp-Equal q t (equal_from (tuple_cmp q t) e)
   where
@@ -56,14 +53,6 @@ last_at es q = finite.find tuple_cmp q (reverse es)
 
 pub last_at-append : {X : Type 0} (one other : List (List ℕ × X)) (q : List ℕ) → last_at (one ++ other) q ≡ first_of (last_at other q) (last_at one q)
 last_at-append one other q = ap (finite.find tuple_cmp q) (reverse-append one other) ∙ find-append q (reverse other) (reverse one)
-
--- whether a tuple is among the keys of a map
-pub has-keys : {X : Type 0} (m : Entries X) (q : List ℕ) → has (finite.keys m) q ≡ is_some (finite.get m q)
-has-keys m q = among (finite.keys m) ∙ sym (finite.contains_key-keys m q)
-  where
-    among : (ks : List (List ℕ)) → has ks q ≡ list_any (eq_by_cmp tuple_cmp q) ks
-    among [] = refl
-    among (k ∷ ks) = ap (λ b. b || has ks q) (same-tie k q) ∙ ap (λ b. eq_by_cmp tuple_cmp q k || b) (among ks)
 
 module _ {X : Type 0} (differs : X → Bool) where
   -- an entry, where it differs from an absent one
@@ -132,7 +121,7 @@ module _ {X : Type 0} (differs : X → Bool) where
   module _ (absent : X) (nothing : differs absent ≡ false) where
     -- all entries of a map are kept, if a tuple has an entry exactly where its value differs
     pub all-kept : (m : Entries X) → ((t : List ℕ) → has (finite.keys m) t ≡ differs (unwrap_or (finite.get m t) absent)) → IsAllKept m
-    all-kept m there q = by (finite.get m q) (sym (has-keys m q) ∙ there q)
+    all-kept m there q = by (finite.get m q) (sym (has-keys_of_map m q) ∙ there q)
       where
         by : (o : Option X) → is_some o ≡ differs (unwrap_or o absent) → kept o ≡ o
         by None e = refl

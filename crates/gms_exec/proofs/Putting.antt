@@ -1,4 +1,5 @@
 -- What the store does where an element is given something.
+use Rattle.gms_rows.proofs.Placing.{map-more}
 use Rattle.std.proofs.Common.{◌≡◌, ℕ, ◌+◌, ◌<◌, ◌≤◌, List, [], ◌∷◌, ◌++◌, length, map, take, get_or, take_all, sym, ap, subst, ◌∙◌, Bool, Option, Some, OnOk, Result}
 use Rattle.std.proofs.lemmas.List.{take_more, map-append}
 use Rattle.std.proofs.lemmas.Result.{on_ok_weaker}
@@ -61,11 +62,6 @@ pub puts-member : {T E : Type 0} (r : Result T E) (s : Suffix) (name : ℕ) (t :
 puts-member r s name t on state new tidy given e put =
     on_ok_weaker r (λ (p : new ≡ after_membership state name t on). p ∙ member-given s name t on state tidy ∙ ap (λ given. after_given s name ((t, given) ∷ []) state) (sym e)) put
 
--- one more element of a mapped list
-pub map-taken : {X Y : Type 0} (f : X → Y) (xs : List X) (i : ℕ) (x : X) → i < length xs → x ≡ get_or xs i x → map f (take (i + 1) xs) ≡ map f (take i xs) ++ f x ∷ []
-map-taken f xs i x l at =
-    ap (map f) (take_more xs i x l ∙ ap (λ y. take i xs ++ y ∷ []) (sym at)) ∙ map-append f (take i xs) (x ∷ [])
-
 module _ {X : Type 0} (f : X → List ℕ × Given) (s : Suffix) (name : ℕ) (all : List X) (old : State) where
   -- one more element is written
   pub put-more : (state new : State) (i : ℕ) (x : X) → i < length all → x ≡ get_or all i x → state ≡ after_given s name (map f (take i all)) old → new ≡ after_given s name (f x ∷ []) state → new ≡ after_given s name (map f (take (i + 1) all)) old
@@ -73,7 +69,7 @@ module _ {X : Type 0} (f : X → List ℕ × Given) (s : Suffix) (name : ℕ) (a
       put
       ∙ ap (after_given s name (f x ∷ [])) so
       ∙ after_given-append s name (map f (take i all)) (f x ∷ []) old
-      ∙ ap (λ given. after_given s name given old) (sym (map-taken f all i x l at))
+      ∙ ap (λ given. after_given s name given old) (sym (map-more f all i x l at))
 
   -- all are written
   pub put-end : (state : State) (i : ℕ) → length all ≤ i → state ≡ after_given s name (map f (take i all)) old → state ≡ after_given s name (map f all) old

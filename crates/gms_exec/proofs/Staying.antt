@@ -138,11 +138,6 @@ settings-points : (points : List Point) (state : State) → (fold with_point sta
 settings-points [] state = refl
 settings-points (point ∷ points) state = settings-points points (with_point state point)
 
-pub settings-end : (state : State) (model : ℕ) (lp : Lp Number) (end : End Number) → (after_end state model lp end).settings ≡ state.settings
-settings-end state model lp end = settings-points (points_of lp end) (after_statuses state model (statuses_of end).0 (statuses_of end).1)
-
--- ---- elements that are given something
-
 one-label : (tuples : List (List ℕ)) (t : List ℕ) → AreSingles tuples → has tuples t ≡ true → length t ≡ 1
 one-label [] t are there = absurd cc
 one-label (u ∷ tuples) t are there = by (one-label tuples t (All-tail (λ (t : List ℕ). length t ≡ 1) u tuples are)) (same_tuple u t) refl there

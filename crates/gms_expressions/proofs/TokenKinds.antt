@@ -7,7 +7,7 @@ use Rattle.gms_grammar.specs.Reading.{leads}
 use Rattle.gms_grammar.specs.Terminals.{terminal_number, terminals, is_terminal_among}
 use Rattle.gms_grammar.specs.GamsGrammar.{productions}
 use Rattle.gms_grammar.specs.GamsLookAhead.{look_ahead}
-use Rattle.gms_grammar.proofs.Checks.{every, alike, is_alike}
+use Rattle.gms_grammar.proofs.Checks.{every, alike, is_alike, implied}
 use Rattle.gms_grammar.proofs.Decided.{all_kinds}
 use Rattle.gms_expressions.specs.InnerReadings.{Seen, GamsPart, kind_of}
 
@@ -18,10 +18,6 @@ is_plain kind = not (is_terminal_among (LeftParen ∷ RightParen ∷ Name ∷ Su
 -- each kind that passes a test passes another
 abbrev pub implies : (Terminal → Bool) → (Terminal → Bool) → Bool
 implies test other = every terminals (λ kind. not (test kind) || other kind)
-
-pub implied : (a b : Bool) → (not a || b) ≡ true → a ≡ true → b ≡ true
-implied true b h k = h
-implied false b h k = cc
 
 pub also : (test other : Terminal → Bool) → implies test other ≡ true → (kind : Terminal) → test kind ≡ true → other kind ≡ true
 also test other h kind k = implied (test kind) (other kind) (all_kinds (λ kind. not (test kind) || other kind) h kind) k

@@ -15,10 +15,10 @@ use Rattle.gms_grammar.specs.Reading.{read, Reads, taken, entered as entered_by,
 use Rattle.gms_grammar.specs.GamsGrammar.{Nonterminal, Expression, Program, Segment, NamedStatement, AfterName, HeadIndices, AfterHeadName, AfterHeadIndex, AfterLag, AfterHead, AfterTarget, Sides, InnerStatement, Assignment, LoopBody, ShownList, Shown, productions}
 use Rattle.gms_grammar.specs.GamsLookAhead.{look_ahead}
 use Rattle.gms_grammar.proofs.Basics.{and_both, not_true}
-use Rattle.gms_grammar.proofs.Checks.{right_and}
+use Rattle.gms_grammar.proofs.Checks.{right_and, implied}
 use Rattle.gms_grammar.proofs.Sound.{sound}
 use Rattle.gms_expressions.specs.Outcomes.{open_after}
-use Rattle.gms_expressions.proofs.TokenKinds.{implied, also}
+use Rattle.gms_expressions.proofs.TokenKinds.{also}
 use Rattle.gms_table.specs.WordLabels.{all_entered}
 use Rattle.gms_parse.specs.Walks.{KindedToken, ReaderState, is_index, new_labels, reader_after, kind_of, start}
 use Rattle.gms_parse.specs.InnerReadings.{Derivation, GamsPart}

@@ -13,8 +13,8 @@ use Rattle.gms_grammar.specs.Reading.{read, Reads}
 use Rattle.gms_grammar.specs.GamsGrammar.{Nonterminal, Expression, Program, Segment, KeywordStatement, SetStatement, ParameterStatement, ScalarStatement, TableStatement, VariableStatement, EquationStatement, ModelStatement, AliasStatement, DisplayStatement, OptionStatement, SolveStatement, AbortStatement, LoopStatement, LoopBody, InnerStatement, Setting, ElementPart, Range, productions}
 use Rattle.gms_grammar.specs.GamsLookAhead.{look_ahead}
 use Rattle.gms_grammar.proofs.Basics.{and_both}
-use Rattle.gms_grammar.proofs.Checks.{right_and}
-use Rattle.gms_expressions.proofs.TokenKinds.{implied, also}
+use Rattle.gms_grammar.proofs.Checks.{right_and, implied}
+use Rattle.gms_expressions.proofs.TokenKinds.{also}
 use Rattle.gms_parse.specs.Walks.{KindedToken, ReaderState, last_kind, is_name, reader_after, kind_of, start}
 use Rattle.gms_parse.specs.InnerReadings.{Derivation}
 use Rattle.gms_parse.proofs.TokenKinds.{begins}

@@ -12,8 +12,8 @@ use Rattle.gms_grammar.specs.Reading.{read, Reads, taken, entered, both, in_left
 use Rattle.gms_grammar.specs.GamsGrammar.{Nonterminal, productions}
 use Rattle.gms_grammar.specs.GamsLookAhead.{look_ahead}
 use Rattle.gms_grammar.proofs.Basics.{and_both}
-use Rattle.gms_grammar.proofs.Checks.{right_and}
-use Rattle.gms_expressions.proofs.TokenKinds.{implies, implied, also}
+use Rattle.gms_grammar.proofs.Checks.{right_and, implied}
+use Rattle.gms_expressions.proofs.TokenKinds.{implies, also}
 use Rattle.gms_parse.specs.Walks.{KindedToken, ReaderState, reader_after, reader_after_all, kind_of}
 use Rattle.gms_parse.specs.InnerReadings.{Derivation, GamsPart}
 use Rattle.gms_joint_source.proofs.FrontWalks.{AreAlike}

@@ -1,4 +1,5 @@
 -- The lines of a source without their ends, from the first on, and a line after its number.
+use Rattle.gq_text.proofs.Exacts.{either}
 use Rattle.std.proofs.lemmas.Bool.{and_parts}
 use Rattle.std.proofs.Common.{◌≡◌, ℕ, zero, suc, ◌+◌, ◌-◌, ◌<◌, ◌≤◌, ◌==◌, ◌&&◌, ◌||◌, Bool, true, false, List, [], ◌∷◌, ◌++◌, length, take, drop, map, refl, sym, ap, ◌∙◌, arith, if◌then◌else◌, codes, decimal, length-drop, get_or, ◌≢◌}
 use Rattle.std.proofs.lemmas.Bool.Decides.{nat_tests}
@@ -10,10 +11,6 @@ use Rattle.gms_lines.specs.Lines.{put_first, lines, begins, is_line_end, before,
 use Rattle.gms_lines.proofs.LineLemmas.{before_stops, before_more}
 use Rattle.gms_list.specs.InnerLineEnds.{behind_end}
 use Rattle.gms_list.specs.ListingText.{numbered_line, numbered_from, echo_text}
-
-either : (b : Bool) (P : Type 0) → (b ≡ true → P) → (b ≡ false → P) → P
-either true P t f = t refl
-either false P t f = f refl
 
 content_ended : (b : ℕ) (t : List ℕ) → is_line_end (b ∷ t) ≡ true → content (b ∷ t) ≡ []
 content_ended b t e = ap (λ n. take n (b ∷ t)) (before_stops is_line_end (b ∷ t) e)

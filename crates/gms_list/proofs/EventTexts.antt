@@ -39,7 +39,3 @@ module _ {F : Type 0} (names labels : List (List ℕ)) (limit : ℕ) (value : F 
   -- a solve without one
   pub solve_missing : slice_get answers place ≡ None → [] ≡ event_text names labels limit (map (answer_numbers value) answers) (solves (known equations solver))
   solve_missing g = answer_missing value (solve_text names labels limit (known equations solver)) answers place g
-
--- what holds of the value of an option
-pub holds_of : {A : Type 0} (P : A → Type 0) (o : Option A) (x : A) → o ≡ Some x → IfSome o P → P x
-holds_of P o x e h = rw e at h

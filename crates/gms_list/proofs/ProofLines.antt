@@ -1,4 +1,5 @@
 -- The certificate of an end, as its pieces are appended in sequence.
+use Rattle.gms_list.proofs.Shapes.{three}
 use Rattle.std.proofs.Common.{◌≡◌, ℕ, ◌++◌, List, [], ◌∷◌, Option, Some, None, true, false, codes, decimal, map, flat_map, refl, sym, ap, ◌∙◌}
 use Rattle.std.specs.Prelude.{slice_get, option_to_list, option_map}
 use Rattle.std.proofs.lemmas.List.{append_assoc, append-nil}
@@ -17,11 +18,6 @@ use Rattle.gms_list.specs.SolveText.{column_number_lines as column_texts, row_nu
 four_behind : (w a b c d : List ℕ) → w ++ (a ++ (b ++ (c ++ d))) ≡ w ++ a ++ b ++ c ++ d
 four_behind w a b c d = simp append_assoc
 
--- two pieces after a line
-two_behind : (w a b : List ℕ) → w ++ (a ++ b) ≡ w ++ a ++ b
-two_behind w a b = simp append_assoc
-
--- two lines in one text, and the text after them
 two_lines : (w x p y q n t : List ℕ) → ((w ++ x) ++ (p ++ (y ++ (q ++ n)))) ++ t ≡ w ++ (x ++ p ++ y ++ q ++ n) ++ t
 two_lines w x p y q n t = simp append_assoc
 
@@ -45,7 +41,7 @@ module _ {F : Type 0} (value : F → Number) (names labels : List (List ℕ)) (l
   pub unbounded_ends : (levels row_levels ray a b : List F) → end ≡ Unbounded levels row_levels ray → a ≡ levels → b ≡ ray →
       codes "PROOF Unbounded\n" ++ (column_texts names labels limit (lp_numbers value lp) (codes "point") (map value a) ++ column_texts names labels limit (lp_numbers value lp) (codes "ray") (map value b)) ≡ proof_text names labels limit (lp_numbers value lp) pivots (end_numbers value end)
   unbounded_ends levels row_levels ray a b e f g =
-      two_behind (codes "PROOF Unbounded\n") (column_texts names labels limit (lp_numbers value lp) (codes "point") (map value a)) (column_texts names labels limit (lp_numbers value lp) (codes "ray") (map value b))
+      three (codes "PROOF Unbounded\n") (column_texts names labels limit (lp_numbers value lp) (codes "point") (map value a)) (column_texts names labels limit (lp_numbers value lp) (codes "ray") (map value b))
       ∙ ap (λ (x : List F). proof_text names labels limit (lp_numbers value lp) pivots (end_numbers value (Unbounded x row_levels b))) f
       ∙ ap (λ (x : List F). proof_text names labels limit (lp_numbers value lp) pivots (end_numbers value (Unbounded levels row_levels x))) g
       ∙ ap (λ (x : End F). proof_text names labels limit (lp_numbers value lp) pivots (end_numbers value x)) (sym e)

@@ -5,8 +5,8 @@ use Rattle.std.specs.Bool.{⊤}
 use Rattle.gms_grammar.specs.declared.terminal.Terminal.{Terminal}
 use Rattle.gms_grammar.specs.Grammar.{one, the, ◌·◌, ◌∣◌, opt, many, leaf, pair, left, right, none, some, more, node, yield, IsTree}
 use Rattle.gms_grammar.specs.GamsGrammar.{Nonterminal, productions}
-use Rattle.gms_grammar.proofs.Checks.{right_and}
-use Rattle.gms_expressions.proofs.TokenKinds.{implies, implied, also}
+use Rattle.gms_grammar.proofs.Checks.{right_and, implied}
+use Rattle.gms_expressions.proofs.TokenKinds.{implies, also}
 use Rattle.gms_parse.specs.Walks.{KindedToken}
 use Rattle.gms_parse.specs.InnerReadings.{Derivation, GamsPart}
 

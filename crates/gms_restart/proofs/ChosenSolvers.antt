@@ -1,5 +1,6 @@
 -- A program that has no error with solvers of some names has none with solvers of the names that it
 -- chooses: one error alone depends on the solvers, and it concerns the value of an option.
+use Rattle.gms_check.proofs.Faultless.{none-first, none-left, none-right}
 use Rattle.std.proofs.lemmas.Bool.{or_left, or_right}
 use Rattle.std.proofs.Common.{◌≡◌, ℕ, Bool, true, false, not, ◌&&◌, ◌||◌, if◌then◌else◌, List, [], ◌∷◌, ◌++◌, length, map, Option, Some, None, option_map, Result, Ok, Err, refl, sym, ap, ap₂, ◌∙◌, subst}
 use Rattle.std.specs.Prelude.{codes, filter, flat_map, is_none, option_to_list}
@@ -57,7 +58,7 @@ use Rattle.gms_check.specs.InnerStatements.{act_uses}
 use Rattle.gms_check.specs.StatementUses.{UsesOfAct, UsesOfStatement, act_uses_step, index_list, left_uses, option_uses, right_standing, show_uses, statement_uses_step, statement_uses, with_left}
 use Rattle.gms_check.specs.Uses.{Use, Uses, multiplies, divides, raises, literal, reading, calling, folding, stepping, shifting, placing, failing, listing, showing, option_value, amount_uses, condition_uses, control_uses, later_steps, part_uses, place_by_mark, sets_of_control, shift_uses, steps, uses}
 use Rattle.gms_check.proofs.ActUses.{uses-act}
-use Rattle.gms_check.proofs.NoErrors.{AreClean, IsClean, are-clean, nil-left, nil-right, none-first}
+use Rattle.gms_check.proofs.NoErrors.{AreClean, IsClean, are-clean}
 use Rattle.gms_check.proofs.Soundness.{no-option}
 use Rattle.gms_save.specs.Saves.{option_solvers, solvers_chosen, solvers_in, solvers_step}
 use Rattle.gms_save.proofs.SeenActs.{AllSuch, Layer, LayerSuch, each-act}
@@ -477,10 +478,10 @@ module _ (selected : List (List ℕ)) where
   declaration-again known kind (item ∷ items) none =
       let own : List CompileError = errors_of known (item_uses known kind item) in
       let rest : List CompileError = declaration_errors (known_after_item known kind item) kind items in
-      let here : errors_of known (item_uses known kind item) ≡ [] = nil-left own rest none in
+      let here : errors_of known (item_uses known kind item) ≡ [] = none-left own rest none in
       let again : errors_of (with_selected known) (item_uses known kind item) ≡ [] = none-again known (item_uses known kind item) (item-fits known kind item) here in
       let next : Known Frac = known_in known (with_item known.value kind known.state item) in
-      let later : declaration_errors next kind items ≡ [] = sym (ap (λ (k : Known Frac). declaration_errors k kind items) (item-given known kind item here)) ∙ nil-right own rest none in
+      let later : declaration_errors next kind items ≡ [] = sym (ap (λ (k : Known Frac). declaration_errors k kind items) (item-given known kind item here)) ∙ none-right own rest none in
       ap₂ (λ (a b : List CompileError). a ++ b) again (ap (λ (k : Known Frac). declaration_errors k kind items) (item-given (with_selected known) kind item again) ∙ declaration-again next kind items later)
 
   models-again : (known : Known Frac) (models : List ModelDecl) → model_errors known models ≡ [] → model_errors (with_selected known) models ≡ []
@@ -488,7 +489,7 @@ module _ (selected : List (List ℕ)) where
   models-again known (model ∷ models) none =
       let own : List CompileError = errors_of known (model_uses model) in
       let next : Known Frac = known_in known (declare_model known.state model.named.name) in
-      ap₂ (λ (a b : List CompileError). a ++ b) (none-again known (model_uses model) (model-fits model) (nil-left own (model_errors next models) none)) (models-again next models (nil-right own (model_errors next models) none))
+      ap₂ (λ (a b : List CompileError). a ++ b) (none-again known (model_uses model) (model-fits model) (none-left own (model_errors next models) none)) (models-again next models (none-right own (model_errors next models) none))
 
   statement-again : (known : Known Frac) (s : Stmt Frac) → AreAmong selected (solvers_in s) → statement_error known s ≡ None → statement_error (with_selected known) s ≡ None
   statement-again known s among = by s.act
@@ -496,7 +497,7 @@ module _ (selected : List (List ℕ)) where
       by : (act : Act Frac) → first_error (act_errors known s act) ≡ None → first_error (act_errors (with_selected known) s act) ≡ None
       by (Declare kind items) none =
           let all = none-first (errors_of known (kind_uses s.at kind) ++ declaration_errors known kind items) none in
-          ap first_error (ap₂ (λ (a b : List CompileError). a ++ b) (none-again known (kind_uses s.at kind) (kind-fits s.at kind) (nil-left (errors_of known (kind_uses s.at kind)) (declaration_errors known kind items) all)) (declaration-again known kind items (nil-right (errors_of known (kind_uses s.at kind)) (declaration_errors known kind items) all)))
+          ap first_error (ap₂ (λ (a b : List CompileError). a ++ b) (none-again known (kind_uses s.at kind) (kind-fits s.at kind) (none-left (errors_of known (kind_uses s.at kind)) (declaration_errors known kind items) all)) (declaration-again known kind items (none-right (errors_of known (kind_uses s.at kind)) (declaration_errors known kind items) all)))
       by (Model models) none = ap first_error (models-again known models (none-first (model_errors known models) none))
       by act none =
           ap first_error (none-again known (statement_uses s known.state []) (statement-fits s among known.state []) (none-first (errors_of known (statement_uses s known.state [])) none))
@@ -509,8 +510,8 @@ module _ (selected : List (List ℕ)) where
     after-again past (s ∷ rest) among none =
         let o : Option CompileError = statement_error (known_after frac_value program names past) s in
         let behind : Option CompileError → List CompileError = λ p. errors_after frac_value program names (past ++ (s, is_none p) ∷ []) rest in
-        let here : o ≡ None = no-option o (nil-left (option_to_list o) (behind o) none) in
-        let later : behind None ≡ [] = sym (ap behind here) ∙ nil-right (option_to_list o) (behind o) none in
+        let here : o ≡ None = no-option o (none-left (option_to_list o) (behind o) none) in
+        let later : behind None ≡ [] = sym (ap behind here) ∙ none-right (option_to_list o) (behind o) none in
         let again : statement_error (known_after frac_value program selected past) s ≡ None = statement-again (known_after frac_value program names past) s (among-left selected (solvers_in s) (flat_map solvers_in rest) among) here in
         ap (λ (p : Option CompileError). option_to_list p ++ errors_after frac_value program selected (past ++ (s, is_none p) ∷ []) rest) again
         ∙ after-again (past ++ (s, true) ∷ []) rest (among-right selected (solvers_in s) (flat_map solvers_in rest) among) later

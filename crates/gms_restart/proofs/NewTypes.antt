@@ -1,5 +1,7 @@
 -- If a joint program has no error Restart, the statements of the new file type no variable of the
 -- saved ones.
+use Rattle.gms_check.proofs.Faultless.{none-first, none-left}
+use Rattle.gms_check.proofs.TrialDeclarations.{none-later}
 use Rattle.std.proofs.Common.{◌≡◌, ℕ, ◌≤◌, Bool, true, false, not, if◌then◌else◌, List, [], ◌∷◌, ◌++◌, length, map, Option, Some, None, refl, sym, ap, ◌∙◌, subst}
 use Rattle.std.specs.Prelude.{filter, flat_map, is_none, option_to_list}
 use Rattle.gq_number.specs.Number.{Number}
@@ -19,7 +21,6 @@ use Rattle.gms_check.specs.Loaded.{loaded}
 use Rattle.gms_check.specs.Names.{is_variable}
 use Rattle.gms_check.specs.Past.{Past}
 use Rattle.gms_check.proofs.Growing.{by_parts}
-use Rattle.gms_check.proofs.NoErrors.{nil-left, none-first}
 use Rattle.gms_run_laws.specs.Names.{Each}
 use Rattle.gms_run_laws.proofs.Eaches.{each-both}
 use Rattle.gms_run_laws.specs.GoingOn.{DeclaresItsOwn, TypesNone, typed_by}
@@ -30,11 +31,6 @@ use Rattle.gms_save_text.specs.Validity.{emptied}
 use Rattle.gms_restart.specs.StatementLines.{AreSaved, AreNew}
 
 -- ---- no error at all
-
-sooner-second : (a b : Option CompileError) → sooner a b ≡ None → b ≡ None
-sooner-second None b e = e
-sooner-second (Some x) None e = refl
-sooner-second (Some x) (Some y) e = absurd (cc)
 
 no-first : (o : Option CompileError) (rest : List CompileError) → option_to_list o ++ rest ≡ [] → (o ≡ None) × (rest ≡ [])
 no-first None rest e = (refl, e)
@@ -52,7 +48,7 @@ module _ {F : Type 0} (v : F → Number) (joint : Program F) (solvers : List (Li
       let error = statement_error (known_after v joint solvers past) s in
       let next = past ++ (s, is_none error) ∷ [] in
       let parts = no-first (sooner error (f s)) (flat_map option_to_list (each_sooner f (each_error v joint solvers next xs) xs)) e in
-      (sooner-second error (f s) parts.0, each-none next xs parts.1)
+      (none-later error (f s) parts.0, each-none next xs parts.1)
 
 none-behind : {F : Type 0} (f : Stmt F → Option CompileError) (xs ys : List (Stmt F)) → EachNone f (xs ++ ys) → EachNone f ys
 none-behind f [] ys all = all
@@ -136,7 +132,7 @@ module _ {F : Type 0} (from : ℕ) where
     none-typed [] new none = tt
     none-typed (s ∷ xs) new none =
         let clean = ap (λ (b : Bool). if b then None else first_error (restart_errors from joint s)) (sym new.0) ∙ none.0 in
-        let empty = nil-left (restarts_at (is_saved_variable from joint) (typed_names s.act)) (restarts_at (names_fixed_set from joint) (targets s)) (none-first (restart_errors from joint s) clean) in
+        let empty = none-left (restarts_at (is_saved_variable from joint) (typed_names s.act)) (restarts_at (names_fixed_set from joint) (targets s)) (none-first (restart_errors from joint s) clean) in
         let here = subst (Each (λ n. not (is_saved_variable from joint n))) (typed-same s.act) (none-at (is_saved_variable from joint) (typed_names s.act) empty) in
         each-both (λ n. not (is_variable (symbol_at (loaded v base) n).content)) (typed_by s.act) (flat_map (λ (s : Stmt F). typed_by s.act) xs)
         (each-same (λ n. not (is_saved_variable from joint n)) (λ n. not (is_variable (symbol_at (loaded v base) n).content)) (λ n. ap not (variable-same n)) (typed_by s.act) here) (none-typed xs new.1 none.1)

@@ -1,4 +1,5 @@
 -- The labels of the data of an accepted program are those that its declarations write.
+use Rattle.gms_store.proofs.Views.{has-keys_of_map}
 use Rattle.std.proofs.Common.{◌≡◌, ℕ, nat_lt, Bool, true, false, ◌||◌, ◌==◌, cond, List, [], ◌∷◌, ◌++◌, length, map, Option, Some, None, is_some, Result, Ok, Err, refl, sym, ap, ◌∙◌, subst, inl, inr}
 use Rattle.std.specs.FinMap as finite
 use Rattle.std.specs.Prelude.{flat_map}
@@ -40,7 +41,6 @@ use Rattle.gms_check.specs.Loaded.{loaded, sound}
 use Rattle.gms_check.specs.Past.{with_data, with_item, with_name, after_act, after_statement}
 use Rattle.gms_check.proofs.Growing.{put-at, by_parts}
 use Rattle.gms_check.proofs.IndexSetsStay.{none-declared}
-use Rattle.gms_exec.proofs.Overlays.{has-keys}
 use Rattle.gms_run_laws.specs.Names.{Each}
 use Rattle.gms_run_laws.proofs.FormKeys.{EachHas}
 use Rattle.gms_restart.specs.Labels.{HasItsLabels}
@@ -51,7 +51,7 @@ use Rattle.gms_restart.proofs.Writing.{written-has}
 
 nothing-there : (X : Type 0) (t : List ℕ) → has (finite.keys (finite.empty {X = X} {R = tuple_cmp})) t ≡ true → ⊥
 nothing-there X t there =
-    both_ways (has (finite.keys (finite.empty {X = X} {R = tuple_cmp})) t) (has-keys (finite.empty {X = X} {R = tuple_cmp}) t ∙ ap is_some (finite.get-empty tuple_cmp t)) there
+    both_ways (has (finite.keys (finite.empty {X = X} {R = tuple_cmp})) t) (has-keys_of_map (finite.empty {X = X} {R = tuple_cmp}) t ∙ ap is_some (finite.get-empty tuple_cmp t)) there
 
 module _ (test : ℕ → Bool) where
   -- the labels of what a content has given pass the test

@@ -1,5 +1,6 @@
 -- Of the tuples with data of a name, only those that are given something, or at which an answer
 -- writes levels, are new.
+use Rattle.gms_store.proofs.Views.{has-keys_of_map}
 use Rattle.std.proofs.Common.{◌≡◌, ℕ, Bool, true, false, not, ◌||◌, cond, List, [], ◌∷◌, map, reverse, Option, Some, None, unwrap_or, is_some, refl, sym, ap, ◌∙◌, subst}
 use Rattle.std.specs.FinMap as finite
 use Rattle.std.specs.List.{All}
@@ -19,7 +20,7 @@ use Rattle.gms_store.proofs.Maps.{same-tie, tie-sym}
 use Rattle.gms_exec.specs.Given.{Given, member, value_is, AllGiven, members_given, is_given_among, values_given, plain_values, with_attribute, attributes_given, overlaid_entries, with_given}
 use Rattle.gms_exec.specs.Reads.{last_at}
 use Rattle.gms_exec.proofs.Newest.{has-with_members, last-there}
-use Rattle.gms_exec.proofs.Overlays.{tied, first_of, has-keys, kept, get-overlaid}
+use Rattle.gms_exec.proofs.Overlays.{tied, first_of, kept, get-overlaid}
 use Rattle.gms_exec.proofs.Overlays as overlays
 use Rattle.gms_run_laws.proofs.FormKeys.{EachHas}
 
@@ -53,10 +54,10 @@ module _ (P : List ℕ → Type 0) where
   -- a map with new entries
   overlaid-has : {X : Type 0} (differs : X → Bool) (new : List (List ℕ × X)) (entries : Entries X) → All P (map (λ (e : List ℕ × X). e.0) new) → ((t : List ℕ) → has (finite.keys entries) t ≡ true → P t) → (t : List ℕ) → has (finite.keys (overlaid_entries differs new entries)) t ≡ true → P t
   overlaid-has {X} differs new entries all old t there =
-      by (overlays.last_at new t) refl (kept-there differs (first_of (overlays.last_at new t) (finite.get entries t)) (sym (ap is_some (get-overlaid differs new entries t)) ∙ sym (has-keys (overlaid_entries differs new entries) t) ∙ there))
+      by (overlays.last_at new t) refl (kept-there differs (first_of (overlays.last_at new t) (finite.get entries t)) (sym (ap is_some (get-overlaid differs new entries t)) ∙ sym (has-keys_of_map (overlaid_entries differs new entries) t) ∙ there))
     where
       by : (o : Option X) → overlays.last_at new t ≡ o → is_some (first_of o (finite.get entries t)) ≡ true → P t
-      by None is there = old t (has-keys entries t ∙ there)
+      by None is there = old t (has-keys_of_map entries t ∙ there)
       by (Some x) is there = newest-has new t all (ap is_some is)
 
   -- a map after a write
@@ -66,7 +67,7 @@ module _ (P : List ℕ → Type 0) where
       by : (c : Bool) → same_tuple t u ≡ c → P u
       by true same = subst P ((same_tuple-Decides t u).0 same) own
       by false apart =
-          old u (has-keys m u ∙ sym (ap is_some (written-other b m t x u apart)) ∙ sym (has-keys (entries_after_write b m t x) u) ∙ there)
+          old u (has-keys_of_map m u ∙ sym (ap is_some (written-other b m t x u apart)) ∙ sym (has-keys_of_map (entries_after_write b m t x) u) ∙ there)
 
   -- ---- elements that are given something
 

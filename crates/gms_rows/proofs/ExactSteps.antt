@@ -158,6 +158,3 @@ numerator_zero : (n : ℤ) → (nat_abs n == 0) ≡ true → n ≡ pos 0
 numerator_zero (pos zero) e = refl
 numerator_zero (pos (suc n)) e = absurd (let f = eqb-true (suc n) 0 e in omega arith)
 numerator_zero (negsuc n) e = absurd (let f = eqb-true (suc n) 0 e in omega arith)
-
-pub zero_tested : (x : Number) → is_zero x ≡ true → x ≡ whole (pos 0)
-zero_tested x e = zero_from_numerator x (numerator_zero x.numerator e)

@@ -1,5 +1,6 @@
 -- If the form of an expression that is linear in the variables is f, f at a point is the
 -- expression's value there.
+use Rattle.gms_eval.proofs.Zeros.{zero_from_test}
 use Rattle.std.proofs.Common.{◌≡◌, ℕ, ◌+◌, suc, pos, Bool, true, false, not, ◌&&◌, ◌||◌, cond, ◌==◌, if◌then◌else◌, List, [], ◌∷◌, ◌++◌, map, take, drop, length, Option, Some, None, option_map, unwrap_or, Ok, Err, ◌⊎◌, inl, inr, refl, sym, ap, ◌∙◌, arith}
 use Rattle.std.specs.Map.{keys_of}
 use Rattle.std.specs.FinMap as finite
@@ -35,7 +36,7 @@ use Rattle.gms_rows.specs.PointValues.{exact_sum_step, exact_product_step, exact
 use Rattle.gms_rows.proofs.ColumnKeys.{no_entries}
 use Rattle.gms_rows.proofs.Domains.{given, only_value}
 use Rattle.gms_rows.proofs.Entries.{not_zero-zero}
-use Rattle.gms_rows.proofs.ExactSteps.{sum_step-exact, product_step-exact, chain-behind, zero_tested}
+use Rattle.gms_rows.proofs.ExactSteps.{sum_step-exact, product_step-exact, chain-behind}
 use Rattle.gms_rows.proofs.KeyLists.{tied-turned}
 use Rattle.gms_rows.proofs.PointSums.{number-at, sum_of-at, product_of-at, quotient_of-at, scaled-at}
 
@@ -92,7 +93,7 @@ module _ (point : Key → Number) where
         by : (so : Bool) → is_not_zero x ≡ so → (none : Bool) → is_zero x ≡ none → (if so then scaled_form limit at b true left x else Err (faulted Divide at b (number left.constant) (number x))) ≡ Ok next → none ≡ false
         by so some false none e = refl
         by true some true none e =
-            absurd (both_ways (is_not_zero x) (ap is_not_zero (zero_tested x none) ∙ not_zero-zero) some)
+            absurd (both_ways (is_not_zero x) (ap is_not_zero (zero_from_test x none) ∙ not_zero-zero) some)
         by false some true none e = absurd (cc)
 
     quotient-shown : (at : Place) (left right next : Form) → is_number right ≡ true → quotient_of limit at b left right.constant ≡ Ok next → exact_product_step b (signed at true) (shown left) (Ok (shown right)) ≡ Ok (shown next)

@@ -1,4 +1,5 @@
 -- What a run did for a FILE alone, by the page that begins with its source.
+use Rattle.gms_run.proofs.Completeness.{one_script}
 use Rattle.std.proofs.Common.{◌≡◌, ℕ, List, [], ◌++◌, length, Option, Some, None, inl, inr, refl, sym, ap, ap₂, ◌∙◌, subst}
 use Rattle.std.proofs.lemmas.List.{length-map}
 use Rattle.gq_frac.specs.Frac.{frac_value, frac_limit}
@@ -34,9 +35,6 @@ one_request p q = cc
 
 run_is : {status : Status} {solving : Solving} {old new : Outside} {x y : Asked} → x ≡ y → IsRunOf status solving old new x → IsRunOf status solving old new y
 run_is {status} {solving} {old} {new} e run = subst (λ request. IsRunOf status solving old new request) e run
-
-one_script : {x y : Script} → scripted x ≡ scripted y → x ≡ y
-one_script e = cc
 
 module _ (solving : Solving) (source : List ℕ) (text : List ℕ) where
   -- what is run of a source is its program, from the state of its declarations

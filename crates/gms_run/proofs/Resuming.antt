@@ -17,7 +17,7 @@ use Rattle.gms_rows.specs.Rows.{Definition, definitions}
 use Rattle.gms_exec.specs.Dimensions.{AreOverOne, AreOneDimensional}
 use Rattle.gms_check.specs.Loaded.{loaded}
 use Rattle.gms_save.specs.JointErrors.{resumed}
-use Rattle.gms_save.proofs.LoadedNames.{loaded-declares, same-at, same-read}
+use Rattle.gms_save.proofs.LoadedNames.{loaded-declares, same-at, same-read, keeps-behind}
 use Rattle.gms_restart.specs.Alike.{IsAlike}
 
 -- a symbol in a list of symbols, by its number; without one, the empty symbol
@@ -34,16 +34,6 @@ either (x ∷ xs) (y ∷ ys) zero = by (is_undeclared y.content)
     by true = inl refl
     by false = inr refl
 either (x ∷ xs) (y ∷ ys) (suc n) = either xs ys n
-
--- the set that a name stands for does not depend on its data
-keeps-behind : (n : ℕ) (c : Content) → alias_target n (emptied c) ≡ alias_target n c
-keeps-behind n undeclared = refl
-keeps-behind n (alias_of base) = refl
-keeps-behind n (set_of members) = refl
-keeps-behind n (parameter_of entries) = refl
-keeps-behind n (variable_of t entries) = refl
-keeps-behind n (equation_of entries) = refl
-keeps-behind n (model_with m s) = refl
 
 module _ (saved : State) (joint : Program Frac) (alike : (name : ℕ) → IsAlike (resumed frac_value saved joint) (declared_state joint) name) (arity : (name : ℕ) → All (λ t. length t ≡ length (symbol_at saved name).domain) (members_in (symbol_at saved name).content)) where
   abbrev first : State

@@ -11,7 +11,7 @@ use Rattle.gms_host.specs.declared.host.Failed.TheVariants.{Fault, Memory}
 use Rattle.gms_host.specs.Meaning.{Counts, Files, Meaning, Outside, Rose}
 use Rattle.gms_host.specs.Rules.{ClosesOutput, CountsReading, CountsWriting, IsThere, OpensOutput, with_kept, with_opened, with_output, with_said}
 use Rattle.gms_host.specs.Spooling.{SaysFront}
-use Rattle.gms_host.proofs.Counting.{all_done, done_with}
+use Rattle.gms_host.proofs.Counting.{all_done, done_with, rose_later}
 use Rattle.gms_lex.specs.Tokens.{most_source_bytes}
 use Rattle.gms_parse.specs.Outcomes.{IsSourceFault}
 use Rattle.gms_save.specs.declared.saved.Saved.{Saved}
@@ -529,11 +529,6 @@ counts_so (Err Memory) r solving old new request matter first last (e, is) count
 pub counts_nothing : (e : AllocError) (sure : Type 0) (c : Counts) → CountsRun (let x : Result Status AllocError = Err e in x) sure c c
 counts_nothing e sure c = record { said = tt; stay = λ t. refl; unmet = λ t. tt }
 
--- a count that rose after one that stayed or rose
-rose_on : (a b c : ℕ) → a ≤ b → Rose b c → Rose a c
-rose_on a b c h rose = omega (arith, h, rose)
-
--- a count that rose before one that did not fall
 rose_first : (a b c : ℕ) → Rose a b → b ≤ c → Rose a c
 rose_first a b c rose h = omega (arith, h, rose)
 
@@ -563,7 +558,7 @@ counts_read_on x there sure later r old mid new before behind p q =
     of_status Compile q = both q
     of_status Execution q = both q
     of_status Usage q = tt
-    of_status ReadFault q = rose_on old.read_faults mid.read_faults new.read_faults p.own.no_fall q
+    of_status ReadFault q = rose_later old.read_faults mid.read_faults new.read_faults p.own.no_fall q
     of_status WriteFault q = subst (λ n. Rose n new.write_faults) writes q
 
     by : (r : Result Status AllocError) → IfOk r (λ s. CountsSo s mid new) → IfOk r (λ s. CountsSo s old new)

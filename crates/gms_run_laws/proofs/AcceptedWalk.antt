@@ -1,5 +1,6 @@
 -- What each declaration of an accepted program keeps, with its data, holds of the state in which
 -- its run begins.
+use Rattle.gms_check.proofs.Faultless.{none-first, none-left, none-right}
 use Rattle.std.proofs.Common.{◌≡◌, ℕ, Bool, true, if◌then◌else◌, List, [], ◌∷◌, ◌++◌, length, None, refl, sym, ap, ◌∙◌, subst, append_assoc}
 use Rattle.std.specs.List.{fold}
 use Rattle.std.proofs.lemmas.List.{map-append, append-nil}
@@ -23,7 +24,7 @@ use Rattle.gms_check.specs.Errors.{first_error}
 use Rattle.gms_check.specs.Loaded.{IsAccepted, loaded, sound}
 use Rattle.gms_check.specs.Past.{is_among, Known, after_act, after_statement, state_after, with_item, with_name}
 use Rattle.gms_check.proofs.Growing.{by_parts}
-use Rattle.gms_check.proofs.NoErrors.{AreClean, are-clean, nil-left, nil-right, none-first}
+use Rattle.gms_check.proofs.NoErrors.{AreClean, are-clean}
 use Rattle.gms_check.proofs.Soundness.{after-sound}
 
 module _ {F : Type 0} (program : Program F) (P : State → Type 0) (each_item : (k : DeclKind) (known : Known F) (item : Decl F) → known.assigned ≡ of_program program (is_among (dynamic_sets program)) → AreClean known (item_uses known k item) → P known.state → P (with_item known.value k known.state item)) (each_alias : (state : State) (first second : ℕ) → P state → P (declare_alias state first second)) (each_model : (state : State) (name : ℕ) → P state → P (declare_model state name)) where
@@ -35,9 +36,9 @@ module _ {F : Type 0} (program : Program F) (P : State → Type 0) (each_item : 
   over-items k known [] same e p = p
   over-items k known (item ∷ items) same e p =
       let errors = errors_of known (item_uses known k item) in
-      let none : errors ≡ [] = nil-left errors (declaration_errors (known_after_item known k item) k items) e in
+      let none : errors ≡ [] = none-left errors (declaration_errors (known_after_item known k item) k items) e in
       let next : known_after_item known k item ≡ known_in known (with_item known.value k known.state item) = ap (λ (es : List CompileError). known_in known (if is_faultless es then with_item known.value k known.state item else with_name known.value k known.state item)) none in
-      let rest = sym (ap (λ (known : Known F). declaration_errors known k items) next) ∙ nil-right errors (declaration_errors (known_after_item known k item) k items) e in
+      let rest = sym (ap (λ (known : Known F). declaration_errors known k items) next) ∙ none-right errors (declaration_errors (known_after_item known k item) k items) e in
       over-items k (known_in known (with_item known.value k known.state item)) items same rest (each_item k known item same (are-clean known (item_uses known k item) none) p)
 
   over-models : (models : List ModelDecl) (state : State) → P state → P (fold (λ state (model : ModelDecl). declare_model state model.named.name) state models)
@@ -53,7 +54,7 @@ module _ {F : Type 0} (program : Program F) (P : State → Type 0) (each_item : 
 
       by : (layer : Act-F F (Act F) (Stmt F)) → Q (roll-Act F layer)
       by (Act-F.Declare k items) =
-          subst Q (sym (rolls-Declare k items)) (λ is. over-items k known items same (nil-right (errors_of known (kind_uses statement.at k)) (declaration_errors known k items) (none-first (act_errors known statement (Declare k items)) (sym (ap (λ (act : Act F). first_error (act_errors known statement act)) is) ∙ e))) p)
+          subst Q (sym (rolls-Declare k items)) (λ is. over-items k known items same (none-right (errors_of known (kind_uses statement.at k)) (declaration_errors known k items) (none-first (act_errors known statement (Declare k items)) (sym (ap (λ (act : Act F). first_error (act_errors known statement act)) is) ∙ e))) p)
       by (Act-F.Alias first second) = subst Q (sym (rolls-Alias first second)) (λ is. each_alias known.state first.name second.name p)
       by (Act-F.Assign target condition right_at right) = subst Q (sym (rolls-Assign target condition right_at right)) (λ is. p)
       by (Act-F.Define equation indices condition left_at left side right_at right) =

@@ -1,4 +1,5 @@
 -- The equations of a model that an accepted program solves are defined before the solve.
+use Rattle.gms_check.proofs.Faultless.{none-first, none-left, none-right}
 use Rattle.std.proofs.Common.{◌≡◌, ℕ, ◌<◌, ◌≤◌, nat_lt, Bool, true, false, not, ◌||◌, ◌&&◌, ◌==◌, cond, if◌then◌else◌, List, [], ◌∷◌, ◌++◌, map, filter, length, Some, None, Option, Result, refl, sym, ap, ◌∙◌, subst, append_assoc, inl, inr, arith}
 use Rattle.std.specs.Prelude.{flat_map}
 use Rattle.std.specs.List.{fold, list_any}
@@ -34,7 +35,7 @@ use Rattle.gms_check.specs.Names.{is_variable, may_be_typed, repeats_domain}
 use Rattle.gms_check.specs.Past.{Known, equations_declared, equations_listed, models_after, models_declared_by, names_declared, numbers_of_names, after_act, after_statement, state_after, with_item, with_name}
 use Rattle.gms_check.specs.Uses.{listing}
 use Rattle.gms_check.proofs.Growing.{by_parts}
-use Rattle.gms_check.proofs.NoErrors.{AreClean, are-clean, nil-left, nil-right, none-first}
+use Rattle.gms_check.proofs.NoErrors.{AreClean, are-clean}
 use Rattle.gms_check.proofs.Soundness.{after-sound}
 use Rattle.gms_rows.specs.Rows.{each_once, listed_equations, found, equations_declared_by, models_of, equations_from}
 use Rattle.gms_run_laws.specs.Names.{Each}
@@ -136,10 +137,10 @@ module _ {F : Type 0} where
   new-equations count known (item ∷ items) e all padded =
       let k = declaring.Equation in
       let errors = errors_of known (item_uses known k item) in
-      let none : errors ≡ [] = nil-left errors (declaration_errors (known_after_item known k item) k items) e in
+      let none : errors ≡ [] = none-left errors (declaration_errors (known_after_item known k item) k items) e in
       let then_known = known_in known (with_item known.value k known.state item) in
       let next : known_after_item known k item ≡ then_known = ap (λ (es : List CompileError). known_in known (if is_faultless es then with_item known.value k known.state item else with_name known.value k known.state item)) none in
-      let rest = sym (ap (λ (known : Known F). declaration_errors known k items) next) ∙ nil-right errors (declaration_errors (known_after_item known k item) k items) e in
+      let rest = sym (ap (λ (known : Known F). declaration_errors known k items) next) ∙ none-right errors (declaration_errors (known_after_item known k item) k items) e in
       let own = new-equation count known item (are-clean known (item_uses known k item) none) all.0 padded.size in
       (stays-items known.value k items (with_item known.value k known.state item) item.named.name own, new-equations count then_known items rest all.1 (padded-item count known.value k known.state known.state item all.0 padded))
 
@@ -153,9 +154,9 @@ module _ {F : Type 0} where
   listed-all known [] e = tt
   listed-all known (model ∷ models) e =
       let next = declare_model known.state model.named.name in
-      let clean = are-clean known (model_uses model) (nil-left (errors_of known (model_uses model)) (model_errors (known_in known next) models) e) in (
+      let clean = are-clean known (model_uses model) (none-left (errors_of known (model_uses model)) (model_errors (known_in known next) models) e) in (
         each-map (IsEquation known.state) (IsEquation (fold (λ state (model : ModelDecl). declare_model state model.named.name) next models)) (λ n is. stays-models models next n (stays-model known.state model.named.name n is)) (numbers_of_names model.equations) (listed-equations known model.equations clean.1),
-        listed-all (known_in known next) models (nil-right (errors_of known (model_uses model)) (model_errors (known_in known next) models) e),
+        listed-all (known_in known next) models (none-right (errors_of known (model_uses model)) (model_errors (known_in known next) models) e),
       )
 
   -- ---- acts
@@ -338,7 +339,7 @@ module _ {F : Type 0} (v : F → Number) (program : Program F) (accepted : IsAcc
 
       kinds : (k : DeclKind) (items : List (Decl F)) → Q (Declare k items)
       kinds declaring.Equation items = λ is all.
-          (new-equations count known items (nil-right (errors_of known (kind_uses s.at declaring.Equation)) (declaration_errors known declaring.Equation items) (no_errors (Declare declaring.Equation items) is)) all padded, tt)
+          (new-equations count known items (none-right (errors_of known (kind_uses s.at declaring.Equation)) (declaration_errors known declaring.Equation items) (no_errors (Declare declaring.Equation items) is)) all padded, tt)
       kinds declaring.Set items = λ is all. (tt, tt)
       kinds declaring.Parameter items = λ is all. (tt, tt)
       kinds declaring.Scalar items = λ is all. (tt, tt)

@@ -1,5 +1,6 @@
 -- The statements after those of a saved program change nothing that these declare, if they type
 -- none of its variables.
+use Rattle.gms_check.proofs.Faultless.{none-first, none-left, none-right}
 use Rattle.std.proofs.Common.{◌≡◌, ℕ, ◌≤◌, Bool, true, false, not, ◌&&◌, cond, if◌then◌else◌, List, [], ◌∷◌, ◌++◌, length, map, Option, None, Some, Ok, Err, Result, refl, sym, ap, ◌∙◌, subst, append_assoc, inl, inr}
 use Rattle.std.specs.Prelude.{flat_map}
 use Rattle.std.specs.List.{fold}
@@ -33,7 +34,7 @@ use Rattle.gms_check.specs.Loaded.{IsAccepted, loaded, sound}
 use Rattle.gms_check.specs.Names.{is_variable, repeats_domain, may_be_typed}
 use Rattle.gms_check.specs.Past.{Known, after_act, after_statement, state_after, with_data, with_item, with_name}
 use Rattle.gms_check.proofs.Growing.{put-at, by_parts}
-use Rattle.gms_check.proofs.NoErrors.{AreClean, are-clean, nil-left, nil-right, none-first}
+use Rattle.gms_check.proofs.NoErrors.{AreClean, are-clean}
 use Rattle.gms_check.proofs.Soundness.{after-sound}
 use Rattle.gms_run_laws.specs.Agreeing.{declares}
 use Rattle.gms_run_laws.specs.Names.{Each}
@@ -267,9 +268,9 @@ module _ (first : State) where
     keep-items k known [] typed e keeps = keeps
     keep-items k known (item ∷ items) typed e keeps =
         let errors = errors_of known (item_uses known k item) in
-        let none : errors ≡ [] = nil-left errors (declaration_errors (known_after_item known k item) k items) e in
+        let none : errors ≡ [] = none-left errors (declaration_errors (known_after_item known k item) k items) e in
         let next : known_after_item known k item ≡ known_in known (with_item known.value k known.state item) = ap (λ (es : List CompileError). known_in known (if is_faultless es then with_item known.value k known.state item else with_name known.value k known.state item)) none in
-        let rest = sym (ap (λ (known : Known F). declaration_errors known k items) next) ∙ nil-right errors (declaration_errors (known_after_item known k item) k items) e in
+        let rest = sym (ap (λ (known : Known F). declaration_errors known k items) next) ∙ none-right errors (declaration_errors (known_after_item known k item) k items) e in
         keep-items k (known_in known (with_item known.value k known.state item)) items (later (is_variable (content_of k)) typed) rest (keep-item known k item (are-clean known (item_uses known k item) none) (λ is. here (is_variable (content_of k)) is typed) keeps)
       where
         names : List (Decl F) → List ℕ
@@ -291,7 +292,7 @@ module _ (first : State) where
 
         by : (layer : Act-F F (Act F) (Stmt F)) → Q (roll-Act F layer)
         by (Act-F.Declare k items) =
-            subst Q (sym (rolls-Declare k items)) (λ is typed. keep-items k known items typed (nil-right (errors_of known (kind_uses statement.at k)) (declaration_errors known k items) (none-first (act_errors known statement (Declare k items)) (sym (ap (λ (act : Act F). first_error (act_errors known statement act)) is) ∙ e))) keeps)
+            subst Q (sym (rolls-Declare k items)) (λ is typed. keep-items k known items typed (none-right (errors_of known (kind_uses statement.at k)) (declaration_errors known k items) (none-first (act_errors known statement (Declare k items)) (sym (ap (λ (act : Act F). first_error (act_errors known statement act)) is) ∙ e))) keeps)
         by (Act-F.Alias one two) = subst Q (sym (rolls-Alias one two)) (λ is typed. keep-alias known.state one.name two.name keeps)
         by (Act-F.Assign target condition right_at right) = subst Q (sym (rolls-Assign target condition right_at right)) (λ is typed. keeps)
         by (Act-F.Define equation indices condition left_at left side right_at right) =

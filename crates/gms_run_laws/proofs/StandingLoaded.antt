@@ -1,5 +1,6 @@
 -- In the state in which an accepted program's run begins each label of a tuple with data fits its
 -- position.
+use Rattle.gms_store.proofs.Views.{has-keys_of_map}
 use Rattle.std.proofs.Common.{◌≡◌, ◌⊎◌, ℕ, ◌+◌, Bool, true, false, not, ◌||◌, ◌&&◌, ◌==◌, cond, if◌then◌else◌, List, [], ◌∷◌, ◌++◌, length, map, Option, Some, None, is_some, Result, Ok, Err, refl, sym, ap, ◌∙◌, subst, inl, inr}
 use Rattle.std.specs.FinMap as finite
 use Rattle.std.specs.Prelude.{flat_map, nat_lt}
@@ -46,7 +47,6 @@ use Rattle.gms_check.proofs.Growing.{put-at}
 use Rattle.gms_check.proofs.IndexSetsStay.{none-declared}
 use Rattle.gms_check.proofs.NoErrors.{AreClean}
 use Rattle.gms_check.proofs.Soundness.{neither-first, neither-second}
-use Rattle.gms_exec.proofs.Overlays.{has-keys}
 use Rattle.gms_run_laws.specs.LastStates.{StandAt}
 use Rattle.gms_run_laws.proofs.AcceptedWalk.{over-accepted}
 
@@ -138,7 +138,7 @@ module _ (state : State) (name : ℕ) (new : Symbol) (gains : Gains (symbol_at s
 
 nothing-there : (X : Type 0) (t : List ℕ) → has (finite.keys (finite.empty {X = X} {R = tuple_cmp})) t ≡ true → ⊥
 nothing-there X t there =
-    both_ways (has (finite.keys (finite.empty {X = X} {R = tuple_cmp})) t) (has-keys (finite.empty {X = X} {R = tuple_cmp}) t ∙ ap is_some (finite.get-empty tuple_cmp t)) there
+    both_ways (has (finite.keys (finite.empty {X = X} {R = tuple_cmp})) t) (has-keys_of_map (finite.empty {X = X} {R = tuple_cmp}) t ∙ ap is_some (finite.get-empty tuple_cmp t)) there
 
 -- A content after a change: no member is removed, an alias stands for the same set, and no tuple
 -- with data is added.
@@ -294,7 +294,7 @@ datum-value t x (parameter_of entries) = record {
     by : (u : List ℕ) (b : Bool) → same_tuple t u ≡ b → has (finite.keys (entries_after_write (is_given x) entries t x)) u ≡ true → ((t ≡ u) × (false ≡ false)) ⊎ (has (finite.keys entries) u ≡ true)
     by u true same there = inl ((same_tuple-Decides t u).0 same, refl)
     by u false other there =
-        inr (has-keys entries u ∙ sym (ap is_some (written-other (is_given x) entries t x u other)) ∙ sym (has-keys (entries_after_write (is_given x) entries t x) u) ∙ there)
+        inr (has-keys_of_map entries u ∙ sym (ap is_some (written-other (is_given x) entries t x u other)) ∙ sym (has-keys_of_map (entries_after_write (is_given x) entries t x) u) ∙ there)
 datum-value t x (variable_of type entries) = datum-none t (variable_of type entries)
 datum-value t x (equation_of entries) = datum-none t (equation_of entries)
 datum-value t x (model_with m s) = datum-none t (model_with m s)

@@ -25,7 +25,7 @@ use Rattle.gms_store.specs.declared.kind.VariableType.TheVariants as type
 use Rattle.gms_store.specs.declared.kind.VariableType.{VariableType}
 use Rattle.gms_store.specs.State.{State, Attributes, Entries, Content, undeclared, alias_of, set_of, parameter_of, variable_of, equation_of, model_with, Symbol, zero, symbol_at, symbol_of, base_of, absent_variable, unbounded, is_given, with_content, if_fits, with_membership, with_value, entries_after_write}
 use Rattle.gms_store.specs.Declarations.{names_of, positions_of, content_of, symbol_of_kind, retyped, is_undeclared, declared_again, put_at, declare, alias_symbol, model_symbol, join_name, can_join, declare_alias, declare_model, first_settings, blank_state}
-use Rattle.gms_store.proofs.Views.{no_difference}
+use Rattle.gms_store.proofs.Views.{no_difference, has-keys_of_map, zero_is_none}
 use Rattle.gms_set.specs.declared.fault.SetFault.{SetFault}
 use Rattle.gms_set.specs.Expansion.{ExpandedData, expanded}
 use Rattle.gms_scope.specs.Data.{with_datum}
@@ -33,16 +33,15 @@ use Rattle.gms_check.specs.Loaded.{sound, loaded}
 use Rattle.gms_check.specs.Past.{with_data, with_name, with_item, after_act, after_statement}
 use Rattle.gms_check.proofs.Growing.{put-at, by_parts}
 use Rattle.gms_check.proofs.IndexSetsStay.{none-declared}
-use Rattle.gms_exec.proofs.Overlays.{has-keys}
 use Rattle.gms_run_laws.specs.LastStates.{IsTidy}
 use Rattle.gms_run_laws.proofs.LastStates.{AreTidy}
-use Rattle.gms_run_laws.proofs.Tidying.{IsTidyMap, differs_from, zero-absent, over, has-long, long-from_has, tidy-written, tidy-parameter, parameter-map, tidy-variable, tidy-equation}
+use Rattle.gms_run_laws.proofs.Tidying.{IsTidyMap, differs_from, over, has-long, long-from_has, tidy-written, tidy-parameter, parameter-map, tidy-variable, tidy-equation}
 
 -- ---- nothing given
 
 empty-map : {X : Type 0} (differs : X → Bool) (absent : X) (nothing : differs absent ≡ false) (n : ℕ) → IsTidyMap differs absent nothing n finite.empty
 empty-map {X} differs absent nothing n =
-    let none = λ (t : List ℕ). has-keys (finite.empty {X = X} {R = tuple_cmp}) t ∙ ap is_some (finite.get-empty tuple_cmp t) in
+    let none = λ (t : List ℕ). has-keys_of_map (finite.empty {X = X} {R = tuple_cmp}) t ∙ ap is_some (finite.get-empty tuple_cmp t) in
     record {
       long = long-from_has n (finite.keys (finite.empty {X = X} {R = tuple_cmp})) (λ t there. absurd (both_ways (has (finite.keys (finite.empty {X = X} {R = tuple_cmp})) t) (none t) there));
       reads = λ t. none t ∙ sym nothing ∙ sym (ap (λ o. differs (unwrap_or o absent)) (finite.get-empty tuple_cmp t));
@@ -56,7 +55,7 @@ module _ (domain : List (Option ℕ)) where
   tidy-set = record { ordered = ordered-nil; long = All-nil (λ (t : List ℕ). length t ≡ length domain); differs = λ t. refl; statuses = refl }
 
   no-values : IsTidy (over domain (parameter_of finite.empty))
-  no-values = tidy-parameter domain finite.empty (empty-map is_given zero zero-absent (length domain))
+  no-values = tidy-parameter domain finite.empty (empty-map is_given zero zero_is_none (length domain))
 
   no-attributes : (t : VariableType) → IsTidy (over domain (variable_of t finite.empty))
   no-attributes t =
@@ -120,7 +119,7 @@ module _ (domain : List (Option ℕ)) where
   tidy-value t x (alias_of base) long tidy = tidy
   tidy-value t x (set_of members) long tidy = tidy
   tidy-value t x (parameter_of entries) long tidy =
-      tidy-parameter domain (entries_after_write (is_given x) entries t x) (tidy-written is_given zero zero-absent (length domain) t x entries long (parameter-map domain entries tidy))
+      tidy-parameter domain (entries_after_write (is_given x) entries t x) (tidy-written is_given zero zero_is_none (length domain) t x entries long (parameter-map domain entries tidy))
   tidy-value t x (variable_of type entries) long tidy = tidy
   tidy-value t x (equation_of entries) long tidy = tidy
   tidy-value t x (model_with m s) long tidy = tidy

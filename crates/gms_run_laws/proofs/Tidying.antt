@@ -19,12 +19,12 @@ use Rattle.gms_tuple.specs.TupleSet.{has}
 use Rattle.gms_tuple.proofs.Ordered.{same_tuple-Decides, same_tuple_refl}
 use Rattle.gms_store.specs.declared.kind.VariableType.{VariableType}
 use Rattle.gms_store.specs.State.{Entries, Attributes, Content, undeclared, alias_of, set_of, parameter_of, variable_of, equation_of, model_with, Symbol, zero, attributes_in, is_given, same_attributes, absent_variable, unbounded, with_content, if_fits, with_attributes, with_statuses, entries_after_write}
-use Rattle.gms_store.proofs.Views.{keys-ordered, no_difference}
+use Rattle.gms_store.proofs.Views.{keys-ordered, no_difference, has-keys_of_map, zero_is_none}
 use Rattle.gms_save_text.specs.Validity.{are_statuses}
 use Rattle.gms_exec.specs.Given.{member, value_is, AllGiven, members_given, is_given_among, with_members, values_given, plain_values, with_attribute, attributes_given, overlaid_entries, with_given, fitting}
 use Rattle.gms_exec.specs.Reads.{last_at}
 use Rattle.gms_exec.proofs.Newest.{has-with_members, last-there}
-use Rattle.gms_exec.proofs.Overlays.{tied, first_of, has-keys, kept, get-overlaid, overlaid-one, all-kept}
+use Rattle.gms_exec.proofs.Overlays.{tied, first_of, kept, get-overlaid, overlaid-one, all-kept}
 use Rattle.gms_exec.proofs.Overlays as overlays
 use Rattle.gms_exec.proofs.Staying.{members-ordered}
 use Rattle.gms_run_laws.specs.LastStates.{IsTidy}
@@ -86,16 +86,16 @@ module _ {X : Type 0} (differs : X → Bool) (absent : X) (nothing : differs abs
   -- entries that are new keep it so
   tidy-overlaid : (new : List (List ℕ × X)) (entries : Entries X) → All (λ (t : List ℕ). length t ≡ n) (map (λ e. e.0) new) → IsTidyMap entries → IsTidyMap (overlaid_entries differs new entries)
   tidy-overlaid new entries all tidy = record {
-    long = long-from_has n (finite.keys (overlaid_entries differs new entries)) (λ t there. by t (overlays.last_at new t) refl (kept-there (first_of (overlays.last_at new t) (finite.get entries t)) (sym (ap is_some (get-overlaid differs new entries t)) ∙ sym (has-keys (overlaid_entries differs new entries) t) ∙ there)));
+    long = long-from_has n (finite.keys (overlaid_entries differs new entries)) (λ t there. by t (overlays.last_at new t) refl (kept-there (first_of (overlays.last_at new t) (finite.get entries t)) (sym (ap is_some (get-overlaid differs new entries t)) ∙ sym (has-keys_of_map (overlaid_entries differs new entries) t) ∙ there)));
     reads = λ t.
-        has-keys (overlaid_entries differs new entries) t
+        has-keys_of_map (overlaid_entries differs new entries) t
         ∙ ap is_some (get-overlaid differs new entries t)
         ∙ kept-reads (first_of (overlays.last_at new t) (finite.get entries t))
         ∙ sym (ap (λ o. differs (unwrap_or o absent)) (get-overlaid differs new entries t));
   }
     where
       by : (t : List ℕ) (o : Option X) → overlays.last_at new t ≡ o → is_some (first_of o (finite.get entries t)) ≡ true → length t ≡ n
-      by t None is there = has-long n (finite.keys entries) t tidy.long (has-keys entries t ∙ there)
+      by t None is there = has-long n (finite.keys entries) t tidy.long (has-keys_of_map entries t ∙ there)
       by t (Some x) is there = newest-long n new t all (ap is_some is)
 
   -- and so does a write
@@ -166,10 +166,6 @@ module _ (symbol : Symbol) where
 
 -- ---- symbols
 
-pub zero-absent : is_given zero ≡ false
-zero-absent = ap (λ o. not (is_eq o)) (tied_itself number_cmp_total (whole (pos 0)))
-
--- whether attributes differ from absent ones
 abbrev pub differs_from : Attributes → Attributes → Bool
 differs_from absent a = not (same_attributes a absent)
 
@@ -177,11 +173,11 @@ module _ (domain : List (Option ℕ)) where
   abbrev pub over : Content → Symbol
   over content = record { domain = domain; content = content }
 
-  pub tidy-parameter : (entries : Entries Extended) → IsTidyMap is_given zero zero-absent (length domain) entries → IsTidy (over (parameter_of entries))
+  pub tidy-parameter : (entries : Entries Extended) → IsTidyMap is_given zero zero_is_none (length domain) entries → IsTidy (over (parameter_of entries))
   tidy-parameter entries tidy =
       record { ordered = keys-ordered entries; long = tidy.long; differs = tidy.reads; statuses = refl }
 
-  pub parameter-map : (entries : Entries Extended) → IsTidy (over (parameter_of entries)) → IsTidyMap is_given zero zero-absent (length domain) entries
+  pub parameter-map : (entries : Entries Extended) → IsTidy (over (parameter_of entries)) → IsTidyMap is_given zero zero_is_none (length domain) entries
   parameter-map entries tidy = record { long = tidy.long; reads = tidy.differs }
 
   pub tidy-variable : (type : VariableType) (entries : Entries Attributes) → IsTidyMap (differs_from (absent_variable type)) (absent_variable type) (no_difference (absent_variable type)) (length domain) entries → IsTidy (over (variable_of type entries))
@@ -211,7 +207,7 @@ module _ (domain : List (Option ℕ)) where
   tidy-given-content kind all (parameter_of entries) tidy =
       let s = over (parameter_of entries) in
       let given = fitting s all in
-      tidy-parameter (overlaid_entries is_given (plain_values kind given) entries) (tidy-overlaid is_given zero zero-absent (length domain) (plain_values kind given) entries (plain-long s kind given (fitted-values s all)) (parameter-map entries tidy))
+      tidy-parameter (overlaid_entries is_given (plain_values kind given) entries) (tidy-overlaid is_given zero zero_is_none (length domain) (plain_values kind given) entries (plain-long s kind given (fitted-values s all)) (parameter-map entries tidy))
   tidy-given-content kind all (variable_of type entries) tidy =
       let s = over (variable_of type entries) in
       let new = attributes_given kind (variable_of type entries) (fitting s all) in

@@ -1,4 +1,5 @@
 -- The error of each statement, where another one of it may come first.
+use Rattle.gms_check.proofs.Faultless.{none-right}
 use Rattle.std.proofs.Common.{◌≡◌, ◌<◌, ◌≤◌, ◌+◌, ℕ, zero, suc, List, [], ◌∷◌, ◌++◌, length, get_or, set, take, refl, sym, ap, ◌∙◌, Option, Some, None, arith, add-one}
 use Rattle.std.specs.Prelude.{flat_map, is_none, option_to_list}
 use mathlib.Core.Path.{fun_ext}
@@ -11,7 +12,6 @@ use Rattle.gms_check.specs.CompileErrors.{each_error, known_after, statement_err
 use Rattle.gms_check.specs.Errors.{sooner}
 use Rattle.gms_check.specs.Loaded.{IsAccepted}
 use Rattle.gms_check.specs.Past.{Past}
-use Rattle.gms_check.proofs.NoErrors.{nil-right}
 use Rattle.gms_save.specs.JointErrors.{HasNoErrors, each_sooner, restart_error}
 
 -- ---- statement by statement
@@ -58,7 +58,7 @@ none-before : {X : Type 0} (other : X → Option CompileError) (errors : List (O
 none-before other [] xs e = refl
 none-before other (error ∷ errors) [] e = e
 none-before other (None ∷ errors) (x ∷ xs) e =
-    none-before other errors xs (nil-right (option_to_list (other x)) (flat_map option_to_list (each_sooner other errors xs)) e)
+    none-before other errors xs (none-right (option_to_list (other x)) (flat_map option_to_list (each_sooner other errors xs)) e)
 none-before other (Some error ∷ errors) (x ∷ xs) e = absurd cc
 
 module _ {F : Type 0} (value : F → Number) where

@@ -1,4 +1,5 @@
 -- All data of a name taken out, one tuple after another.
+use Rattle.gms_store.proofs.Views.{zero_is_none as nothing}
 use Rattle.std.proofs.Common.{◌≡◌, ◌≢◌, ◌<◌, ◌≤◌, ℕ, Bool, true, false, not, ◌&&◌, ◌||◌, ◌==◌, List, [], ◌∷◌, ◌++◌, length, refl, sym, ap, ◌∙◌, subst, arith, cond, Option, Some, None, unwrap_or, eq-eqb, if◌then◌else◌, pos}
 use Rattle.std.specs.Prelude.{nat_lt, slice_get, slice_index_or, filter}
 use Rattle.std.specs.List.{fold, list_any}
@@ -187,9 +188,6 @@ all-removed m = finite.same_map tuple_cmp-total tuple_cmp-Equal (fold no_entry m
     by : (q : List ℕ) (b : Bool) → tied_to (finite.keys m) q ≡ b → cond b None (finite.get m q) ≡ None
     by q true _ = refl
     by q false none = finite.get-entries m q ∙ find-none (finite.entries m) q none
-
-nothing : is_given zero ≡ false
-nothing = ap (λ o. not (is_eq o)) (tied_itself number_cmp_total (whole (pos 0)))
 
 fold-parameter : (m : Entries Extended) (ts : List (List ℕ)) → fold less (parameter_of m) ts ≡ parameter_of (fold no_entry m ts)
 fold-parameter m [] = refl

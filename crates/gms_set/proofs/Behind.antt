@@ -32,12 +32,6 @@ ordered-more front last t ordered less =
     let before = All-weaker (λ x. tuple_cmp x last ≡ Less) (λ x. tuple_cmp x t ≡ Less) (λ x earlier. tuple_cmp-total.trans x last t earlier less) front (All-before_last tuple_cmp front last ordered) in
     ordered-join (front ++ last ∷ []) t [] ordered (All-append (λ x. tuple_cmp x t ≡ Less) front (last ∷ []) before (All-cons (λ x. tuple_cmp x t ≡ Less) last [] less (All-nil (λ x. tuple_cmp x t ≡ Less)))) ordered-nil (All-nil (λ y. tuple_cmp t y ≡ Less))
 
--- the index of an ordering determines it
-pub is-Less : (o : Ordering) → (ordering_index o == 0) ≡ true → o ≡ Less
-is-Less Less e = refl
-is-Less Equal e = absurd cc
-is-Less Greater e = absurd cc
-
 pub ordered-one : (t : List ℕ) → IsOrdered (t ∷ [])
 ordered-one t = ordered-cons t [] (All-nil (λ y. tuple_cmp t y ≡ Less)) ordered-nil
 

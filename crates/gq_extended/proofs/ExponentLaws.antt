@@ -3,7 +3,7 @@ use Rattle.std.proofs.Common.{◌≡◌, ◌≢◌, ℕ, zero, suc, ◌<◌, ℤ
 use Rattle.std.proofs.lemmas.Int.{ints}
 use Rattle.gq_number.specs.Number.{Number, whole, ◌*ℚ◌, inv_ℚ}
 use Rattle.gq_number.proofs.Field.{*ℚ_assoc, *ℚ_comm, *ℚ-one}
-use Rattle.gq_number.proofs.Ring.{zero-*ℚ, one-*ℚ}
+use Rattle.gq_number.proofs.Ring.{zero-*ℚ, one-*ℚ, *ℚ_left_comm}
 use Rattle.gq_number.proofs.Quotients.{*ℚ-inv, inv-*ℚ_self}
 use Rattle.gq_extended.specs.Powers.{repeated_product, power_ℚ}
 use Rattle.gq_extended.proofs.PowerParts.{product_of-zero, product_of-suc}
@@ -39,10 +39,6 @@ power_down x n some =
     let e : n +ℤ negsuc 0 +ℤ pos 1 ≡ n = omega (arith, ints) in
     sym (sym (*ℚ_assoc (inv_ℚ x) x _) ∙ ap (λ w. w *ℚ power_ℚ x (n +ℤ negsuc 0)) (inv-*ℚ_self x some) ∙ one-*ℚ _) ∙ ap (λ w. inv_ℚ x *ℚ w) (sym (power_up x (n +ℤ negsuc 0) some) ∙ ap (power_ℚ x) e)
 
-swapped : (x y z : Number) → x *ℚ (y *ℚ z) ≡ y *ℚ (x *ℚ z)
-swapped x y z = sym (*ℚ_assoc x y z) ∙ ap (λ w. w *ℚ z) (*ℚ_comm x y) ∙ *ℚ_assoc y x z
-
--- exponents add up
 pub power-+ℤ : (x : Number) (n m : ℤ) → x ≢ whole (pos 0) → power_ℚ x (n +ℤ m) ≡ power_ℚ x n *ℚ power_ℚ x m
 power-+ℤ x n (pos m) some = up m
   where
@@ -51,7 +47,7 @@ power-+ℤ x n (pos m) some = up m
     up (suc m) =
         let first : n +ℤ pos (suc m) ≡ n +ℤ pos m +ℤ pos 1 = omega (arith, ints) in
         let second : pos (suc m) ≡ pos m +ℤ pos 1 = omega (arith, ints) in
-        ap (power_ℚ x) first ∙ power_up x (n +ℤ pos m) some ∙ ap (λ w. x *ℚ w) (up m) ∙ swapped x (power_ℚ x n) (power_ℚ x (pos m)) ∙ ap (λ w. power_ℚ x n *ℚ w) (sym (ap (power_ℚ x) second ∙ power_up x (pos m) some))
+        ap (power_ℚ x) first ∙ power_up x (n +ℤ pos m) some ∙ ap (λ w. x *ℚ w) (up m) ∙ *ℚ_left_comm x (power_ℚ x n) (power_ℚ x (pos m)) ∙ ap (λ w. power_ℚ x n *ℚ w) (sym (ap (power_ℚ x) second ∙ power_up x (pos m) some))
 power-+ℤ x n (negsuc m) some = down m
   where
     down : (m : ℕ) → power_ℚ x (n +ℤ negsuc m) ≡ power_ℚ x n *ℚ power_ℚ x (negsuc m)
@@ -61,4 +57,4 @@ power-+ℤ x n (negsuc m) some = down m
     down (suc m) =
         let first : n +ℤ negsuc (suc m) ≡ n +ℤ negsuc m +ℤ negsuc 0 = omega (arith, ints) in
         let second : negsuc (suc m) ≡ negsuc m +ℤ negsuc 0 = omega (arith, ints) in
-        ap (power_ℚ x) first ∙ power_down x (n +ℤ negsuc m) some ∙ ap (λ w. inv_ℚ x *ℚ w) (down m) ∙ swapped (inv_ℚ x) (power_ℚ x n) (power_ℚ x (negsuc m)) ∙ ap (λ w. power_ℚ x n *ℚ w) (sym (ap (power_ℚ x) second ∙ power_down x (negsuc m) some))
+        ap (power_ℚ x) first ∙ power_down x (n +ℤ negsuc m) some ∙ ap (λ w. inv_ℚ x *ℚ w) (down m) ∙ *ℚ_left_comm (inv_ℚ x) (power_ℚ x n) (power_ℚ x (negsuc m)) ∙ ap (λ w. power_ℚ x n *ℚ w) (sym (ap (power_ℚ x) second ∙ power_down x (negsuc m) some))

@@ -11,7 +11,7 @@ use Rattle.std.proofs.lemmas.List.Elements.{All-head, All-tail}
 use Rattle.gq_number.specs.Number.{Number, whole, ◌+ℚ◌, ◌-ℚ◌, ◌*ℚ◌}
 use Rattle.gq_number.specs.Order.{number_cmp}
 use Rattle.gq_number.specs.Sums.{sum_by_ℚ}
-use Rattle.gq_number.proofs.Ring.{ring_ℚ}
+use Rattle.gq_number.proofs.Ring.{ring_ℚ, zero-+ℚ}
 use Rattle.gq_number.proofs.Sums.{sum_by_ℚ-nil, sum_by_ℚ-cons}
 use Rattle.gq_number.proofs.Compares.{number_cmp_decides}
 use Rattle.lp_core.specs.declared.program.Sense.{Sense}
@@ -29,9 +29,6 @@ use Rattle.lp_check.proofs.Found.{passed_over, taken_here}
 
 plus_nothing : (s : Number) → s ≡ s +ℚ whole (pos 0)
 plus_nothing s = simp ring_ℚ
-
-nothing_plus : (s : Number) → whole (pos 0) +ℚ s ≡ s
-nothing_plus s = simp ring_ℚ
 
 less_nothing : (s : Number) → s ≡ s -ℚ whole (pos 0)
 less_nothing s = simp ring_ℚ
@@ -157,7 +154,7 @@ module _ {F : Type 0} (value : F → Number) where
         let other : (e.0 == j) ≡ false = grind (arith, nat_tests) in
         sum_by_ℚ-cons _ e entries
         ∙ ap₂ (λ b n. (if b then value e.1 else whole (pos 0)) +ℚ n) other (coefficient_is j entries (λ a b d less within. ascending (suc a) (suc b) d (omega (arith, less)) (omega (arith, within))))
-        ∙ nothing_plus (or_zero (entry_of value entries j)) ∙ sym (ap or_zero (passed_over value j e entries differs))
+        ∙ zero-+ℚ (or_zero (entry_of value entries j)) ∙ sym (ap or_zero (passed_over value j e entries differs))
   ]
 
   pub less_entry : (s y : Number) (entry : Option Number) → less_product s y entry ≡ s -ℚ y *ℚ or_zero entry

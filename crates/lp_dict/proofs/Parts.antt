@@ -20,18 +20,13 @@ use Rattle.lp_integer_rows.specs.declared.parts.Part.{Part}
 use Rattle.lp_integer_rows.specs.Form.{wholes, line_number, lines_number, IsLine, AreLines}
 use Rattle.lp_integer_rows.specs.Parts.{AreWithinColumns, HaveDistinctColumns, AreParts}
 use Rattle.lp_integer_dict.specs.Whole.{WholeTableau, row_of, whole_dictionary, integer_dictionary as dictionary_of}
-use Rattle.lp_integer_rows.proofs.Plans.{some_at}
+use Rattle.lp_integer_rows.proofs.Plans.{some_at, same_some}
 use Rattle.lp_integer_dict.proofs.Reading.{at_line}
 use Rattle.lp_integer_dict.proofs.Wholes.{row_within, row_past}
 use Rattle.lp_dict.specs.InnerConversions.{part_of, all_rows, IsLineOf, AreLinesOf}
 
-some_is : {X : Type 0} (x y : X) → Some x ≡ Some y → x ≡ y
-some_is x y e = cc
-
--- ---- numbers by parts
-
 none_later : (q : Part) (qs : List Part) (c : ℕ) → q.column ≢ c → ((i : ℕ) (p : Part) → slice_get qs i ≡ Some p → p.column ≢ c) → (i : ℕ) (p : Part) → slice_get (q ∷ qs) i ≡ Some p → p.column ≢ c
-none_later q qs c other none zero p at = subst (λ (x : Part). x.column ≢ c) (some_is q p at) other
+none_later q qs c other none zero p at = subst (λ (x : Part). x.column ≢ c) (same_some q p at) other
 none_later q qs c other none (suc i) p at = none i p at
 
 found_at : (parts : List Part) (c : ℕ) → ((i : ℕ) × (p : Part) × (slice_get parts i ≡ Some p) × (p.column ≡ c)) ⊎ ((i : ℕ) (p : Part) → slice_get parts i ≡ Some p → p.column ≢ c)
@@ -55,7 +50,7 @@ same_numbers parts f g of_f of_g c =
 
 -- a place in a list with one more
 get_pushed : {X : Type 0} (xs : List X) (x y : X) (i : ℕ) → slice_get (xs ++ x ∷ []) i ≡ Some y → ((slice_get xs i ≡ Some y) × (i < length xs)) ⊎ ((i ≡ length xs) × (x ≡ y))
-get_pushed [] x y zero at = inr (refl, some_is x y at)
+get_pushed [] x y zero at = inr (refl, same_some x y at)
 get_pushed [] x y (suc i) at = absurd (cc)
 get_pushed (z ∷ zs) x y zero at = inl (at, omega arith)
 get_pushed (z ∷ zs) x y (suc i) at =
@@ -67,7 +62,7 @@ get_pushed (z ∷ zs) x y (suc i) at =
 module _ {F : Type 0} (value : F → Number) where
   part_from : (row : List (Entry F)) (low high i : ℕ) (p : Part) → IsRow value low high row → slice_get (map (part_of value) row) i ≡ Some p → low ≤ p.column
   part_from [] low high i p ordered at = absurd (cc)
-  part_from (e ∷ es) low high zero p ordered at = subst (λ (q : Part). low ≤ q.column) (some_is (part_of value e) p at) ordered.0
+  part_from (e ∷ es) low high zero p ordered at = subst (λ (q : Part). low ≤ q.column) (same_some (part_of value e) p at) ordered.0
   part_from (e ∷ es) low high (suc i) p ordered at =
       let first = ordered.0 in
       let rest = part_from es (e.column + 1) high i p ordered.3 at in
@@ -76,18 +71,18 @@ module _ {F : Type 0} (value : F → Number) where
   part_there : (row : List (Entry F)) (low high i : ℕ) (p : Part) → IsRow value low high row → slice_get (map (part_of value) row) i ≡ Some p → (p.column < high) × (0 < p.denominator)
   part_there [] low high i p ordered at = absurd (cc)
   part_there (e ∷ es) low high zero p ordered at =
-      subst (λ (q : Part). (q.column < high) × (0 < q.denominator)) (some_is (part_of value e) p at) (ordered.1, (value e.number).reduced.positive)
+      subst (λ (q : Part). (q.column < high) × (0 < q.denominator)) (same_some (part_of value e) p at) (ordered.1, (value e.number).reduced.positive)
   part_there (e ∷ es) low high (suc i) p ordered at = part_there es (e.column + 1) high i p ordered.3 at
 
   parts_apart : (row : List (Entry F)) (low high i j : ℕ) (p q : Part) → IsRow value low high row → slice_get (map (part_of value) row) i ≡ Some p → slice_get (map (part_of value) row) j ≡ Some q → p.column ≡ q.column → i ≡ j
   parts_apart [] low high i j p q ordered at_i at_j same = absurd (cc)
   parts_apart (e ∷ es) low high zero zero p q ordered at_i at_j same = refl
   parts_apart (e ∷ es) low high zero (suc j) p q ordered at_i at_j same =
-      let first : e.column ≡ p.column = ap (λ (x : Part). x.column) (some_is (part_of value e) p at_i) in
+      let first : e.column ≡ p.column = ap (λ (x : Part). x.column) (same_some (part_of value e) p at_i) in
       let later = part_from es (e.column + 1) high j q ordered.3 at_j in
       absurd (omega arith)
   parts_apart (e ∷ es) low high (suc i) zero p q ordered at_i at_j same =
-      let first : e.column ≡ q.column = ap (λ (x : Part). x.column) (some_is (part_of value e) q at_j) in
+      let first : e.column ≡ q.column = ap (λ (x : Part). x.column) (same_some (part_of value e) q at_j) in
       let later = part_from es (e.column + 1) high i p ordered.3 at_i in
       absurd (omega arith)
   parts_apart (e ∷ es) low high (suc i) (suc j) p q ordered at_i at_j same = ap suc (parts_apart es (e.column + 1) high i j p q ordered.3 at_i at_j same)
@@ -95,7 +90,7 @@ module _ {F : Type 0} (value : F → Number) where
   parts_here : (row : List (Entry F)) (low high i : ℕ) (p : Part) → IsRow value low high row → slice_get (map (part_of value) row) i ≡ Some p → number_in value row p.column ≡ ratio p.numerator p.denominator
   parts_here [] low high i p ordered at = absurd (cc)
   parts_here (e ∷ es) low high zero p ordered at =
-      subst (λ (q : Part). number_in value (e ∷ es) q.column ≡ ratio q.numerator q.denominator) (some_is (part_of value e) p at) (number_first value e es e.column refl ∙ sym (ratio_itself (value e.number)))
+      subst (λ (q : Part). number_in value (e ∷ es) q.column ≡ ratio q.numerator q.denominator) (same_some (part_of value e) p at) (number_first value e es e.column refl ∙ sym (ratio_itself (value e.number)))
   parts_here (e ∷ es) low high (suc i) p ordered at =
       let later = part_from es (e.column + 1) high i p ordered.3 at in
       number_later value e es p.column (λ same. absurd (omega arith)) ∙ parts_here es (e.column + 1) high i p ordered.3 at

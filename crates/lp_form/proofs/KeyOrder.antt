@@ -1,4 +1,5 @@
 -- Laws of the order of keys.
+use Rattle.gms_tuple.proofs.Ordered.{tuple_cmp-Equal}
 use Rattle.std.proofs.Common.{◌≡◌, ℕ, ◌<◌, true, false, List, [], ◌∷◌, refl, ap, ◌∙◌}
 use Rattle.std.specs.declared.cmp.Ordering.{Ordering}
 use Rattle.std.specs.declared.cmp.Ordering.TheVariants.{Less, Equal, Greater}
@@ -36,14 +37,10 @@ then-Equal_second Less s e = absurd (cc)
 then-Equal_second Equal s e = e
 then-Equal_second Greater s e = absurd (cc)
 
-tuples_equal : (a b : List ℕ) → tuple_cmp a b ≡ Equal → a ≡ b
-tuples_equal a b equal = (bytes_eq-Decides a b).0 (rw (same_tuple-tuple_cmp a b, equal) refl)
-
--- keys between which neither comes first are the same key
 pub key_cmp-Equal : (a b : Key) → key_cmp a b ≡ Equal → a ≡ b
 key_cmp-Equal a b e =
     let first = symbols_equal a.symbol b.symbol (then-Equal_first (nat_cmp a.symbol b.symbol) (tuple_cmp a.tuple b.tuple) e) in
-    let second = tuples_equal a.tuple b.tuple (then-Equal_second (nat_cmp a.symbol b.symbol) (tuple_cmp a.tuple b.tuple) e) in
+    let second = tuple_cmp-Equal a.tuple b.tuple (then-Equal_second (nat_cmp a.symbol b.symbol) (tuple_cmp a.tuple b.tuple) e) in
     λ i. record { symbol = first i; tuple = second i }
 
 -- a key is the same as itself

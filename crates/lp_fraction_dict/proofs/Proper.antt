@@ -1,4 +1,5 @@
 -- An exchange by a legal pivot keeps what each dictionary of a program keeps.
+use Rattle.gq_number.proofs.Field.{*ℚ_comm}
 use mathlib.Core.Bool.{and-false}
 use Rattle.std.proofs.Common.{◌≡◌, ◌≢◌, ℕ, zero, suc, ◌+◌, ◌<◌, ◌≤◌, ◌==◌, ◌&&◌, ◌⊎◌, inl, inr, pos, cond, List, [], ◌∷◌, length, length-set, Some, refl, sym, ap, ap₂, ◌∙◌, subst, subst₂, arith}
 use Rattle.std.specs.Prelude.{slice_get, slice_set}
@@ -41,11 +42,6 @@ less_times_minus_one x y = simp ring_ℚ
 stays_above : (b e r : Number) → whole (pos 0) ≤ℚ b → e ≤ℚ whole (pos 0) → whole (pos 0) ≤ℚ r → whole (pos 0) ≤ℚ b -ℚ e *ℚ r
 stays_above b e r above below ratio =
     gap_≤ℚ (e *ℚ r) b (≤ℚ_trans (e *ℚ r) (whole (pos 0)) b (subst₂ (λ x y. x ≤ℚ y) (let h : r *ℚ e ≡ e *ℚ r = simp ring_ℚ in h) (let h : whole (pos 0) *ℚ e ≡ whole (pos 0) = simp ring_ℚ in h) (*ℚ-≤ℚ_turned (whole (pos 0)) r e below ratio)) above)
-
-times_turned : (r e : Number) → r *ℚ e ≡ e *ℚ r
-times_turned r e = simp ring_ℚ
-
--- ---- the basic variables after an exchange
 
 pub set_same : {X : Type 0} (xs : List X) (k : ℕ) (x : X) → k < length xs → slice_get (slice_set xs k x) k ≡ Some x
 set_same [] k x less = absurd (omega arith)
@@ -200,7 +196,7 @@ module _ (d : Dictionary) (p : Pivot) (k : ℕ) (proper : IsProper d) (legal : I
           | inl below ↦ stays_above (constant_at d i) (entry_at d i p.enter) (ratio_at d p.enter k) (constants_above s.not_due i less) below (step_ratio s)
           | inr above ↦
               gap_≤ℚ (entry_at d i p.enter *ℚ ratio_at d p.enter k) (constant_at d i)
-              (subst (λ x. x ≤ℚ constant_at d i) (times_turned (ratio_at d p.enter k) (entry_at d i p.enter)) ((≤ℚ-/ℚ (ratio_at d p.enter k) (constant_at d i) (entry_at d i p.enter) above).0 (s.ties.least i (less, above))))
+              (subst (λ x. x ≤ℚ constant_at d i) (*ℚ_comm (ratio_at d p.enter k) (entry_at d i p.enter)) ((≤ℚ-/ℚ (ratio_at d p.enter k) (constant_at d i) (entry_at d i p.enter) above).0 (s.ties.least i (less, above))))
         ])
       ]
 
@@ -222,7 +218,7 @@ module _ (d : Dictionary) (p : Pivot) (k : ℕ) (proper : IsProper d) (legal : I
       λ most. old_not_leaves i 0 old (sym (s.zero_first i old.1 (record { limits = (less, above); least = λ j limits. ≤ℚ_trans (ratio_at d p.enter i) (ratio_at d p.enter k) (ratio_at d p.enter j) most (s.ties.least j limits) }))) in
       subst (λ x. whole (pos 0) <ℚ x) (sym (constant_other i old.0))
       (gap_<ℚ (entry_at d i p.enter *ℚ ratio_at d p.enter k) (constant_at d i)
-      (subst (λ x. x <ℚ constant_at d i) (times_turned (ratio_at d p.enter k) (entry_at d i p.enter)) ((<ℚ-/ℚ (ratio_at d p.enter k) (constant_at d i) (entry_at d i p.enter) above).0 (<ℚ_from_not_≤ℚ (ratio_at d p.enter k) (ratio_at d p.enter i) no_tie))))
+      (subst (λ x. x <ℚ constant_at d i) (*ℚ_comm (ratio_at d p.enter k) (entry_at d i p.enter)) ((<ℚ-/ℚ (ratio_at d p.enter k) (constant_at d i) (entry_at d i p.enter) above).0 (<ℚ_from_not_≤ℚ (ratio_at d p.enter k) (ratio_at d p.enter i) no_tie))))
 
   zero_above : (i : ℕ) → slice_get (exchanged d p.enter k).basic i ≡ Some 0 → whole (pos 0) <ℚ constant_at (exchanged d p.enter k) i
   zero_above i at =

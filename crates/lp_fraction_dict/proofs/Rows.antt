@@ -1,4 +1,5 @@
 -- Rows: what entries in order say of the numbers at columns.
+use Rattle.lp_fraction_dict.proofs.Equations.{eq_other, eq_same}
 use Rattle.std.proofs.Common.{◌≡◌, ◌≢◌, ℕ, ◌+◌, ◌<◌, ◌≤◌, ◌==◌, true, false, pos, cond, List, [], ◌∷◌, ◌++◌, length, refl, sym, ap, ◌∙◌, subst, arith}
 use Rattle.std.specs.declared.cmp.Ordering.{Ordering}
 use Rattle.std.specs.declared.cmp.Ordering.TheVariants.{Less, Equal, Greater}
@@ -8,12 +9,6 @@ use Rattle.std.proofs.lemmas.Bool.Decides.{nat_tests}
 use Rattle.gq_number.specs.Number.{Number, whole}
 use Rattle.lp_fraction_dict.specs.declared.row.Entry.{Entry}
 use Rattle.lp_fraction_dict.specs.Rows.{IsRow, number_in, StartsFrom}
-
-eq_same : (a : ℕ) → (a == a) ≡ true
-eq_same a = grind (arith, nat_tests)
-
-eq_other : (a b : ℕ) → a ≢ b → (a == b) ≡ false
-eq_other a b h = grind (arith, nat_tests)
 
 module _ {F : Type 0} (value : F → Number) where
   -- the first entry at its own column, and at another

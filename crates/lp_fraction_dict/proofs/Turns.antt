@@ -4,7 +4,7 @@ use Rattle.std.proofs.Common.{◌≡◌, ◌≢◌, ℕ, ◌+◌, ◌<◌, ◌�
 use Rattle.std.specs.Prelude.{unwrap_or}
 use Rattle.std.proofs.lemmas.Bool.{cases_lt}
 use Rattle.gq_number.specs.Number.{Number, whole, ◌-ℚ◌, ◌*ℚ◌, neg_ℚ}
-use Rattle.gq_number.proofs.Ring.{neg-zero, *ℚ-zero, zero-*ℚ, ring_ℚ}
+use Rattle.gq_number.proofs.Ring.{neg-zero, *ℚ-zero, zero-*ℚ, ring_ℚ, neg_is}
 use Rattle.gq_field.specs.Fits.{fits}
 use Rattle.lp_core.specs.Steps.{product_fits}
 use Rattle.lp_form.proofs.Zeros.{sum_fits-zero, zero-sum_fits, fits-zero}
@@ -29,10 +29,6 @@ zero_factor_fits limit x y some h =
 less-zero : (x factor : Number) → x ≡ x -ℚ factor *ℚ whole (pos 0)
 less-zero x factor = simp ring_ℚ
 
-less-from_zero : (x : Number) → neg_ℚ x ≡ whole (pos 0) -ℚ x
-less-from_zero x = simp ring_ℚ
-
--- the rest of a row from a column on
 pub record Left {F : Type 0} (value : F → Number) (high : ℕ) (row rest : List (Entry F)) (k : ℕ) : Type 0 where
   pub is_row : IsRow value k high rest
   pub numbers : (c : ℕ) → k ≤ c → number_in value row c ≡ number_in value rest c
@@ -247,4 +243,4 @@ lessened_by_none value limit x factor zero z y some within none is from =
 pub lessened_none : {F : Type 0} (value : F → Number) (limit : ℕ) (x : Option F) (factor y product z : F) (other : Option F) → ((x : F) → fits limit (value x) ≡ true) → x ≡ None → other ≡ Some y → product_fits limit (value factor) (value y) ≡ true → value product ≡ value factor *ℚ value y → value z ≡ neg_ℚ (value product) → Lessens value limit x factor other (Ok z)
 lessened_none value limit x factor y product z other within none there fits_product is_product is =
     let is_z : value z ≡ neg_ℚ (value factor *ℚ value y) = is ∙ ap neg_ℚ is_product in
-    rw (none, there) ((fits_product, zero-sum_fits limit (neg_ℚ (value factor *ℚ value y)) (subst (λ n. fits limit n ≡ true) is_z (within z))), is_z ∙ less-from_zero (value factor *ℚ value y))
+    rw (none, there) ((fits_product, zero-sum_fits limit (neg_ℚ (value factor *ℚ value y)) (subst (λ n. fits limit n ≡ true) is_z (within z))), is_z ∙ neg_is (value factor *ℚ value y))

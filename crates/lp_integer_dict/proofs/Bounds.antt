@@ -1,5 +1,6 @@
 -- When the steps on integers fit: those of a ratio test by one bound, those of an exchange by a
 -- bound for each two rows.
+use Rattle.lp_integer_rows.proofs.Updating.{ratio_none}
 use Rattle.std.proofs.Common.{◌≡◌, ◌≢◌, ℕ, zero, suc, ◌+◌, ◌*◌, ◌/◌, ◌<◌, ◌≤◌, inl, inr, true, ℤ, pos, negsuc, ◌+ℤ◌, ◌*ℤ◌, neg_ℤ, nat_abs, refl, sym, ap, ap₂, ◌∙◌, subst, subst₂, arith, mul_comm, mul_assoc, mul-pos, eq-zero-or-pos}
 use Rattle.std.specs.Int.{◌∣◌}
 use Rattle.std.proofs.lemmas.Int.{ints}
@@ -132,9 +133,6 @@ sum_fits_by_means limit x y p r m mx my low top other total =
     within a c e n limit less is most = let grown : a * c ≤ a * e = mul-le-mul_left a less in omega arith
 
 -- ---- a ratio test
-
-ratio_none : (d : ℕ) → ratio (pos 0) d ≡ whole (pos 0)
-ratio_none d = ratio_is (pos 0) d ∙ zero-/ℚ (whole (pos d))
 
 module _ (limit bound : ℕ) (d : Dictionary) (room : bound ≤ limit) (h : IsBounded d bound) where
   -- a number of a row over another that is not 0

@@ -176,12 +176,6 @@ module _ {F : Type 0} (value : F → Number) (lp : Lp F) (formed : IsWellFormed 
       let behind = bounds_over value (form.columns_of value lp) 0 lp.columns in
       omega (arith, is.variables, count_is value lp formed, length-append first behind, rows_over_counted value (form.columns_of value lp) 0 lp.rows)
 
--- an element that is read is that of its place
-pub item_is : {X : Type 0} (xs : List X) (i : ℕ) (d : X) → i < length xs → get_or xs i d ≡ get_or xs i (get_or xs i d)
-item_is xs i d less = get_or_default xs i d (get_or xs i d) less
-
--- ---- columns
-
 module _ {F : Type 0} (value : F → Number) (limit : ℕ) (d : Dictionary) (lp : Lp F) (shifts : List (Shift F)) (j : ℕ) (shift : Shift F) (here : j < length shifts) (is : shift ≡ get_or shifts j shift) where
   pub widths_left : sum_by (λ (s : Shift F). width (shift_value value s)) (drop j shifts) ≡ width (shift_value value shift) + sum_by (λ (s : Shift F). width (shift_value value s)) (drop (j + 1) shifts)
   widths_left = ap (sum_by (λ (s : Shift F). width (shift_value value s))) (drop_item shifts j shift here is) ∙ sum_by-cons (λ (s : Shift F). width (shift_value value s)) shift (drop (j + 1) shifts)

@@ -1,4 +1,5 @@
 -- The first step that does not fit, in lists joined and on one entry.
+use Rattle.lp_form.proofs.Walks.{Less-from_test}
 use Rattle.std.proofs.Common.{◌≡◌, ◌↔◌, ℕ, Bool, true, false, List, [], ◌∷◌, ◌++◌, Some, None, refl, sym, ap, ◌∙◌, Ordering, Less, Equal, Greater}
 use Rattle.std.specs.Prelude.{IsTrue, unwrap_or}
 use Rattle.std.specs.Ordering.{is_lt}
@@ -15,15 +16,9 @@ use Rattle.lp_std.specs.declared.types.Shift.TheVariants as shift
 use Rattle.lp_std.specs.Meaning.{shift_value}
 use Rattle.lp_std.specs.InnerSteps.{first_stop, bound_of_shift}
 
-is_lt_Less : (r : Ordering) → is_lt r ≡ true → r ≡ Less
-is_lt_Less Less e = refl
-is_lt_Less Equal e = absurd (cc)
-is_lt_Less Greater e = absurd (cc)
-
--- what the test whether a comparison says less tells
 pub below_test : (b : Bool) (r : Ordering) (x y : Number) → b ≡ is_lt r → r ≡ number_cmp x y → IsTrue b ↔ (x <ℚ y)
 below_test b r x y b_is r_is =
-    (λ e. (number_cmp_decides x y).0.0 (sym r_is ∙ is_lt_Less r (sym b_is ∙ e)), λ h. b_is ∙ ap is_lt (r_is ∙ (number_cmp_decides x y).0.1 h))
+    (λ e. (number_cmp_decides x y).0.0 (sym r_is ∙ Less-from_test r (sym b_is ∙ e)), λ h. b_is ∙ ap is_lt (r_is ∙ (number_cmp_decides x y).0.1 h))
 
 -- ---- lists of steps joined
 

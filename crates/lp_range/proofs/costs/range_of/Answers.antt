@@ -1,14 +1,14 @@
 use Rattle.std.proofs.Common.{◌+◌, List, map, drop, refl, sym, ap, ◌∙◌}
 use Rattle.std.specs.Prelude.{slice_index_or}
 use Rattle.std.proofs.lemmas.List.{drop_all}
-use Rattle.lp_form.proofs.Walks.{drop_item}
+use Rattle.lp_form.proofs.Walks.{drop_item, get_or_itself}
 use Rattle.lp_core.specs.Feasible.{bound_value}
 use Rattle.lp_std.specs.Meaning.{shift_value}
 use Rattle.lp_dict.specs.Tableau.{dictionary}
 use Rattle.lp_range.specs.Spans.{span_from}
 use Rattle.lp_range.specs.Ranges.{cost_gain}
 use Rattle.lp_range.proofs.CostBounds.{other_there}
-use Rattle.lp_range.proofs.Loops.{gain_goes, gain_stops, end_stops, item_is, walk_begins}
+use Rattle.lp_range.proofs.Loops.{gain_goes, gain_stops, end_stops, walk_begins}
 use Rattle.lp_range.proofs.costs.range_of.Goals as goal
 
 pub gain_of-requires-clause-there : goal.gain_of-requires-clause-there
@@ -29,7 +29,7 @@ returns-in_default g c =
     let q = slice_index_or others i 0 in
     let f = cost_gain g.F.ExactField.limit (dictionary g.F.ExactField.value c.args.dict.now) c.args.maximize (c.args.column.first.variable, shift_value g.F.ExactField.value c.args.column.shift) in
     sym (c.loop-other.invariant
-    ∙ ap (λ (ks : List _). span_from g.F.ExactField.limit (g.F.ExactField.value c.args.cost) (bound_value g.F.ExactField.value c.loop-other.moves.low) (bound_value g.F.ExactField.value c.loop-other.moves.high) (map f ks)) (drop_item others i q c.loop-other-test.true (item_is others i 0 c.loop-other-test.true))
+    ∙ ap (λ (ks : List _). span_from g.F.ExactField.limit (g.F.ExactField.value c.args.cost) (bound_value g.F.ExactField.value c.loop-other.moves.low) (bound_value g.F.ExactField.value c.loop-other.moves.high) (map f ks)) (drop_item others i q c.loop-other-test.true (get_or_itself others i 0 c.loop-other-test.true))
     ∙ gain_stops g.F.ExactField.value g.F.ExactField.limit (g.F.ExactField.value c.args.cost) c.loop-other.moves (f q) (map f (drop (i + 1) others)) c.in_default.ensures)
 
 pub returns-in_default-with_coefficient : goal.returns-in_default-with_coefficient
@@ -40,7 +40,7 @@ returns-in_default-with_coefficient g c =
     let q = slice_index_or others i 0 in
     let f = cost_gain g.F.ExactField.limit d c.args.maximize (c.args.column.first.variable, shift_value g.F.ExactField.value c.args.column.shift) in
     sym (c.loop-other.invariant
-    ∙ ap (λ (ks : List _). span_from g.F.ExactField.limit (g.F.ExactField.value c.args.cost) (bound_value g.F.ExactField.value c.loop-other.moves.low) (bound_value g.F.ExactField.value c.loop-other.moves.high) (map f ks)) (drop_item others i q c.loop-other-test.true (item_is others i 0 c.loop-other-test.true))
+    ∙ ap (λ (ks : List _). span_from g.F.ExactField.limit (g.F.ExactField.value c.args.cost) (bound_value g.F.ExactField.value c.loop-other.moves.low) (bound_value g.F.ExactField.value c.loop-other.moves.high) (map f ks)) (drop_item others i q c.loop-other-test.true (get_or_itself others i 0 c.loop-other-test.true))
     ∙ end_stops g.F.ExactField.value g.F.ExactField.limit (g.F.ExactField.value c.args.cost) c.loop-other.moves (f q) (map f (drop (i + 1) others)) _ c.in-Some.each c.in-Some.ensures refl c.in_default-with_coefficient.ensures)
 
 pub loop-other-preserved : goal.loop-other-preserved
@@ -51,7 +51,7 @@ loop-other-preserved g c =
     let q = slice_index_or others i 0 in
     let f = cost_gain g.F.ExactField.limit d c.args.maximize (c.args.column.first.variable, shift_value g.F.ExactField.value c.args.column.shift) in
     c.loop-other.invariant
-    ∙ ap (λ (ks : List _). span_from g.F.ExactField.limit (g.F.ExactField.value c.args.cost) (bound_value g.F.ExactField.value c.loop-other.moves.low) (bound_value g.F.ExactField.value c.loop-other.moves.high) (map f ks)) (drop_item others i q c.loop-other-test.true (item_is others i 0 c.loop-other-test.true))
+    ∙ ap (λ (ks : List _). span_from g.F.ExactField.limit (g.F.ExactField.value c.args.cost) (bound_value g.F.ExactField.value c.loop-other.moves.low) (bound_value g.F.ExactField.value c.loop-other.moves.high) (map f ks)) (drop_item others i q c.loop-other-test.true (get_or_itself others i 0 c.loop-other-test.true))
     ∙ gain_goes g.F.ExactField.value g.F.ExactField.limit (g.F.ExactField.value c.args.cost) c.loop-other.moves (f q) (map f (drop (i + 1) others)) c.in-Some-with_coefficient.after _ c.in-Some.each c.in-Some.ensures refl c.in-Some-with_coefficient.ensures
 
 pub returns : goal.returns

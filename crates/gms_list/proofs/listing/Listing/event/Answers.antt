@@ -1,3 +1,4 @@
+use Rattle.gms_eval.proofs.Entries.{at-some}
 use Rattle.std.proofs.Common.{◌≡◌, ◌≤◌, ◌<◌, ◌∙◌, ◌++◌, ◌-◌, ◌^◌, length, ap, sym, refl, map, subst, arith, slice_get, Some}
 use Rattle.std.specs.List.{All}
 use Rattle.std.proofs.lemmas.Bool.Decides.{nat_tests}
@@ -13,7 +14,7 @@ use Rattle.gms_event.specs.EventView.{event_in, shown_in}
 use Rattle.gms_list.specs.Conditions.{IsListable, IsListableSolve, HasProof}
 use Rattle.gms_list.specs.ListingText.{event_text, items_text, stop_text}
 use Rattle.gms_list.proofs.Walks.{reshaped}
-use Rattle.gms_list.proofs.EventTexts.{solve_shown, solve_missing, holds_of}
+use Rattle.gms_list.proofs.EventTexts.{solve_shown, solve_missing}
 use Rattle.gms_list.proofs.listing.Listing.event.Goals as goal
 
 pub push_items-requires : goal.push_items-requires
@@ -33,7 +34,7 @@ push_solve-requires c =
     let found : slice_get c.args.answers.now c.in-Solve.answer ≡ Some c.in-Some.answer.now = slice_get_read c.args.answers.now (length c.args.answers.now) c.in-Solve.answer c.in-Some.answer.now refl there c.in-Some.ensures.lookup.1 in
     record {
       formed = listable.formed;
-      proved = holds_of (λ (a : Answer Frac). HasProof frac_value c.in-Solve.lp a.end) (slice_get c.args.answers.now c.in-Solve.answer) c.in-Some.answer.now found listable.stands;
+      proved = at-some (λ (a : Answer Frac). HasProof frac_value c.in-Solve.lp a.end) (slice_get c.args.answers.now c.in-Solve.answer) c.in-Some.answer.now found listable.stands;
     }
 
 pub returns-in-Display : goal.returns-in-Display
