@@ -12,7 +12,7 @@ use Rattle.gms_host.specs.Meaning.{Meaning}
 use Rattle.gms_command.specs.CommandLine.{texts, request_of}
 use Rattle.lp_slot.specs.declared.solver.SolverRule.TheVariants.{Bland, LargestCoefficient, Turning, Legal}
 use Rattle.gms_run.specs.Solving.{Solvers, Solving}
-use Rattle.gms_run.specs.Jobs.{status_code}
+use Rattle.gms_run.specs.ProgramsToRun.{status_code}
 use Rattle.gms_run.specs.Headline.{HasListing, WritesListing, file_alone}
 use Rattle.gms_run.specs.Laws.{RunIsAnsweredRightly}
 use Rattle.gms_run.specs.Statuses.{CanRun, CountsSo, EndsByNoFault, IsReadyFor, IsRun, IsStopped, MeetsNoFault, NamesProgram, NamesSource}

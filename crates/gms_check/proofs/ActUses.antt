@@ -23,7 +23,7 @@ use Rattle.gms_ast.specs.declared.program.Stmt.{Stmt}
 use Rattle.gms_ast.specs.declared.program.Target.{Target}
 use Rattle.gms_ast.specs.TreeView.{control_tree, tree_of}
 use Rattle.gms_store.specs.State.{State}
-use Rattle.gms_check.specs.Standing.{as_side}
+use Rattle.gms_check.specs.Contexts.{as_side}
 use Rattle.gms_check.specs.InnerStatements.{act_uses}
 use Rattle.gms_check.specs.StatementUses.{UsesOfAct, UsesOfStatement, act_uses_step, index_list, left_uses, option_uses, right_standing, show_uses, statement_uses_step, statement_uses, with_left}
 use Rattle.gms_check.specs.Uses.{Uses, assigning, condition_uses, control_uses, defining, first_alias, method, optimizing, second_alias, sets_of_control, solving, uses}

@@ -12,7 +12,7 @@ use Rattle.gms_ast.specs.declared.expression.LagOp.{LagOp}
 use Rattle.gms_ast.specs.Trees.{Tree, Control, Indices, no_index}
 use Rattle.gms_ast.specs.TreeView.{tree_step, index_step, control_step, tree_of, index_tree}
 use Rattle.gms_check.specs.InnerChecking.{Checking, noted}
-use Rattle.gms_check.specs.Standing.{as_number}
+use Rattle.gms_check.specs.Contexts.{as_number}
 use Rattle.gms_check.specs.StatementUses.{index_list}
 use Rattle.gms_check.specs.Uses.{Uses, amount_uses, shift_uses, shifting, uses}
 use Rattle.gms_check.proofs.IndexLists.{IsGathered, gathered-more, index_tree-Label, index_tree-alone, index_tree-lagged}

@@ -29,7 +29,7 @@ use Rattle.gms_check.specs.Linearity.{is_variable_by}
 use Rattle.gms_check.specs.Loaded.{sound}
 use Rattle.gms_check.specs.Names.{is_variable}
 use Rattle.gms_check.specs.Past.{Known}
-use Rattle.gms_check.specs.Standing.{as_number, may_be_assigned}
+use Rattle.gms_check.specs.Contexts.{as_number, may_be_assigned}
 use Rattle.gms_check.specs.InnerStatements.{act_uses}
 use Rattle.gms_check.specs.StatementUses.{index_list, left_uses, right_standing, statement_uses, with_left}
 use Rattle.gms_check.specs.Uses.{condition_uses, control_uses, index_sets, sets_of_control, shift_uses, uses}

@@ -8,11 +8,11 @@ use Rattle.std.proofs.lemmas.List.Folds.{list_any-append}
 use Rattle.gms_labels.specs.declared.place.Place.{Place}
 use Rattle.gms_ast.specs.Trees.{Mark, Tree, Parts}
 use Rattle.gms_ast.specs.TreeView.{parts_of}
-use Rattle.gms_check.specs.declared.standing.Standing.{Standing}
+use Rattle.gms_check.specs.declared.contexts.Standing.{Standing}
 use Rattle.gms_check.specs.Kinds.{part_count}
 use Rattle.gms_check.specs.Linearity.{has_variable, have_variable}
 use Rattle.gms_check.specs.Past.{Known}
-use Rattle.gms_check.specs.Standing.{as_part}
+use Rattle.gms_check.specs.Contexts.{as_part}
 use Rattle.gms_check.specs.Uses.{Uses, later_steps, operation_of, part_uses, place_by_mark, stepping, steps, uses}
 
 -- whether one of a list has a property, with one more

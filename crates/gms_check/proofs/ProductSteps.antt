@@ -12,11 +12,11 @@ use Rattle.gms_check.specs.declared.error.ErrorKind.{ErrorKind}
 use Rattle.gms_check.specs.declared.error.ErrorKind.TheVariants.{WrongKind, Nonlinear}
 use Rattle.gms_check.specs.declared.expression.Operation.{Operation}
 use Rattle.gms_check.specs.declared.expression.Operation.TheVariants.{Multiplies, Divides, Raises}
-use Rattle.gms_check.specs.declared.standing.Standing.{Standing}
+use Rattle.gms_check.specs.declared.contexts.Standing.{Standing}
 use Rattle.gms_check.specs.InnerChecking.{Checking, faulted, known_of, noted}
 use Rattle.gms_check.specs.Linearity.{has_variable}
 use Rattle.gms_check.specs.InnerPartLists.{in_no_place, step_curved, step_faults, step_wrong}
-use Rattle.gms_check.specs.Standing.{as_part}
+use Rattle.gms_check.specs.Contexts.{as_part}
 use Rattle.gms_check.specs.Uses.{Uses, multiplies, divides, raises, operation_of, place_by_mark, stepping, steps, uses}
 use Rattle.gms_check.proofs.Noting.{chain-2, noted-by, noted-turned}
 use Rattle.gms_check.proofs.PartUses.{steps-first, steps-more}

@@ -8,13 +8,13 @@ use Rattle.gms_ast.specs.declared.program.Program.{Program}
 use Rattle.gms_ast.specs.declared.program.Stmt.{Stmt}
 use Rattle.gms_ast.specs.TreeView.{control_tree, tree_of}
 use Rattle.gms_ast.specs.Trees.{Tree, Parts, Indices, no_index, label, set, lagged, Control}
-use Rattle.gms_check.specs.declared.standing.Standing.{Standing}
+use Rattle.gms_check.specs.declared.contexts.Standing.{Standing}
 use Rattle.gms_check.specs.Checked.{StandsAfter}
 use Rattle.gms_check.specs.CompileErrors.{compile_errors, errors_after, known_after}
 use Rattle.gms_check.specs.Loaded.{sound}
 use Rattle.gms_check.specs.Past.{Known}
 use Rattle.gms_check.specs.References.{Asking, InTree, a_reference, an_ord, in_amount, in_argument, in_condition, in_body, in_negated, in_sum, in_product, in_power, in_relation, in_not, in_and, in_or, in_guarded, in_guard, InParts, in_part, in_later_part, InIndices, in_lag, behind_label, behind_set, behind_lag, InControl, in_where, InAct, on_the_left, in_left_condition, on_the_right, in_definition_condition, in_left_side, in_right_side, in_loop_condition, in_abort_condition, InStatement, IsMeant}
-use Rattle.gms_check.specs.Standing.{as_number, as_condition, as_side, as_part, as_inner, as_guarded, as_denied}
+use Rattle.gms_check.specs.Contexts.{as_number, as_condition, as_side, as_part, as_inner, as_guarded, as_denied}
 use Rattle.gms_check.specs.InnerStatements.{act_uses}
 use Rattle.gms_check.specs.StatementUses.{index_list, left_uses, right_standing, show_uses, statement_uses, with_left}
 use Rattle.gms_check.specs.Uses.{Uses, reading, ordinal, place_by_mark, steps, sets_of_control, uses, part_uses, amount_uses, control_uses, shift_uses, condition_uses}

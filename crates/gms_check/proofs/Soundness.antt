@@ -26,7 +26,7 @@ use Rattle.gms_check.specs.Errors.{first_error}
 use Rattle.gms_check.specs.Kinds.{has_wrong_set}
 use Rattle.gms_check.specs.Loaded.{sound}
 use Rattle.gms_check.specs.Past.{Known, Past, is_among}
-use Rattle.gms_check.specs.Standing.{may_be_assigned, may_stand}
+use Rattle.gms_check.specs.Contexts.{may_be_assigned, may_stand}
 use Rattle.gms_check.specs.InnerStatements.{act_uses}
 use Rattle.gms_check.specs.StatementUses.{statement_uses}
 use Rattle.gms_check.specs.Uses.{Use, Uses, assigning, cardinal, controlling, defining, index_sets, ordinal, reading}

@@ -9,8 +9,8 @@ use Rattle.gms_ast.specs.declared.expression.Suffix.TheVariants as suffix
 use Rattle.gms_ast.specs.Trees.{Tree, number, reference, Parts, no_part, part, Indices, no_index}
 use Rattle.gms_store.specs.declared.kind.SymbolKind.{SymbolKind}
 use Rattle.gms_store.specs.declared.kind.SymbolKind.TheVariants as kind
-use Rattle.gms_check.specs.declared.standing.Standing.{Standing}
-use Rattle.gms_check.specs.Standing.{as_condition, may_stand, may_be_assigned}
+use Rattle.gms_check.specs.declared.contexts.Standing.{Standing}
+use Rattle.gms_check.specs.Contexts.{as_condition, may_stand, may_be_assigned}
 use Rattle.gms_check.specs.Uses.{Use, literal, truth, reading, ordinal, cardinal, calling, folding, controlling, stepping, multiplies, divides, raises, logic, assigning, defining, shifting, not_continuous, bounding, first_alias, second_alias, listing, solving, optimizing, showing, index_sets}
 use Rattle.gms_check.specs.Past.{Known}
 use Rattle.gms_scope.specs.Names.{is_equation, is_index_set, is_model, is_set_name, has_no_declaration, declared_kind, positions}

@@ -22,7 +22,7 @@ pub mod InnerPartLists
 pub mod Past
 pub mod References
 pub mod Solves
-pub mod Standing
+pub mod Contexts
 pub mod StatementUses
 pub mod InnerStatements
 pub mod InnerTrials

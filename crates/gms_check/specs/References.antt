@@ -23,7 +23,7 @@ use Rattle.gms_ast.specs.declared.word.Named.{Named}
 use Rattle.gms_ast.specs.TreeView.{tree_of, control_tree}
 use Rattle.gms_ast.specs.Trees.{Mark, Tree, reference, place_in_set, call, fold_over, negated, sum, product, power, relation, not_so, all_of, one_of, guarded, Parts, part, Indices, label, set, lagged, Control, over_where}
 use Rattle.gms_scope.specs.Names.{is_index_set}
-use Rattle.gms_check.specs.declared.standing.Standing.{Standing}
+use Rattle.gms_check.specs.declared.contexts.Standing.{Standing}
 use Rattle.gms_check.specs.Checked.{IsReading}
 use Rattle.gms_check.specs.Controls.{is_ordered}
 use Rattle.gms_check.specs.Past.{Known, is_among}

@@ -10,8 +10,8 @@ use Rattle.gms_ast.specs.declared.declaration.DeclKind.{DeclKind}
 use Rattle.gms_ast.specs.declared.program.Setting.{Setting}
 use Rattle.gms_ast.specs.Trees.{Mark, plain, placed, signed, related, chosen, Tree, number, plus_infinity, not_available, yes, no, reference, place_in_set, size_of_set, call, fold_over, negated, sum, product, power, relation, not_so, all_of, one_of, guarded, Parts, no_part, part, Indices, no_index, label, set, lagged, Control, over, over_where}
 use Rattle.gms_set.specs.declared.fault.SetError.{SetError}
-use Rattle.gms_check.specs.declared.standing.Standing.{Standing}
-use Rattle.gms_check.specs.Standing.{as_number, as_condition, as_part, as_guarded, as_inner, as_denied}
+use Rattle.gms_check.specs.declared.contexts.Standing.{Standing}
+use Rattle.gms_check.specs.Contexts.{as_number, as_condition, as_part, as_guarded, as_inner, as_denied}
 
 -- A step between two operands.
 pub data Operation : Type 0 where

@@ -9,7 +9,7 @@ ghost use Rattle.gms_check.specs.declared.error.ErrorKind.TheVariants.{UnknownNa
 use crate::checker::Checker;
 use crate::error::ErrorKind;
 use crate::indices::{MOST, has_unknown, has_wrong_set};
-use crate::standing::Standing;
+use crate::contexts::Standing;
 use gms_labels::Place;
 use gq_field::ExactField;
 use std::alloc::AllocError;

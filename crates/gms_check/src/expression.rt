@@ -5,14 +5,14 @@ ghost use Rattle.gms_check.specs.InnerChecking.{faulted, known_of, noted, seen, 
 ghost use Rattle.gms_check.specs.Kinds.{takes_arguments};
 ghost use Rattle.gms_check.specs.Linearity.{has_variable, have_variable, is_sum, is_variable_by};
 ghost use Rattle.gms_check.specs.InnerPartLists.{chosen_list, in_no_place, placed_list, plain_list, related_list, signed_list, step_curved, step_faults, step_wrong};
-ghost use Rattle.gms_check.specs.Standing.{as_condition, as_inner, as_number, as_part};
+ghost use Rattle.gms_check.specs.Contexts.{as_condition, as_inner, as_number, as_part};
 ghost use Rattle.gms_check.specs.StatementUses.{index_list};
 ghost use Rattle.gms_check.specs.declared.error.ErrorKind.TheVariants.{Nonlinear, WrongKind};
 ghost use Rattle.gms_check.specs.Uses.{amount_uses, calling, control_uses, folding, logic, part_uses, reading, sets_of_control, steps, uses};
 
 use crate::checker::Checker;
 use crate::error::ErrorKind;
-use crate::standing::Standing;
+use crate::contexts::Standing;
 use gms_ast::{Control, Expr, FoldOp, Function, Index, Named, RelOp, Suffix};
 use gms_labels::Place;
 use gq_field::ExactField;

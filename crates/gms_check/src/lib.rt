@@ -15,7 +15,7 @@ mod loading;
 mod option;
 mod reference;
 mod solving;
-mod standing;
+mod contexts;
 mod statement;
 mod target;
 

@@ -13,7 +13,7 @@ use crate::indices::{
     index_sets, is_wrong_count, lagged_sets,
 };
 use crate::kinds::is_variable;
-use crate::standing::Standing;
+use crate::contexts::Standing;
 use gms_ast::{Index, Named, Show, Suffix};
 use gms_labels::Place;
 use gq_field::ExactField;

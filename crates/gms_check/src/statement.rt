@@ -5,14 +5,14 @@ ghost use Rattle.gms_ast.specs.declared.program.Right.TheVariants.{Value};
 ghost use Rattle.gms_check.specs.InnerChanges.{facts_after};
 ghost use Rattle.gms_check.specs.InnerChecking.{known_of, noted, seen, with_controlled, with_facts, with_sets};
 ghost use Rattle.gms_check.specs.CompileErrors.{statement_error};
-ghost use Rattle.gms_check.specs.Standing.{as_side};
+ghost use Rattle.gms_check.specs.Contexts.{as_side};
 ghost use Rattle.gms_check.specs.InnerStatements.{act_uses, is_action};
 ghost use Rattle.gms_check.specs.StatementUses.{index_list, left_uses, right_standing, statement_uses, with_left};
 ghost use Rattle.gms_check.specs.Uses.{assigning, control_uses, defining, index_sets, sets_of_control, uses};
 
 use crate::checker::Checker;
 use crate::error::CompileError;
-use crate::standing::Standing;
+use crate::contexts::Standing;
 use gms_ast::{Act, Control, Expr, Index, Named, Right, Stmt, Target};
 use gms_labels::Place;
 use gq_field::ExactField;

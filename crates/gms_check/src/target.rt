@@ -7,14 +7,14 @@ ghost use Rattle.gms_scope.specs.Names.{declared_kind, positions};
 ghost use Rattle.gms_check.specs.Kinds.{is_left_amount, is_without_positions, may_shift};
 ghost use Rattle.gms_check.specs.OptionWords.{is_whole};
 ghost use Rattle.gms_check.specs.StatementUses.{index_list};
-ghost use Rattle.gms_check.specs.Standing.{as_number};
+ghost use Rattle.gms_check.specs.Contexts.{as_number};
 ghost use Rattle.gms_check.specs.Uses.{assigning, condition_uses, defining, index_sets, listing, shift_uses, shifting, uses};
 
 use crate::checker::Checker;
 use crate::error::ErrorKind;
 use crate::indices::index_sets;
 use crate::kinds::is_equation;
-use crate::standing::{Standing, may_be_assigned};
+use crate::contexts::{Standing, may_be_assigned};
 use gms_ast::{Expr, Index, Named, Suffix, Target};
 use gms_labels::Place;
 use gms_store::SymbolKind;

@@ -7,7 +7,7 @@ use Rattle.gms_eval.specs.declared.stop.ExecStopOrMemory.TheVariants.{Memory, Fa
 use Rattle.gms_eval.specs.Domain.{those_where}
 use Rattle.gms_eval.specs.Faults.{Answer, Fault, ◌and_then◌}
 use Rattle.gms_eval.specs.Gives.{fault_of, ShowsStop}
-use Rattle.gms_eval.specs.InnerWalks.{with_element}
+use Rattle.gms_eval.specs.InnerContracts.{with_element}
 use Rattle.gms_eval.proofs.Answering.{and_then_assoc}
 
 module _ (test : List ℕ → Answer Bool) where

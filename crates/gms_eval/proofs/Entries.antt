@@ -29,7 +29,7 @@ use Rattle.gms_eval.specs.Faults.{Answer, nothing, ◌and_then◌}
 use Rattle.gms_eval.specs.References.{all_there, tuple_of, plain_value}
 use Rattle.gms_eval.specs.InnerLeading.{walked, spread_over, plain_so, Leads, tuple_answer, entry_holds}
 use Rattle.gms_eval.specs.Value.{label_answer}
-use Rattle.gms_eval.specs.declared.walk.Walk.{Walk}
+use Rattle.gms_eval.specs.declared.traversals.Walk.{Walk}
 use Rattle.gms_eval.proofs.Scanning.{nothing_not_so}
 use Rattle.gms_eval.proofs.Shapes.{label-alone}
 use Rattle.gms_eval.proofs.Zeros.{whole_zero}

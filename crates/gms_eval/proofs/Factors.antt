@@ -18,7 +18,7 @@ use Rattle.gms_tuple.specs.TupleSet.{has}
 use Rattle.gms_eval.specs.Bindings.{Pairs, controlled}
 use Rattle.gms_eval.specs.Domain.{elements, those_where, IsSimple}
 use Rattle.gms_eval.specs.Holds.{holds}
-use Rattle.gms_eval.specs.declared.walk.Walk.{Walk}
+use Rattle.gms_eval.specs.declared.traversals.Walk.{Walk}
 use Rattle.gms_eval.specs.Faults.{Answer, ◌and_then◌}
 use Rattle.gms_eval.specs.InnerLeading.{walked, both, Leads, IsScan, plain_so, tuple_answer, entry_holds, expression_holds, all_hold_in_turn, guards_hold}
 use Rattle.gms_eval.specs.References.{entry_or_zero}

@@ -14,7 +14,7 @@ use Rattle.gms_tuple.proofs.Members.{after-first, has-removed}
 use Rattle.gms_store.specs.State.{State, given_of}
 use Rattle.gms_eval.specs.Domain.{elements}
 use Rattle.gms_eval.specs.InnerLeading.{steps_of, spread_over, picked, walked}
-use Rattle.gms_eval.specs.declared.walk.Walk.{Walk}
+use Rattle.gms_eval.specs.declared.traversals.Walk.{Walk}
 use Rattle.gms_eval.proofs.Reaching.{mul-le}
 
 -- ---- ordered lists within lists

@@ -6,7 +6,7 @@ use Rattle.gms_ast.specs.declared.expression.LagOp.{LagOp}
 use Rattle.gms_ast.specs.declared.expression.LagOp.TheVariants.{Lead, Lag, CircularLead, CircularLag}
 use Rattle.gms_tuple.specs.TupleSet.{place_of_tuple}
 use Rattle.gms_eval.specs.Lag.{label_of_element, label_at, moved, lagged_label}
-use Rattle.gms_eval.specs.InnerWalks.{within, moved_place}
+use Rattle.gms_eval.specs.InnerContracts.{within, moved_place}
 
 -- the label at a place
 abbrev pub labelled : List (List ℕ) → ℕ → ℕ

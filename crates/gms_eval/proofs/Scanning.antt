@@ -14,7 +14,7 @@ use Rattle.gms_eval.specs.Faults.{Answer, Fault, nothing, ◌and_then◌}
 use Rattle.gms_eval.specs.InnerLeading.{Condition, both, each_in_turn, Leads, IsScan, expression_holds, all_hold_in_turn, guards_hold}
 use Rattle.gms_eval.specs.Value.{when_so}
 use Rattle.gms_eval.specs.declared.leading.Scan.{Scan}
-use Rattle.gms_eval.specs.declared.walk.Walk.{Walk}
+use Rattle.gms_eval.specs.declared.traversals.Walk.{Walk}
 use Rattle.gms_eval.proofs.Guards.{holds-start, one-fails}
 use Rattle.gms_eval.proofs.NodeValues.{of_expr, value-And, value-Guard}
 use Rattle.gms_eval.proofs.Zeros.{whole_zero}

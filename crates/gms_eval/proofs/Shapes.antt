@@ -26,7 +26,7 @@ use Rattle.gms_eval.specs.Gives.{ShowsStop}
 use Rattle.gms_eval.specs.Holds.{holds}
 use Rattle.gms_eval.specs.References.{place_in_set, reached_label}
 use Rattle.gms_eval.specs.Value.{value, domain, sets_of, first_label, label_answer}
-use Rattle.gms_eval.specs.InnerWalks.{those_of, IsCounted}
+use Rattle.gms_eval.specs.InnerContracts.{those_of, IsCounted}
 use Rattle.gms_eval.proofs.Answering.{stops-then, then-value}
 use Rattle.gms_eval.proofs.NodeValues.{of_expr, value-Fold}
 

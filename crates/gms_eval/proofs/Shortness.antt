@@ -19,7 +19,7 @@ use Rattle.gms_store.specs.State.{State}
 use Rattle.gms_eval.specs.Bindings.{Pairs}
 use Rattle.gms_eval.specs.InnerLeading.{steps_of, IsBounded, Leading, IsShort, IsBareReference, later_walk, indices_tree, parts_tree}
 use Rattle.gms_eval.specs.Leaders.{without_lags, is_bare, never_fails, none_fails, MayLead, OneMayLead, LastMayLead, reach}
-use Rattle.gms_eval.specs.declared.walk.Walk.{Walk}
+use Rattle.gms_eval.specs.declared.traversals.Walk.{Walk}
 use Rattle.gms_eval.specs.declared.leading.Scan.{Scan}
 use Rattle.gms_eval.proofs.Reaching.{count-indices}
 

@@ -5,7 +5,7 @@ use Rattle.std.proofs.lemmas.Bool.{cases_lt, lt-leb}
 use Rattle.gms_eval.specs.Nodes.{in_order}
 use Rattle.gms_eval.specs.Faults.{Answer, Fault, ◌and_then◌}
 use Rattle.gms_eval.specs.References.{all_there, tuple_of}
-use Rattle.gms_eval.specs.InnerWalks.{with_label}
+use Rattle.gms_eval.specs.InnerContracts.{with_label}
 use Rattle.gms_eval.proofs.Answering.{and_then_assoc}
 
 -- a tuple filled by the labels that are left

@@ -17,7 +17,7 @@ use Rattle.gms_eval.specs.Holds.{holds}
 use Rattle.gms_eval.specs.Leaders.{without_lags, number_of_indices, reach}
 use Rattle.gms_eval.specs.References.{tuple_of, plain_value}
 use Rattle.gms_eval.specs.Value.{value, label_answer}
-use Rattle.gms_eval.specs.declared.walk.Walk.{Walk}
+use Rattle.gms_eval.specs.declared.traversals.Walk.{Walk}
 use Rattle.gms_eval.specs.declared.leading.Scan.{Scan}
 
 -- ---- traversals

@@ -9,5 +9,5 @@ pub mod References
 pub mod Value
 pub mod InnerLeading
 pub mod InnerSteps
-pub mod InnerWalks
+pub mod InnerContracts
 pub mod Leaders

@@ -2,7 +2,7 @@
 ghost use Rattle.std.specs.Prelude.{◌≡◌, ◌<◌, [], min, length, slice_index_or, IfOk, OnOk};
 ghost use Rattle.gms_eval.specs.Domain.{most_counted, elements, sized};
 ghost use Rattle.gms_eval.specs.Gives.{Gives};
-ghost use Rattle.gms_eval.specs.InnerWalks.{those_of, IsCounted, with_element};
+ghost use Rattle.gms_eval.specs.InnerContracts.{those_of, IsCounted, with_element};
 
 use crate::binding::Binding;
 use crate::indices::label_at;

@@ -12,7 +12,7 @@ ghost use Rattle.gms_eval.specs.Gives.{Gives};
 ghost use Rattle.gms_eval.specs.Holds.{holds};
 ghost use Rattle.gms_eval.specs.References.{tuple_of, entry_or_zero};
 ghost use Rattle.gms_eval.specs.Value.{value, domain, control_over, label_answer};
-ghost use Rattle.gms_eval.specs.InnerWalks.{those_of, IsCounted};
+ghost use Rattle.gms_eval.specs.InnerContracts.{those_of, IsCounted};
 
 use crate::binding::Binding;
 use crate::elements::{Elements, all, keep, size};

@@ -6,7 +6,7 @@ ghost use Rattle.gms_tuple.specs.TupleSet.{place_of_tuple};
 ghost use Rattle.gms_eval.specs.Gives.{Gives};
 ghost use Rattle.gms_eval.specs.Lag.{label_of_element, lagged_label, whole_number};
 ghost use Rattle.gms_eval.specs.References.{place_in_set, reached_label};
-ghost use Rattle.gms_eval.specs.InnerWalks.{within, moved_place, with_label};
+ghost use Rattle.gms_eval.specs.InnerContracts.{within, moved_place, with_label};
 
 use crate::binding::Binding;
 use crate::steps::zero;

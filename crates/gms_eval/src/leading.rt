@@ -12,12 +12,12 @@ ghost use Rattle.gms_eval.specs.Domain.{most_elements, elements, those_where};
 ghost use Rattle.gms_eval.specs.Holds.{holds};
 ghost use Rattle.gms_eval.specs.InnerLeading.{Condition, both, Leads, IsScan, IsReaching, IsShort, IsBareReference, later_walk, indices_tree, parts_tree, spread_over, label_answers, tuple_answer, entry_holds, expression_holds, all_hold_in_turn, guards_hold};
 ghost use Rattle.gms_eval.specs.Leaders.{before_others, without_lags, never_fails, none_fails, MayLead, OneMayLead, LastMayLead, front_of, is_plain_index, is_told, free_behind, reach};
-ghost use Rattle.gms_eval.specs.InnerWalks.{those_of, IsCounted};
+ghost use Rattle.gms_eval.specs.InnerContracts.{those_of, IsCounted};
 ghost use Rattle.gms_eval.specs.Value.{label_answer};
 
 use crate::binding::Binding;
 use crate::elements::{Elements, MOST_ELEMENTS, count};
-use crate::walk::{Walk, are_simple, gathered, listed};
+use crate::traversals::{Walk, are_simple, gathered, listed};
 use gms_ast::{Expr, Index, Suffix};
 use gms_store::Store;
 use gms_tuple::{MOST_LABELS, Tuple};

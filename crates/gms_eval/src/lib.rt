@@ -11,7 +11,7 @@ mod leading;
 mod references;
 mod steps;
 mod stop;
-mod walk;
+mod traversals;
 
 pub use binding::Binding;
 pub use expressions::{all_hold, domain, domain_over, holds, signed_chain, tuple_of, value};

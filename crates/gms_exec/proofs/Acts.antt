@@ -25,7 +25,7 @@ use Rattle.gms_exec.specs.Assignment.{target_of, after_assignment}
 use Rattle.gms_exec.specs.Dimensions.{AreOneDimensional}
 use Rattle.gms_exec.specs.Options.{after_options}
 use Rattle.gms_exec.specs.Run.{Course, World, labels_in, in_state, with_evaluated, display, abort_where, solve, of_statement}
-use Rattle.gms_exec.specs.InnerWalks.{Assigns, IsOnce, AsksNoSolver}
+use Rattle.gms_exec.specs.InnerContracts.{Assigns, IsOnce, AsksNoSolver}
 use Rattle.gms_exec.specs.Stepping.{RunView, come_to, Runs, AreValidSettings, UnlessMemory}
 use Rattle.gms_exec.proofs.ActSteps.{on-Assign, on-Display, on-Options, on-Abort, on-Solve, on-Declare, on-Alias, on-Define, on-Model}
 use Rattle.gms_exec.proofs.Arms.{runs-alike, runs-assigned, runs-nothing, runs-state, unless-both}

@@ -17,7 +17,7 @@ use Rattle.lp_slot.specs.declared.solver.SolverRule.{SolverRule}
 use Rattle.lp_core.specs.Numbers.{answer_numbers}
 use Rattle.gms_exec.specs.Answering.{IsAnswered, AreAnswered}
 use Rattle.gms_exec.specs.Run.{Course, stopped_by, with_evaluated, with_event, in_state}
-use Rattle.gms_exec.specs.InnerWalks.{Assigns, HasNoSolve, ShowsNoSolve}
+use Rattle.gms_exec.specs.InnerContracts.{Assigns, HasNoSolve, ShowsNoSolve}
 use Rattle.gms_exec.specs.Stepping.{RunView, come_to, Runs, Answered, paths_taken, UnlessMemory}
 use Rattle.gms_exec.proofs.Joining.{grown-nothing}
 

@@ -29,7 +29,7 @@ use Rattle.gms_eval.proofs.TreeValues.{labels-indices_of}
 use Rattle.gms_exec.specs.Given.{Given, member, value_is, AllGiven}
 use Rattle.gms_exec.specs.Membership.{membership}
 use Rattle.gms_exec.specs.Assignment.{newly_controlled, takes_value, where_taken, target_of, given_under, element_under, given_elements, given_by}
-use Rattle.gms_exec.specs.InnerWalks.{behind_others, found_at, Assigns}
+use Rattle.gms_exec.specs.InnerContracts.{behind_others, found_at, Assigns}
 
 -- ---- kinds
 

@@ -11,7 +11,7 @@ use Rattle.gms_eval.specs.Domain.{sized, too_large}
 use Rattle.gms_eval.specs.Faults.{nothing}
 use Rattle.gms_eval.specs.declared.stop.StopKind.TheVariants.{DomainSize}
 use Rattle.gms_exec.specs.Showing.{value_shown, is_indexed, entries_shown}
-use Rattle.gms_exec.specs.InnerWalks.{is_kept, with_entries}
+use Rattle.gms_exec.specs.InnerContracts.{is_kept, with_entries}
 
 -- an entry that is left out, and one that is appended
 pub left-out : (done : List (List ℕ × Extended)) (e : List ℕ × Extended) (keep out : Bool) → out ≡ not keep → out ≡ true → done ≡ done ++ cond keep (e ∷ []) []

@@ -31,7 +31,7 @@ use Rattle.gms_exec.specs.Given.{AllGiven, after_given}
 use Rattle.gms_exec.specs.Options.{after_options}
 use Rattle.gms_exec.specs.Showing.{all_shown}
 use Rattle.gms_exec.specs.Run.{Course, World, with_evaluated, in_state, abort, abort_where, answered, solve, of_statement, labels_in}
-use Rattle.gms_exec.specs.InnerWalks.{IsOnce}
+use Rattle.gms_exec.specs.InnerContracts.{IsOnce}
 use Rattle.gms_exec.specs.Stepping.{RunView, come_to, Runs, AreValidSettings, UnlessMemory}
 use Rattle.gms_exec.proofs.ActSteps.{on-Assign, on-Display, on-Options, on-Abort, on-Solve, on-Declare, on-Alias, on-Define, on-Model}
 use Rattle.gms_exec.proofs.KeptSettings.{kept-options}

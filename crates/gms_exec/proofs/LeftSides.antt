@@ -27,7 +27,7 @@ use Rattle.gms_eval.proofs.Answering.{and_then_assoc}
 use Rattle.gms_rows.specs.Rows.{sets_among, each_once}
 use Rattle.gms_exec.specs.Assignment.{newly_controlled, given_elements}
 use Rattle.gms_exec.specs.Given.{Given, AllGiven}
-use Rattle.gms_exec.specs.InnerWalks.{first_set, behind_others, noted, with_found}
+use Rattle.gms_exec.specs.InnerContracts.{first_set, behind_others, noted, with_found}
 
 -- ---- the sets of indices
 

@@ -23,12 +23,12 @@ mod OneSolver
 pub mod Newest
 pub mod Staying
 pub mod Symbols
-pub mod Behind
+pub mod EarlierEvents
 pub mod Quiet
-pub mod Standing
+pub mod ValidCalls
 mod Decimals
 mod SolveRuns
-mod Standings
+mod ValidSequences
 mod Stepping
 mod Loops
 mod AfterSolve

@@ -1,6 +1,6 @@
 -- A loop of statements over elements: its invariants before an element and before a statement, and
 -- each step.
-use Rattle.lp_form.proofs.Walks.{drop_item}
+use Rattle.lp_form.proofs.LoopSteps.{drop_item}
 use Rattle.std.proofs.Common.{◌≡◌, ℕ, ◌+◌, ◌<◌, ◌≤◌, List, [], ◌∷◌, length, map, take, drop, get_or, refl, sym, ap, subst, ◌∙◌, Result, Ok, Err, append-nil}
 use Rattle.std.proofs.lemmas.List.{at_drop_more, drop_all, get_or_default, length-map}
 use Rattle.gq_number.specs.Number.{Number}
@@ -15,7 +15,7 @@ use Rattle.lp_core.specs.declared.answer.Pivot.{Pivot}
 use Rattle.lp_slot.specs.declared.solver.SolverRule.{SolverRule}
 use Rattle.gms_exec.specs.Dimensions.{AreOneDimensional}
 use Rattle.gms_exec.specs.Run.{Course, OfStatement, one_after_another, for_each, of_statement}
-use Rattle.gms_exec.specs.Standing.{ShowsStanding}
+use Rattle.gms_exec.specs.ValidEvents.{ShowsStanding}
 use Rattle.gms_exec.specs.Stepping.{RunView, come_to, Runs, Answered, AreValidSettings, UnlessMemory}
 use Rattle.gms_exec.proofs.Arms.{unless-any}
 use Rattle.gms_exec.proofs.Joining.{Reaches, LeavesHalted, reaches-more, reaches-stop, reaches-end, statements-halted, each-halted}

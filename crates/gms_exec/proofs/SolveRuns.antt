@@ -32,7 +32,7 @@ use Rattle.gms_exec.specs.Answering.{IsAnswered}
 use Rattle.gms_exec.specs.Run.{Course, stopped_by, with_evaluated, answered, solve}
 use Rattle.gms_exec.specs.Solved.{after_end}
 use Rattle.gms_exec.specs.InnerSolving.{Grown, ShowsSolve, Solves, AnswersAt, path_at}
-use Rattle.gms_exec.specs.Standing.{IsStanding, ShowsStanding}
+use Rattle.gms_exec.specs.ValidEvents.{IsStanding, ShowsStanding}
 use Rattle.gms_exec.specs.Stepping.{RunView, come_to, Runs, Answered, paths_taken}
 
 get-last : {A : Type 0} (xs : List A) (x : A) → slice_get (xs ++ x ∷ []) (length xs) ≡ Some x

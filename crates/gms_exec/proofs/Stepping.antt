@@ -6,11 +6,11 @@ use Rattle.gms_ast.specs.declared.program.Stmt.{Stmt}
 use Rattle.lp_core.specs.declared.answer.Answer.{Answer}
 use Rattle.lp_core.specs.declared.answer.Pivot.{Pivot}
 use Rattle.lp_slot.specs.declared.solver.SolverRule.{SolverRule}
-use Rattle.gms_exec.specs.Standing.{ShowsStanding}
+use Rattle.gms_exec.specs.ValidEvents.{ShowsStanding}
 use Rattle.gms_exec.specs.Stepping.{RunView, Answered}
 use Rattle.gms_exec.proofs.Joining.{answered-nothing, answered-both}
 use Rattle.gms_exec.proofs.Keeping.{Keeps}
-use Rattle.gms_exec.proofs.Standings.{standing-nothing, standing-both}
+use Rattle.gms_exec.proofs.ValidSequences.{standing-nothing, standing-both}
 
 module _ {S F : Type 0} (value : F → Number) (limit : ℕ) (name : S → List ℕ) (rule : S → SolverRule) (paths : S → List (List Pivot)) (statements : List (Stmt F)) where
   -- what calls did from an old point to a new one, apart from the run: what solvers answered, that

@@ -10,7 +10,7 @@ pub mod Reads
 pub mod Run
 pub mod Showing
 pub mod Solved
-pub mod Standing
+pub mod ValidEvents
 pub mod Stepping
 pub mod InnerSolving
-pub mod InnerWalks
+pub mod InnerContracts

@@ -11,7 +11,7 @@ ghost use Rattle.gms_eval.specs.Bindings.{controlled};
 ghost use Rattle.gms_eval.specs.Faults.{nothing, ◌and_then◌};
 ghost use Rattle.gms_eval.specs.Gives.{Gives};
 ghost use Rattle.gms_exec.specs.Assignment.{newly_controlled, takes_value, where_taken, target_of, given_under, element_under, given_elements, given_by, after_assignment};
-ghost use Rattle.gms_exec.specs.InnerWalks.{given_in, all_given_in, Assigns, first_set, behind_others, noted, with_found, found_in, found_at};
+ghost use Rattle.gms_exec.specs.InnerContracts.{given_in, all_given_in, Assigns, first_set, behind_others, noted, with_found, found_in, found_at};
 ghost use Rattle.gms_store.specs.Declarations.{is_set};
 
 use crate::given::{Given, put_all};

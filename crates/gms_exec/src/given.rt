@@ -3,7 +3,7 @@ ghost use Rattle.std.specs.Prelude.{◌≡◌, ◌∷◌, [], option_map, OnOk};
 ghost use Rattle.gq_extended.specs.Meaning.{extended};
 ghost use Rattle.gms_ast.specs.declared.expression.Suffix.TheVariants.{Fx};
 ghost use Rattle.gms_exec.specs.Given.{number_of_value, bound_of_value, after_given, value_is};
-ghost use Rattle.gms_exec.specs.InnerWalks.{given_in, all_given_in};
+ghost use Rattle.gms_exec.specs.InnerContracts.{given_in, all_given_in};
 
 use gms_ast::Suffix;
 use gms_store::Store;

@@ -9,7 +9,7 @@ mod options;
 mod showing;
 mod solving;
 mod statement;
-mod walk;
+mod name_domains;
 
 pub use laws::{assignment_laws, once_laws, solve_laws};
 pub use statement::step;

@@ -9,9 +9,9 @@ ghost use Rattle.gms_eval.specs.Gives.{Gives};
 ghost use Rattle.gms_eval.specs.References.{lower_value, upper_value, plain_value};
 ghost use Rattle.gms_event.specs.EventView.{shown_in};
 ghost use Rattle.gms_exec.specs.Showing.{status_shown, value_shown, elements_at, is_bound, is_indexed, entries_shown, tuples_looked_at, shown_of, all_shown};
-ghost use Rattle.gms_exec.specs.InnerWalks.{entries_in, is_kept, with_entries, tuples_given, text_shown, symbol_shown};
+ghost use Rattle.gms_exec.specs.InnerContracts.{entries_in, is_kept, with_entries, tuples_given, text_shown, symbol_shown};
 
-use crate::walk::Walk;
+use crate::name_domains::Walk;
 use gms_ast::{Named, Sequence, Show, Suffix, Word};
 use gms_eval::{Binding, ExecStopOrMemory};
 use gms_event::Shown;

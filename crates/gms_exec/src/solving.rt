@@ -12,7 +12,7 @@ ghost use Rattle.gms_rows.specs.Rows.{equations_of};
 ghost use Rattle.gms_exec.specs.Run.{solve};
 ghost use Rattle.gms_exec.specs.Solved.{statuses_of, with_point, points, keys_of_columns, row_keys, after_end};
 ghost use Rattle.gms_exec.specs.InnerSolving.{Grown, ShowsSolve, Solves, AnswersAt, path_at};
-ghost use Rattle.gms_exec.specs.Standing.{ShowsStanding};
+ghost use Rattle.gms_exec.specs.ValidEvents.{ShowsStanding};
 ghost use Rattle.gms_exec.specs.Stepping.{Runs, Answered, UnlessMemory};
 
 use crate::statement::stopped;

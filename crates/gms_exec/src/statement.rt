@@ -13,8 +13,8 @@ ghost use Rattle.gms_exec.specs.Options.{after_options};
 ghost use Rattle.lp_core.specs.declared.answer.Answer.{Answer};
 ghost use Rattle.gms_exec.specs.Run.{of_statement, display, abort, abort_where};
 ghost use Rattle.lp_slot.specs.declared.solver.SolverRule.{SolverRule};
-ghost use Rattle.gms_exec.specs.Standing.{ShowsStanding};
-ghost use Rattle.gms_exec.specs.InnerWalks.{Assigns, IsOnce, AsksNoSolver, ShowsNoSolve};
+ghost use Rattle.gms_exec.specs.ValidEvents.{ShowsStanding};
+ghost use Rattle.gms_exec.specs.InnerContracts.{Assigns, IsOnce, AsksNoSolver, ShowsNoSolve};
 ghost use Rattle.gms_exec.specs.Stepping.{Runs, Answered, AreValidSettings, UnlessMemory};
 
 use crate::assignment::Assignment;

@@ -23,7 +23,7 @@ use Rattle.gms_expressions.specs.InnerNodes.{view}
 use Rattle.gms_expressions.specs.ExpressionTrees.{constant_in, constant_of, is_word}
 use Rattle.gms_expressions.specs.InnerReadings.{Refuses, IsGot, IsNext, IsMeant, IsValue, IsOutOfRange, kind_of, seen_from, walk_of}
 use Rattle.gms_expressions.proofs.TokenKinds.{is_plain}
-use Rattle.gms_expressions.proofs.Walks.{plain_after, plain_sound}
+use Rattle.gms_expressions.proofs.ReadStates.{plain_after, plain_sound}
 use Rattle.gms_expressions.proofs.Steps.{got_by, gives_one}
 use Rattle.gms_expressions.proofs.Nexts.{kind_next}
 use Rattle.gms_expressions.proofs.Entering.{number_gives, number_refused}

@@ -28,7 +28,7 @@ use Rattle.gms_labels.specs.declared.fault.LabelFault.{LabelFault}
 use Rattle.gms_labels.specs.declared.fault.LabelFault.TheVariants as label_fault
 use Rattle.gms_expressions.specs.Faults.{not_entered}
 use Rattle.gms_expressions.proofs.Steps.{got_by, gives_one, takes_next, refuses_token, refuses_memory}
-use Rattle.gms_expressions.proofs.Going.{went_same, went_are}
+use Rattle.gms_expressions.proofs.Extending.{went_same, went_are}
 use Rattle.gms_expressions.proofs.Nexts.{exact}
 
 abbrev is_named : Terminal → Bool

@@ -1,12 +1,12 @@
 pub mod TokenKinds
-pub mod Walks
-pub mod Going
+pub mod ReadStates
+pub mod Extending
 pub mod Steps
 pub mod Nexts
 pub mod Loops
 pub mod Nesting
 pub mod Chains
-pub mod Doors
+pub mod ReaderResults
 pub mod Signs
 pub mod Parts
 pub mod Entering

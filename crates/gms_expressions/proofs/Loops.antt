@@ -10,7 +10,7 @@ use Rattle.gms_expressions.specs.declared.reader.Reader.{Reader}
 use Rattle.gms_expressions.specs.declared.reader.Tables.{Tables}
 use Rattle.gms_expressions.specs.InnerReadings.{Seen, Derivation, GamsPart, Gives, Refuses, Sense, IsSense, IsGot, seen_from, walk_of}
 use Rattle.gms_expressions.proofs.Steps.{got_by, Within, within_then, within_again, gives_no_more, refuses_again, refuses_memory}
-use Rattle.gms_expressions.proofs.Going.{went_by}
+use Rattle.gms_expressions.proofs.Extending.{went_by}
 use Rattle.gms_expressions.proofs.Nexts.{earlier}
 
 -- A part ends with a repetition, of which so much was read. The whole is what is made of the rest.

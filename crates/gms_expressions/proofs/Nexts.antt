@@ -19,8 +19,8 @@ use Rattle.gms_expressions.specs.declared.reader.Tables.{Tables}
 use Rattle.gms_expressions.specs.Outcomes.{ExpressionState, IsFaultyInExpression, deep, out_of_range, many_names, many_labels}
 use Rattle.gms_expressions.specs.InnerReadings.{Seen, Derivation, GamsPart, Gives, Went, Refuses, Sense, IsSense, IsNext, IsLacking, IsOpened, IsUnopened, seen_from, walk_of, kind_of}
 use Rattle.gms_expressions.proofs.TokenKinds.{is_plain, implies, also, same_number}
-use Rattle.gms_expressions.proofs.Walks.{plain_after, plain_sound, names_kept, labels_kept}
-use Rattle.gms_expressions.proofs.Going.{went_same}
+use Rattle.gms_expressions.proofs.ReadStates.{plain_after, plain_sound, names_kept, labels_kept}
+use Rattle.gms_expressions.proofs.Extending.{went_same}
 use Rattle.gms_expressions.proofs.Steps.{gives_one, gives_both, refuses_at, refuses_first, refuses_second}
 
 -- the kind of a token that is next

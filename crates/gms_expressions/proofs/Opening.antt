@@ -11,8 +11,8 @@ use Rattle.gms_expressions.specs.declared.reader.Reader.{Reader}
 use Rattle.gms_expressions.specs.declared.reader.Tables.{Tables}
 use Rattle.gms_expressions.specs.Calls.{IsRead, IsSyntaxRefusal, IsTablePrefix, walk_from, tokens_from}
 use Rattle.gms_expressions.specs.InnerReadings.{Derivation, GamsPart, Sense, IsAnswer, Went, walk_of}
-use Rattle.gms_expressions.proofs.Going.{went_by}
-use Rattle.gms_expressions.proofs.Doors.{read_of, refusal_of}
+use Rattle.gms_expressions.proofs.Extending.{went_by}
+use Rattle.gms_expressions.proofs.ReaderResults.{read_of, refusal_of}
 
 -- a list with one more is one longer
 less_one : {T : Type 0} (xs : List T) (y : T) → length xs ≡ length (xs ++ y ∷ []) - 1

@@ -29,7 +29,7 @@ use Rattle.gms_expressions.specs.InnerReadings.{Seen, Gives, Refuses, IsGot, IsN
 use Rattle.gms_expressions.proofs.TokenKinds.{leads_by_kind, same_test}
 use Rattle.gms_expressions.proofs.Steps.{got_by, gives_one, gives_the, gives_both, gives_none, gives_some, refuses_the, refuses_second, refuses_some, refuses_token, takes_next}
 use Rattle.gms_expressions.proofs.Nexts.{gives_next, led_next, exact, lacking_behind, refuses_lacking}
-use Rattle.gms_expressions.proofs.Going.{went_same}
+use Rattle.gms_expressions.proofs.Extending.{went_same}
 
 -- a sign, and none
 pub sign_read : {reader : Reader} {at behind : ℕ} {t : Token} (minus : Bool) → IsNext (is Sign) reader at t behind → minus ≡ is_minus t.kind → IsSigned reader at minus behind

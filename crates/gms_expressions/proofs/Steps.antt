@@ -16,7 +16,7 @@ use Rattle.gms_expressions.specs.Outcomes.{ExpressionState, syntax_rule, state_a
 use Rattle.gms_expressions.specs.declared.reader.Reader.{Reader}
 use Rattle.gms_expressions.specs.declared.reader.Tables.{Tables}
 use Rattle.gms_expressions.specs.InnerReadings.{Seen, Derivation, GamsPart, Gives, Went, Refuses, Sense, IsSense, IsGot, seen_from, walk_of}
-use Rattle.gms_expressions.proofs.Going.{went_then}
+use Rattle.gms_expressions.proofs.Extending.{went_then}
 
 -- where a part is to be read within a larger one, and the tree around its tree
 pub record Within (limit : ℕ) (source : List ℕ) (part : GamsPart) (w : ExpressionState) (ts : List Seen) (inner : GamsPart) (v : ExpressionState) (rest : List Seen) (context : Derivation → Derivation) : Type 0 where

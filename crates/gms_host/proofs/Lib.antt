@@ -1,4 +1,4 @@
 mod FirstFile
 pub mod Counting
-pub mod Fronts
+pub mod WrittenPrefixes
 pub mod Spools

@@ -6,7 +6,7 @@ use Rattle.gms_host.specs.declared.host.Failed.{Failed}
 use Rattle.gms_host.specs.Meaning.{Outside}
 use Rattle.gms_host.specs.Rules.{with_output}
 use Rattle.gms_host.specs.Spooling.{Passes, PutsThrough, WritesAll, WritesFront}
-use Rattle.gms_host.proofs.Fronts.{passes_on, passes_behind, front_on, front_longer, rest_from}
+use Rattle.gms_host.proofs.WrittenPrefixes.{passes_on, passes_behind, front_on, front_longer, rest_from}
 
 -- space was made, and `k` more bytes of the rest are pending
 pub put_more : (old now next : Outside) (due pending left rest new : List ℕ) (k : ℕ) → Passes old now due (pending ++ rest) → Passes now next pending left → new ≡ left ++ take k rest → Passes old next due (new ++ take (length rest - k) (drop k rest))

@@ -20,10 +20,10 @@ use Rattle.gms_grammar.proofs.Sound.{sound}
 use Rattle.gms_expressions.specs.Outcomes.{open_after}
 use Rattle.gms_expressions.proofs.TokenKinds.{also}
 use Rattle.gms_table.specs.WordLabels.{all_entered}
-use Rattle.gms_parse.specs.Walks.{KindedToken, ReaderState, is_index, new_labels, reader_after, kind_of, start}
+use Rattle.gms_parse.specs.ReadStates.{KindedToken, ReaderState, is_index, new_labels, reader_after, kind_of, start}
 use Rattle.gms_parse.specs.InnerReadings.{Derivation, GamsPart}
 use Rattle.gms_parse.proofs.TokenKinds.{begins, same_kind}
-use Rattle.gms_parse.proofs.Walks.{labels_kept}
+use Rattle.gms_parse.proofs.StateLemmas.{labels_kept}
 use Rattle.gms_parse.proofs.Alphabet.{AllPass, pass_front, pass_rest, only, all_pass}
 use Rattle.gms_parse.proofs.Depths.{TextsAbove, depth_after, depth_append, above_front, above_rest, is_deep, is_shallow, fits_the, fits_index, Closes, closes}
 use Rattle.gms_joint_source.proofs.Tests.{IsTextTest, is_text_test}

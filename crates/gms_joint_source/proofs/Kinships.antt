@@ -8,7 +8,7 @@ use Rattle.gms_grammar.specs.GamsGrammar.{Program, productions}
 use Rattle.gms_grammar.specs.GamsLookAhead.{look_ahead}
 use Rattle.gms_grammar.proofs.Language.{gams_complete}
 use Rattle.gms_parse.specs.Outcomes.{HaveItems}
-use Rattle.gms_parse.specs.Walks.{KindedToken, start}
+use Rattle.gms_parse.specs.ReadStates.{KindedToken, start}
 use Rattle.gms_parse.specs.InnerReadings.{Derivation, GamsPart}
 use Rattle.gms_joint_source.proofs.NameRoles.{SameName, names_throughout}
 use Rattle.gms_joint_source.proofs.IndexTexts.{SameText, texts_throughout}

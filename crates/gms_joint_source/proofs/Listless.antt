@@ -14,7 +14,7 @@ use Rattle.gms_expressions.specs.Outcomes.{kinded_tokens}
 use Rattle.gms_joint_source.proofs.Flows.{In, has, is_right, Leads, flows}
 use Rattle.gms_joint_source.proofs.Spaces.{in_list_now}
 use Rattle.gms_joint_source.proofs.Spots.{Spot, out, item, named, domain, bare, rest, list, same, same_is, spot_of, sort_of, step, list_stands}
-use Rattle.gms_joint_source.proofs.Standing.{LeadTo, pieces_lead}
+use Rattle.gms_joint_source.proofs.ModePlaces.{LeadTo, pieces_lead}
 
 -- the places between statements
 abbrev between : List Spot

@@ -15,10 +15,10 @@ use Rattle.gms_grammar.specs.GamsLookAhead.{look_ahead}
 use Rattle.gms_grammar.proofs.Basics.{and_both}
 use Rattle.gms_grammar.proofs.Checks.{right_and, implied}
 use Rattle.gms_expressions.proofs.TokenKinds.{also}
-use Rattle.gms_parse.specs.Walks.{KindedToken, ReaderState, last_kind, is_name, reader_after, kind_of, start}
+use Rattle.gms_parse.specs.ReadStates.{KindedToken, ReaderState, last_kind, is_name, reader_after, kind_of, start}
 use Rattle.gms_parse.specs.InnerReadings.{Derivation}
 use Rattle.gms_parse.proofs.TokenKinds.{begins}
-use Rattle.gms_parse.proofs.Walks.{names_kept}
+use Rattle.gms_parse.proofs.StateLemmas.{names_kept}
 use Rattle.gms_joint_source.proofs.Tests.{IsNameTest, is_name_test}
 use Rattle.gms_joint_source.proofs.Throughouts.{Throughout, NoMore, Stands, is_right, passed}
 

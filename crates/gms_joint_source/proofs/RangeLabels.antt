@@ -29,11 +29,11 @@ use Rattle.gms_expressions.specs.ExpressionTrees.{or_0}
 use Rattle.gms_parse.specs.DataLists.{range_labels, number_of_label}
 use Rattle.gms_parse.specs.Outcomes.{IsTableOf, HaveItems}
 use Rattle.gms_parse.specs.Tables.{parts_of_tokens, item_of_entry, entries_in, items_given}
-use Rattle.gms_parse.specs.Walks.{KindedToken, ReaderState, last_kind, is_index, range_start, range_texts, list_labels, new_labels, reader_after, kind_of, start}
+use Rattle.gms_parse.specs.ReadStates.{KindedToken, ReaderState, last_kind, is_index, range_start, range_texts, list_labels, new_labels, reader_after, kind_of, start}
 use Rattle.gms_parse.specs.InnerReadings.{Derivation, GamsPart}
 use Rattle.gms_parse.proofs.TableItems.{items_only}
 use Rattle.gms_parse.proofs.TokenKinds.{same_kind}
-use Rattle.gms_joint_source.proofs.FrontWalks.{AreAlike}
+use Rattle.gms_joint_source.proofs.StatePrefixes.{AreAlike}
 use Rattle.gms_joint_source.proofs.IndexTexts.{kept, stays}
 use Rattle.gms_joint_source.proofs.Kin.{Alike}
 use Rattle.gms_joint_source.proofs.Throughouts.{Throughout, Stands, stands_on, is_right, passed}

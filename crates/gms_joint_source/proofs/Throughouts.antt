@@ -14,9 +14,9 @@ use Rattle.gms_grammar.specs.GamsLookAhead.{look_ahead}
 use Rattle.gms_grammar.proofs.Basics.{and_both}
 use Rattle.gms_grammar.proofs.Checks.{right_and, implied}
 use Rattle.gms_expressions.proofs.TokenKinds.{implies, also}
-use Rattle.gms_parse.specs.Walks.{KindedToken, ReaderState, reader_after, reader_after_all, kind_of}
+use Rattle.gms_parse.specs.ReadStates.{KindedToken, ReaderState, reader_after, reader_after_all, kind_of}
 use Rattle.gms_parse.specs.InnerReadings.{Derivation, GamsPart}
-use Rattle.gms_joint_source.proofs.FrontWalks.{AreAlike}
+use Rattle.gms_joint_source.proofs.StatePrefixes.{AreAlike}
 
 -- a claim for each token of a derivation, and one for each nonterminal
 abbrev pub Throughout : ((Terminal → Bool) → KindedToken → Type 0) → (Nonterminal → Derivation → Type 0) → GamsPart → Derivation → Type 0

@@ -1,7 +1,7 @@
 //! Laws of programs of joint sources.
 ghost use Rattle.std.specs.Prelude.{ℕ, List};
 ghost use Rattle.gms_parse.specs.Outcomes.{ProgramView, HasProgram};
-ghost use Rattle.gms_joint_source.specs.Fronts.{joint_source};
+ghost use Rattle.gms_joint_source.specs.JointSources.{joint_source};
 ghost use Rattle.gms_joint_source.specs.Programs.{IsProgramPrefix};
 
 /// If a saved source and a joint source are programs, the joint program begins with the saved one.

@@ -6,7 +6,7 @@ ghost use Rattle.gms_lex.specs.Tokens.{IsTokens};
 ghost use Rattle.gms_grammar.specs.declared.terminal.Terminal.{Terminal};
 ghost use Rattle.gms_grammar.specs.Grammar.{DerivationTree};
 ghost use Rattle.gms_expressions.specs.Outcomes.{kinded_tokens};
-ghost use Rattle.gms_joint_source.specs.Fronts.{joint_source, HaveFront, DerivesSource, BeginsWith};
+ghost use Rattle.gms_joint_source.specs.JointSources.{joint_source, HaveFront, DerivesSource, BeginsWith};
 
 /// A joint source begins as its saved source does, whatever that ends in: a table, a comment, a
 /// list of data, or a statement without its `;` (GAMS User's Guide, "Save and Restart", "GAMS

@@ -21,7 +21,7 @@ use Rattle.gms_scope.specs.Names.{is_index_set, declared_kind}
 use Rattle.gms_check.specs.CompileErrors.{known_after}
 use Rattle.gms_check.specs.Domains as checking
 use Rattle.gms_check.specs.Loaded.{sound}
-use Rattle.gms_check.specs.Standing.{may_be_assigned}
+use Rattle.gms_check.specs.Contexts.{may_be_assigned}
 use Rattle.gms_check.specs.InnerStatements.{act_uses}
 use Rattle.gms_check.specs.StatementUses.{index_list}
 use Rattle.gms_check.specs.Uses.{assigning, index_sets}

@@ -26,14 +26,14 @@ use Rattle.gms_store.specs.declared.kind.SymbolKind.TheVariants as kind
 use Rattle.gms_store.specs.State.{Content, State, alias_of, equation_of, model_with, parameter_of, set_of, symbol_at, undeclared, variable_of}
 use Rattle.gms_store.specs.Declarations.{is_set, kind_in}
 use Rattle.gms_scope.specs.Names.{declared_kind}
-use Rattle.gms_check.specs.declared.standing.Standing.{Standing}
+use Rattle.gms_check.specs.declared.contexts.Standing.{Standing}
 use Rattle.gms_check.specs.declared.error.ErrorKind.TheVariants.{Endogenous}
 use Rattle.gms_check.specs.CompileErrors.{compile_errors, known_after}
 use Rattle.gms_check.specs.LeftSides.{StandsIn}
 use Rattle.gms_check.specs.Loaded.{sound}
 use Rattle.gms_check.specs.Names.{is_variable}
 use Rattle.gms_check.specs.Past.{Known}
-use Rattle.gms_check.specs.Standing.{as_condition, as_denied, as_guarded, as_inner, as_members, as_number, as_part, as_side, may_stand}
+use Rattle.gms_check.specs.Contexts.{as_condition, as_denied, as_guarded, as_inner, as_members, as_number, as_part, as_side, may_stand}
 use Rattle.gms_check.specs.InnerStatements.{act_uses}
 use Rattle.gms_check.specs.StatementUses.{index_list, left_uses, right_standing, show_uses, statement_uses, with_left}
 use Rattle.gms_check.specs.Uses.{Uses, amount_uses, condition_uses, control_uses, part_uses, place_by_mark, reading, sets_of_control, shift_uses, steps as step_uses, uses}

@@ -24,7 +24,7 @@ use Rattle.gms_expressions.proofs.TokenKinds.{same_number}
 use Rattle.gms_parse.specs.declared.fault.SourceFault.{SourceFault}
 use Rattle.gms_parse.specs.Outcomes.{ProgramView, IsTableOf, HaveItems, HasProgram}
 use Rattle.gms_parse.specs.Programs.{statements_of}
-use Rattle.gms_parse.specs.Walks.{KindedToken, ReaderState, start, reader_after, reader_after_all, new_labels, LacksRoom, IsFaulty, deep, out_of_range, many_names, many_labels, in_table, without_lines, AreTokensFaultless}
+use Rattle.gms_parse.specs.ReadStates.{KindedToken, ReaderState, start, reader_after, reader_after_all, new_labels, LacksRoom, IsFaulty, deep, out_of_range, many_names, many_labels, in_table, without_lines, AreTokensFaultless}
 use Rattle.gms_laws.proofs.SourcePieces.{Make, tokens_by, has_sound_lines, are_tokens}
 use Rattle.gms_laws.proofs.ShortNumerals.{is_short, short_means, right}
 

@@ -15,7 +15,7 @@ use Rattle.gq_number.specs.Number.{Number}
 use Rattle.gms_ast.specs.StatementTrees.{Statements}
 use Rattle.gms_parse.specs.Outcomes.{ProgramView, HasProgram}
 use Rattle.gms_parse.specs.Programs.{statements_of}
-use Rattle.gms_parse.specs.Walks.{KindedToken, ReaderState, start, reader_after_all}
+use Rattle.gms_parse.specs.ReadStates.{KindedToken, ReaderState, start, reader_after_all}
 use Rattle.gms_laws.proofs.LocalTexts.{local_statements, same_statements}
 use Rattle.gms_laws.proofs.SourcePieces.{Make, tokens_by, has_sound_lines}
 use Rattle.gms_laws.proofs.ShortNumerals.{right}

@@ -6,7 +6,7 @@ use Rattle.gms_lex.specs.declared.mode.Mode.TheVariants.{Code}
 use Rattle.gms_grammar.specs.Grammar.{the}
 use Rattle.gms_grammar.specs.GamsGrammar.{Program, productions}
 use Rattle.gms_grammar.specs.GamsLookAhead.{look_ahead}
-use Rattle.gms_parse.specs.Walks.{KindedToken}
+use Rattle.gms_parse.specs.ReadStates.{KindedToken}
 use Rattle.gms_gen.specs.Generator.{generated_model_text}
 use Rattle.gms_laws.proofs.FaultlessStatements.{has_no_error}
 use Rattle.gms_laws.proofs.SourcePieces.{pieces_in}

@@ -38,12 +38,12 @@ use Rattle.gms_set.specs.Expansion.{ExpandedData, error_of, expanded, tuples_of,
 use Rattle.gms_tuple.specs.Products.{tuple_product}
 use Rattle.gms_check.specs.declared.error.CompileError.{CompileError}
 use Rattle.gms_check.specs.declared.error.ErrorKind.{ErrorKind}
-use Rattle.gms_check.specs.declared.standing.Standing.{Standing}
+use Rattle.gms_check.specs.declared.contexts.Standing.{Standing}
 use Rattle.gms_check.specs.CompileErrors.{act_errors, checked_kinds, declaration_errors, each_error, errors_at, errors_of, has_error, known_after, known_after_item, known_in, model_errors, statement_error, statement_errors}
 use Rattle.gms_check.specs.DeclarationUses.{are_usable, data_uses, domain_use, expansion_uses, failure, has_all_parts, item_uses, kind_uses, model_uses}
 use Rattle.gms_check.specs.Errors.{comes_first, earlier, first_error}
 use Rattle.gms_check.specs.Past.{Known, Past}
-use Rattle.gms_check.specs.Standing.{as_condition, as_side}
+use Rattle.gms_check.specs.Contexts.{as_condition, as_side}
 use Rattle.gms_check.specs.InnerStatements.{act_uses}
 use Rattle.gms_check.specs.StatementUses.{index_list, left_uses, option_uses, right_standing, setting_place, show_uses, statement_uses, with_left}
 use Rattle.gms_check.specs.Uses.{Use, Uses, condition_uses, control_uses, placing, listing, sets_of_control, shift_uses, uses}

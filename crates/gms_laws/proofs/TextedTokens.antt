@@ -20,7 +20,7 @@ use Rattle.gms_grammar.specs.Terminals.{is}
 use Rattle.gms_expressions.specs.Outcomes.{kinded_tokens, open_after}
 use Rattle.gms_expressions.specs.Words.{terminal_of}
 use Rattle.gms_parse.specs.Tables.{labels_of_lines}
-use Rattle.gms_parse.specs.Walks.{KindedToken, ReaderState, is_keyword, is_name, is_index, range_start, list_labels, range_texts, lines_with, new_labels, reader_after, reader_after_all}
+use Rattle.gms_parse.specs.ReadStates.{KindedToken, ReaderState, is_keyword, is_name, is_index, range_start, list_labels, range_texts, lines_with, new_labels, reader_after, reader_after_all}
 use Rattle.gms_laws.proofs.ShortNumerals.{is_short, right}
 use Rattle.gms_laws.proofs.SoundTokens.{is_no, all_sound}
 

@@ -3,8 +3,8 @@ use Rattle.std.proofs.Common.{◌≡◌, ◌⊎◌, ℕ, List, [], ◌∷◌, �
 use Rattle.gms_labels.specs.declared.place.Place.{Place}
 use Rattle.gms_ast.specs.declared.expression.Suffix.{Suffix}
 use Rattle.gms_ast.specs.Trees.{Indices, Mark, Parts, Tree, all_of, call, chosen, fold_over, guarded, label, lagged, negated, no, no_index, no_part, not_available, not_so, number, one_of, over, over_where, part, place_in_set, placed, plain, plus_infinity, power, product, reference, related, relation, set, signed, size_of_set, sum, yes}
-use Rattle.gms_check.specs.declared.standing.Standing.{Standing}
-use Rattle.gms_check.specs.Standing.{as_condition, as_denied, as_guarded, as_inner, as_number, as_part}
+use Rattle.gms_check.specs.declared.contexts.Standing.{Standing}
+use Rattle.gms_check.specs.Contexts.{as_condition, as_denied, as_guarded, as_inner, as_number, as_part}
 use Rattle.gms_check.specs.Uses.{Uses, amount_uses, later_steps, part_uses, place_by_mark, shift_uses, steps as step_uses, uses}
 use Rattle.gms_laws.specs.Occurrences.{ExpressionStep, signed_operand, term, factor, power_operand, argument, fold_condition, fold_body, relation_operand, not_operand, and_operand, or_operand, dollar_operand, dollar_condition, lag_amount, IsPartOf, first_part, later_part, IsAmountIn, first_amount, after_label, after_set, after_lag, Occurs, itself, in_signed, in_sum, in_product, in_power, in_call, in_fold_condition, in_fold_body, in_relation, in_not, in_and, in_or, in_dollar, in_dollar_condition, in_lag}
 use Rattle.gms_laws.specs.Places.{IsOperandAt, signed_at, placed_at, later_operand, IsAmountAt, first_at, at_after_label, at_after_set, at_after_lag, HasParts, parts_of_sum, parts_of_product, parts_of_power, parts_of_call, parts_of_relation, parts_of_and, parts_of_or, parts_of_dollar, IsOwnPlace, reference_at, amount_at, ord_at, card_at, call_at, fold_at, operand_at, IsPlaceIn}

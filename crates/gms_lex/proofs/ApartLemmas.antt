@@ -25,7 +25,7 @@ use Rattle.gms_lex.specs.Places.{place_of_byte}
 use Rattle.gms_lex.specs.Pieces.{passes, ends_or_begins, space_length, line_end_length, line_ends, line_end, token_read as piece_of, table_piece, plain_piece, piece_at}
 use Rattle.gms_lex.specs.Tokens.{IsMadeOf, token_at, tokens_of, end_token, IsTokens}
 use Rattle.gms_lex.specs.Apart.{is_space, IsSkipped, AreSkipped, AreApart, IsOneLineEnd, IsEnding, IsBreak, break_of}
-use Rattle.gms_lex.proofs.FrontLemmas.{not_both}
+use Rattle.gms_lex.proofs.PrefixLemmas.{not_both}
 use Rattle.gms_lex.proofs.LineTextLemmas.{length-code_text}
 use Rattle.gms_lex.specs.Longest.{has_text}
 use Rattle.gms_lex.proofs.LongestLemmas.{IsTextIfRemark, TellsRead, allowed_tells, plain_tells, table_code_tells, table_line_tells, one_line_end, due}

@@ -8,7 +8,7 @@ pub mod PlacedLemmas
 pub mod ReadingLemmas
 pub mod SolidLemmas
 pub mod TableLemmas
-pub mod FrontLemmas
+pub mod PrefixLemmas
 pub mod NumberLemmas
 pub mod SymbolLemmas
 pub mod LongestTexts

@@ -33,7 +33,7 @@ use Rattle.gms_lex.specs.Pieces.{passes, ends_or_begins, begins_other, space_len
 use Rattle.gms_lex.specs.Spellings.{IsWord, IsLabel, IsQuoted, IsText, IsSymbol, IsNumberSpelling}
 use Rattle.gms_lex.specs.Longest.{IsCode, IsElementPiece, IsMarkOrText, IsValuePiece, IsBehindElement, IsInList, IsOfTable, IsAllowedPiece, has_text, IsLongest, IsRefusedPiece}
 use Rattle.gms_lex.specs.Apart.{is_space, IsOneLineEnd}
-use Rattle.gms_lex.proofs.FrontLemmas.{not_both, front_most, front_all, begins_take, begins_front, begins_apart}
+use Rattle.gms_lex.proofs.PrefixLemmas.{not_both, front_most, front_all, begins_take, begins_front, begins_apart}
 use Rattle.gms_lex.proofs.NumberLemmas.{number_most, number_begins, number_positive, number_spelled}
 use Rattle.gms_lex.specs.TokenTexts.{unquoted}
 use Rattle.gms_lex.proofs.UnquotedLemmas.{unquoted_same}

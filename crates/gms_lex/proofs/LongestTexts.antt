@@ -21,7 +21,7 @@ use Rattle.gms_lines.specs.Shapes.{Read, longest_label, symbol_read, symbol, quo
 use Rattle.gms_lines.proofs.WithinLemmas.{closed_more}
 use Rattle.gms_lex.specs.Spellings.{IsQuoted, IsUnquotedText, IsText, IsSymbol}
 use Rattle.gms_lex.specs.Longest.{IsUnlawful}
-use Rattle.gms_lex.proofs.FrontLemmas.{not_both, front_most, front_all, run_over, run_stops, begins_take, begins_front}
+use Rattle.gms_lex.proofs.PrefixLemmas.{not_both, front_most, front_all, run_over, run_stops, begins_take, begins_front}
 use Rattle.gms_lex.proofs.UnquotedLemmas.{unquoted_inner}
 use Rattle.gms_lex.proofs.SymbolLemmas.{is_outside, symbol_length, symbol_outside, IsFirstSymbol, found_first, none_first}
 

@@ -14,7 +14,7 @@ use Rattle.gms_lines.specs.Numbers.{digit_count, begins_dot, begins_number, poin
 use Rattle.gms_lines.proofs.WithinLemmas.{run_within}
 use Rattle.gms_lex.specs.Spellings.{AreSomeDigits, IsPoint, IsPower, IsExponentSpelling, IsNumberSpelling}
 use Rattle.gms_lex.proofs.LineTextLemmas.{length-take_most}
-use Rattle.gms_lex.proofs.FrontLemmas.{not_both, front_all, run_over, run_stops, begins_append}
+use Rattle.gms_lex.proofs.PrefixLemmas.{not_both, front_all, run_over, run_stops, begins_append}
 
 digit_no_sign : (b : ℕ) → is_ascii_digit b ≡ true → is_sign b ≡ false
 digit_no_sign b h = grind (arith, nat_tests, h)

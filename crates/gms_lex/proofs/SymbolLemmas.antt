@@ -12,7 +12,7 @@ use Rattle.gms_lines.specs.declared.kind.Sym.TheVariants.{EqE, EqL, EqG, EqN, Po
 use Rattle.gms_lines.specs.Bytes.{is_quote}
 use Rattle.gms_lines.specs.Symbols.{written_symbol, symbols, begins_with_word}
 use Rattle.gms_lex.specs.Spellings.{IsSymbol}
-use Rattle.gms_lex.proofs.FrontLemmas.{not_both}
+use Rattle.gms_lex.proofs.PrefixLemmas.{not_both}
 
 -- ---- how symbols begin
 

@@ -1,5 +1,5 @@
 pub mod LineLemmas
 pub mod FirstLemmas
 pub mod ColumnLemmas
-pub mod StretchLemmas
+pub mod FieldLemmas
 pub mod WithinLemmas

@@ -20,11 +20,11 @@ use Rattle.gms_lines.specs.Bytes.{is_name_byte, is_label_byte, is_quote, is_text
 use Rattle.gms_lines.specs.Numbers.{begins_number, begins_dot, digit_count, point_length, sign_length, exponent_length, decimal_length, number_length}
 use Rattle.gms_lines.specs.Symbols.{written_symbol, symbols, begins_with_word, longest_symbol}
 use Rattle.gms_lines.specs.Shapes.{Read, lexeme, misread, longest_label, bounded, symbol_read, symbol, quoted_length, is_closed, is_label, quoted, code_token, label_token, remark, IsWithinText}
-use Rattle.gms_lines.specs.declared.stretch.Separator.TheVariants.{Semicolon}
-use Rattle.gms_lines.specs.declared.stretch.Stand.TheVariants.{First}
-use Rattle.gms_lines.specs.Stretches.{is_separator}
+use Rattle.gms_lines.specs.declared.split_fields.Separator.TheVariants.{Semicolon}
+use Rattle.gms_lines.specs.declared.split_fields.Stand.TheVariants.{First}
+use Rattle.gms_lines.specs.SplitFields.{is_separator}
 use Rattle.gms_lines.specs.TableLines.{table_bytes, table_line}
-use Rattle.gms_lines.proofs.StretchLemmas.{stretch_length-le}
+use Rattle.gms_lines.proofs.FieldLemmas.{stretch_length-le}
 
 -- a choice is within the text where both sides are
 pub if_within : (text : List ℕ) (b : Bool) (x y : Read) → (b ≡ true → IsWithinText text x) → (b ≡ false → IsWithinText text y) → IsWithinText text (if b then x else y)

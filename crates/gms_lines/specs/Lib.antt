@@ -7,6 +7,6 @@ pub mod Bytes
 pub mod Numbers
 pub mod Symbols
 pub mod Shapes
-pub mod Stretches
+pub mod SplitFields
 pub mod Columns
 pub mod TableLines

@@ -5,8 +5,8 @@ use Rattle.std.specs.List.{prefix_len}
 use Rattle.gms_lines.specs.declared.fault.LexError.TheVariants.{BadByte}
 use Rattle.gms_lines.specs.declared.kind.Kind.TheVariants.{TableLine}
 use Rattle.gms_lines.specs.declared.lexeme.Piece.TheVariants.{Token}
-use Rattle.gms_lines.specs.declared.stretch.Separator.TheVariants.{Semicolon}
-use Rattle.gms_lines.specs.Stretches.{is_separator, stretch_bytes}
+use Rattle.gms_lines.specs.declared.split_fields.Separator.TheVariants.{Semicolon}
+use Rattle.gms_lines.specs.SplitFields.{is_separator, stretch_bytes}
 use Rattle.gms_lines.specs.Bytes.{is_ascii}
 use Rattle.gms_lines.specs.Shapes.{Read, lexeme, misread}
 

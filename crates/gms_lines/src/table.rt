@@ -6,7 +6,7 @@ use crate::fault::LexError;
 use crate::kind::Kind;
 use crate::lexeme::{Lexeme, Misread, Piece};
 use crate::shape::plain_length;
-use crate::stretch::{Separator, stretch_length};
+use crate::split_fields::{Separator, stretch_length};
 
 /// How many bytes of a line belong to the table: up to a `;` outside quoted labels, or all.
 pub fn table_bytes(line: &[u8]) -> usize

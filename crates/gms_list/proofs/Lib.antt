@@ -16,5 +16,5 @@ mod Signs
 mod SolveLines
 mod StepLines
 mod Terms
-mod Walks
+mod AppendedPieces
 mod Widths

@@ -1,7 +1,7 @@
 -- The length of the longest of the elements that are kept, element by element.
 use Rattle.std.proofs.Common.{◌≡◌, ℕ, ◌+◌, ◌<◌, ◌≤◌, ◌∙◌, ap, sym, refl, Bool, true, false, List, [], ◌∷◌, map, filter, length, get_or, if◌then◌else◌}
 use Rattle.std.specs.List.{fold}
-use Rattle.gms_list.proofs.Walks.{placed, placed_at, placed_done}
+use Rattle.gms_list.proofs.AppendedPieces.{placed, placed_at, placed_done}
 
 fold_by : {Z K : Type 0} (h : ℕ → K → ℕ) (k : Z → K) (w : ℕ) (z : Z) (zs : List Z) (b : Bool) → fold h w (map k (if b then z ∷ zs else zs)) ≡ fold h (if b then h w (k z) else w) (map k zs)
 fold_by h k w z zs true = refl

@@ -5,7 +5,7 @@ use Rattle.std.proofs.lemmas.Bool.Decides.{nat_tests}
 use Rattle.std.proofs.lemmas.List.{append_assoc, append-nil, drop_all}
 use Rattle.gms_list.specs.SolveText.{distinct_names}
 use Rattle.gms_list.specs.InnerSolves.{once_more}
-use Rattle.gms_list.proofs.Walks.{drop_at}
+use Rattle.gms_list.proofs.AppendedPieces.{drop_at}
 
 abbrev pub has : List ℕ → ℕ → Bool
 has ns n = list_any (λ m. m == n) ns

@@ -18,7 +18,7 @@ use Rattle.gms_list.specs.Amounts.{line_of}
 use Rattle.gms_list.specs.SolveText.{Solution, amount, head_text, rows_listing, columns_listing, solver_status_text, model_status_text, summary_text, solution_text, solution_of, proof_text, solve_text}
 use Rattle.gms_list.specs.InnerSolves.{solution_in, solved_in, status_lines}
 use Rattle.gms_list.proofs.Shapes.{statuses, summary_lines}
-use Rattle.gms_list.proofs.Walks.{Walked, walk}
+use Rattle.gms_list.proofs.AppendedPieces.{Walked, walk}
 
 -- the numbers of an end count as it does
 status-numbers : {F : Type 0} (value : F → Number) (end : End F) → solve_status (end_numbers value end) ≡ solve_status end

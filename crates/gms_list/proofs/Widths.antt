@@ -5,7 +5,7 @@ use Rattle.std.proofs.lemmas.List.{drop_all}
 use Rattle.gq_extended.specs.Extended.{Extended}
 use Rattle.gms_fmt.specs.ElementTexts.{dotted_text}
 use Rattle.gms_list.specs.ListingText.{TupleValues}
-use Rattle.gms_list.proofs.Walks.{drop_at}
+use Rattle.gms_list.proofs.AppendedPieces.{drop_at}
 
 -- the length of the longest of these, from an initial width
 abbrev pub width_from : List (List ℕ) → ℕ → TupleValues → ℕ

@@ -41,11 +41,11 @@ use Rattle.gms_parse.specs.declared.reader.Tables.{Tables}
 use Rattle.gms_parse.specs.DataLists.{optional_in}
 use Rattle.gms_parse.specs.Statements.{alias_act, display_act, abort_act, option_act, solve_act, parsed_shown, shown_list, is_maximizing, parsed_setting as setting_of}
 use Rattle.gms_table.specs.WordLabels.{all_entered}
-use Rattle.gms_parse.specs.Walks.{KindedToken, ReaderState, is_name, new_labels, reader_after, IsFaulty}
+use Rattle.gms_parse.specs.ReadStates.{KindedToken, ReaderState, is_name, new_labels, reader_after, IsFaulty}
 use Rattle.gms_parse.specs.InnerReadings.{Derivation, GamsPart, Gives, Refuses, Sense, Holds, Has, Starts, Stays, StaysOpen, Ends, Nameless, IsNext, IsLacking, IsOpened, IsGot, IsValue, IsTooLarge, seen_from, kind_of}
 use Rattle.gms_parse.specs.InnerMeanings.{IsNamed, IsWord, IsMethod, IsObjective, IsSuffix, IsShown, AreShown, IsCondition, IsSetting, IsAct, act_view}
 use Rattle.gms_parse.proofs.TokenKinds.{begins, leads_alike, led_first, unled_next}
-use Rattle.gms_parse.proofs.Walks.{is_mute, is_free, mute_after, free_sound, room_for_none}
+use Rattle.gms_parse.proofs.StateLemmas.{is_mute, is_free, mute_after, free_sound, room_for_none}
 use Rattle.gms_parse.proofs.Steps.{got_by, gives_one, gives_as, gives_both, gives_the, gives_left, gives_right, gives_none, gives_some, by_cause, stuck_as, wrong_as, refuses_first, refuses_second, refuses_the, refuses_left, refuses_right, refuses_some}
 use Rattle.gms_parse.proofs.Nexts.{past, exact_kind, led_next, refuses_lacking, gives_exact, stays_by, plain_stays, stays_same, stays_then, earlier, begun_has, begun_starts, opened, open_starts, close_stays, gives_bracketed, got_inside, refuses_within, refuses_inside, refuses_unclosed}
 use Rattle.gms_parse.proofs.Entering.{number_gives, number_stays, number_refused}

@@ -15,12 +15,12 @@ use Rattle.gms_parse.specs.declared.fault.SourceFault.{SourceFault}
 use Rattle.gms_parse.specs.Faults.{source_fault}
 use Rattle.gms_parse.specs.Tables.{labels_of_lines}
 use Rattle.gms_table.specs.WordLabels.{all_entered}
-use Rattle.gms_parse.specs.Walks.{KindedToken, ReaderState, kind_ahead, last_kind, is_index, is_name, LacksRoom, range_start, list_labels, lines_with, new_labels, reader_after, reader_after_all, IsFaulty, deep, out_of_range, many_names, many_labels, in_table, without_lines, AreTokensFaultless}
+use Rattle.gms_parse.specs.ReadStates.{KindedToken, ReaderState, kind_ahead, last_kind, is_index, is_name, LacksRoom, range_start, list_labels, lines_with, new_labels, reader_after, reader_after_all, IsFaulty, deep, out_of_range, many_names, many_labels, in_table, without_lines, AreTokensFaultless}
 use Rattle.gms_parse.specs.InnerReadings.{Optionless, Tableless}
 use Rattle.std.proofs.lemmas.Bool.{not-true, eqb-true}
 use Rattle.gms_grammar.proofs.Basics.{not_true}
 use Rattle.gms_parse.proofs.TokenKinds.{same_kind, begins}
-use Rattle.gms_parse.proofs.Walks.{keyword_after, room_for_none}
+use Rattle.gms_parse.proofs.StateLemmas.{keyword_after, room_for_none}
 use Rattle.gms_parse.proofs.Ranges.{full_of, lacks_append}
 use Rattle.gms_parse.proofs.Alphabet.{AllPass}
 use Rattle.gms_parse.proofs.Depths.{TextsAbove}

@@ -7,7 +7,7 @@ use Rattle.gms_grammar.specs.Grammar.{one, the, ◌·◌, ◌∣◌, opt, many, 
 use Rattle.gms_grammar.specs.GamsGrammar.{Nonterminal, productions}
 use Rattle.gms_grammar.proofs.Checks.{right_and, implied}
 use Rattle.gms_expressions.proofs.TokenKinds.{implies, also}
-use Rattle.gms_parse.specs.Walks.{KindedToken}
+use Rattle.gms_parse.specs.ReadStates.{KindedToken}
 use Rattle.gms_parse.specs.InnerReadings.{Derivation, GamsPart}
 
 -- the kind of each token passes a test

@@ -24,7 +24,7 @@ use Rattle.gms_parse.specs.declared.assign.Relation.{Relation}
 use Rattle.gms_parse.specs.declared.reader.Reader.{Reader}
 use Rattle.gms_parse.specs.declared.reader.Tables.{Tables}
 use Rattle.gms_parse.specs.Statements.{side_of, assignment_act, assigned}
-use Rattle.gms_parse.specs.Walks.{ReaderState}
+use Rattle.gms_parse.specs.ReadStates.{ReaderState}
 use Rattle.gms_parse.specs.InnerReadings.{Derivation, GamsPart, Sense, IsGot, Has, Stays, StaysOpen, IsNext, seen_from}
 use Rattle.gms_parse.specs.InnerMeanings.{IsExpression, IsTarget, IsCondition, IsAssigned, IsDefined, IsRightSide, IsRelated, IsRelation, IsAct, has_lag}
 use Rattle.gms_parse.proofs.Steps.{got_by, gives_both, gives_the}

@@ -15,7 +15,7 @@ use Rattle.gms_expressions.specs.ExpressionTrees.{negated_by}
 use Rattle.gms_parse.specs.declared.fault.SourceFaultOrMemory.{SourceFaultOrMemory}
 use Rattle.gms_parse.specs.declared.reader.Reader.{Reader}
 use Rattle.gms_parse.specs.declared.reader.Tables.{Tables}
-use Rattle.gms_parse.specs.Walks.{ReaderState}
+use Rattle.gms_parse.specs.ReadStates.{ReaderState}
 use Rattle.gms_parse.specs.InnerReadings.{Refuses, Starts, StaysOpen, Tableless, IsNext, IsGot, seen_from}
 use Rattle.gms_parse.specs.InnerMeanings.{IsNot, IsOperand, IsGuard, IsCondition}
 use Rattle.gms_parse.proofs.Steps.{got_by, gives_both, gives_the, gives_none, gives_some, refuses_the, refuses_second, refuses_some}

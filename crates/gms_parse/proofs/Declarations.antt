@@ -26,7 +26,7 @@ use Rattle.gms_parse.specs.declared.fault.SourceFaultOrMemory.{SourceFaultOrMemo
 use Rattle.gms_parse.specs.declared.reader.Reader.{Reader}
 use Rattle.gms_parse.specs.declared.reader.Tables.{Tables}
 use Rattle.gms_parse.specs.Declarations.{items_in, variable_kind, variable_act}
-use Rattle.gms_parse.specs.Walks.{KindedToken, ReaderState}
+use Rattle.gms_parse.specs.ReadStates.{KindedToken, ReaderState}
 use Rattle.gms_parse.specs.InnerReadings.{Derivation, GamsPart, Gives, Refuses, IsGot, Holds, Starts, Stays, Ends, Tableless, IsNext, seen_from}
 use Rattle.gms_parse.specs.InnerMeanings.{AreDeclared, IsDeclaration, IsVariableType, IsAct, item_part, items_part, item_meaning, act_view}
 use Rattle.gms_parse.proofs.TokenKinds.{begins, is_quiet, leads_alike}

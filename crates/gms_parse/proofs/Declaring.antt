@@ -17,7 +17,7 @@ use Rattle.gms_parse.specs.declared.reader.Reader.{Reader}
 use Rattle.gms_parse.specs.declared.reader.Tables.{Tables}
 use Rattle.gms_parse.specs.DataLists.{optional_in, between}
 use Rattle.gms_parse.specs.Declarations.{named_in, optional_domain}
-use Rattle.gms_parse.specs.Walks.{KindedToken, ReaderState}
+use Rattle.gms_parse.specs.ReadStates.{KindedToken, ReaderState}
 use Rattle.gms_parse.specs.InnerReadings.{Derivation, GamsPart, Gives, Refuses, IsGot, Stays}
 use Rattle.gms_parse.specs.InnerMeanings.{IsNamed, IsOptionalDomain, AreListed, IsScalarValue, IsDeclared, form_of, item_part, item_meaning, list_part, list_meaning}
 use Rattle.gms_parse.proofs.Steps.{got_by, gives_both, gives_the, refuses_the}

@@ -8,7 +8,7 @@ use Rattle.gms_grammar.specs.Terminals.{is_terminal_among}
 use Rattle.gms_grammar.specs.GamsGrammar.{Nonterminal, Expression, Conjunction, Negation, Comparison, Sum, Product, PowerTerm, Guarded, Condition, Primary, Target, Attribute, IndexList, Index, Lag, LagAmount, Call, ExpressionList, Fold, Control, NameList, productions, token, bracketed}
 use Rattle.gms_expressions.proofs.TokenKinds.{implies, also}
 use Rattle.gms_expressions.specs.Outcomes.{open_after}
-use Rattle.gms_parse.specs.Walks.{KindedToken}
+use Rattle.gms_parse.specs.ReadStates.{KindedToken}
 use Rattle.gms_parse.specs.InnerReadings.{Derivation, GamsPart}
 use Rattle.gms_parse.proofs.TokenKinds.{same_kind}
 

@@ -25,7 +25,7 @@ use Rattle.gms_grammar.proofs.Sound.{sound}
 use Rattle.gms_parse.specs.declared.fault.SourceError.TheVariants as source_error
 use Rattle.gms_table.specs.declared.fault.TableError.TheVariants.{NoHeading}
 use Rattle.gms_parse.specs.declared.fault.SourceFaultOrMemory.TheVariants.{Fault}
-use Rattle.gms_parse.specs.Walks.{KindedToken, ReaderState, ends_statement, last_kind, table_name, kind_ahead, reader_after, reader_after_all, IsFaulty, without_lines}
+use Rattle.gms_parse.specs.ReadStates.{KindedToken, ReaderState, ends_statement, last_kind, table_name, kind_ahead, reader_after, reader_after_all, IsFaulty, without_lines}
 use Rattle.gms_parse.specs.InnerReadings.{Derivation, Gives, Refuses, Sense, Has, Starts, Stays, IsNext, IsGot, IsOpened, AnswersDomain, AnswersBehind, ends_head, seen_from, kind_of}
 use Rattle.gms_parse.specs.InnerMeanings.{IsNamed, IsPosition, IsDomain, IsOptionalDomain}
 use Rattle.gms_parse.proofs.TokenKinds.{leads_alike, same_kind}

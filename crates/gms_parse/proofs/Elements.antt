@@ -17,7 +17,7 @@ use Rattle.gms_parse.specs.declared.fault.SourceFaultOrMemory.{SourceFaultOrMemo
 use Rattle.gms_parse.specs.declared.reader.Reader.{Reader}
 use Rattle.gms_parse.specs.declared.reader.Tables.{Tables}
 use Rattle.gms_parse.specs.DataLists.{listed_in, each_in, concatenated, any_true, labels_in_range, is_bad_range}
-use Rattle.gms_parse.specs.Walks.{KindedToken, ReaderState, ends_statement}
+use Rattle.gms_parse.specs.ReadStates.{KindedToken, ReaderState, ends_statement}
 use Rattle.gms_parse.specs.InnerReadings.{Derivation, GamsPart, Refuses, Sense, IsSense, IsGot, Has, Stays, Tableless, IsNext, IsLacking, IsOpened, IsUnopened, seen_from, kind_of}
 use Rattle.gms_parse.specs.InnerMeanings.{IsAdded, IsPart}
 use Rattle.gms_parse.proofs.TokenKinds.{unled_next, led_first, leads_alike, same_kind}

@@ -40,7 +40,7 @@ use Rattle.gms_grammar.specs.Terminals.{is}
 use Rattle.gms_grammar.specs.GamsGrammar.{Nonterminal, Expression, Program, productions}
 use Rattle.gms_expressions.specs.Words.{terminal_of}
 use Rattle.gms_expressions.specs.Outcomes.{kinded_tokens}
-use Rattle.gms_parse.specs.Walks.{KindedToken}
+use Rattle.gms_parse.specs.ReadStates.{KindedToken}
 use Rattle.gms_parse.specs.InnerReadings.{Derivation, kind_of}
 use Rattle.gms_parse.proofs.Alphabet.{AllPass, pass_front, only, all_pass}
 use Rattle.gms_parse.proofs.Spelled.{lone_as}

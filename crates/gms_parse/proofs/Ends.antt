@@ -13,7 +13,7 @@ use Rattle.gms_grammar.specs.GamsLookAhead.{look_ahead}
 use Rattle.gms_grammar.specs.Terminals.{is}
 use Rattle.gms_expressions.specs.Words.{terminal_of}
 use Rattle.gms_parse.specs.declared.reader.Reader.{Reader}
-use Rattle.gms_parse.specs.Walks.{KindedToken}
+use Rattle.gms_parse.specs.ReadStates.{KindedToken}
 use Rattle.gms_parse.specs.InnerReadings.{GamsPart, IsReady, IsNext, seen_from}
 use Rattle.gms_parse.proofs.TokenKinds.{same_kind}
 

@@ -28,11 +28,11 @@ use Rattle.gms_parse.specs.declared.reader.Tables.{Tables}
 use Rattle.gms_grammar.proofs.Basics.{not_true}
 use Rattle.gms_expressions.specs.Outcomes.{unexpected_error}
 use Rattle.gms_parse.specs.DataLists.{opposed}
-use Rattle.gms_parse.specs.Walks.{KindedToken, ReaderState, is_name, IsFaulty, deep, out_of_range, many_names, many_labels, in_table, without_lines}
+use Rattle.gms_parse.specs.ReadStates.{KindedToken, ReaderState, is_name, IsFaulty, deep, out_of_range, many_names, many_labels, in_table, without_lines}
 use Rattle.gms_parse.specs.InnerReadings.{Gives, Refuses, IsGot, Has, Starts, Stays, IsNext, IsEntered, IsNotEntered, IsTooLarge, IsLacking, IsUnopened, seen_from, kind_of}
 use Rattle.gms_parse.specs.InnerMeanings.{IsNamed, IsSign}
 use Rattle.gms_parse.proofs.TokenKinds.{begins, same_kind}
-use Rattle.gms_parse.proofs.Walks.{is_mute, is_free, mute_after, free_sound, room_for_none}
+use Rattle.gms_parse.proofs.StateLemmas.{is_mute, is_free, mute_after, free_sound, room_for_none}
 use Rattle.gms_parse.proofs.Steps.{got_by, gives_one, gives_none, gives_some, takes_next, refuses_token, refuses_memory}
 use Rattle.gms_parse.proofs.Nexts.{past, exact, led_next, refuses_lacking, gives_exact, stays_by, plain_stays, stays_same}
 

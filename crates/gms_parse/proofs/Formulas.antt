@@ -18,13 +18,13 @@ use Rattle.gms_parse.specs.declared.fault.SourceFault.{SourceFault}
 use Rattle.gms_parse.specs.declared.reader.Reader.{Reader}
 use Rattle.gms_parse.specs.declared.reader.Tables.{Tables}
 use Rattle.gms_parse.specs.Faults.{fault_of_syntax, source_fault}
-use Rattle.gms_parse.specs.Walks.{KindedToken, ReaderState, reader_after, reader_after_all, kind_ahead, IsFaulty}
+use Rattle.gms_parse.specs.ReadStates.{KindedToken, ReaderState, reader_after, reader_after_all, kind_ahead, IsFaulty}
 use Rattle.gms_parse.specs.InnerReadings.{Derivation, Sense, Starts, StaysOpen, Tableless, IsGot, IsStuck, IsWrong, Refuses, seen_from, kind_of}
 use Rattle.gms_parse.proofs.Steps.{refuses_memory}
 use Rattle.gms_parse.proofs.Alphabet.{AllPass, pass_front, pass_rest, only, all_pass}
 use Rattle.gms_parse.proofs.Depths.{TextsAbove, depth_after, above_front, above_rest, is_deep, is_shallow, deep_closes}
 use Rattle.gms_parse.proofs.Agreements.{is_inner, Agrees, Agreed, agree, fault_outside}
-use Rattle.gms_parse.proofs.Fronts.{reads_of, stuck_of, takes_of}
+use Rattle.gms_parse.proofs.Prefixes.{reads_of, stuck_of, takes_of}
 
 abbrev is_formula : Nonterminal → Bool
 is_formula n = is_deep n || is_shallow n

@@ -17,7 +17,7 @@ use Rattle.gms_lex.specs.TokenTexts.{token_text}
 use Rattle.gms_expressions.specs.ExpressionTrees.{is_word, suffix_of, suffix_in, token_of, index, more_indices}
 use Rattle.gms_expressions.proofs.TokenKinds.{same_test}
 use Rattle.gms_parse.specs.Statements.{target_at, target_in, head_indices, act_of_head, after_head, after_target, named_act}
-use Rattle.gms_parse.specs.Walks.{KindedToken}
+use Rattle.gms_parse.specs.ReadStates.{KindedToken}
 use Rattle.gms_parse.specs.InnerReadings.{Derivation, GamsPart, Sense}
 use Rattle.gms_parse.specs.InnerMeanings.{has_lag, is_unsuffixed, is_plain_target}
 use Rattle.gms_parse.proofs.TokenKinds.{leads_alike, unled_less, led_more, unled_next, led_first, unled_either}

@@ -12,7 +12,7 @@ use Rattle.gms_parse.specs.declared.fault.SourceFaultOrMemory.{SourceFaultOrMemo
 use Rattle.gms_parse.specs.declared.reader.Reader.{Reader}
 use Rattle.gms_parse.specs.declared.reader.Tables.{Tables}
 use Rattle.gms_parse.specs.Declarations.{items_in, further_items}
-use Rattle.gms_parse.specs.Walks.{KindedToken, ReaderState}
+use Rattle.gms_parse.specs.ReadStates.{KindedToken, ReaderState}
 use Rattle.gms_parse.specs.InnerReadings.{Derivation, GamsPart, Refuses, Sense, IsSense, Has, Starts, Stays, Optionless, IsPassed, IsFurther, IsNotFurther, IsBehindLast, IsGot, seen_from}
 use Rattle.gms_parse.proofs.TokenKinds.{unled_next, led_either, led_other, unled_either}
 use Rattle.gms_parse.proofs.Steps.{got_by, Within, within_second, within_some, within_left, within_right, within_then, gives_both, gives_right, gives_none, gives_some, refuses_first}

@@ -26,7 +26,7 @@ use Rattle.gms_parse.specs.declared.fault.SourceFaultOrMemory.{SourceFaultOrMemo
 use Rattle.gms_parse.specs.declared.reader.Reader.{Reader}
 use Rattle.gms_parse.specs.declared.reader.Tables.{Tables}
 use Rattle.gms_parse.specs.DataLists.{listed_in, any_true, labels_in_part, has_bad_range}
-use Rattle.gms_parse.specs.Walks.{KindedToken, ReaderState}
+use Rattle.gms_parse.specs.ReadStates.{KindedToken, ReaderState}
 use Rattle.gms_parse.specs.InnerReadings.{Derivation, GamsPart, Gives, Refuses, IsGot, Has, Stays, IsNext, IsLacking, seen_from}
 use Rattle.gms_parse.specs.InnerMeanings.{IsPart, IsElement, IsGiven, IsListed, AreListed, listed_part, list_part, listed_meaning, list_meaning}
 use Rattle.gms_parse.proofs.TokenKinds.{unled_next}

@@ -9,7 +9,7 @@ use Rattle.gms_grammar.specs.Terminals.{is_terminal_among}
 use Rattle.gms_grammar.specs.GamsGrammar.{KeywordStatement, SetStatement, ParameterStatement, ScalarStatement, TableStatement, VariableStatement, EquationStatement, ModelStatement, AliasStatement}
 use Rattle.gms_grammar.specs.GamsLookAhead.{look_ahead}
 use Rattle.gms_expressions.proofs.TokenKinds.{implies, also}
-use Rattle.gms_parse.specs.Walks.{KindedToken, ReaderState, is_keyword}
+use Rattle.gms_parse.specs.ReadStates.{KindedToken, ReaderState, is_keyword}
 use Rattle.gms_parse.specs.InnerReadings.{GamsPart, kind_of}
 use Rattle.gms_parse.specs.InnerMeanings.{other_statement}
 use Rattle.gms_parse.proofs.TokenKinds.{IsNone, not_among, leads_by_kind}

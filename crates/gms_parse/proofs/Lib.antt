@@ -1,11 +1,11 @@
 pub mod TokenKinds
-pub mod Walks
+pub mod StateLemmas
 pub mod Steps
 pub mod Nexts
 pub mod Alphabet
 pub mod Depths
 pub mod Agreements
-pub mod Fronts
+pub mod Prefixes
 pub mod Formulas
 pub mod Listing
 pub mod Entering

@@ -16,7 +16,7 @@ use Rattle.gms_expressions.specs.ExpressionTrees.{second_in}
 use Rattle.gms_parse.specs.declared.fault.SourceFaultOrMemory.{SourceFaultOrMemory}
 use Rattle.gms_parse.specs.declared.reader.Reader.{Reader}
 use Rattle.gms_parse.specs.declared.reader.Tables.{Tables}
-use Rattle.gms_parse.specs.Walks.{ReaderState, last_kind}
+use Rattle.gms_parse.specs.ReadStates.{ReaderState, last_kind}
 use Rattle.gms_parse.specs.DataLists.{listed_in, each_in}
 use Rattle.gms_parse.specs.InnerReadings.{Derivation, GamsPart, Refuses, Sense, IsSense, Starts, Stays, IsNext, IsGot, seen_from}
 use Rattle.gms_parse.proofs.TokenKinds.{is_plain, unled_next}

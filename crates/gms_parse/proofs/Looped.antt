@@ -31,14 +31,14 @@ use Rattle.gms_parse.specs.declared.reader.Tables.{Tables}
 use Rattle.gms_parse.specs.Programs.{loop_act, controlled_act, loop_body, behind_semicolon, inner_act, display_or_other}
 use Rattle.gms_parse.specs.Statements.{assignment_act}
 use Rattle.std.specs.Prelude.{IsErrAnd}
-use Rattle.gms_parse.specs.Walks.{KindedToken, ReaderState}
+use Rattle.gms_parse.specs.ReadStates.{KindedToken, ReaderState}
 use Rattle.gms_parse.specs.InnerReadings.{Derivation, GamsPart, IsReady, IsAnswer, unexpected_at, Refuses, Sense, IsSense, IsGot, Holds, Has, Starts, Stays, StaysOpen, Ends, Tableless, IsNext, IsLacking, IsOpened, seen_from, kind_of}
 use Rattle.gms_parse.specs.InnerMeanings.{IsControl, IsInner, IsBody, IsAct, act_view, put_before, other_statement}
 use Rattle.gms_parse.proofs.TokenKinds.{IsNone, leads_alike, leads_of_none, unled_next}
 use Rattle.gms_parse.proofs.Steps.{got_by, Within, within_the, within_left, within_right, within_second, within_some, within_then, gives_one, gives_both, gives_the, gives_none, refuses_the, refuses_first, refuses_second, refuses_at}
 use Rattle.gms_parse.proofs.Choices.{through, leads_at}
 use Rattle.gms_parse.proofs.Ends.{behind_within}
-use Rattle.gms_parse.proofs.Walks.{closing_sound}
+use Rattle.gms_parse.proofs.StateLemmas.{closing_sound}
 use Rattle.gms_parse.proofs.Nexts.{past, exact, opened, open_starts, gives_open, refuses_inside, refuses_within, got_inside, refuses_lacking, leads_next, gives_exact, begun_has, begun_starts, quiet_holds, plain_starts, tableless_on, earlier}
 use Rattle.gms_expressions.proofs.Chains.{place_read}
 

@@ -20,7 +20,7 @@ use Rattle.gms_parse.specs.declared.fault.SourceFaultOrMemory.{SourceFaultOrMemo
 use Rattle.gms_parse.specs.declared.reader.Reader.{Reader}
 use Rattle.gms_parse.specs.declared.reader.Tables.{Tables}
 use Rattle.gms_parse.specs.Declarations.{named_in, model_in, model_act}
-use Rattle.gms_parse.specs.Walks.{ReaderState}
+use Rattle.gms_parse.specs.ReadStates.{ReaderState}
 use Rattle.gms_parse.specs.InnerReadings.{Derivation, GamsPart, Gives, Refuses, Sense, Has, Starts, Stays, Ends, Optionless, IsNext, IsLacking, IsGot, seen_from}
 use Rattle.gms_parse.specs.InnerMeanings.{IsNamed, AreEquations, IsModelList, IsModel, IsAct}
 use Rattle.gms_parse.proofs.TokenKinds.{leads_alike, unled_next}

@@ -20,7 +20,7 @@ use Rattle.gms_parse.specs.declared.fault.SourceFaultOrMemory.{SourceFaultOrMemo
 use Rattle.gms_parse.specs.declared.reader.Reader.{Reader}
 use Rattle.gms_parse.specs.declared.reader.Tables.{Tables}
 use Rattle.gms_parse.specs.Statements.{named_act, target_in, condition_in, assigned, sides_in}
-use Rattle.gms_parse.specs.Walks.{KindedToken, ReaderState}
+use Rattle.gms_parse.specs.ReadStates.{KindedToken, ReaderState}
 use Rattle.gms_parse.specs.InnerReadings.{Derivation, GamsPart, Gives, Refuses, Sense, IsSense, IsGot, Starts, Stays, StaysOpen, Tableless, IsNext, seen_from}
 use Rattle.gms_parse.specs.InnerMeanings.{IsTarget, IsCondition, IsAssigned, IsDefined, IsAct, is_plain_target}
 use Rattle.gms_parse.proofs.TokenKinds.{unled_next, led_first}

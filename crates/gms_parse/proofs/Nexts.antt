@@ -17,10 +17,10 @@ use Rattle.gms_parse.specs.declared.fault.SourceFault.{SourceFault}
 use Rattle.gms_parse.specs.declared.fault.SourceFaultOrMemory.{SourceFaultOrMemory}
 use Rattle.gms_parse.specs.declared.reader.Reader.{Reader}
 use Rattle.gms_parse.specs.declared.reader.Tables.{Tables}
-use Rattle.gms_parse.specs.Walks.{KindedToken, ReaderState, ends_statement, reader_after, IsFaulty, deep, out_of_range, many_names, many_labels, in_table, without_lines}
+use Rattle.gms_parse.specs.ReadStates.{KindedToken, ReaderState, ends_statement, reader_after, IsFaulty, deep, out_of_range, many_names, many_labels, in_table, without_lines}
 use Rattle.gms_parse.specs.InnerReadings.{Derivation, GamsPart, Gives, Refuses, Sense, IsSense, Holds, Has, Starts, Stays, Optionless, IsNext, IsLacking, IsOpened, IsUnopened, inside, seen_from, kind_of, IsGot}
 use Rattle.gms_parse.proofs.TokenKinds.{begins, is_quiet, is_plain, same_kind, led_first}
-use Rattle.gms_parse.proofs.Walks.{quiet_after, quiet_sound, closing_sound, keyword_after, begun_after, room_for_none, names_kept, labels_kept}
+use Rattle.gms_parse.proofs.StateLemmas.{quiet_after, quiet_sound, closing_sound, keyword_after, begun_after, room_for_none, names_kept, labels_kept}
 use Rattle.gms_parse.proofs.Steps.{got_by, gives_one, gives_both, refuses_at, refuses_first, refuses_second}
 
 -- what a token leaves, which a reader has passed

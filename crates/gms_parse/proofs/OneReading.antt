@@ -24,11 +24,11 @@ use Rattle.gms_parse.specs.Faults.{lexical_fault}
 use Rattle.gms_parse.specs.Programs.{statements_of}
 use Rattle.gms_parse.specs.Outcomes.{ProgramView, HasProgram, IsProgramOf, IsSourceFault, IsNoProgram, WantsMore}
 use Rattle.gms_parse.specs.Tables.{IsTableLineFault}
-use Rattle.gms_parse.specs.Walks.{KindedToken, ReaderState, start, kind_of, is_name, table_name, LacksRoom, lines_with, new_labels, reader_after_all, source_rule, IsFaulty, deep, out_of_range, many_names, many_labels, in_table, without_lines, AreTokensFaultless}
+use Rattle.gms_parse.specs.ReadStates.{KindedToken, ReaderState, start, kind_of, is_name, table_name, LacksRoom, lines_with, new_labels, reader_after_all, source_rule, IsFaulty, deep, out_of_range, many_names, many_labels, in_table, without_lines, AreTokensFaultless}
 use Rattle.gms_parse.specs.InnerReadings.{Derivation}
 use Rattle.gms_parse.proofs.Alphabet.{pass_rest}
 use Rattle.gms_parse.proofs.EndTokens.{begins_other, is_other}
-use Rattle.gms_parse.proofs.Walks.{room_for_none}
+use Rattle.gms_parse.proofs.StateLemmas.{room_for_none}
 use Rattle.gms_parse.proofs.TableFaults.{one_line_fault}
 
 -- programs with the same names, labels and statements have the same view

@@ -28,14 +28,14 @@ use Rattle.gms_parse.specs.declared.fault.SourceFault.{SourceFault}
 use Rattle.gms_parse.specs.Faults.{lexical_fault, error_of_table}
 use Rattle.gms_parse.specs.Programs.{statements_of}
 use Rattle.gms_parse.specs.Tables.{parts_of_tokens, labels_of_lines, IsTableLineFault, AreTableItems, entries_in, items_given}
-use Rattle.gms_parse.specs.Walks.{KindedToken, ReaderState, start, kind_ahead, table_name, lines_with, reader_after, reader_after_all, unexpected, source_rule, IsFaulty, in_table, AreTokensFaultless}
+use Rattle.gms_parse.specs.ReadStates.{KindedToken, ReaderState, start, kind_ahead, table_name, lines_with, reader_after, reader_after_all, unexpected, source_rule, IsFaulty, in_table, AreTokensFaultless}
 use Rattle.gms_parse.specs.Outcomes.{WantsMore, IsTableOf, HaveItems, HasProgram, ProgramView, IsSourceFault, IsNoProgram}
 use Rattle.gms_parse.specs.InnerReadings.{Derivation}
 use Rattle.gms_parse.proofs.TokenKinds.{same_kind}
 use Rattle.gms_parse.proofs.Alphabet.{AllPass, pass_front, pass_rest}
 use Rattle.gms_grammar.proofs.Rules.{walk_append, sound_append}
 use Rattle.gms_grammar.proofs.FirstFaults.{sound_at}
-use Rattle.gms_parse.proofs.Walks.{labels_kept}
+use Rattle.gms_parse.proofs.StateLemmas.{labels_kept}
 use Rattle.gms_parse.proofs.EndTokens.{has_end, end_alone}
 use Rattle.gms_parse.proofs.TableSteps.{turned, run_of, run_one, run_other}
 use Rattle.gms_parse.proofs.TableSound.{sound_table, placed_stay, placed_table, entries_there}

@@ -34,13 +34,13 @@ use Rattle.gms_parse.specs.declared.reader.Tables.{Tables}
 use Rattle.gms_parse.specs.DataLists.{range_labels}
 use Rattle.gms_table.specs.WordLabels.{all_entered}
 use Rattle.gms_table.proofs.LabelLemmas.{Stay-all_entered, all_entered-append}
-use Rattle.gms_parse.specs.Walks.{KindedToken, ReaderState, last_kind, range_start, range_texts, list_labels, new_labels, LacksRoom, many_labels}
+use Rattle.gms_parse.specs.ReadStates.{KindedToken, ReaderState, last_kind, range_start, range_texts, list_labels, new_labels, LacksRoom, many_labels}
 use Rattle.gms_parse.specs.InnerReadings.{Gives, Refuses, Sense, IsSense, IsGot, Has, Holds, Starless, Stays, IsNext, IsLacking, IsEntered, IsNotEntered, seen_from, kind_of}
 use Rattle.gms_parse.specs.InnerMeanings.{IsLabelToken, IsEnteredRange, IsNotEnteredRange, IsAdded, AreThere, text_of_label}
 use Rattle.gms_parse.proofs.TokenKinds.{leads_by_kind, unled_next}
 use Rattle.gms_parse.proofs.Steps.{got_by, gives_one, gives_both, gives_the, gives_none, gives_some, takes_next, refuses_the, refuses_first, refuses_second, refuses_some, refuses_token, refuses_memory}
 use Rattle.gms_parse.proofs.Nexts.{past, exact, leads_next, gives_exact, refuses_lacking, stays_by, plain_stays, stays_then}
-use Rattle.gms_parse.proofs.Walks.{free_sound, room_for_none}
+use Rattle.gms_parse.proofs.StateLemmas.{free_sound, room_for_none}
 
 -- ---- spelling
 

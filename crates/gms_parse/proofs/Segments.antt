@@ -27,7 +27,7 @@ use Rattle.gms_parse.specs.declared.reader.Reader.{Reader}
 use Rattle.gms_parse.specs.declared.reader.Tables.{Tables}
 use Rattle.gms_parse.specs.Programs.{keyword_act, keyword_statements, segment}
 use Rattle.gms_parse.specs.Statements.{named_act}
-use Rattle.gms_parse.specs.Walks.{KindedToken, ReaderState, is_keyword}
+use Rattle.gms_parse.specs.ReadStates.{KindedToken, ReaderState, is_keyword}
 use Rattle.gms_parse.specs.InnerReadings.{Derivation, GamsPart, Gives, Refuses, Sense, IsSense, IsGot, Holds, Starts, Stays, kind_of, seen_from}
 use Rattle.gms_parse.specs.InnerMeanings.{IsAct, IsNamedFirst, IsSegment, act_view, put_before}
 use Rattle.gms_parse.proofs.TokenKinds.{leads_alike}

@@ -24,7 +24,7 @@ use Rattle.gms_parse.specs.declared.fault.SourceFaultOrMemory.TheVariants.{Fault
 use Rattle.gms_parse.specs.declared.reader.Reader.{Reader}
 use Rattle.gms_parse.specs.declared.reader.Tables.{Tables}
 use Rattle.gms_parse.specs.Outcomes.{HaveItems, IsProgramOf, IsNoProgram, WantsMore, IsSourceRefusal}
-use Rattle.gms_parse.specs.Walks.{KindedToken, ReaderState, start, reader_after_all, AreTokensFaultless}
+use Rattle.gms_parse.specs.ReadStates.{KindedToken, ReaderState, start, reader_after_all, AreTokensFaultless}
 use Rattle.gms_parse.specs.InnerReadings.{IsStuck, IsWrong, IsOver, IsWhole, RefusesWhole, IsReady, seen_from}
 use Rattle.gms_parse.specs.InnerMeanings.{AreStatements}
 use Rattle.gms_parse.proofs.EndTokens.{has_end, end_alone}

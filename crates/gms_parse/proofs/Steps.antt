@@ -12,7 +12,7 @@ pub use Rattle.gms_grammar.proofs.Rules.{ahead_append, takes_next, gives_both, g
 use Rattle.gms_parse.specs.declared.fault.SourceFault.{SourceFault}
 use Rattle.gms_parse.specs.declared.fault.SourceFaultOrMemory.{SourceFaultOrMemory}
 use Rattle.gms_parse.specs.declared.fault.SourceFaultOrMemory.TheVariants.{Fault, Memory}
-use Rattle.gms_parse.specs.Walks.{KindedToken, ReaderState, kind_of, reader_after, source_rule, IsFaulty, unexpected}
+use Rattle.gms_parse.specs.ReadStates.{KindedToken, ReaderState, kind_of, reader_after, source_rule, IsFaulty, unexpected}
 use Rattle.gms_parse.specs.declared.reader.Reader.{Reader}
 use Rattle.gms_parse.specs.declared.reader.Tables.{Tables}
 use Rattle.gms_parse.specs.InnerReadings.{Derivation, GamsPart, Gives, Refuses, Sense, IsSense, IsGot, seen_from}

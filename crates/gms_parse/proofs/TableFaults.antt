@@ -9,7 +9,7 @@ use Rattle.gms_table.specs.TableEntries.{TablePart, place_of_part, IsPartFault, 
 use Rattle.gms_parse.specs.declared.fault.SourceFault.{SourceFault}
 use Rattle.gms_parse.specs.Faults.{error_of_table}
 use Rattle.gms_parse.specs.Tables.{parts_of_tokens, IsTableLineFault}
-use Rattle.gms_parse.specs.Walks.{KindedToken}
+use Rattle.gms_parse.specs.ReadStates.{KindedToken}
 use Rattle.gms_grammar.proofs.Orders.{Order, at_once, earlier, later, order, some_there}
 
 -- the error of a number

@@ -49,7 +49,7 @@ use Rattle.gms_parse.specs.Tables.{parts_of_tokens, labels_of_lines, IsTableLine
 use Rattle.gms_parse.specs.InnerTables.{IsTableRead, IsTableRefused}
 use Rattle.gms_parse.specs.Declarations.{table_act}
 use Rattle.gms_table.specs.WordLabels.{all_entered}
-use Rattle.gms_parse.specs.Walks.{KindedToken, ReaderState, kind_ahead, last_kind, ends_statement, table_name, lines_with, reader_after, reader_after_all, IsFaulty, deep, out_of_range, many_names, many_labels, in_table, without_lines}
+use Rattle.gms_parse.specs.ReadStates.{KindedToken, ReaderState, kind_ahead, last_kind, ends_statement, table_name, lines_with, reader_after, reader_after_all, IsFaulty, deep, out_of_range, many_names, many_labels, in_table, without_lines}
 use Rattle.gms_parse.specs.InnerReadings.{Derivation, Gives, Refuses, Sense, IsSense, Holds, Starts, Stays, IsNext, IsGot, IsLines, ends_head, seen_from, kind_of}
 use Rattle.gms_parse.specs.InnerMeanings.{IsNamed, IsDomain, IsAct}
 use Rattle.gms_parse.proofs.TokenKinds.{same_kind}

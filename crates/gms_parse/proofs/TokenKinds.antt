@@ -16,7 +16,7 @@ use Rattle.gms_expressions.proofs.Leading.{unless}
 pub use Rattle.gms_expressions.proofs.TokenKinds.{leads_by_kind}
 pub use Rattle.gms_expressions.proofs.Leading.{leads_of, IsNone, not_among, leads_of_none}
 pub use Rattle.gms_grammar.proofs.Eithers.{unled_next}
-use Rattle.gms_parse.specs.Walks.{KindedToken, is_keyword}
+use Rattle.gms_parse.specs.ReadStates.{KindedToken, is_keyword}
 use Rattle.gms_parse.specs.InnerReadings.{GamsPart, kind_of}
 
 -- a token of the kind begins a statement, or ends one

@@ -20,13 +20,13 @@ use Rattle.gms_expressions.proofs.Valued.{number_in_is}
 use Rattle.gms_expressions.specs.ExpressionTrees.{second_in}
 use Rattle.gms_expressions.specs.Outcomes.{next_place}
 use Rattle.gms_parse.proofs.TokenKinds.{same_kind, unled_next}
-use Rattle.gms_parse.proofs.Walks.{quiet_sound}
+use Rattle.gms_parse.proofs.StateLemmas.{quiet_sound}
 use Rattle.gms_expressions.proofs.Chains.{place_read}
 use Rattle.gms_parse.specs.declared.fault.SourceFaultOrMemory.{SourceFaultOrMemory}
 use Rattle.gms_parse.specs.declared.reader.Reader.{Reader}
 use Rattle.gms_parse.specs.declared.reader.Tables.{Tables}
 use Rattle.gms_parse.specs.DataLists.{opposed, signed_value}
-use Rattle.gms_parse.specs.Walks.{KindedToken, ReaderState}
+use Rattle.gms_parse.specs.ReadStates.{KindedToken, ReaderState}
 use Rattle.gms_parse.specs.InnerReadings.{Derivation, GamsPart, Gives, Refuses, IsGot, Has, Stays, IsNext, IsLacking, IsValue, seen_from, kind_of}
 use Rattle.gms_parse.specs.InnerMeanings.{IsSign, IsUnsigned, IsGiven, IsScalarValue}
 use Rattle.gms_parse.proofs.Steps.{got_by, gives_one, gives_both, gives_the, gives_left, gives_right, gives_none, gives_some, refuses_at, refuses_the, refuses_first, refuses_second, refuses_some, by_cause, stuck_as, wrong_as}

@@ -20,7 +20,7 @@ use Rattle.gms_parse.specs.declared.fault.SourceFaultOrMemory.{SourceFaultOrMemo
 use Rattle.gms_parse.specs.declared.reader.Reader.{Reader}
 use Rattle.gms_parse.specs.declared.reader.Tables.{Tables}
 use Rattle.gms_parse.specs.Programs.{segments, statements_of}
-use Rattle.gms_parse.specs.Walks.{KindedToken, ReaderState, start, unexpected}
+use Rattle.gms_parse.specs.ReadStates.{KindedToken, ReaderState, start, unexpected}
 use Rattle.gms_parse.specs.InnerReadings.{Derivation, Gives, Refuses, Sense, IsSense, IsReady, IsGot, IsNext, Holds, Starts, IsWhole, RefusesWhole, unexpected_at, kind_of, seen_from}
 use Rattle.gms_parse.specs.InnerMeanings.{IsSegment, AreStatements, act_view, put_before}
 use Rattle.gms_parse.proofs.TokenKinds.{same_kind, unled_next}

@@ -52,7 +52,7 @@ use Rattle.gms_parse.specs.Declarations.{variable_kind, items_in, named_in, posi
 use Rattle.gms_parse.specs.Statements.{bytes_in, word_in, parsed_shown, shown_list, parsed_setting as setting_of, condition_in, target_in, side_of, sides_in, is_maximizing}
 use Rattle.gms_parse.specs.Programs.{loop_body, inner_act, named_first, segment, statements_of}
 use Rattle.gms_table.specs.WordLabels.{all_entered}
-use Rattle.gms_parse.specs.Walks.{LacksRoom, range_texts}
+use Rattle.gms_parse.specs.ReadStates.{LacksRoom, range_texts}
 use Rattle.gms_parse.specs.InnerReadings.{Derivation, GamsPart, Sense}
 
 module _ (source : List ℕ) (sense : Sense) (tree : Derivation) where

@@ -30,8 +30,8 @@ use Rattle.gms_parse.specs.declared.fault.SourceFaultOrMemory.TheVariants.{Fault
 use Rattle.gms_parse.specs.declared.reader.Reader.{Reader}
 use Rattle.gms_parse.specs.declared.reader.Tables.{Tables}
 use Rattle.gms_table.specs.declared.entry.TableLine.{TableLine}
-use Rattle.gms_parse.specs.Walks.{KindedToken, ReaderState, start, last_kind, ends_statement, table_name, unexpected, source_rule}
-pub use Rattle.gms_parse.specs.Walks.{kind_of}
+use Rattle.gms_parse.specs.ReadStates.{KindedToken, ReaderState, start, last_kind, ends_statement, table_name, unexpected, source_rule}
+pub use Rattle.gms_parse.specs.ReadStates.{kind_of}
 
 -- a tree of the grammar
 abbrev pub Derivation : Type 0

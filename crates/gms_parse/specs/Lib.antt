@@ -4,7 +4,7 @@ pub mod Declarations
 pub mod Statements
 pub mod Programs
 pub mod Tables
-pub mod Walks
+pub mod ReadStates
 pub mod Outcomes
 pub mod InnerReadings
 pub mod InnerMeanings

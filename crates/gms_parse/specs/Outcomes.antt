@@ -20,7 +20,7 @@ use Rattle.gms_ast.specs.StatementTrees.{Statements}
 use Rattle.gms_ast.specs.StatementView.{statements_view}
 use Rattle.gms_parse.specs.Programs.{statements_of}
 use Rattle.gms_parse.specs.Tables.{AreTableItems, items_given}
-use Rattle.gms_parse.specs.Walks.{KindedToken, start, kind_ahead, kind_of, reader_after_all, source_rule, AreTokensFaultless}
+use Rattle.gms_parse.specs.ReadStates.{KindedToken, start, kind_ahead, kind_of, reader_after_all, source_rule, AreTokensFaultless}
 
 -- The view of a program, wherever its parts are stored: its names, its labels, and the trees of its
 -- statements.

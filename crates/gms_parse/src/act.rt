@@ -9,7 +9,7 @@ ghost use Rattle.gms_parse.specs.declared.fault.SourceFaultOrMemory.TheVariants.
 ghost use Rattle.gms_parse.specs.declared.reader.Tables.{Tables};
 ghost use Rattle.gms_parse.specs.Statements.{alias_act, display_act, abort_act, option_act, solve_act};
 ghost use Rattle.gms_parse.specs.InnerReadings.{IsReady, Has, Stays, IsAnswer, AnswersName, AnswersPlain, AnswersNamed, AnswersWord, AnswersShown, AnswersAct};
-ghost use Rattle.gms_parse.specs.Walks.{ReaderState};
+ghost use Rattle.gms_parse.specs.ReadStates.{ReaderState};
 ghost use Rattle.gms_parse.specs.InnerMeanings.{IsWord, IsMethod, IsObjective, IsSuffix, IsShown, AreShown, IsSetting, IsAct, act_view};
 
 use crate::fault::SourceFaultOrMemory;

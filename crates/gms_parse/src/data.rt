@@ -9,7 +9,7 @@ ghost use Rattle.gms_grammar.specs.GamsGrammar.{Range as RangePart, ElementPart,
 ghost use Rattle.gms_grammar.specs.declared.terminal.Terminal.TheVariants.{Slash, Equals, Number, Infinity};
 ghost use Rattle.gms_lex.specs.TokenTexts.{token_text, unquoted, IsPlaced};
 ghost use Rattle.gms_expressions.specs.ExpressionTrees.{second_in};
-ghost use Rattle.gms_parse.specs.Walks.{ReaderState};
+ghost use Rattle.gms_parse.specs.ReadStates.{ReaderState};
 ghost use Rattle.gms_parse.specs.InnerReadings.{IsReady, IsGot, Refuses, seen_from, Has, Starless, Tableless, Stays, AnswersData, AnswersList, AnswersPlain};
 ghost use Rattle.gms_parse.specs.InnerMeanings.{IsAdded, IsPart, IsElement, IsGiven, IsUnsigned, IsListed, AreListed, IsScalarValue, IsLabelToken, IsEnteredRange, IsNotEnteredRange, listed_part, list_part};
 

@@ -4,7 +4,7 @@ ghost use Rattle.gms_ast.specs.StatementView.{item_in, declared_in};
 ghost use Rattle.gms_grammar.specs.declared.terminal.Terminal.TheVariants.{VariableType};
 ghost use Rattle.gms_parse.specs.declared.declaration.Form.TheVariants.{Scalar as form_scalar, Plain as form_plain};
 ghost use Rattle.gms_parse.specs.declared.reader.Tables.{Tables};
-ghost use Rattle.gms_parse.specs.Walks.{ReaderState};
+ghost use Rattle.gms_parse.specs.ReadStates.{ReaderState};
 ghost use Rattle.gms_grammar.specs.Grammar.{the, opt, ◌·◌};
 ghost use Rattle.gms_grammar.specs.GamsGrammar.{Domain, DomainPosition, ScalarItem, PlainItem, VariableStatement, token};
 ghost use Rattle.gms_parse.specs.Declarations.{variable_kind, variable_act};

@@ -7,7 +7,7 @@ ghost use Rattle.gms_ast.specs.Trees.{not_so};
 ghost use Rattle.gms_ast.specs.StatementView.{shown_tree};
 ghost use Rattle.gms_parse.specs.declared.fault.SourceFaultOrMemory.TheVariants.{Memory};
 ghost use Rattle.gms_parse.specs.declared.reader.Tables.{Tables};
-ghost use Rattle.gms_parse.specs.Walks.{ReaderState};
+ghost use Rattle.gms_parse.specs.ReadStates.{ReaderState};
 ghost use Rattle.gms_parse.specs.InnerReadings.{IsReady, Starts, StaysOpen, IsGot, AnswersFormula};
 ghost use Rattle.gms_parse.specs.InnerMeanings.{IsExpression, IsOperand, IsControl, IsTarget, IsCondition, IsGuard, IsNot};
 

@@ -11,7 +11,7 @@ ghost use Rattle.gms_grammar.specs.declared.terminal.Terminal.TheVariants.{Comma
 ghost use Rattle.gms_lex.specs.TokenTexts.{token_text, IsPlaced};
 ghost use Rattle.gms_expressions.specs.Outcomes.{next_place};
 ghost use Rattle.gms_parse.specs.declared.reader.Tables.{Tables};
-ghost use Rattle.gms_parse.specs.Walks.{ReaderState};
+ghost use Rattle.gms_parse.specs.ReadStates.{ReaderState};
 ghost use Rattle.gms_parse.specs.InnerReadings.{seen_from, kind_of, unexpected_at, IsReady, IsAt, IsNext, IsLacking, IsPassed, IsPassedAny, IsOpened, IsUnopened, IsEntered, IsNotEntered, IsValue, IsTooLarge, Has, Stays, IsGot, AnswersName};
 ghost use Rattle.gms_parse.specs.InnerMeanings.{IsNamed, IsSign};
 

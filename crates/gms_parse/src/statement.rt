@@ -5,7 +5,7 @@ ghost use Rattle.gms_grammar.specs.Reading.{leads};
 ghost use Rattle.gms_grammar.specs.GamsGrammar.{KeywordStatement, LoopStatement, LoopBody, InnerStatement, NamedStatement, Segment, productions};
 ghost use Rattle.gms_grammar.specs.GamsLookAhead.{look_ahead};
 ghost use Rattle.gms_parse.specs.Programs.{keyword_act, display_or_other, loop_act, inner_act};
-ghost use Rattle.gms_parse.specs.Walks.{ReaderState, is_keyword};
+ghost use Rattle.gms_parse.specs.ReadStates.{ReaderState, is_keyword};
 ghost use Rattle.gms_parse.specs.InnerReadings.{IsReady, Holds, Starts, Tableless, IsGot, Refuses, IsWhole, RefusesWhole, seen_from, kind_of, unexpected_at, AnswersAct, AnswersInner, AnswersStatement};
 ghost use Rattle.gms_parse.specs.InnerMeanings.{IsAct, IsInner, IsBody, IsNamedFirst, IsSegment, AreStatements, other_statement};
 

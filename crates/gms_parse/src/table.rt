@@ -5,7 +5,7 @@ ghost use Rattle.gms_grammar.specs.GamsGrammar.{TableStatement};
 ghost use Rattle.gms_parse.specs.declared.fault.SourceFaultOrMemory.TheVariants.{Memory};
 ghost use Rattle.gms_parse.specs.Faults.{fault_of_table};
 ghost use Rattle.gms_parse.specs.Declarations.{table_act};
-ghost use Rattle.gms_parse.specs.Walks.{ends_statement};
+ghost use Rattle.gms_parse.specs.ReadStates.{ends_statement};
 ghost use Rattle.gms_parse.specs.InnerReadings.{IsReady, IsLines, kind_of, seen_from, AnswersStatement};
 ghost use Rattle.gms_parse.specs.Tables.{labelled_positions, item_of_entry};
 ghost use Rattle.gms_parse.specs.InnerMeanings.{IsAct};

@@ -21,7 +21,7 @@ use Rattle.lp_core.specs.WellFormed.{standard_rows, standard_columns}
 use Rattle.lp_form.specs.declared.key.Key.{Key}
 use Rattle.lp_form.specs.Keys.{key_cmp, same_key, AreOrdered}
 use Rattle.lp_form.proofs.KeyOrder.{first-before, rest-ordered, same_key-Less, same_key_refl}
-use Rattle.gms_rows.specs.InnerWalks.{is_among}
+use Rattle.gms_rows.specs.InnerContracts.{is_among}
 use Rattle.gms_rows.specs.ModelPoints.{column_elements}
 use Rattle.gms_rows.specs.ProgramLp.{column_keys, column_of, place_of_key, placed, program_of, program_lp, sized_program, too_many}
 use Rattle.gms_rows.specs.Rows.{FormRow, rows_of_model}

@@ -13,7 +13,7 @@ use Rattle.gms_run_laws.proofs.Lasting.{loaded-begins}
 use Rattle.gms_run_laws.proofs.Starting.{begins-lasting}
 use Rattle.gms_save.specs.JointErrors.{joint_errors, resumed, saved_statements}
 use Rattle.gms_save.specs.Saves.{IsSavedBy, solvers_chosen}
-use Rattle.gms_joint_source.specs.Fronts.{first_line, joint_source}
+use Rattle.gms_joint_source.specs.JointSources.{first_line, joint_source}
 use Rattle.gms_restart.proofs.Continued.{resumed-begins, whole-accepted}
 use Rattle.gms_plans.specs.Moments.{AnswersAreSo, run_with_answers}
 use Rattle.gms_plans.proofs.Meant.{answers-are-so, take-drop}

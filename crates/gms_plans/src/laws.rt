@@ -13,7 +13,7 @@ ghost use Rattle.gms_run_laws.specs.LastStates.{MayBegin};
 ghost use Rattle.gms_plans.specs.Moments.{AnswersAreSo, run_with_answers};
 ghost use Rattle.gms_save.specs.JointErrors.{joint_errors, resumed, saved_statements};
 ghost use Rattle.gms_save.specs.Saves.{IsSavedBy};
-ghost use Rattle.gms_joint_source.specs.Fronts.{first_line, joint_source};
+ghost use Rattle.gms_joint_source.specs.JointSources.{first_line, joint_source};
 ghost use Rattle.lp_core.specs.declared.answer.Answer.{Answer};
 ghost use Rattle.lp_slot.specs.declared.solver.SolverRule.{SolverRule};
 

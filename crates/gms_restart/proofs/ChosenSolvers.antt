@@ -41,7 +41,7 @@ use Rattle.gms_set.specs.Expansion.{ExpandedData}
 use Rattle.gms_check.specs.declared.error.CompileError.{CompileError}
 use Rattle.gms_check.specs.declared.error.ErrorKind.{ErrorKind}
 use Rattle.gms_check.specs.declared.error.ErrorKind.TheVariants as wrong
-use Rattle.gms_check.specs.declared.standing.Standing.{Standing}
+use Rattle.gms_check.specs.declared.contexts.Standing.{Standing}
 use Rattle.gms_check.specs.CompileErrors.{act_errors, checked_kinds, compile_errors, declaration_errors, errors_after, errors_at, errors_of, has_error, is_faultless, known_after, known_after_item, known_in, model_errors, statement_error}
 use Rattle.gms_check.specs.Controls.{controlled_twice, not_ordered, uncontrolled}
 use Rattle.gms_check.specs.DeclarationUses.{are_usable, data_uses, domain_use, expansion_uses, failure, item_uses, kind_uses, model_uses}
@@ -53,7 +53,7 @@ use Rattle.gms_check.specs.Names.{redeclared, unknown_name}
 use Rattle.gms_check.specs.OptionWords.{is_one_of}
 use Rattle.gms_check.specs.Past.{Known, Past, with_item, with_name}
 use Rattle.gms_check.specs.Solves.{data_fault, defined_twice, model_type, not_defined, objective, option_range, unknown_solver}
-use Rattle.gms_check.specs.Standing.{as_condition, as_denied, as_guarded, as_inner, as_number, as_part, as_side}
+use Rattle.gms_check.specs.Contexts.{as_condition, as_denied, as_guarded, as_inner, as_number, as_part, as_side}
 use Rattle.gms_check.specs.InnerStatements.{act_uses}
 use Rattle.gms_check.specs.StatementUses.{UsesOfAct, UsesOfStatement, act_uses_step, index_list, left_uses, option_uses, right_standing, show_uses, statement_uses_step, statement_uses, with_left}
 use Rattle.gms_check.specs.Uses.{Use, Uses, multiplies, divides, raises, literal, reading, calling, folding, stepping, shifting, placing, failing, listing, showing, option_value, amount_uses, condition_uses, control_uses, later_steps, part_uses, place_by_mark, sets_of_control, shift_uses, steps, uses}

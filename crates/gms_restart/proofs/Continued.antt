@@ -12,7 +12,7 @@ use Rattle.gms_store.specs.State.{State, fits_at, symbol_at}
 use Rattle.gms_check.specs.Loaded.{IsAccepted, loaded}
 use Rattle.gms_exec.specs.Run.{World}
 use Rattle.gms_run_laws.specs.LastStates.{MayBegin}
-use Rattle.gms_joint_source.proofs.FrontPrograms.{labels_go_on, names_go_on}
+use Rattle.gms_joint_source.proofs.ProgramPrefixes.{labels_go_on, names_go_on}
 use Rattle.gms_run_laws.proofs.Begins.{begins-with}
 use Rattle.gms_save.specs.JointErrors.{is_saved, joint_errors, resumed, saved_statements}
 use Rattle.gms_save.specs.Saves.{IsSavedBy, solvers_chosen}
@@ -20,7 +20,7 @@ use Rattle.gms_save.proofs.Joints.{accepted}
 use Rattle.gms_save.proofs.SeenActs.{assigned_of}
 use Rattle.gms_save.proofs.SeenPrograms.{Seen, assigned-are, seen}
 use Rattle.gms_save_text.specs.Validity.{is_solver_name}
-use Rattle.gms_joint_source.specs.Fronts.{first_line, joint_source}
+use Rattle.gms_joint_source.specs.JointSources.{first_line, joint_source}
 use Rattle.gms_restart.specs.StatementLines.{AreNew, AreSaved, SeenNew, SeenSaved}
 use Rattle.gms_restart.proofs.NewTypes.{saved-front}
 use Rattle.gms_restart.proofs.SeenAlike.{new-types, seen-same, stand-for}

@@ -26,16 +26,16 @@ use Rattle.gms_expressions.specs.Words.{terminal_of}
 use Rattle.gms_parse.specs.Outcomes.{HasProgram, IsProgram, ProgramView, program_view}
 use Rattle.gms_parse.specs.Programs.{keyword_statements, named_first, segment, segments, statements_of}
 use Rattle.gms_parse.specs.InnerReadings.{Derivation, GamsPart}
-use Rattle.gms_parse.specs.Walks.{KindedToken}
+use Rattle.gms_parse.specs.ReadStates.{KindedToken}
 use Rattle.gms_check.specs.Loaded.{IsAccepted}
 use Rattle.gms_exec.specs.Run.{World}
 use Rattle.gms_run_laws.proofs.FormKeys.{EachHas}
-use Rattle.gms_joint_source.proofs.FrontPrograms.{attached, kin, names_go_on}
+use Rattle.gms_joint_source.proofs.ProgramPrefixes.{attached, kin, names_go_on}
 use Rattle.gms_joint_source.proofs.KinPrograms.{statements_same}
 use Rattle.gms_run_laws.proofs.Padding.{test-of}
 use Rattle.gms_save.specs.JointErrors.{joint_errors}
-use Rattle.gms_joint_source.specs.Fronts.{BeginsWith, DerivesSource, HaveFront, attach, first_line, joint_source}
-use Rattle.gms_joint_source.proofs.SeamSeen.{begins_with, have_front, no_ends, own_seen, seen_own}
+use Rattle.gms_joint_source.specs.JointSources.{BeginsWith, DerivesSource, HaveFront, attach, first_line, joint_source}
+use Rattle.gms_joint_source.proofs.JointDerivations.{begins_with, have_front, no_ends, own_seen, seen_own}
 use Rattle.gms_restart.specs.Restarts.{SaysTheSame, base_run, whole_run}
 use Rattle.gms_restart.specs.StatementLines.{SeenNew, SeenSaved}
 use Rattle.gms_restart.proofs.Restarted.{restarted}

@@ -19,7 +19,7 @@ use Rattle.gms_save.proofs.FromNumbers.{value_of}
 use Rattle.gms_save.proofs.SeenActs.{Told, same-told, shown, told_by}
 use Rattle.gms_restart.proofs.Padding.{HoldsOf, HoldsOfAct, HoldsOfAll, IsBelow, item_names, model_names}
 use Rattle.gms_restart.proofs.ProgramNames.{program-own}
-use Rattle.gms_run_laws.specs.GoingOn.{DeclaresItsOwn}
+use Rattle.gms_run_laws.specs.Extensions.{DeclaresItsOwn}
 use Rattle.gms_run_laws.proofs.Padding.{test-of}
 
 module _ (count : ℕ) where

@@ -33,7 +33,7 @@ use Rattle.gms_run_laws.proofs.Padding.{test-of}
 use Rattle.gms_run_laws.specs.LastStates.{AreFixed, IsFixedSet, StandAt, names_assigned}
 use Rattle.gms_run_laws.specs.Reached.{at_first}
 use Rattle.gms_run_laws.proofs.FewPositions.{few-given}
-use Rattle.gms_run_laws.proofs.StandingLoaded.{loaded-stands}
+use Rattle.gms_run_laws.proofs.LoadedPositions.{loaded-stands}
 use Rattle.gms_run_laws.proofs.StaticDomains.{loaded-fixed}
 use Rattle.gms_run_laws.proofs.TidyLoaded.{loaded-well}
 use Rattle.gms_run_laws.proofs.Tidying.{has-long}

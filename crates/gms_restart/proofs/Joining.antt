@@ -14,7 +14,7 @@ use Rattle.gms_run_laws.specs.Agreeing.{EndsAlike}
 use Rattle.gms_run_laws.proofs.Running.{ends-alike}
 use Rattle.gms_run_laws.proofs.Later.{joined}
 use Rattle.gms_run_laws.specs.JointRun.{behind_run}
-use Rattle.gms_run_laws.specs.GoingOn.{DeclaresItsOwn, TypesNone}
+use Rattle.gms_run_laws.specs.Extensions.{DeclaresItsOwn, TypesNone}
 use Rattle.gms_run_laws.proofs.Begins.{begins-with}
 use Rattle.gms_run_laws.proofs.Closing.{loaded-closed}
 use Rattle.gms_run_laws.proofs.ProgramNames.{program-named}

@@ -23,7 +23,7 @@ use Rattle.gms_check.specs.Past.{Past}
 use Rattle.gms_check.proofs.Growing.{by_parts}
 use Rattle.gms_run_laws.specs.Names.{Each}
 use Rattle.gms_run_laws.proofs.Eaches.{each-both}
-use Rattle.gms_run_laws.specs.GoingOn.{DeclaresItsOwn, TypesNone, typed_by}
+use Rattle.gms_run_laws.specs.Extensions.{DeclaresItsOwn, TypesNone, typed_by}
 use Rattle.gms_run_laws.proofs.Padding.{padded-after}
 use Rattle.gms_save.specs.JointErrors.{each_sooner, is_saved, is_saved_variable, joint_errors, names_at, restart_at, restart_error, restart_errors, restarts_at, saved_names, targets, typed_names, names_fixed_set}
 use Rattle.gms_save.proofs.LoadedNames.{loaded-declares, same-read}

@@ -11,12 +11,12 @@ use Rattle.gms_ast.specs.Trees as tree
 use Rattle.gms_tuple.specs.TupleSet.{has}
 use Rattle.gms_store.specs.State.{State, symbol_at, symbol_of, base_of}
 use Rattle.gms_scope.specs.Names.{is_index_set, has_no_declaration, positions}
-use Rattle.gms_check.specs.declared.standing.Standing.{Standing as Standings}
+use Rattle.gms_check.specs.declared.contexts.Standing.{Standing as Standings}
 use Rattle.gms_check.specs.Above.{directly_above}
 use Rattle.gms_check.specs.Checked.{AreIndices}
 use Rattle.gms_check.specs.IndexList.{have_unfit_set}
 use Rattle.gms_check.specs.Past.{Known}
-use Rattle.gms_check.specs.Standing.{as_condition, as_part, as_inner, as_guarded}
+use Rattle.gms_check.specs.Contexts.{as_condition, as_part, as_inner, as_guarded}
 use Rattle.gms_check.specs.Uses.{reading, controlling, place_by_mark, index_sets, uses, part_uses, control_uses, steps}
 use Rattle.gms_check.specs.Uses as checking
 use Rattle.gms_check.proofs.NoErrors.{AreClean, clean-left, clean-right}

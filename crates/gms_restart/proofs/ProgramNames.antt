@@ -16,8 +16,8 @@ use Rattle.gms_expressions.specs.ExpressionTrees.{name_in, or_0, token_of}
 use Rattle.gms_parse.specs.Outcomes.{ProgramView, HasProgram}
 use Rattle.gms_parse.specs.Programs.{statements_of}
 use Rattle.gms_parse.specs.InnerReadings.{Derivation}
-use Rattle.gms_parse.specs.Walks.{KindedToken}
-use Rattle.gms_joint_source.proofs.FrontWalks.{AreAlike}
+use Rattle.gms_parse.specs.ReadStates.{KindedToken}
+use Rattle.gms_joint_source.proofs.StatePrefixes.{AreAlike}
 use Rattle.gms_joint_source.proofs.Kinships.{program_kin}
 use Rattle.gms_joint_source.proofs.KinPrograms.{statements_same}
 use Rattle.gms_restart.proofs.OwnNames.{statements-own}

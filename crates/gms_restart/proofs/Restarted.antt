@@ -13,7 +13,7 @@ use Rattle.gms_parse.proofs.Looped.{view-Stmt}
 use Rattle.gms_check.specs.Loaded.{IsAccepted, loaded}
 use Rattle.lp_core.specs.declared.answer.Answer.{Answer}
 use Rattle.gms_exec.specs.Run.{Course, World, run_from}
-use Rattle.gms_run_laws.specs.GoingOn.{DeclaresItsOwn}
+use Rattle.gms_run_laws.specs.Extensions.{DeclaresItsOwn}
 use Rattle.gms_save.specs.JointErrors.{is_saved, joint_errors, resumed, saved_statements}
 use Rattle.gms_save.proofs.Joints.{accepted}
 use Rattle.gms_save.proofs.SeenActs.{shown}

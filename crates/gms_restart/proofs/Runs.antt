@@ -28,7 +28,7 @@ use Rattle.gms_check.specs.Checked.{StandsAfter}
 use Rattle.gms_check.specs.CompileErrors.{errors_after, known_after}
 use Rattle.gms_check.specs.Loaded.{IsAccepted, loaded, sound}
 use Rattle.gms_check.specs.Past.{Known, is_among}
-use Rattle.gms_check.specs.Standing.{as_side}
+use Rattle.gms_check.specs.Contexts.{as_side}
 use Rattle.gms_check.specs.StatementUses.{statement_uses, index_list, left_uses, with_left}
 use Rattle.gms_check.specs.Uses.{defining, uses}
 use Rattle.gms_check.proofs.ActUses.{uses-act, uses-Define}

@@ -6,11 +6,11 @@ use Rattle.gms_ast.specs.declared.program.Program.{Program}
 use Rattle.gms_store.specs.State.{State}
 use Rattle.gms_store.specs.Declarations.{declared_state}
 use Rattle.gms_parse.specs.Outcomes.{program_view, IsProgram}
-use Rattle.gms_joint_source.specs.Fronts.{joint_source}
+use Rattle.gms_joint_source.specs.JointSources.{joint_source}
 use Rattle.gms_save.specs.JointErrors.{resumed}
 use Rattle.gms_save.specs.Saves.{IsSavedBy}
 use Rattle.gms_joint_source.specs.Programs.{IsProgramPrefix}
-use Rattle.gms_joint_source.proofs.FrontPrograms.{is_front}
+use Rattle.gms_joint_source.proofs.ProgramPrefixes.{is_front}
 use Rattle.gms_restart.specs.Alike.{IsAlike}
 use Rattle.gms_restart.proofs.JointFitting.{all-alike}
 use Rattle.gms_restart.proofs.ProgramNames.{program-own}

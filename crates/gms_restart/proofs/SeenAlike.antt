@@ -14,7 +14,7 @@ use Rattle.gms_store.specs.State.{State}
 use Rattle.gms_check.specs.Loaded.{IsAccepted, loaded}
 use Rattle.lp_core.specs.declared.answer.Answer.{Answer}
 use Rattle.gms_exec.specs.Run.{World, run_from}
-use Rattle.gms_run_laws.specs.GoingOn.{DeclaresItsOwn, TypesNone}
+use Rattle.gms_run_laws.specs.Extensions.{DeclaresItsOwn, TypesNone}
 use Rattle.gms_restart.proofs.Joining.{Joins, StandsFor, joins}
 use Rattle.gms_run_laws.proofs.SolvesAlike.{defined_in}
 use Rattle.gms_save.specs.JointErrors.{joint_errors}

@@ -12,7 +12,7 @@ use Rattle.gms_lex.specs.TokenTexts.{token_text, unquoted}
 use Rattle.gms_grammar.specs.declared.terminal.Terminal.{Terminal}
 use Rattle.gms_set.specs.Ranges.{members}
 use Rattle.gms_table.specs.TableEntries.{TablePart, name, cell, is_plus, under, table_of, met, meet}
-use Rattle.gms_lines.specs.Stretches.{is_dot, stretch_bytes}
+use Rattle.gms_lines.specs.SplitFields.{is_dot, stretch_bytes}
 use Rattle.gms_table.specs.WordLabels.{label_of_text, labels_among, labels_of_text, labels_of_word, quoted_label, plain_label, with_label}
 use Rattle.gms_table.specs.Words.{Word, column_of_byte, first_stretches, others_by, parted, word_of, words_among}
 use Rattle.gms_parse.specs.Tables.{parts_of_tokens}

@@ -12,10 +12,10 @@ use Rattle.gms_lex.specs.Places.{IsEarlier, place_behind, place_of_byte, source_
 use Rattle.gms_lex.specs.TokenTexts.{IsPlaced}
 use Rattle.gms_lex.proofs.PlaceLemmas.{places_in_order}
 use Rattle.gms_expressions.specs.Outcomes.{kinded_tokens}
-use Rattle.gms_parse.specs.Walks.{KindedToken}
+use Rattle.gms_parse.specs.ReadStates.{KindedToken}
 use Rattle.gms_run_laws.proofs.FormKeys.{EachHas}
 use Rattle.gms_run_laws.proofs.Padding.{test-of}
-use Rattle.gms_joint_source.specs.Fronts.{first_line, joint_source}
+use Rattle.gms_joint_source.specs.JointSources.{first_line, joint_source}
 
 -- ---- the lines of places
 

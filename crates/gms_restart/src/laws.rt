@@ -26,7 +26,7 @@ ghost use Rattle.gms_run_laws.specs.Reached.{IsReached, IsStatementOf};
 ghost use Rattle.gms_run_laws.specs.LastStates.{MayBegin};
 ghost use Rattle.gms_save.specs.JointErrors.{joint_errors, resumed};
 ghost use Rattle.gms_save.specs.Saves.{IsSavedBy};
-ghost use Rattle.gms_joint_source.specs.Fronts.{first_line, joint_source};
+ghost use Rattle.gms_joint_source.specs.JointSources.{first_line, joint_source};
 ghost use Rattle.gms_save_text.specs.Validity.{IsSavedOf, is_solver_name, stands_in};
 ghost use Rattle.gms_restart.specs.Alike.{IsAlike};
 ghost use Rattle.gms_restart.specs.JointPrograms.{Continues};

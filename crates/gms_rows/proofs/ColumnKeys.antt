@@ -24,7 +24,7 @@ use Rattle.lp_form.proofs.KeyOrder.{key_cmp-total, key_cmp-Equal, key_cmp-flip, 
 use Rattle.gms_rows.specs.declared.form_row.FormRow.{FormRow as OwnRow}
 use Rattle.gms_rows.specs.Forms.{keyed, form_in}
 use Rattle.gms_rows.specs.ProgramLp.{ordered_keys}
-use Rattle.gms_rows.specs.InnerWalks.{is_among, OrdersOnce, form_row_in}
+use Rattle.gms_rows.specs.InnerContracts.{is_among, OrdersOnce, form_row_in}
 use Rattle.gms_rows.proofs.KeyLists.{among-before, keys-ordered}
 
 -- ---- a form shows its keys and numbers in order

@@ -19,7 +19,7 @@ use Rattle.lp_form.specs.Affine.{Affine, IsForm}
 use Rattle.lp_form.specs.Forms.{Step, Entrywise, number_at, coefficient, IsEntrywiseAnswer}
 use Rattle.lp_form.proofs.KeyOrder.{key_cmp-total, key_cmp-Equal, same_key-is}
 use Rattle.gms_rows.specs.Forms.{Form, keyed, form_in, number_of_key, is_not_zero, numbers_at, entrywise}
-use Rattle.gms_rows.specs.InnerWalks.{Told, is_among}
+use Rattle.gms_rows.specs.InnerContracts.{Told, is_among}
 use Rattle.gms_rows.proofs.KeyLists.{tied-turned, find-none, find-first}
 
 -- ---- numbers that are not 0

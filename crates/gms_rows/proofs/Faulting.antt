@@ -15,7 +15,7 @@ use Rattle.lp_form.specs.declared.fault.FormFault.TheVariants as fault
 use Rattle.lp_form.specs.Affine.{Affine, IsForm}
 use Rattle.lp_form.specs.Sums.{IsUnchangedByFault}
 use Rattle.gms_rows.specs.Forms.{Form, form_in, number_in_form, is_number, is_not_zero, where_fits, scaled_form, multiple, product_of_forms, quotient_of}
-use Rattle.gms_rows.specs.InnerWalks.{Told, ShowsFault}
+use Rattle.gms_rows.specs.InnerContracts.{Told, ShowsFault}
 use Rattle.gms_rows.proofs.ColumnKeys.{keys-form}
 use Rattle.gms_rows.proofs.Entries.{not_zero-true, not_zero-zero}
 

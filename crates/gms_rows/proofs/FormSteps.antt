@@ -17,7 +17,7 @@ use Rattle.lp_form.specs.Forms.{Step, sum_form_step, difference_step, product_fo
 use Rattle.lp_form.proofs.KeyOrder.{key_cmp-total}
 use Rattle.lp_form.proofs.Zeros.{fits-zero, sum_fits-zero}
 use Rattle.gms_rows.specs.Forms.{Form, form_in, number_of_key, keys_of_two, entrywise, entries_of_two, entries_by}
-use Rattle.gms_rows.specs.InnerWalks.{Told, is_among}
+use Rattle.gms_rows.specs.InnerContracts.{Told, is_among}
 use Rattle.gms_rows.proofs.KeyLists.{keys-ordered}
 use Rattle.gms_rows.proofs.Entries.{number-of_key, told}
 

@@ -6,7 +6,7 @@ use Rattle.gms_ast.specs.declared.expression.Expr.{Expr}
 use Rattle.gms_ast.specs.TreeView.{tree_of}
 use Rattle.gms_store.specs.State.{State}
 use Rattle.gms_rows.specs.Affine.{has_variables, some_has_variables, in_front}
-use Rattle.gms_rows.specs.InnerWalks.{parts_in}
+use Rattle.gms_rows.specs.InnerContracts.{parts_in}
 
 module _ {F : Type 0} (state : State) (parts : List (Place × Bool × Expr F)) (i : ℕ) where
   -- the next part has some, or a later one

@@ -14,7 +14,7 @@ use Rattle.gms_ast.specs.declared.expression.Index.TheVariants.{rolls-Label, rol
 use Rattle.gms_ast.specs.Trees as tree
 use Rattle.gms_ast.specs.TreeView.{tree_step, index_step, control_step, index_tree, indices_of, set_index}
 use Rattle.gms_rows.specs.Rows.{each_once, sets_among}
-use Rattle.gms_rows.specs.InnerWalks.{with_once}
+use Rattle.gms_rows.specs.InnerContracts.{with_once}
 use Rattle.gms_rows.proofs.Naming.{each_once-push}
 
 module _ {F : Type 0} where

@@ -12,7 +12,7 @@ use Rattle.std.proofs.lemmas.List.Elements.{All-nil, All-cons, All-head, All-tai
 use Rattle.lp_form.specs.declared.key.Key.{Key}
 use Rattle.lp_form.specs.Keys.{key_cmp, same_key, AreOrdered}
 use Rattle.lp_form.proofs.KeyOrder.{key_cmp-total, key_cmp-Equal, key_cmp-flip, same_key-Less, rest-ordered, ordered-cons, ordered-nil, before-all}
-use Rattle.gms_rows.specs.InnerWalks.{is_among}
+use Rattle.gms_rows.specs.InnerContracts.{is_among}
 
 -- two keys are the same in either order
 pub tied-turned : (k q : Key) → eq_by_cmp key_cmp q k ≡ same_key k q

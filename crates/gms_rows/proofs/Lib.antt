@@ -14,7 +14,7 @@ pub mod Naming
 pub mod Noting
 pub mod IndexSets
 pub mod OneRow
-pub mod RowWalk
+pub mod RowSequences
 pub mod Sizing
 pub mod Programs
 pub mod Domains

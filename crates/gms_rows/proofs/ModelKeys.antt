@@ -11,11 +11,11 @@ use Rattle.gms_store.specs.State.{State}
 use Rattle.gms_eval.specs.Nodes.{in_order}
 use Rattle.gms_rows.specs.Plain.{ArePlain, HasPlainDefinitions}
 use Rattle.gms_rows.specs.Rows.{Definition, FormRow, each_once, sets_among, definitions, definition_of, listed_equations, found, equations_declared_by, models_of, equations_from, equations_of, rows_of_definition, rows_of_model}
-use Rattle.gms_rows.specs.InnerWalks.{HaveOrder}
+use Rattle.gms_rows.specs.InnerContracts.{HaveOrder}
 use Rattle.gms_rows.specs.ElementRows.{AreInOrder}
 use Rattle.gms_rows.proofs.Domains.{given, only_value}
 use Rattle.gms_rows.proofs.RowKeys.{AreApart, each_once-apart, HaveApart, definitions-apart}
-use Rattle.gms_rows.proofs.RowWalk.{joined_rows}
+use Rattle.gms_rows.proofs.RowSequences.{joined_rows}
 
 -- ---- equations
 

@@ -8,7 +8,7 @@ use Rattle.std.proofs.lemmas.List.Concat.{flat_map-append}
 use Rattle.gms_ast.specs.declared.declaration.ModelDecl.{ModelDecl}
 use Rattle.gms_ast.specs.declared.program.Stmt.{Stmt}
 use Rattle.gms_rows.specs.Rows.{each_once, Definition, definitions, defined_at, definition_of, listed_equations, found, equations_declared_by, models_of, equations_from}
-use Rattle.gms_rows.specs.InnerWalks.{with_once, is_in}
+use Rattle.gms_rows.specs.InnerContracts.{with_once, is_in}
 
 -- ---- without repetition
 

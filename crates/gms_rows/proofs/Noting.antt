@@ -8,7 +8,7 @@ use Rattle.std.proofs.lemmas.List.Concat.{flat_map-append}
 use Rattle.std.proofs.lemmas.List.Folds.{list_any-append}
 use Rattle.gms_ast.specs.declared.program.Stmt.{Stmt}
 use Rattle.gms_rows.specs.Rows.{Definition, defined_at, definition_of, definitions}
-use Rattle.gms_rows.specs.InnerWalks.{AreMarked, AreNoted, found_in, is_in, noted_by, with_once}
+use Rattle.gms_rows.specs.InnerContracts.{AreMarked, AreNoted, found_in, is_in, noted_by, with_once}
 use Rattle.gms_rows.specs.declared.equations.Definition.{Definition as OwnDefinition}
 
 -- appending the default element leaves reads with that default unchanged

@@ -30,7 +30,7 @@ use Rattle.lp_form.specs.Keys.{key_cmp}
 use Rattle.lp_form.specs.Affine.{Affine as OwnForm}
 use Rattle.gms_rows.specs.Affine.{has_variables, in_front, form_of, front, plus, with_next, joined_forms, chained, element_form, form_of_constant, linear, forms, affine}
 use Rattle.gms_rows.specs.Forms.{Form, form_in, keyed, constant_form, zero_form, column_form, scaled_form, sum_of_forms, product_of_forms, quotient_of}
-use Rattle.gms_rows.specs.InnerWalks.{parts_in, signed_join, chain_form, total_form}
+use Rattle.gms_rows.specs.InnerContracts.{parts_in, signed_join, chain_form, total_form}
 use Rattle.gms_rows.proofs.Joins.{from_here}
 
 -- ---- kinds of nodes

@@ -13,7 +13,7 @@ use Rattle.lp_form.specs.Keys.{key_cmp, same_key, AreOrdered}
 use Rattle.lp_form.proofs.KeyOrder.{key_cmp-Equal, key_cmp-flip, same_key-Less, same_key-Greater, same_key_refl}
 use Rattle.lp_form.proofs.Results.{indices_rise}
 use Rattle.gms_rows.specs.ProgramLp.{place_of_key}
-use Rattle.gms_rows.specs.InnerWalks.{is_among, placed_numbers}
+use Rattle.gms_rows.specs.InnerContracts.{is_among, placed_numbers}
 use Rattle.gms_rows.proofs.KeyLists.{tied-turned}
 
 -- the first place at which a key stands

@@ -20,7 +20,7 @@ use Rattle.lp_core.specs.Numbers.{row_numbers}
 use Rattle.gms_rows.specs.declared.form_row.FormRow.{FormRow as OwnRow}
 use Rattle.gms_rows.specs.Forms.{keyed, form_in}
 use Rattle.gms_rows.specs.ProgramLp.{place_of_key, placed}
-use Rattle.gms_rows.specs.InnerWalks.{is_among, placed_numbers, form_row_in}
+use Rattle.gms_rows.specs.InnerContracts.{is_among, placed_numbers, form_row_in}
 use Rattle.gms_rows.proofs.Places.{place-there}
 use Rattle.gms_rows.proofs.ColumnKeys.{entries-form}
 

@@ -21,7 +21,7 @@ use Rattle.lp_form.specs.Keys.{key_cmp, same_key, AreOrdered}
 use Rattle.lp_form.specs.Forms.{Step, sum_form_step, difference_step, product_form_step, quotient_step}
 use Rattle.lp_form.proofs.KeyOrder.{same_key-is}
 use Rattle.gms_rows.specs.Forms.{Form, number_of_key, is_number, is_not_zero, numbers_at, keys_of_two, entrywise, entries_of_two, entries_by, where_fits, sum_of_forms, scaled_form, multiple, product_of_forms, quotient_of}
-use Rattle.gms_rows.specs.InnerWalks.{is_among}
+use Rattle.gms_rows.specs.InnerContracts.{is_among}
 use Rattle.gms_rows.specs.Points.{form_at}
 use Rattle.gms_rows.proofs.ColumnKeys.{same_keys}
 use Rattle.gms_rows.proofs.Entries.{not_zero-zero, not_zero-false, unless-unwrapped, get-numbers_at}

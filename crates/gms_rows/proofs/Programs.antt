@@ -26,7 +26,7 @@ use Rattle.lp_core.proofs.Points.{AllPairs-first, AllPairs-rest}
 use Rattle.gms_rows.specs.declared.form_row.FormRow.{FormRow as OwnRow}
 use Rattle.gms_rows.specs.Rows.{FormRow}
 use Rattle.gms_rows.specs.ProgramLp.{column_keys, column_of, place_of_key, placed, program_of}
-use Rattle.gms_rows.specs.InnerWalks.{is_among, form_row_in}
+use Rattle.gms_rows.specs.InnerContracts.{is_among, form_row_in}
 use Rattle.gms_rows.proofs.KeyLists.{keys-ordered}
 use Rattle.gms_rows.proofs.ColumnKeys.{among-ordered, keys-rows}
 use Rattle.gms_rows.proofs.Placing.{place-within}

@@ -22,10 +22,10 @@ use Rattle.lp_form.specs.declared.key.Key.{Key}
 use Rattle.gms_rows.specs.ElementRows.{sets_of_definition, bound_to, tuple_at, AreInOrder}
 use Rattle.gms_rows.specs.Plain.{ArePlain}
 use Rattle.gms_rows.specs.Rows.{Definition, FormRow, each_once, sets_among, sense_of, present_rows, row_form, rows_of_definition}
-use Rattle.gms_rows.specs.InnerWalks.{HaveOrder}
+use Rattle.gms_rows.specs.InnerContracts.{HaveOrder}
 use Rattle.gms_rows.proofs.Domains.{given, only_value, All-each_once, plain-simple, domain-known}
 use Rattle.gms_rows.proofs.OneRow.{row_at}
-use Rattle.gms_rows.proofs.RowWalk.{row_of, domain_of, joined_rows}
+use Rattle.gms_rows.proofs.RowSequences.{row_of, domain_of, joined_rows}
 
 -- two lists, each of which differs in itself and from the other
 AllPairs-append : {X : Type 0} (R : X → X → Type 0) (xs ys : List X) → AllPairs R xs → AllPairs R ys → All (λ x. All (R x) ys) xs → AllPairs R (xs ++ ys)

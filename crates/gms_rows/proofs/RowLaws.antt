@@ -27,7 +27,7 @@ use Rattle.gms_rows.specs.Plain.{ArePlain}
 use Rattle.gms_rows.specs.Rows.{Definition, FormRow, present_rows, rows_of_definition}
 use Rattle.gms_rows.proofs.Domains.{given, only_value, first_of, those-All, plain-simple, domain-known, sized-is}
 use Rattle.gms_rows.proofs.RowKeys.{IsMade, the_same, row-known, row-absent, rows-parts, rows-All, tuple-decides, sourced, definition-apart}
-use Rattle.gms_rows.proofs.RowWalk.{row_of}
+use Rattle.gms_rows.proofs.RowSequences.{row_of}
 
 -- ---- which elements a domain has
 

@@ -39,7 +39,7 @@ use Rattle.gms_eval.specs.declared.stop.StopKind.TheVariants.{TooManyRows, TooMa
 use Rattle.gms_rows.specs.Affine.{affine}
 use Rattle.gms_rows.specs.ElementRows.{bound_to}
 use Rattle.gms_rows.specs.Forms.{Form, number_of_key, sum_of_forms}
-use Rattle.gms_rows.specs.InnerWalks.{is_among}
+use Rattle.gms_rows.specs.InnerContracts.{is_among}
 use Rattle.gms_rows.specs.ModelPoints.{definitions_of_model, IsLinearDefinition, Compare, is_there, SidesCompare, KeepsDefinition, KeepsModel, KeepsBoundsOf, column_elements}
 use Rattle.gms_rows.specs.Points.{form_at}
 use Rattle.gms_rows.specs.PointValues.{value_at}
@@ -54,7 +54,7 @@ use Rattle.gms_rows.proofs.PointSums.{sum_of-at}
 use Rattle.gms_rows.proofs.Programs.{all-of_map, map-keeps, map-itself, keys-there}
 use Rattle.gms_rows.proofs.ReadAt.{affine-at}
 use Rattle.gms_rows.proofs.RowKeys.{sourced}
-use Rattle.gms_rows.proofs.RowWalk.{row_of}
+use Rattle.gms_rows.proofs.RowSequences.{row_of}
 
 -- ---- both ways
 

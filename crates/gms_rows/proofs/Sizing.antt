@@ -21,7 +21,7 @@ use Rattle.lp_core.specs.declared.program.Lp.{Lp}
 use Rattle.gms_rows.specs.Rows.{FormRow}
 use Rattle.gms_rows.specs.declared.form_row.FormRow.{FormRow as OwnRow}
 use Rattle.gms_rows.specs.ProgramLp.{placed, too_many, sized_program}
-use Rattle.gms_rows.specs.InnerWalks.{form_row_in}
+use Rattle.gms_rows.specs.InnerContracts.{form_row_in}
 
 -- a sum over a mapped list
 sum_by-map : {X Y : Type 0} (f : Y → ℕ) (m : X → Y) (g : X → ℕ) → ((x : X) → f (m x) ≡ g x) → (xs : List X) → sum_by f (map m xs) ≡ sum_by g xs

@@ -7,4 +7,4 @@ pub mod PointValues
 pub mod Points
 pub mod ProgramLp
 pub mod Rows
-pub mod InnerWalks
+pub mod InnerContracts

@@ -6,7 +6,7 @@ ghost use Rattle.lp_form.specs.Keys.{AreOrdered};
 ghost use Rattle.lp_core.specs.WellFormed.{AreRowEntries};
 ghost use Rattle.lp_core.specs.Numbers.{column_numbers, row_numbers};
 ghost use Rattle.gms_rows.specs.ProgramLp.{column_keys, column_of, place_of_key, placed};
-ghost use Rattle.gms_rows.specs.InnerWalks.{form_row_in, is_among, placed_numbers, OrdersOnce};
+ghost use Rattle.gms_rows.specs.InnerContracts.{form_row_in, is_among, placed_numbers, OrdersOnce};
 
 use crate::form_row::FormRow;
 use gms_store::Store;

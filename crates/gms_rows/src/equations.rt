@@ -3,7 +3,7 @@ ghost use Rattle.std.specs.Prelude.{◌≡◌, ℕ, List, ◌++◌, map, option_
 ghost use Rattle.gms_ast.specs.Trees.{no_index};
 ghost use Rattle.gms_ast.specs.TreeView.{index_tree, indices_of};
 ghost use Rattle.gms_rows.specs.Rows.{each_once, listed_equations, found, equations_declared_by, models_of, has_lag, Definition as Defined, defined_at, definition_of, definitions, equations_of};
-ghost use Rattle.gms_rows.specs.InnerWalks.{AreNoted, found_in, noted_by};
+ghost use Rattle.gms_rows.specs.InnerContracts.{AreNoted, found_in, noted_by};
 
 use crate::names::{Names, reach};
 use gms_ast::{Act, Decl, DeclKind, Expr, Index, ModelDecl, Program, Side, Stmt};

@@ -9,7 +9,7 @@ ghost use Rattle.gms_eval.specs.Gives.{Gives};
 ghost use Rattle.gms_rows.specs.Plain.{HasPlainDefinitions};
 ghost use Rattle.gms_rows.specs.ProgramLp.{program_lp, program_of, sized_program};
 ghost use Rattle.gms_rows.specs.Rows.{Definition, definitions, definition_of, equations_of, rows_of_definition, rows_of_model};
-ghost use Rattle.gms_rows.specs.InnerWalks.{AreNoted, form_row_in, HaveOrder};
+ghost use Rattle.gms_rows.specs.InnerContracts.{AreNoted, form_row_in, HaveOrder};
 
 use crate::columns::{columns_of, keys_of, place_of, placed_rows};
 use crate::equations::{equations_of, noted_definition, noted_statements};

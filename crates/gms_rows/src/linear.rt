@@ -10,7 +10,7 @@ ghost use Rattle.gms_eval.specs.References.{tuple_of};
 ghost use Rattle.gms_eval.specs.Value.{value, labels};
 ghost use Rattle.gms_rows.specs.Affine.{affine, form_of_constant, element_form, form_of, front, with_next};
 ghost use Rattle.gms_rows.specs.Forms.{form_in};
-ghost use Rattle.gms_rows.specs.InnerWalks.{parts_in, added_at, chain_form, signed_join, total_form};
+ghost use Rattle.gms_rows.specs.InnerContracts.{parts_in, added_at, chain_form, signed_join, total_form};
 
 use crate::steps::{add, add_to, divide, finished, multiply, scale};
 use crate::variables::{count_in_front, has_variables};

@@ -1,6 +1,6 @@
 //! Names without repetition, and entries by their numbers.
 ghost use Rattle.std.specs.Prelude.{◌≡◌, ◌<◌, ℕ, [], length, slice_index_or, OnOk};
-ghost use Rattle.gms_rows.specs.InnerWalks.{with_once};
+ghost use Rattle.gms_rows.specs.InnerContracts.{with_once};
 
 use std::alloc::{AllocError, Global};
 use std::marker::Model;
@@ -15,7 +15,7 @@ pub(crate) struct Names {
 
 impl Model for Names {
     ghost use Rattle.std.specs.Prelude.{List, ℕ};
-    ghost use Rattle.gms_rows.specs.InnerWalks.{AreMarked};
+    ghost use Rattle.gms_rows.specs.InnerContracts.{AreMarked};
 
     ghost Value = { List ℕ };
 

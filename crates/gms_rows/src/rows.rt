@@ -4,7 +4,7 @@ ghost use Rattle.gms_ast.specs.TreeView.{index_tree, indices_of};
 ghost use Rattle.gms_eval.specs.Faults.{◌and_then◌};
 ghost use Rattle.gms_eval.specs.Gives.{Gives};
 ghost use Rattle.gms_rows.specs.Rows.{each_once, sets_among, sense_of, present_rows, row_under, rows_of_definition};
-ghost use Rattle.gms_rows.specs.InnerWalks.{with_once, definition_in, form_row_in, HaveOrder};
+ghost use Rattle.gms_rows.specs.InnerContracts.{with_once, definition_in, form_row_in, HaveOrder};
 ghost use Rattle.gms_rows.specs.ElementRows.{AreInOrder};
 
 use crate::equations::Definition;

@@ -6,7 +6,7 @@ ghost use Rattle.gq_extended.specs.Meaning.{extended};
 ghost use Rattle.lp_form.specs.Forms.{sum_form_step, difference_step};
 ghost use Rattle.gms_eval.specs.Gives.{Gives};
 ghost use Rattle.gms_rows.specs.Forms.{form_in, number_in_form, entries_of_two, sum_of_forms, scaled_form, multiple, product_of_forms, quotient_of};
-ghost use Rattle.gms_rows.specs.InnerWalks.{Told, ShowsFault};
+ghost use Rattle.gms_rows.specs.InnerContracts.{Told, ShowsFault};
 
 use gms_eval::{Binding, ExecStopOrMemory, StopKind};
 use gms_labels::Place;

@@ -2,7 +2,7 @@
 ghost use Rattle.std.specs.Prelude.{◌≡◌, ◌≤◌, length};
 ghost use Rattle.gms_ast.specs.TreeView.{tree_of};
 ghost use Rattle.gms_rows.specs.Affine.{has_variables, some_has_variables, in_front};
-ghost use Rattle.gms_rows.specs.InnerWalks.{parts_in};
+ghost use Rattle.gms_rows.specs.InnerContracts.{parts_in};
 
 use gms_ast::{Expr, Suffix};
 use gms_labels::Place;

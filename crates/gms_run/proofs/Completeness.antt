@@ -20,7 +20,7 @@ use Rattle.gms_ast.specs.declared.program.Program.{Program}
 use Rattle.gms_store.specs.State.{State}
 use Rattle.gms_command.specs.CommandLine.{Asked, Origin, in_file, restarted, generated, request_of}
 use Rattle.gms_run.specs.Solving.{Solving}
-use Rattle.gms_run.specs.Jobs.{Job}
+use Rattle.gms_run.specs.ProgramsToRun.{Job}
 use Rattle.gms_run.specs.Scripts.{Script, joint_script, Matter, scripted, unrestored, Taken, from_start, from_save, IsMatter, IsUnrestored, errors_of_script}
 use Rattle.gms_run.specs.Listings.{IsAcceptedScript, IsExecuted, IsJob, ShowsWhy}
 use Rattle.gms_run.specs.Statuses.{CanRun, CountsSo, EndsByNoFault, IsContentOf, HasFile, HasOrigin, IsFileOf, IsGood, IsGoodSave, IsReadyFor, IsRun, IsRunOf, IsInputOf, MeetsNoFault, NamesProgram, NamesSource}

@@ -19,9 +19,9 @@ use Rattle.lp_core.specs.declared.answer.Answer.{Answer}
 use Rattle.lp_slot.specs.declared.solver.SolverRule.{SolverRule}
 use Rattle.lp_core.specs.Numbers.{answer_numbers}
 use Rattle.gms_exec.specs.Run.{Course}
-use Rattle.gms_exec.specs.Standing.{IsStanding, ShowsStanding}
+use Rattle.gms_exec.specs.ValidEvents.{IsStanding, ShowsStanding}
 use Rattle.gms_exec.specs.Stepping.{Runs, RunView, come_to}
-use Rattle.gms_exec.proofs.Behind.{behind}
+use Rattle.gms_exec.proofs.EarlierEvents.{behind}
 use Rattle.gms_list.specs.Conditions.{IsListable}
 use Rattle.gms_list.specs.ListingText.{event_text, events_text}
 use Rattle.gms_run.specs.Solving.{HaveGrown}

@@ -10,7 +10,7 @@ use Rattle.gms_host.specs.Meaning.{Meaning, Outside}
 use Rattle.gms_host.specs.Rules.{CountsWriting}
 use Rattle.gms_host.specs.Spooling.{Passes, WritesFront}
 use Rattle.gms_host.proofs.Counting.{all_done}
-use Rattle.gms_host.proofs.Fronts.{front_longer, output-both, passes_none, passes_on}
+use Rattle.gms_host.proofs.WrittenPrefixes.{front_longer, output-both, passes_none, passes_on}
 use Rattle.lp_core.specs.declared.answer.Answer.{Answer}
 use Rattle.lp_slot.specs.declared.solver.SolverRule.{SolverRule}
 use Rattle.lp_core.specs.declared.program.Lp.{Lp}
@@ -19,7 +19,7 @@ use Rattle.gms_list.specs.ListingText.{echo_text}
 use Rattle.gms_run.specs.declared.status.Status.{Status}
 use Rattle.gms_run.specs.declared.status.Status.TheVariants.{Done, Execution}
 use Rattle.gms_run.specs.Solving.{Solvers, Solving}
-use Rattle.gms_run.specs.Jobs.{IsCutOff, IsRunSolved, Job, body_of, first_of, shown_by}
+use Rattle.gms_run.specs.ProgramsToRun.{IsCutOff, IsRunSolved, Job, body_of, first_of, shown_by}
 use Rattle.gms_run.specs.declared.execution.Run.{Run}
 use Rattle.gms_run.specs.InnerRuns.{ListsStatement, between, pending}
 use Rattle.gms_run.specs.InnerSteps.{Between, BreaksBehind, CanExecute, Ends, EndsBehind, IsListed, work}

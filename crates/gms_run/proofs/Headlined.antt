@@ -16,7 +16,7 @@ use Rattle.gms_parse.specs.Outcomes.{IsProgram}
 use Rattle.gms_run.specs.Solving.{Solving, numbers_of}
 use Rattle.gms_run.specs.Scripts.{Script, Matter, Taken, from_start, from_save, scripted, unrestored, script_of, IsMatter, errors_of_script}
 use Rattle.gms_run.specs.Laws.{RunIsAnsweredRightly}
-use Rattle.gms_run.specs.Jobs.{HasRightAnswers, job_of, course_of, job_text, body_of, last_line, HaltsSo, status_code}
+use Rattle.gms_run.specs.ProgramsToRun.{HasRightAnswers, job_of, course_of, job_text, body_of, last_line, HaltsSo, status_code}
 use Rattle.gms_run.specs.Listings.{AreClosing, IsExecuted, IsListing, IsRefusalListing, save_file}
 use Rattle.gms_run.specs.Statuses.{IsFileOf, IsReported, IsRun, IsRunOf, IsInputOf, RanSo, with_file, with_save, with_source_read, with_taken}
 use Rattle.gms_run.specs.Headline.{HasListing, IsListingOf, IsRunListing, WritesListing, file_alone, run_of}

@@ -14,7 +14,7 @@ use Rattle.lp_slot.specs.declared.solver.SolverRule.{SolverRule}
 use Rattle.lp_core.specs.declared.program.Lp.{Lp}
 use Rattle.lp_core.specs.Numbers.{lp_numbers}
 use Rattle.gms_exec.specs.Run.{Course}
-use Rattle.gms_exec.specs.Standing.{IsStanding, IsStandingSolve}
+use Rattle.gms_exec.specs.ValidEvents.{IsStanding, IsStandingSolve}
 use Rattle.gms_run.specs.Solving.{solves_in}
 use Rattle.gms_run.specs.InnerSteps.{IsAnsweredAt, KeepsPrograms, programs_in}
 use Rattle.gms_run.proofs.Numbered.{IsNumbered, places_in}

@@ -1,10 +1,10 @@
 pub mod Beginning
-pub mod Comings
+pub mod CallResults
 pub mod Completeness
 pub mod Executed
 pub mod Executing
 pub mod FirstSettings
-pub mod Going
+pub mod Restorable
 pub mod Headlined
 pub mod Joined
 pub mod Kept

@@ -19,8 +19,8 @@ use Rattle.lp_core.specs.declared.answer.Answer.{Answer}
 use Rattle.lp_slot.specs.declared.solver.SolverRule.{SolverRule}
 use Rattle.lp_core.specs.Numbers.{answer_numbers, lp_numbers}
 use Rattle.gms_exec.specs.Run.{Course, Halt, OfStatement, stopped, last_event, while_it_runs, one_after_another}
-use Rattle.gms_exec.specs.Standing.{IsStanding}
-use Rattle.gms_exec.proofs.Standing.{answered_by_standing}
+use Rattle.gms_exec.specs.ValidEvents.{IsStanding}
+use Rattle.gms_exec.proofs.ValidCalls.{answered_by_standing}
 use Rattle.gms_list.specs.ListingText.{event_text, events_text}
 use Rattle.gms_list.specs.SolveText.{solve_text}
 use Rattle.gms_run.specs.Solving.{HaveGrown}

@@ -33,7 +33,7 @@ use Rattle.gms_exec.specs.Assignment.{target_of, after_assignment}
 use Rattle.gms_exec.specs.Showing.{all_shown}
 use Rattle.gms_exec.specs.Run.{Course, Halt, World, OfAct, OfStatement, in_state, with_event, stopped_by, while_it_runs, with_evaluated, one_after_another, for_each, display, abort, abort_where, over_elements, answered, solve, act_step, statement_step, of_statement, labels_in}
 use Rattle.gms_run.specs.Solving.{Solving, numbers_of, places_of, solve_of, solves_in}
-use Rattle.gms_run.specs.Jobs.{Job, course_of}
+use Rattle.gms_run.specs.ProgramsToRun.{Job, course_of}
 
 -- the places at which the solves among events have their answers
 abbrev pub places_in : List Event → List ℕ

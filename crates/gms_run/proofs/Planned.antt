@@ -17,7 +17,7 @@ use Rattle.lp_core.specs.declared.answer.Answer.{Answer}
 use Rattle.lp_slot.specs.declared.solver.SolverRule.{SolverRule}
 use Rattle.gms_run.specs.Solving.{Solving}
 use Rattle.gms_run.specs.Scripts.{Script, from_start, from_save, Matter, scripted, unrestored, IsJoint, script_of, joint_script, joint_source, first_line, errors_of_script}
-use Rattle.gms_run.specs.Jobs.{Job, job_of, course_of, HasRightAnswers}
+use Rattle.gms_run.specs.ProgramsToRun.{Job, job_of, course_of, HasRightAnswers}
 use Rattle.gms_run.specs.Listings.{IsExecuted}
 use Rattle.gms_run.specs.Laws.{RunsAreAnsweredRightly}
 

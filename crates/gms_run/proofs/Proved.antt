@@ -23,7 +23,7 @@ use Rattle.lp_core.specs.Ends.{LeadsTo, EndsSoBy, ends_by_kind, limit_is_met, st
 use Rattle.lp_core.specs.Answers.{EndsCrossed, IsAnswer, bounds_cross, form_stops, search_ends}
 use Rattle.lp_slot.specs.declared.solver.SolverRule.{SolverRule}
 use Rattle.lp_slot.proofs.Under.{legal_under}
-use Rattle.gms_exec.specs.Standing.{IsStanding}
+use Rattle.gms_exec.specs.ValidEvents.{IsStanding}
 use Rattle.gms_list.specs.Conditions.{HasProof, IsListable}
 
 module _ {F : Type 0} (value : F → Number) (limit : ℕ) (lp : Lp F) (iterlim : ℕ) (rule : Rule) where

@@ -15,7 +15,7 @@ use Rattle.gq_frac.specs.Frac.{frac_value, frac_limit}
 use Rattle.gms_host.specs.Meaning.{Outside}
 use Rattle.gms_host.specs.Rules.{with_output}
 use Rattle.gms_host.specs.Spooling.{Passes, WritesFront}
-use Rattle.gms_host.proofs.Fronts.{output-both, passes_behind, passes_none, passes_whole}
+use Rattle.gms_host.proofs.WrittenPrefixes.{output-both, passes_behind, passes_none, passes_whole}
 use Rattle.gms_ast.specs.declared.program.Program.{Program}
 use Rattle.gms_ast.specs.declared.program.Stmt.{Stmt}
 use Rattle.gms_check.specs.declared.error.CompileError.{CompileError}
@@ -40,7 +40,7 @@ use Rattle.gms_command.specs.CommandLine.{Asked, Origin, in_file, restarted, gen
 use Rattle.gms_run.specs.Solving.{Solving, SolvesNothing, numbers_of, solves_in}
 use Rattle.gms_save_text.specs.SavedState.{saved_text}
 use Rattle.gms_run.specs.Scripts.{Matter, Script, scripted, errors_of_script}
-use Rattle.gms_run.specs.Jobs.{HaltsSo, IsCutOff, IsRunSolved, Job, body_of, course_of, first_of, job_of, job_text, last_line, save_text, solver_name, status_code}
+use Rattle.gms_run.specs.ProgramsToRun.{HaltsSo, IsCutOff, IsRunSolved, Job, body_of, course_of, first_of, job_of, job_text, last_line, save_text, solver_name, status_code}
 use Rattle.gms_run.specs.Listings.{AreClosing, AreRemarks, IsAcceptedScript, IsExecuted, IsWrittenPrefix, IsJob, IsListing, IsModelLine, SavesLast, SavesSo, ShowsErrors, ShowsWhy, TellsModel, TellsRanges, TellsRun, TellsSpans, errors_text, refused_text, save_file, unrestored_text}
 use Rattle.gms_run.specs.Statuses.{IsUnwritten}
 use Rattle.gms_save.specs.declared.fault.SaveFault.{SaveFault}

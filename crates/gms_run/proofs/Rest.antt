@@ -14,13 +14,13 @@ use Rattle.gms_event.specs.EventView.{events_in}
 use Rattle.lp_core.specs.declared.answer.Answer.{Answer}
 use Rattle.lp_core.specs.Numbers.{answer_numbers}
 use Rattle.gms_exec.specs.Run.{Course, OfStatement, stopped, last_event, all_events, one_after_another, of_statement}
-use Rattle.gms_exec.specs.Standing.{IsStanding}
+use Rattle.gms_exec.specs.ValidEvents.{IsStanding}
 use Rattle.gms_exec.proofs.Quiet.{Quiet, IsNoSolve, AreQuiet, quiet_all, quiet_statement}
 use Rattle.gms_list.specs.ListingText.{event_text, events_text}
 use Rattle.gms_run.specs.declared.status.Status.{Status}
 use Rattle.gms_run.specs.declared.status.Status.TheVariants.{Done, Execution}
 use Rattle.gms_run.specs.Solving.{HaveGrown, Solvers, Solving}
-use Rattle.gms_run.specs.Jobs.{IsRunSolved, Job, course_of, first_of, shown_by}
+use Rattle.gms_run.specs.ProgramsToRun.{IsRunSolved, Job, course_of, first_of, shown_by}
 use Rattle.gms_run.specs.InnerSteps.{Between, Ends, IsListed, KeepsPrograms, course_at}
 use Rattle.gms_run.proofs.Kept.{keeps_programs}
 use Rattle.gms_run.proofs.Listed.{halted_stays, in_two, texts-more}

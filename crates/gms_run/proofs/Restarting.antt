@@ -25,7 +25,7 @@ use Rattle.lp_core.specs.Numbers.{answer_numbers}
 use Rattle.gms_run.specs.declared.status.Status.TheVariants.{Done}
 use Rattle.gms_run.specs.Solving.{Solving, numbers_of}
 use Rattle.gms_run.specs.Scripts.{IsJoint, IsMatter, Matter, Script, first_line, from_save, from_start, joint_script, joint_source, script_of, scripted}
-use Rattle.gms_run.specs.Jobs.{Job, course_of, first_of, job_of, save_text, solver_name}
+use Rattle.gms_run.specs.ProgramsToRun.{Job, course_of, first_of, job_of, save_text, solver_name}
 use Rattle.gms_run.specs.Listings.{IsAcceptedScript, IsJob, IsListing, SavesLast}
 use Rattle.gms_run.specs.Laws.{IsLongRun, IsRestart, RestartsSayTheSame, base_course}
 use Rattle.gms_run.proofs.Completeness.{one_value}

@@ -25,12 +25,12 @@ use Rattle.gms_command.specs.CommandLine.{Asked, Origin, in_file, restarted, gen
 use Rattle.gms_store.specs.State.{State}
 use Rattle.gms_run.specs.Solving.{Solving, SolvesNothing}
 use Rattle.gms_run.specs.Scripts.{Script, Matter, scripted, unrestored, Taken, from_start, from_save, script_of, first_line, joint_script, joint_source, IsMatter, IsUnrestored}
-use Rattle.gms_run.specs.Jobs.{Job}
+use Rattle.gms_run.specs.ProgramsToRun.{Job}
 use Rattle.gms_run.specs.Listings.{AreClosing, IsExecuted, IsWrittenPrefix, IsJob, IsListing, IsRefusalListing, SavesLast, SavesSo, ShowsRefusal, ShowsWhy, TellsRanges, TellsRun, refusal_text, refused_text, save_file}
 use Rattle.gms_run.specs.Statuses.{CountsSo, EndsByNoFault, HasOrigin, IsFileOf, IsReadFault, IsReadyFor, IsReported, IsRun, IsInputOf, IsUnread, IsUnreadOf, IsUnwritten, IsUnwrittenFile, IsWriteFault, OfRequest, RanSo, SaysLine, with_file, with_listing, with_read, with_save, with_saved, with_source_read, with_taken}
 use Rattle.gms_run.specs.InnerReports.{CountsMention, CountsRun, EndsAs, IsUnreadFile, Lists, LosesSave, RanBehind, RanOf, ReadsFile, WritesSave}
 use Rattle.gms_run.specs.InnerSteps.{ComesTo}
-use Rattle.gms_run.proofs.Comings.{failed_with}
+use Rattle.gms_run.proofs.CallResults.{failed_with}
 use Rattle.gq_frac.specs.Frac.{frac_limit}
 
 -- ---- sources that are too long

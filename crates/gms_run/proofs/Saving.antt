@@ -31,7 +31,7 @@ use Rattle.gms_restart.specs.LastStates.{later_state}
 use Rattle.lp_slot.specs.SolverNames.{IsSolverName, may_stand_in_name}
 use Rattle.gms_run.specs.Solving.{Solving, numbers_of}
 use Rattle.gms_run.specs.Scripts.{Script, errors_of_script, first_line, first_state, joint_source, statements_to_run}
-use Rattle.gms_run.specs.Jobs.{Job, course_of, job_of, save_text, solver_name}
+use Rattle.gms_run.specs.ProgramsToRun.{Job, course_of, job_of, save_text, solver_name}
 use Rattle.gms_run.specs.Listings.{IsAcceptedScript}
 use Rattle.gms_run.specs.InnerReports.{IsGoneOn, KeepsState}
 

@@ -25,9 +25,9 @@ use Rattle.lp_nocycle.proofs.Answering.{comes_to_end}
 use Rattle.lp_nocycle.proofs.AnsweringTurn.{comes_to_end_by_turn, largest_turns}
 use Rattle.lp_nocycle.proofs.SameForm.{same_count}
 use Rattle.gms_exec.specs.Answering.{AreAnswered, IsAnswered}
-use Rattle.gms_exec.specs.Standing.{IsStanding, IsStandingSolve}
+use Rattle.gms_exec.specs.ValidEvents.{IsStanding, IsStandingSolve}
 use Rattle.gms_exec.proofs.Quiet.{IsNoSolve}
-use Rattle.gms_exec.proofs.Standing.{answered_by_standing}
+use Rattle.gms_exec.proofs.ValidCalls.{answered_by_standing}
 use Rattle.gms_run.specs.Searches.{IsEnough, SearchEnds, SearchesEnd}
 use Rattle.gms_run.proofs.Completeness.{one_value}
 

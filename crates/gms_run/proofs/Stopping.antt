@@ -16,7 +16,7 @@ use Rattle.gms_run.specs.declared.status.Status.{Status}
 use Rattle.gms_run.specs.declared.status.Status.TheVariants.{Done, Usage, Compile, Execution, ReadFault, WriteFault}
 use Rattle.gms_run.specs.Solving.{Solving, numbers_of}
 use Rattle.gms_run.specs.Scripts.{Script, joint_script, Matter, scripted, unrestored, Taken, from_start, from_save, IsMatter}
-use Rattle.gms_run.specs.Jobs.{Job, job_of, course_of, HaltsSo}
+use Rattle.gms_run.specs.ProgramsToRun.{Job, job_of, course_of, HaltsSo}
 use Rattle.gms_run.specs.Listings.{IsAcceptedScript, IsExecuted, IsJob}
 use Rattle.gms_run.specs.Statuses.{CountsSo, EndsByNoFault, IsReadyFor, IsRun, IsRunOf, IsStopped, MeetsNoFault, NamesSource}
 use Rattle.gms_restart.proofs.ProgramsAlike.{restarted-alike, whole-alike}

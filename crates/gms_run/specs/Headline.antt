@@ -24,7 +24,7 @@ use Rattle.gms_command.specs.CommandLine.{Asked, in_file, closing_line}
 use Rattle.gms_run.specs.declared.status.Status.{Status}
 use Rattle.gms_run.specs.declared.status.Status.TheVariants.{Done, Usage, Compile, Execution, ReadFault, WriteFault}
 use Rattle.gms_run.specs.Solving.{Solving, SolvesNothing, numbers_of}
-use Rattle.gms_run.specs.Jobs.{HaltsSo, status_code}
+use Rattle.gms_run.specs.ProgramsToRun.{HaltsSo, status_code}
 use Rattle.gms_run.specs.Statuses.{IsFileOf, with_source_read, with_file}
 
 -- ---- runs

@@ -34,7 +34,7 @@ use Rattle.gms_run.specs.declared.script.Matter.{Matter as OwnMatter}
 use Rattle.gms_run.specs.declared.script.Matter.TheVariants.{ToRun, Unrestored}
 use Rattle.gms_run.specs.Solving.{Solving, SolvesNothing, numbers_of}
 use Rattle.gms_run.specs.Scripts.{Script, Matter, scripted, unrestored, Taken, from_save, IsMatter, first_line, first_state, joint_source}
-use Rattle.gms_run.specs.Jobs.{solver_name, status_code}
+use Rattle.gms_run.specs.ProgramsToRun.{solver_name, status_code}
 use Rattle.gms_run.specs.Listings.{AreRemarks, IsAcceptedScript, IsListing, IsModelLine, SavesSo, errors_text, save_file}
 use Rattle.gms_run.specs.declared.execution.Run.{Run}
 use Rattle.gms_run.specs.InnerRuns.{Moment, pending, solved_between}

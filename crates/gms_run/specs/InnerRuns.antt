@@ -12,7 +12,7 @@ use Rattle.lp_slot.specs.declared.solver.SolverRule.{SolverRule}
 use Rattle.gms_run.specs.declared.execution.Run.{Run}
 use Rattle.gms_run.specs.declared.status.Status.{Status}
 use Rattle.gms_run.specs.Solving.{Solvers, Solving, solver_views}
-use Rattle.gms_run.specs.Jobs.{Job}
+use Rattle.gms_run.specs.ProgramsToRun.{Job}
 use Rattle.gms_run.specs.InnerSteps.{Between, BreaksBehind, ComesTo, EndsBehind, IsListed}
 
 -- ---- runs

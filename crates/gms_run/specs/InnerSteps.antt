@@ -24,11 +24,11 @@ use Rattle.lp_core.specs.Numbers.{lp_numbers}
 use Rattle.gms_exec.specs.Dimensions.{AreOneDimensional}
 use Rattle.gms_exec.specs.Run.{Course, stopped, last_event}
 use Rattle.gms_exec.specs.Stepping.{AreValidSettings}
-use Rattle.gms_exec.specs.Standing.{IsStanding, IsStandingSolve}
+use Rattle.gms_exec.specs.ValidEvents.{IsStanding, IsStandingSolve}
 use Rattle.gms_list.specs.ListingText.{events_text}
 use Rattle.gms_run.specs.declared.status.Status.{Status}
 use Rattle.gms_run.specs.Solving.{Solvers, Solving, HaveGrown, numbers_of, places_of, programs_of, solves_in}
-use Rattle.gms_run.specs.Jobs.{Job, IsRunSolved, HaltsSo, course_of, first_of, shown_by}
+use Rattle.gms_run.specs.ProgramsToRun.{Job, IsRunSolved, HaltsSo, course_of, first_of, shown_by}
 
 -- what work over a host results in: `Done` on success, `Broken` on a host fault; out of memory
 -- makes no claim

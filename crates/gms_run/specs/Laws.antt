@@ -9,7 +9,7 @@ use Rattle.gms_save.specs.JointErrors.{saved_statements}
 use Rattle.gms_run.specs.Solving.{Solving}
 use Rattle.gms_run.specs.declared.status.Status.TheVariants.{Done}
 use Rattle.gms_run.specs.Scripts.{Taken, Matter, IsMatter, first_line, from_save, from_start, joint_source, script_of, scripted}
-use Rattle.gms_run.specs.Jobs.{Job, course_of, first_of, HasRightAnswers}
+use Rattle.gms_run.specs.ProgramsToRun.{Job, course_of, first_of, HasRightAnswers}
 use Rattle.gms_run.specs.Listings.{IsExecuted, IsJob, IsListing, SavesLast}
 
 -- a program to run with other statements

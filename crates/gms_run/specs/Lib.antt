@@ -2,7 +2,7 @@ pub mod Headline
 pub mod Solving
 pub mod Searches
 pub mod Scripts
-pub mod Jobs
+pub mod ProgramsToRun
 pub mod Listings
 pub mod Statuses
 pub mod Laws

@@ -24,7 +24,7 @@ use Rattle.gms_run.specs.declared.status.Status.{Status}
 use Rattle.gms_run.specs.declared.status.Status.TheVariants.{Done, Usage, Compile, Execution, ReadFault, WriteFault}
 use Rattle.gms_run.specs.Solving.{Solving, SolvesNothing, numbers_of, places_of, programs_of, solves_in}
 use Rattle.gms_run.specs.Scripts.{Script, Matter, scripted, unrestored, errors_of_script}
-use Rattle.gms_run.specs.Jobs.{Job, job_of, course_of, job_text, save_text, solver_name, IsRunSolved, IsCutOff, HaltsSo, status_code}
+use Rattle.gms_run.specs.ProgramsToRun.{Job, job_of, course_of, job_text, save_text, solver_name, IsRunSolved, IsCutOff, HaltsSo, status_code}
 
 -- ---- what is accepted
 

@@ -9,7 +9,7 @@ use Rattle.gms_store.specs.State.{State}
 use Rattle.gms_check.specs.declared.error.CompileError.{CompileError}
 use Rattle.gms_check.specs.CompileErrors.{compile_errors}
 use Rattle.gms_check.specs.Loaded.{loaded}
-pub use Rattle.gms_joint_source.specs.Fronts.{first_line, joint_source}
+pub use Rattle.gms_joint_source.specs.JointSources.{first_line, joint_source}
 use Rattle.gms_save.specs.declared.saved.Saved.{Saved}
 use Rattle.gms_save.specs.declared.fault.SaveFault.{SaveFault}
 use Rattle.gms_save.specs.declared.fault.SaveFaultOrMemory.{SaveFaultOrMemory}

@@ -19,7 +19,7 @@ use Rattle.gms_run.specs.declared.status.Status.{Status}
 use Rattle.gms_run.specs.declared.status.Status.TheVariants.{Done, Usage, Compile, Execution, ReadFault, WriteFault}
 use Rattle.gms_run.specs.Solving.{Solving, SolvesNothing}
 use Rattle.gms_run.specs.Scripts.{Script, Matter, Taken, from_start, from_save, script_of, joint_script, errors_of_script, IsMatter}
-use Rattle.gms_run.specs.Jobs.{Job, course_of, HaltsSo}
+use Rattle.gms_run.specs.ProgramsToRun.{Job, course_of, HaltsSo}
 use Rattle.gms_run.specs.Listings.{IsJob, IsListing, IsWrittenPrefix, AreClosing, SavesLast, SavesSo, save_file}
 
 -- ---- the input

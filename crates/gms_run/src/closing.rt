@@ -8,7 +8,7 @@ ghost use Rattle.gms_command.specs.CommandLine.{asked_by, closing_line, origin};
 ghost use Rattle.gms_host.specs.Rules.{CountsWriting};
 ghost use Rattle.gms_run.specs.InnerReports.{IsRanged, IsRemarked, IsSave, IsTold, LosesSave, WritesSave};
 ghost use Rattle.gms_run.specs.InnerSteps.{ComesTo};
-ghost use Rattle.gms_run.specs.Jobs.{solver_name, status_code};
+ghost use Rattle.gms_run.specs.ProgramsToRun.{solver_name, status_code};
 ghost use Rattle.gms_run.specs.Listings.{IsModelLine, model_status, objective_level, pivots_of, save_file};
 
 use crate::execution::Run;

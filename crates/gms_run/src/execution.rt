@@ -8,7 +8,7 @@ ghost use Rattle.gms_event.specs.Events.{stops};
 ghost use Rattle.gms_store.specs.State.{State};
 ghost use Rattle.gms_exec.specs.Dimensions.{AreOneDimensional};
 ghost use Rattle.gms_exec.specs.Run.{of_statement};
-ghost use Rattle.gms_exec.specs.Standing.{ShowsStanding};
+ghost use Rattle.gms_exec.specs.ValidEvents.{ShowsStanding};
 ghost use Rattle.gms_exec.specs.Stepping.{AreValidSettings, Answered, Runs, UnlessMemory};
 ghost use Rattle.gms_list.specs.Conditions.{IsListable};
 ghost use Rattle.gms_list.specs.ListingText.{echo_text, event_text, events_text};

@@ -4,7 +4,7 @@ ghost use Rattle.gms_host.specs.Rules.{CountsWriting, with_output};
 ghost use Rattle.gms_host.specs.Spooling.{PutsThrough, WritesFront};
 ghost use Rattle.gms_list.specs.ListingText.{end_text};
 ghost use Rattle.gms_run.specs.InnerSteps.{ComesTo};
-ghost use Rattle.gms_run.specs.Jobs.{status_code};
+ghost use Rattle.gms_run.specs.ProgramsToRun.{status_code};
 
 use crate::status::Status;
 use gms_host::{Failed, Host, Spool};

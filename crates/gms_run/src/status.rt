@@ -1,6 +1,6 @@
 //! How a run ends.
 ghost use Rattle.std.specs.Prelude.{◌≡◌};
-ghost use Rattle.gms_run.specs.Jobs.{status_code};
+ghost use Rattle.gms_run.specs.ProgramsToRun.{status_code};
 
 /// How a run ends.
 ///

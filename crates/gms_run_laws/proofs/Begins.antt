@@ -15,7 +15,7 @@ use Rattle.gms_exec.specs.Run.{World}
 use Rattle.gms_run_laws.specs.Agreeing.{declares, HasAll}
 use Rattle.gms_run_laws.proofs.Changing.{read, over-at, over-length, same-lists, chosen-declared, chosen-undeclared}
 use Rattle.gms_run_laws.proofs.TidyLoaded.{loaded-well}
-use Rattle.gms_run_laws.specs.GoingOn.{DeclaresItsOwn, TypesNone}
+use Rattle.gms_run_laws.specs.Extensions.{DeclaresItsOwn, TypesNone}
 use Rattle.gms_run_laws.proofs.Keeping.{Keeps, keep-behind}
 use Rattle.gms_run_laws.proofs.Padding.{padded-after}
 

@@ -5,9 +5,9 @@ use Rattle.gms_labels.specs.declared.place.Place.{Place}
 use Rattle.gms_ast.specs.Trees as tree
 use Rattle.gms_scope.specs.Names.{has_no_declaration}
 use Rattle.gms_check.specs.declared.error.ErrorKind.TheVariants.{UnknownName}
-use Rattle.gms_check.specs.declared.standing.Standing.{Standing}
+use Rattle.gms_check.specs.declared.contexts.Standing.{Standing}
 use Rattle.gms_check.specs.Past.{Known}
-use Rattle.gms_check.specs.Standing.{as_number, as_condition, as_part, as_inner, as_guarded, as_denied}
+use Rattle.gms_check.specs.Contexts.{as_number, as_condition, as_part, as_inner, as_guarded, as_denied}
 use Rattle.gms_check.specs.Uses.{place_by_mark, index_sets, sets_of_control, steps, uses, part_uses, amount_uses, control_uses, shift_uses, condition_uses}
 use Rattle.gms_check.proofs.NoErrors.{AreClean, clean-left, clean-right}
 use Rattle.gms_check.proofs.Soundness.{neither-first, neither-second}

@@ -19,8 +19,8 @@ use Rattle.gms_check.specs.Past.{with_data, with_item, with_name}
 use Rattle.gms_check.proofs.Growing.{put-at}
 use Rattle.gms_check.proofs.IndexSetsStay.{none-declared}
 use Rattle.gms_run_laws.specs.Agreeing.{declares, IsClosed}
-use Rattle.gms_run_laws.proofs.AcceptedWalk.{over-accepted}
-use Rattle.gms_run_laws.proofs.StandingLoaded.{Gains, gains-fresh, gains-again, IsWithDatum, datum-member, datum-value, either-new, gains-new}
+use Rattle.gms_run_laws.proofs.DeclaredStates.{over-accepted}
+use Rattle.gms_run_laws.proofs.LoadedPositions.{Gains, gains-fresh, gains-again, IsWithDatum, datum-member, datum-value, either-new, gains-new}
 
 -- what is not declared stands for itself
 pub own : (c : Content) (m : ℕ) → is_undeclared c ≡ true → alias_target m c ≡ m

@@ -10,11 +10,11 @@ use Rattle.gms_ast.specs.Trees.{Tree, signed}
 use Rattle.gms_ast.specs.Trees as tree
 use Rattle.gms_store.specs.State.{State, symbol_at}
 use Rattle.gms_scope.specs.Names.{is_equation, has_no_declaration, declared_kind, positions}
-use Rattle.gms_check.specs.declared.standing.Standing.{Standing}
+use Rattle.gms_check.specs.declared.contexts.Standing.{Standing}
 use Rattle.gms_check.specs.Domains.{index_count}
 use Rattle.gms_check.specs.Kinds.{is_variable_kind}
 use Rattle.gms_check.specs.Past.{Known}
-use Rattle.gms_check.specs.Standing.{as_condition, as_part, as_inner, as_guarded}
+use Rattle.gms_check.specs.Contexts.{as_condition, as_part, as_inner, as_guarded}
 use Rattle.gms_check.specs.Uses.{reading, defining, steps, uses, part_uses, control_uses, place_by_mark as use_place, sets_of_control as sets_over}
 use Rattle.gms_check.proofs.NoErrors.{AreClean, IsClean, clean-left, clean-right}
 use Rattle.gms_check.proofs.Soundness.{sound-use}

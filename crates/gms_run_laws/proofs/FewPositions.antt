@@ -26,7 +26,7 @@ use Rattle.gms_check.proofs.NoErrors.{AreClean}
 use Rattle.gms_check.proofs.Soundness.{at-most}
 use Rattle.gms_exec.specs.Run.{World}
 use Rattle.gms_run_laws.specs.Reached.{IsReached}
-use Rattle.gms_run_laws.proofs.AcceptedWalk.{over-accepted}
+use Rattle.gms_run_laws.proofs.DeclaredStates.{over-accepted}
 use Rattle.gms_run_laws.proofs.Lasting.{IsLasting, loaded-begins, start-lasts}
 
 -- each name has few positions

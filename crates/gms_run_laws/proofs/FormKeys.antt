@@ -27,7 +27,7 @@ use Rattle.lp_form.specs.Keys.{key_cmp, same_key}
 use Rattle.lp_form.proofs.KeyOrder.{key_cmp-total, same_key-is, same_key_refl}
 use Rattle.gms_rows.specs.Affine.{has_variables, in_front, form_of, part_place, is_inverse, Join, with_next, joined_forms, front, chained, plus, times, element_form, form_of_constant, linear, forms, affine}
 use Rattle.gms_rows.specs.Forms.{Form, constant_form, zero_form, column_form, number_of_key, is_number, is_not_zero, numbers_at, keys_of_two, entrywise, entries_of_two, entries_by, number_in_form, where_fits, sum_of_forms, scaled_form, multiple, product_of_forms, quotient_of}
-use Rattle.gms_rows.specs.InnerWalks.{is_among}
+use Rattle.gms_rows.specs.InnerContracts.{is_among}
 use Rattle.gms_run_laws.specs.Names.{Each, names_in_tree, part_names, control_names}
 use Rattle.gms_run_laws.proofs.Eaches.{each-left, each-right}
 

@@ -39,8 +39,8 @@ use Rattle.gms_check.proofs.Soundness.{after-sound}
 use Rattle.gms_run_laws.specs.Agreeing.{declares}
 use Rattle.gms_run_laws.specs.Names.{Each}
 use Rattle.gms_run_laws.proofs.Eaches.{each-left, each-right}
-use Rattle.gms_run_laws.proofs.StandingLoaded.{gains-again, IsWithDatum, datum-member, datum-value, either-new}
-use Rattle.gms_run_laws.specs.GoingOn.{typed_by}
+use Rattle.gms_run_laws.proofs.LoadedPositions.{gains-again, IsWithDatum, datum-member, datum-value, either-new}
+use Rattle.gms_run_laws.specs.Extensions.{typed_by}
 use Rattle.gms_run_laws.proofs.Closing.{own, new-itself, behind-member, behind-value}
 
 free-itself : (c : Content) (m : ℕ) → is_free c ≡ true → alias_target m c ≡ m

@@ -23,10 +23,10 @@ mod DeclaredKinds
 pub mod Starting
 mod EachDefinition
 pub mod LinearDefinitions
-pub mod AcceptedWalk
+pub mod DeclaredStates
 pub mod FewPositions
 mod UnsolvedLoaded
-pub mod StandingLoaded
+pub mod LoadedPositions
 pub mod StaticDomains
 pub mod ElementLabels
 mod KeyedRows

@@ -21,7 +21,7 @@ use Rattle.gms_check.specs.Loaded.{IsAccepted, loaded, sound}
 use Rattle.gms_check.specs.Kinds.{is_variable_kind}
 use Rattle.gms_check.specs.Names as checked_names
 use Rattle.gms_check.specs.Past.{Known}
-use Rattle.gms_check.specs.Standing.{as_side}
+use Rattle.gms_check.specs.Contexts.{as_side}
 use Rattle.gms_check.specs.StatementUses.{left_uses, with_left}
 use Rattle.gms_check.specs.Uses.{uses}
 use Rattle.gms_check.proofs.ActUses.{uses-act, uses-Define}

@@ -13,12 +13,12 @@ use Rattle.gms_ast.specs.Trees as tree
 use Rattle.gms_store.specs.State.{State, symbol_at}
 use Rattle.gms_scope.specs.Names.{has_no_declaration}
 use Rattle.gms_check.specs.declared.error.ErrorKind.TheVariants.{UnknownName, Nonlinear}
-use Rattle.gms_check.specs.declared.standing.Standing.{Standing}
+use Rattle.gms_check.specs.declared.contexts.Standing.{Standing}
 use Rattle.gms_check.specs.Linearity.{has_variable, have_variable, nonlinear}
 use Rattle.gms_check.specs.Linearity as checking
 use Rattle.gms_check.specs.Names as checked_names
 use Rattle.gms_check.specs.Past.{Known}
-use Rattle.gms_check.specs.Standing.{as_condition, as_part, as_inner, as_guarded}
+use Rattle.gms_check.specs.Contexts.{as_condition, as_part, as_inner, as_guarded}
 use Rattle.gms_check.specs.Uses.{Uses, stepping, folding, Operation, multiplies, divides, raises, place_by_mark, operation_of, index_sets, sets_of_control, later_steps, steps, uses, part_uses, control_uses}
 use Rattle.gms_check.proofs.NoErrors.{AreClean, clean-left, clean-right}
 use Rattle.gms_check.proofs.Soundness.{neither-first}

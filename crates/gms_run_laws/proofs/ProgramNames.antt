@@ -20,7 +20,7 @@ use Rattle.gms_check.specs.Checked.{StandsAfter}
 use Rattle.gms_check.specs.CompileErrors.{errors_after, known_after}
 use Rattle.gms_check.specs.Loaded.{IsAccepted, loaded, sound}
 use Rattle.gms_check.specs.Past.{Known}
-use Rattle.gms_check.specs.Standing.{as_side}
+use Rattle.gms_check.specs.Contexts.{as_side}
 use Rattle.gms_check.specs.StatementUses.{UsesOfAct, UsesOfStatement, act_uses_step, statement_uses_step, statement_uses, index_list, left_uses, right_standing, with_left}
 use Rattle.gms_check.specs.InnerStatements.{act_uses}
 use Rattle.gms_check.specs.Uses.{index_sets, sets_of_control, uses, control_uses, shift_uses, condition_uses}

@@ -30,7 +30,7 @@ use Rattle.gms_check.specs.CompileErrors.{errors_after, known_after}
 use Rattle.gms_check.specs.Kinds.{is_variable_kind, is_without_positions}
 use Rattle.gms_check.specs.Loaded.{IsAccepted, sound}
 use Rattle.gms_check.specs.Past.{Known}
-use Rattle.gms_check.specs.Standing.{as_side}
+use Rattle.gms_check.specs.Contexts.{as_side}
 use Rattle.gms_check.specs.InnerStatements.{act_uses}
 use Rattle.gms_check.specs.StatementUses.{index_list, left_uses, with_left}
 use Rattle.gms_check.specs.Uses.{defining, optimizing, index_sets, uses}

@@ -28,8 +28,8 @@ use Rattle.gms_check.proofs.IndexSetsStay.{none-declared}
 use Rattle.gms_check.proofs.NoErrors.{AreClean, clean-left}
 use Rattle.gms_check.proofs.Soundness.{neither-first}
 use Rattle.gms_run_laws.specs.LastStates.{IsFixedSet, AreFixed}
-use Rattle.gms_run_laws.proofs.AcceptedWalk.{over-accepted}
-use Rattle.gms_run_laws.proofs.StandingLoaded.{Gains, gains-fresh, gains-put, gains-again, IsWithDatum, datum-member, datum-value, either-new, gains-new}
+use Rattle.gms_run_laws.proofs.DeclaredStates.{over-accepted}
+use Rattle.gms_run_laws.proofs.LoadedPositions.{Gains, gains-fresh, gains-put, gains-again, IsWithDatum, datum-member, datum-value, either-new, gains-new}
 
 module _ (assigned : ℕ → Bool) where
   set-later : (old new : State) → ((n : ℕ) → Gains (symbol_at old n) (symbol_at new n)) → (set : ℕ) → IsFixedSet assigned old set → IsFixedSet assigned new set

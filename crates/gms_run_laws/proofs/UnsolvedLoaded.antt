@@ -19,7 +19,7 @@ use Rattle.gms_check.specs.Loaded.{IsAccepted, loaded}
 use Rattle.gms_check.specs.Past.{Known, with_data, with_item, with_name}
 use Rattle.gms_check.proofs.Growing.{put-at}
 use Rattle.gms_check.proofs.IndexSetsStay.{none-declared}
-use Rattle.gms_run_laws.proofs.AcceptedWalk.{over-accepted}
+use Rattle.gms_run_laws.proofs.DeclaredStates.{over-accepted}
 
 -- a content has the statuses of before a solve
 abbrev IsUnsolved : Content → Type 0

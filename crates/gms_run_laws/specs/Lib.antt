@@ -4,4 +4,4 @@ pub mod JointRun
 pub mod Labels
 pub mod LastStates
 pub mod Reached
-pub mod GoingOn
+pub mod Extensions

@@ -5,7 +5,7 @@ ghost use Rattle.gms_ast.specs.declared.program.Stmt.{Stmt};
 ghost use Rattle.gms_check.specs.Loaded.{IsAccepted, loaded};
 ghost use Rattle.gms_exec.specs.Run.{World};
 ghost use Rattle.gms_run_laws.specs.Agreeing.{HasAll, IsClosed, NameDeclared, SolveAlike};
-ghost use Rattle.gms_run_laws.specs.GoingOn.{ExtendsProgram};
+ghost use Rattle.gms_run_laws.specs.Extensions.{ExtendsProgram};
 
 use gq_field::ExactField;
 

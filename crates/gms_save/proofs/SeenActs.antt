@@ -32,7 +32,7 @@ use Rattle.gms_check.specs.CompileErrors.{act_errors, declaration_errors, errors
 use Rattle.gms_check.specs.DeclarationUses.{kind_uses}
 use Rattle.gms_check.specs.Past.{Known, after_act, equations_declared, gives_unordered, models_declared_by, names_declared}
 use Rattle.gms_check.specs.Past.{defines as defines_equation}
-use Rattle.gms_check.specs.Standing.{as_side}
+use Rattle.gms_check.specs.Contexts.{as_side}
 use Rattle.gms_check.specs.InnerStatements.{act_uses}
 use Rattle.gms_check.specs.StatementUses.{UsesOfAct, UsesOfStatement, index_list, option_uses, right_standing, show_uses, statement_uses}
 use Rattle.gms_check.specs.StatementUses.{act_uses_step as use_step, statement_uses_step as use_statement}

@@ -12,5 +12,5 @@ mod Putting
 mod Readable
 mod Sames
 mod Sorts
-mod Standings
+mod FittingTuples
 mod Tuples

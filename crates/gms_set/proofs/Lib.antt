@@ -1,4 +1,4 @@
-mod Behind
+mod LaterTuples
 mod Digits
 mod Numbers
 mod Products

@@ -17,7 +17,7 @@ use Rattle.gms_table.specs.TableEntries.{TablePart, cell, met, keys_of, key_of, 
 use Rattle.gms_table.specs.InnerProgress.{Refuses, IsRow, Keeps, Finds}
 use Rattle.gms_table.proofs.GivenLemmas.{key-given, given-key}
 use Rattle.gms_table.proofs.PartLemmas.{AreEntries-cell}
-use Rattle.gms_table.proofs.StandLemmas.{shape_fault, column_fault, columns_fault, repeated_fault, limit_fault, cell_more}
+use Rattle.gms_table.proofs.PartFaultLemmas.{shape_fault, column_fault, columns_fault, repeated_fault, limit_fault, cell_more}
 
 -- an answer in place of a number's entry
 abbrev pub is_fault : Word → TableError → TableFaultOrMemory

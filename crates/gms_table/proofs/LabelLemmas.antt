@@ -7,8 +7,8 @@ use Rattle.gms_labels.proofs.Places.{place_of-entered_kept}
 use Rattle.gms_lines.proofs.LineLemmas.{true_or_false}
 use Rattle.gms_table.specs.Words.{parted}
 use Rattle.gms_table.specs.WordLabels.{label_of_text, with_label, labels_among, all_entered, AreLabelNumbers, IsPrefix}
-use Rattle.gms_lines.specs.Stretches.{is_dot, stretch_bytes}
-use Rattle.gms_table.proofs.StretchLemmas.{stretches_behind, parted-stretch}
+use Rattle.gms_lines.specs.SplitFields.{is_dot, stretch_bytes}
+use Rattle.gms_table.proofs.FieldLemmas.{stretches_behind, parted-stretch}
 
 -- entering some labels and then others
 pub all_entered-append : (table texts others : List (List ℕ)) → all_entered table (texts ++ others) ≡ all_entered (all_entered table texts) others

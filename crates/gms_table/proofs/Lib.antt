@@ -1,4 +1,4 @@
-pub mod StretchLemmas
+pub mod FieldLemmas
 pub mod WordLemmas
 pub mod TextLemmas
 pub mod LabelLemmas
@@ -7,7 +7,7 @@ pub mod HeadingLemmas
 pub mod GivenLemmas
 pub mod CellLemmas
 pub mod PartLemmas
-pub mod StandLemmas
+pub mod PartFaultLemmas
 pub mod NumberLemmas
 pub mod RowLemmas
 pub mod CellSteps

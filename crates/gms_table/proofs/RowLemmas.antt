@@ -15,7 +15,7 @@ use Rattle.gms_table.specs.InnerProgress.{Progress, Refuses}
 use Rattle.gms_table.proofs.LabelLemmas.{Stay, Stay-all_entered}
 use Rattle.gms_table.proofs.HeadingLemmas.{AreHeadings-stay, AreHeadings-push}
 use Rattle.gms_table.proofs.PartLemmas.{IsFirstFault-more}
-use Rattle.gms_table.proofs.StandLemmas.{name_fault, name_more}
+use Rattle.gms_table.proofs.PartFaultLemmas.{name_fault, name_more}
 
 -- labels stay where a name was entered
 pub Stay-name : (before after : List (List ℕ)) (word : Word) (numbers : List ℕ) → IsName before after word numbers → Stay before after

@@ -16,7 +16,7 @@ use Rattle.gms_table.proofs.LabelLemmas.{Stay, Stay-all_entered, all_entered-app
 use Rattle.gms_table.proofs.HeadingLemmas.{AreHeadings-stay}
 use Rattle.gms_table.proofs.PartLemmas.{texts_of-append, AreEntries-stay, AreEntries-name, IsFirstFault-more}
 use Rattle.gms_table.proofs.RowLemmas.{Stay-name}
-use Rattle.gms_table.proofs.StandLemmas.{name_fault, name_more}
+use Rattle.gms_table.proofs.PartFaultLemmas.{name_fault, name_more}
 
 -- what is answered in place of some parts is answered in place of more
 pub Refuses-more : (limit : ℕ) (labels : List (List ℕ)) (parts others all : List TablePart) (error : TableFaultOrMemory) → all ≡ parts ++ others → Refuses limit labels parts error → Refuses limit labels all error

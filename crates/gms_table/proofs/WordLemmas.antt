@@ -7,9 +7,9 @@ use Rattle.gms_lines.specs.Lines.{is_blank}
 use Rattle.gms_lines.specs.Columns.{column_after}
 use Rattle.gms_table.specs.Words.{Word, parted, column_of_byte, word_of, word_at, words_among, words_of}
 use Rattle.gms_table.specs.InnerShown.{AreSpacedFrom}
-use Rattle.gms_lines.specs.Stretches.{stretch_bytes}
+use Rattle.gms_lines.specs.SplitFields.{stretch_bytes}
 use Rattle.gms_lines.proofs.ColumnLemmas.{column_after-bounds}
-use Rattle.gms_table.proofs.StretchLemmas.{stretch_bytes-le, stretches_behind, parted-stretch}
+use Rattle.gms_table.proofs.FieldLemmas.{stretch_bytes-le, stretches_behind, parted-stretch}
 
 -- the column of a byte further on
 pub column_of-add : (line : List ℕ) (n k : ℕ) → fold column_after (column_of_byte line n) (take k (drop n line)) ≡ column_of_byte line (n + k)

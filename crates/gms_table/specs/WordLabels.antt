@@ -7,7 +7,7 @@ use Rattle.gms_lines.specs.Lines.{begins}
 use Rattle.gms_labels.specs.Labels.{entered, place_of}
 use Rattle.gms_lines.specs.Bytes.{is_label_byte, is_quote, is_ascii}
 use Rattle.gms_lines.specs.Shapes.{longest_label}
-use Rattle.gms_lines.specs.Stretches.{is_dot}
+use Rattle.gms_lines.specs.SplitFields.{is_dot}
 use Rattle.gms_table.specs.Words.{Word, parted}
 
 -- the label after its first mark: the text before the closing mark, which nothing follows; it is

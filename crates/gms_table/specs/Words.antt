@@ -4,7 +4,7 @@ use Rattle.std.specs.Prelude.{ℕ, zero, suc, ◌+◌, Bool, List, [], ◌∷◌
 use Rattle.gms_labels.specs.declared.place.Place.{Place}
 use Rattle.gms_lines.specs.Lines.{is_blank}
 use Rattle.gms_lines.specs.Columns.{column_after}
-use Rattle.gms_lines.specs.Stretches.{stretch_bytes}
+use Rattle.gms_lines.specs.SplitFields.{stretch_bytes}
 
 -- A word: its place, the column after it, and its bytes.
 pub record Word : Type 0 where

@@ -26,7 +26,7 @@ use Rattle.lp_bland.proofs.Naturality.{levels_same, row_sums_same, duals_same, f
 use Rattle.lp_bland.proofs.SameSteps.{standard_steps_same, steps_back_same}
 use Rattle.lp_bland.proofs.Eased.{ratio_eased, exchange_eased, standard_eased, steps_back_eased}
 use Rattle.lp_core.proofs.Rules.{improves_of, legal_of}
-use Rattle.lp_simplex.proofs.Standing.{first_stands, stands_last}
+use Rattle.lp_simplex.proofs.ProgramDictionaries.{first_stands, stands_last}
 use Rattle.lp_bland.proofs.Programs.{none_cross, crossed_same}
 
 -- pivots that fit under the lesser limit fit under the greater

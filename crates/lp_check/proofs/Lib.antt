@@ -6,4 +6,4 @@ pub mod Numbered
 pub mod Reduced
 pub mod There
 pub mod Totals
-pub mod Walks
+pub mod StepSequences

@@ -14,7 +14,7 @@ use Rattle.lp_check.specs.BoundSteps.{less_steps, less_product, entry_of, entry_
 use Rattle.lp_check.specs.Partials.{first_unfit, Lessened, reduced_sum, reduced_costs, costs_of, steps_over, sum_over}
 use Rattle.lp_check.proofs.Fits.{none_both}
 use Rattle.lp_check.proofs.Found.{passed_over, taken_here, not_there}
-use Rattle.lp_check.proofs.Walks.{reduced_from, reduced_sum_from}
+use Rattle.lp_check.proofs.StepSequences.{reduced_from, reduced_sum_from}
 
 module _ {F : Type 0} (value : F → Number) where
   -- ---- a number for each column

@@ -9,7 +9,7 @@ use Rattle.lp_core.specs.declared.program.Row.{Row}
 use Rattle.lp_core.specs.Sums.{value_of_column}
 use Rattle.lp_core.specs.Feasible.{bound_value}
 use Rattle.lp_core.specs.Steps.{checked_sum, keeps_lower, keeps_upper, bounds_hold, keeps_sense, asks_nothing, checked_rows, steps_of_rows}
-use Rattle.lp_form.proofs.Walks.{drop_item}
+use Rattle.lp_form.proofs.LoopSteps.{drop_item}
 
 -- the value at a place of a point
 pub number_of-map : {F : Type 0} (value : F → Number) (xs : List F) (j : ℕ) (x : F) → j < length xs → x ≡ get_or xs j x → value_of_column (map value xs) j ≡ value x

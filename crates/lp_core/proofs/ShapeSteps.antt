@@ -13,7 +13,7 @@ use Rattle.lp_core.specs.WellFormed.{AreRowEntries}
 use Rattle.gq_number.proofs.Quotients.{zero_from_numerator}
 use Rattle.lp_core.specs.InnerEntries.{is_zero_number, are_in_order}
 use Rattle.lp_core.proofs.Points.{AllPairs-first, AllPairs-rest}
-use Rattle.lp_form.proofs.Walks.{drop_item}
+use Rattle.lp_form.proofs.LoopSteps.{drop_item}
 
 module _ {X : Type 0} (P : X → Type 0) (xs : List X) (i : ℕ) (x : X) where
   -- an element that fails

@@ -3,7 +3,7 @@ pub mod Zeros
 pub mod Lookups
 pub mod Merged
 pub mod Changed
-pub mod Walks
+pub mod LoopSteps
 pub mod Results
 pub mod Updates
 pub mod Maps

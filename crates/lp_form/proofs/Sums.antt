@@ -14,7 +14,7 @@ use Rattle.lp_form.specs.Forms.{number_at, coefficient, sum_form_step, of_two, I
 use Rattle.lp_form.proofs.KeyOrder.{same_key-is, first-before, rest-ordered, before-all}
 use Rattle.lp_form.proofs.Lookups.{number_at_first, number_at_before}
 use Rattle.lp_form.proofs.Zeros.{sum_fits-zero}
-use Rattle.lp_form.proofs.Walks.{drop_item}
+use Rattle.lp_form.proofs.LoopSteps.{drop_item}
 use Rattle.lp_form.specs.Sums.{number_or, Sums, IsUnchangedByFault}
 
 module _ {F : Type 0} (value : F → Number) (limit : ℕ) (at : Key → Number) where

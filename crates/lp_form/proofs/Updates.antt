@@ -9,7 +9,7 @@ use Rattle.lp_form.specs.declared.key.Key.{Key}
 use Rattle.lp_form.specs.Keys.{key_cmp, same_key, AreOrdered}
 use Rattle.lp_form.specs.Forms.{number_at}
 use Rattle.lp_form.proofs.KeyOrder.{same_key-is, same_key-Greater, key_cmp-flip, first-before, rest-ordered}
-use Rattle.lp_form.proofs.Walks.{drop_item}
+use Rattle.lp_form.proofs.LoopSteps.{drop_item}
 use Rattle.lp_form.specs.Sums.{number_or}
 
 module _ {F : Type 0} (value : F → Number) where

@@ -14,7 +14,7 @@ use Rattle.gq_number.proofs.Compares.{number_cmp_decides}
 use Rattle.gq_number.proofs.Sums.{sum_by_ℚ-nil, sum_by_ℚ-cons}
 use Rattle.gq_number.proofs.Ring.{zero-+ℚ}
 use Rattle.gq_number.proofs.Field.{+ℚ-zero}
-use Rattle.lp_form.proofs.Walks.{drop_item}
+use Rattle.lp_form.proofs.LoopSteps.{drop_item}
 use Rattle.lp_core.specs.Sums.{value_of_column}
 use Rattle.lp_core.specs.StandardForm as form
 use Rattle.lp_core.specs.Dictionary.{of_variable, first_row, first_objective, no_row}

@@ -7,7 +7,7 @@ use Rattle.lp_integers.specs.Lines.{whole_at}
 use Rattle.lp_integer_rows.specs.declared.line.Line.{Line}
 use Rattle.lp_integer_rows.specs.declared.line.Factors.{Factors}
 use Rattle.lp_integer_rows.specs.Form.{wholes, lines_number, AreBounded, AreSameLines, AreTurned, IsWithinFactors, AreLowest}
-use Rattle.lp_integer_dict.specs.Room.{HasRoomFor, KeepsRoom, zero_after, IsRoomyPlan, HaveRoomAfter, AreTurnedInRoom, AreMade}
+use Rattle.lp_integer_dict.specs.WithinBound.{HasRoomFor, KeepsRoom, zero_after, IsRoomyPlan, HaveRoomAfter, AreTurnedInRoom, AreMade}
 use Rattle.lp_integer_rows.proofs.Turning.{turned_same}
 use Rattle.lp_integer_rows.proofs.Plans.{get_within, some_at, same_some}
 use Rattle.lp_integer_dict.proofs.Sameness.{same_are, same_numbers}

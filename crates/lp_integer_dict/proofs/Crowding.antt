@@ -14,7 +14,7 @@ use Rattle.lp_fraction_dict.proofs.Proper.{enters_new}
 use Rattle.lp_integer_rows.specs.declared.line.Line.{Line}
 use Rattle.lp_integers.specs.Lines.{whole_at}
 use Rattle.lp_integer_rows.specs.Form.{wholes, line_number, number_or_none, lines_number, numbers_above, IsLine, AreLines, AreSameLines, IsRaisedAt, IsRaisedLine}
-use Rattle.lp_integer_dict.specs.Room.{HasRoomFor, IsPutOff, HasRoom}
+use Rattle.lp_integer_dict.specs.WithinBound.{HasRoomFor, IsPutOff, HasRoom}
 use Rattle.lp_integer_rows.specs.Turning.{turned_at, with_row_negated}
 use Rattle.lp_integer_dict.specs.Whole.{row_of, WholeTableau, integer_dictionary, IsWhole}
 use Rattle.lp_integer_rows.proofs.Turning.{turned_same, turned_negated}

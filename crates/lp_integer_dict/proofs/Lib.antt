@@ -2,7 +2,7 @@ pub mod Steps
 pub mod Bounds
 pub mod Above
 pub mod Reading
-pub mod Rooms
+pub mod RowsWithinBound
 pub mod Choices
 pub mod Sameness
 pub mod Largest

@@ -13,7 +13,7 @@ use Rattle.lp_integers.proofs.Places.{times_none}
 use Rattle.lp_integer_rows.specs.declared.line.Line.{Line}
 use Rattle.lp_integer_dict.specs.declared.pairs.Measure.{Measure}
 use Rattle.lp_integer_rows.specs.Form.{wholes, lines_number, numbers_above, AreLines}
-use Rattle.lp_integer_dict.specs.Room.{AreWhole, whole_or_zero, line_denominator, row_number}
+use Rattle.lp_integer_dict.specs.WithinBound.{AreWhole, whole_or_zero, line_denominator, row_number}
 use Rattle.lp_integer_dict.specs.Pairs.{IsRowOver, IsLowestRow}
 use Rattle.lp_integer_dict.proofs.Pairing.{IsRow, rows_are}
 

@@ -15,7 +15,7 @@ use Rattle.lp_integer_rows.specs.declared.line.Line.{Line}
 use Rattle.lp_integer_dict.specs.declared.pairs.Measure.{Measure}
 use Rattle.lp_integers.specs.Lines.{whole_at}
 use Rattle.lp_integer_rows.specs.Form.{wholes, lines_number, numbers_above, IsLine, AreFactors, AreBounded}
-use Rattle.lp_integer_dict.specs.Room.{AreWhole, most_or_one, denominator_or_one, zero_or_one, whole_or_zero, line_denominator, row_most, row_number}
+use Rattle.lp_integer_dict.specs.WithinBound.{AreWhole, most_or_one, denominator_or_one, zero_or_one, whole_or_zero, line_denominator, row_most, row_number}
 use Rattle.lp_integer_dict.specs.Pairs.{HasPairRoom, HasNoPairRoom, IsSomePairCrowded, IsMeasured, IsRowOver, IsLowestRow, IsRoomy, IsPairFit, ArePairsFit, rows_top}
 use Rattle.lp_integer_dict.specs.Whole.{row_of, WholeTableau, integer_dictionary, IsWhole}
 use Rattle.lp_integer_dict.proofs.Bounds.{fits_by_means, pair_product, pair_difference}

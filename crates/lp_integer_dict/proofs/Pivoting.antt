@@ -15,7 +15,7 @@ use Rattle.lp_fraction_dict.proofs.Kept.{get_index, contains_get}
 use Rattle.lp_integer_rows.specs.declared.line.Line.{Line}
 use Rattle.lp_integers.specs.Lines.{whole_at}
 use Rattle.lp_integer_rows.specs.Form.{wholes, line_number, number_or_none, lines_number, numbers_above, IsLine, AreLines, AreBounded, AreForgotten, IsRaisedAt, IsRaisedLine, AreSwapped}
-use Rattle.lp_integer_dict.specs.Room.{HasRoomFor, IsPutOff, AreWhole, AreTurnedInRoom}
+use Rattle.lp_integer_dict.specs.WithinBound.{HasRoomFor, IsPutOff, AreWhole, AreTurnedInRoom}
 use Rattle.lp_integer_rows.specs.Turning.{turned_at, swapped, with_row_negated, IsDeferredExchange}
 use Rattle.lp_integer_dict.specs.Whole.{row_of, WholeTableau, integer_dictionary, IsWhole}
 use Rattle.lp_integer_rows.proofs.Turning.{turned_same, turned_negated, swapped_first, swapped_second, swapped_third, above, leaves}

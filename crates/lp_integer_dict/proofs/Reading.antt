@@ -12,7 +12,7 @@ use Rattle.gq_number.proofs.Order
 use Rattle.lp_integer_rows.specs.declared.line.Line.{Line}
 use Rattle.lp_integers.specs.Lines.{whole_at}
 use Rattle.lp_integer_rows.specs.Form.{wholes, line_number, number_or_none, lines_number, numbers_above, IsLine, AreBounded}
-use Rattle.lp_integer_dict.specs.Room.{HasRoom, AreWhole, denominator_or_one, zero_or_one, whole_or_zero, line_denominator, row_number}
+use Rattle.lp_integer_dict.specs.WithinBound.{HasRoom, AreWhole, denominator_or_one, zero_or_one, whole_or_zero, line_denominator, row_number}
 use Rattle.lp_integer_rows.proofs.Turning.{turned_row, turned_other}
 use Rattle.lp_integer_rows.proofs.Lessening.{divided_line, lessened}
 use Rattle.lp_integers.proofs.Lines.{left_within}

@@ -19,7 +19,7 @@ use Rattle.lp_integer_rows.specs.declared.line.Line.{Line}
 use Rattle.lp_integer_dict.specs.declared.choice.Candidate.{Candidate}
 use Rattle.lp_integers.specs.Lines.{whole_at}
 use Rattle.lp_integer_rows.specs.Form.{wholes, number_or_none, lines_number, numbers_above, IsLine, AreLines}
-use Rattle.lp_integer_dict.specs.Room.{AreWhole}
+use Rattle.lp_integer_dict.specs.WithinBound.{AreWhole}
 use Rattle.lp_integer_rows.specs.Turning.{turned_at, IsDeferredExchange}
 use Rattle.lp_integer_dict.specs.Bounds.{IsBounded, HasRoomAbove, over_denominators}
 use Rattle.lp_integer_dict.specs.InnerChoice.{IsFirstOf, IsLeastConstant, IsLeastRatio, IsFirstAbove, IsGreatestAbove}

@@ -1,5 +1,5 @@
 pub mod Bounds
-pub mod Room
+pub mod WithinBound
 pub mod Pairs
 pub mod InnerChoice
 pub mod Whole

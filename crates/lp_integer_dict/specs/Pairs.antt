@@ -6,7 +6,7 @@ use Rattle.gq_number.specs.Number.{ratio}
 use Rattle.lp_integer_rows.specs.declared.line.Line.{Line}
 use Rattle.lp_integer_dict.specs.declared.pairs.Measure.{Measure}
 use Rattle.lp_integer_rows.specs.Form.{lines_number, numbers_above, AreFactors}
-use Rattle.lp_integer_dict.specs.Room.{line_denominator, row_most}
+use Rattle.lp_integer_dict.specs.WithinBound.{line_denominator, row_most}
 
 -- A row has the integer f for the entering variable, and the row of the leaving variable has p.
 -- Without a common factor they are b and a; and a times the first row less b times the second stays

@@ -7,7 +7,7 @@ use Rattle.lp_fraction_dict.specs.Pivots.{IsProper}
 use Rattle.lp_fraction_dict.specs.Tableau.{IsPlace}
 use Rattle.lp_integer_rows.specs.declared.line.Line.{Line}
 use Rattle.lp_integer_rows.specs.Form.{lines_number, numbers_above}
-use Rattle.lp_integer_dict.specs.Room.{AreWhole, HasNoRoomFor, LinesHaveNoRoom}
+use Rattle.lp_integer_dict.specs.WithinBound.{AreWhole, HasNoRoomFor, LinesHaveNoRoom}
 use Rattle.lp_integer_dict.specs.Pairs.{IsSomePairCrowded}
 
 -- the row of a number; past the last it is the objective

@@ -3,9 +3,9 @@ ghost use Rattle.std.specs.Prelude.{◌≡◌, ℕ, ◌<◌, ◌^◌, pos, true,
 ghost use Rattle.gq_number.specs.Number.{whole};
 ghost use Rattle.gq_number.specs.Order.{◌<ℚ◌};
 ghost use Rattle.lp_integer_rows.specs.Form.{AreLines, AreSameLines, AreLowest, lines_number};
-ghost use Rattle.lp_integer_dict.specs.Room.{HaveRoomAfter, AreTurnedInRoom, HaveNoRoomMade};
+ghost use Rattle.lp_integer_dict.specs.WithinBound.{HaveRoomAfter, AreTurnedInRoom, HaveNoRoomMade};
 
-use crate::room::{all_within, has_room};
+use crate::bounds::{all_within, has_room};
 use lp_integer_rows::{Line, copied_line, exchange_lines, plan_lines, settle};
 use std::alloc::{AllocError, Global};
 

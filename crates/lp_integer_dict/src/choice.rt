@@ -4,7 +4,7 @@ ghost use Rattle.std.specs.Prelude.{◌≡◌, ℕ, ◌+◌, ◌*◌, ◌<◌, �
 ghost use Rattle.gq_number.specs.Number.{whole, ◌/ℚ◌};
 ghost use Rattle.gq_number.specs.Order.{◌<ℚ◌, number_cmp};
 ghost use Rattle.lp_integer_rows.specs.Form.{wholes, lines_number, numbers_above};
-ghost use Rattle.lp_integer_dict.specs.Room.{AreWhole};
+ghost use Rattle.lp_integer_dict.specs.WithinBound.{AreWhole};
 ghost use Rattle.lp_integer_dict.specs.InnerChoice.{fraction, IsFraction, IsLesser, IsLeastConstant, IsLeastRatio, IsFirstAbove};
 
 use crate::read::{Fraction, read};

@@ -8,7 +8,7 @@ mod coefficients;
 mod laws;
 mod pairs;
 mod read;
-mod room;
+mod bounds;
 mod step;
 mod whole;
 

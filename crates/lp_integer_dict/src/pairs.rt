@@ -2,7 +2,7 @@
 ghost use Rattle.std.specs.Prelude.{◌≡◌, ◌≢◌, ℕ, ◌<◌, ◌≤◌, ◌^◌, pos, ◌*ℤ◌, nat_abs, length, false, IsTrue, IfSome};
 ghost use Rattle.std.specs.Int.{◌∣◌};
 ghost use Rattle.lp_integer_rows.specs.Form.{AreBounded};
-ghost use Rattle.lp_integer_dict.specs.Room.{AreWhole, row_most, line_denominator, row_number};
+ghost use Rattle.lp_integer_dict.specs.WithinBound.{AreWhole, row_most, line_denominator, row_number};
 ghost use Rattle.lp_integer_dict.specs.Pairs.{HasPairRoom, HasNoPairRoom, IsPairFit, ArePairsFit, IsSomePairCrowded, IsMeasured, IsLowestRow, IsRoomy, rows_top};
 
 use crate::read::read;

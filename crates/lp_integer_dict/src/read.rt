@@ -3,7 +3,7 @@ ghost use Rattle.std.specs.Prelude.{◌≡◌, ℕ, ◌+◌, ◌*◌, ◌<◌, �
 ghost use Rattle.gq_number.specs.Number.{ratio};
 ghost use Rattle.lp_integers.specs.Lines.{whole_at};
 ghost use Rattle.lp_integer_rows.specs.Form.{wholes, IsLine, lines_number, numbers_above};
-ghost use Rattle.lp_integer_dict.specs.Room.{AreWhole, HasRoom, line_denominator, row_number};
+ghost use Rattle.lp_integer_dict.specs.WithinBound.{AreWhole, HasRoom, line_denominator, row_number};
 
 use lp_integer_rows::{Line, magnitude_at, marked_number_at, number_at};
 use lp_integers::cross_difference;

@@ -3,10 +3,10 @@ ghost use Rattle.std.specs.Prelude.{◌≡◌, ℕ, ◌<◌, ◌^◌, pos, true,
 ghost use Rattle.gq_number.specs.Number.{whole};
 ghost use Rattle.gq_number.specs.Order.{◌<ℚ◌};
 ghost use Rattle.lp_integer_rows.specs.Form.{AreLines, AreBounded, AreSameLines, lines_number};
-ghost use Rattle.lp_integer_dict.specs.Room.{IsRoomyPlan, AreTurnedInRoom, FactorsHaveNoRoom, LinesHaveNoRoom};
+ghost use Rattle.lp_integer_dict.specs.WithinBound.{IsRoomyPlan, AreTurnedInRoom, FactorsHaveNoRoom, LinesHaveNoRoom};
 
 use crate::apart::turn_apart;
-use crate::room::keeps_room;
+use crate::bounds::keeps_room;
 use lp_integer_rows::{Factors, Line, exchange_lines, plan_lines, reduce_lines};
 use std::alloc::{AllocError, Global};
 

@@ -9,13 +9,13 @@ ghost use Rattle.lp_fraction_dict.specs.Tableau.{IsPlace};
 ghost use Rattle.lp_integer_dict.specs.Whole.{integer_dictionary, whole_dictionary, AreCrowded, IsPivotCrowded, IsPivoted};
 ghost use Rattle.lp_integer_dict.specs.Pairs.{IsSomePairCrowded};
 ghost use Rattle.lp_integer_rows.specs.Form.{AreLines, AreBounded};
-ghost use Rattle.lp_integer_dict.specs.Room.{IsSomeGreat};
+ghost use Rattle.lp_integer_dict.specs.WithinBound.{IsSomeGreat};
 
 use crate::choice::{first_above, least_constant, least_ratio};
 use crate::coefficients::greatest_above;
 use crate::pairs::pairs_fit;
 use crate::read::{Fraction, read};
-use crate::room::{all_within, has_room};
+use crate::bounds::{all_within, has_room};
 use crate::step::turn_lines;
 use lp_core::Pivot;
 use lp_integer_rows::{Line, forget_zero, raise_at, reduce_lines, swap_lines};

@@ -7,7 +7,7 @@ mod leading;
 mod line;
 mod marks;
 mod parts;
-mod put_off;
+mod deferral;
 
 pub use exchange::{exchange_lines, plan_lines, reduce_lines};
 pub use leading::Leading;
@@ -17,4 +17,4 @@ pub use line::{
 };
 pub use marks::Marks;
 pub use parts::{Part, line_of_parts};
-pub use put_off::{forget_zero, raise_at, swap_lines};
+pub use deferral::{forget_zero, raise_at, swap_lines};

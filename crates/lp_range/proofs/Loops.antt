@@ -13,7 +13,7 @@ use Rattle.gq_number.specs.Order.{number_cmp}
 use Rattle.gq_number.proofs.Signs.{≢-zero_above, ≢-zero_below}
 use Rattle.gq_number.proofs.Compares.{number_cmp_decides}
 use Rattle.gq_field.specs.Fits.{sum_fits}
-use Rattle.lp_form.proofs.Walks.{drop_item}
+use Rattle.lp_form.proofs.LoopSteps.{drop_item}
 use Rattle.lp_core.specs.declared.answer.Pivot.{Pivot}
 use Rattle.lp_core.specs.declared.answer.StepName.{StepName}
 use Rattle.lp_core.specs.declared.answer.Rule.TheVariants.{Legal}

@@ -22,15 +22,15 @@ use Rattle.lp_core.specs.declared.answer.EndKind.{EndKind}
 use Rattle.lp_std.specs.declared.stop.Stop.{Stop}
 use Rattle.lp_std.specs.declared.stop.Stop.TheVariants as stops
 use Rattle.lp_std.specs.Last.{IsReadAt}
-use Rattle.lp_std.specs.Back.{HasNoWayBack}
+use Rattle.lp_std.specs.Recovery.{HasNoWayBack}
 use Rattle.lp_fraction_dict.specs.Reading.{last_with}
-use Rattle.lp_simplex.specs.declared.walk.Walk.{Walk}
+use Rattle.lp_simplex.specs.declared.pivoting.Walk.{Walk}
 use Rattle.lp_simplex.specs.InnerStates.{IsWalk}
 use Rattle.lp_simplex.specs.InnerEnds.{IsLedBack, IsBrokenOff, EndsHalted}
 use Rattle.lp_fraction_dict.specs.Pivots.{IsProper}
 use Rattle.lp_simplex.proofs.Ending.{halted_so}
 use Rattle.lp_core.proofs.Rules.{legal_answer}
-use Rattle.lp_simplex.proofs.Standing.{first_stands}
+use Rattle.lp_simplex.proofs.ProgramDictionaries.{first_stands}
 
 -- ---- the recovery
 

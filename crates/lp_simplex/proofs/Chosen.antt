@@ -11,7 +11,7 @@ use Rattle.lp_core.specs.Pivots.{ByRule, Leads}
 use Rattle.lp_core.specs.LargestCoefficient.{HasTurned}
 use Rattle.lp_fraction_dict.specs.Pivots.{IsProper}
 use Rattle.lp_fraction_dict.proofs.Proper.{proper_after}
-use Rattle.lp_simplex.proofs.Walking.{leaves_row}
+use Rattle.lp_simplex.proofs.PivotSteps.{leaves_row}
 use Rattle.lp_simplex.specs.Choices.{AlwaysChooses}
 use Rattle.lp_simplex.proofs.Deciding.{least_or_none}
 use Rattle.lp_simplex.proofs.Existing.{proper_there}

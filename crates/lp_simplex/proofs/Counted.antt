@@ -12,7 +12,7 @@ use Rattle.lp_core.specs.LargestCoefficient.{IsOfPhase, StandsStill, HasTurned}
 use Rattle.lp_fraction_dict.specs.Pivots.{IsProper}
 use Rattle.lp_fraction_dict.proofs.Improving.{same_or_not}
 use Rattle.lp_simplex.proofs.Lists.{split_more}
-use Rattle.lp_simplex.proofs.Walking.{leaves_row, row_is_leaving, after_is, reached_append}
+use Rattle.lp_simplex.proofs.PivotSteps.{leaves_row, row_is_leaving, after_is, reached_append}
 use Rattle.lp_simplex.specs.declared.turning.Count.{Count}
 use Rattle.lp_simplex.specs.declared.turning.Count.TheVariants as counts
 use Rattle.lp_simplex.specs.InnerCounting.{EndsStill, IsCounting, Remembers, after}

@@ -16,7 +16,7 @@ use Rattle.lp_std.proofs.Stops.{all_fit, stops_first}
 use Rattle.lp_fraction_dict.specs.Pivots.{IsProper, IsLeaving}
 use Rattle.lp_fraction_dict.proofs.Improving.{same_or_not, found_or_not, priced_there}
 use Rattle.lp_fraction_dict.proofs.Kept.{index_get, contains_get}
-use Rattle.lp_simplex.proofs.Walking.{turn_of, opening_is_due, step_is_due}
+use Rattle.lp_simplex.proofs.PivotSteps.{turn_of, opening_is_due, step_is_due}
 
 -- ---- the least of the first n numbers of which something holds
 

@@ -13,8 +13,8 @@ use Rattle.lp_core.specs.declared.answer.EndKind.{EndKind}
 use Rattle.lp_core.specs.declared.answer.EndKind.TheVariants as kind
 use Rattle.lp_std.specs.Last.{IsDictionaryOf, IsReadAt}
 use Rattle.lp_fraction_dict.specs.Reading.{IsDone}
-use Rattle.lp_simplex.specs.declared.walk.Halt.{Halt}
-use Rattle.lp_simplex.specs.declared.walk.Halt.TheVariants as halt
+use Rattle.lp_simplex.specs.declared.pivoting.Halt.{Halt}
+use Rattle.lp_simplex.specs.declared.pivoting.Halt.TheVariants as halt
 use Rattle.lp_simplex.specs.InnerStates.{NoneIsDue, HaltsAt}
 use Rattle.lp_simplex.specs.InnerEnds.{MayGoOn, CanEnd, IsLedBack, IsBrokenOff, EndsHalted}
 

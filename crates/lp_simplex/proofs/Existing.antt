@@ -31,8 +31,8 @@ use Rattle.lp_fraction_dict.specs.Pivots.{IsProper}
 use Rattle.lp_fraction_dict.proofs.Improving.{found_or_not}
 use Rattle.lp_fraction_dict.proofs.Kept.{contains_get}
 use Rattle.lp_fraction_dict.proofs.Proper.{proper_after}
-use Rattle.lp_simplex.proofs.Standing.{Stands, first_stands, stands_after}
-use Rattle.lp_simplex.proofs.Walking.{some_limits, limits_in_one, goes_on_by_pivot}
+use Rattle.lp_simplex.proofs.ProgramDictionaries.{Stands, first_stands, stands_after}
+use Rattle.lp_simplex.proofs.PivotSteps.{some_limits, limits_in_one, goes_on_by_pivot}
 use Rattle.lp_simplex.specs.Choices.{ChoosesImproving, AlwaysChooses}
 use Rattle.lp_simplex.proofs.Deciding.{Case, nothing_improves, none_limits, test_stops, pivot_is_due, due_or_not, least_or_none, case_at}
 use Rattle.lp_simplex.proofs.Fitting.{Fitting, all_meant}

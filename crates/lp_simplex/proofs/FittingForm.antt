@@ -21,7 +21,7 @@ use Rattle.lp_core.specs.declared.answer.StepName.TheVariants.{Standard as Stand
 use Rattle.lp_core.specs.Steps.{Due, AllFit, product_fits, difference_fits, shifting, row_steps, rows_steps, bound_step, bounds_steps, count_of_rows, standard_steps}
 use Rattle.lp_std.specs.InnerSteps.{right_after, spread_entries, shifted_over, rows_over, bounds_over}
 use Rattle.lp_std.proofs.Sums.{All-append_left, All-append_right}
-use Rattle.lp_std.proofs.Walks.{right_sum}
+use Rattle.lp_std.proofs.LoopSteps.{right_sum}
 use Rattle.lp_fraction_dict.specs.First.{InOrder}
 use Rattle.lp_fraction_dict.proofs.Filling.{of_later, of_first}
 use Rattle.lp_fraction_dict.proofs.InForm.{form_in_order}

@@ -1,7 +1,7 @@
 pub mod Lists
 pub mod Stops
-pub mod Walking
-pub mod Standing
+pub mod PivotSteps
+pub mod ProgramDictionaries
 pub mod Steps
 pub mod Ending
 pub mod Answering

@@ -10,7 +10,7 @@ use Rattle.lp_fraction_dict.specs.Pivots.{IsProper}
 use Rattle.lp_fraction_dict.proofs.Kept.{contains_get, index_get}
 use Rattle.lp_fraction_dict.proofs.Improving.{found_or_not}
 use Rattle.lp_fraction_dict.proofs.Proper.{set_same, set_other, place_within, basic_after, none_due}
-use Rattle.lp_simplex.proofs.Walking.{leaves_row}
+use Rattle.lp_simplex.proofs.PivotSteps.{leaves_row}
 
 phase_of_pivot : (d : Dictionary) (p : Pivot) (k : ℕ) → IsLegal d p k → (n : ℕ) × IsPhase d n
 phase_of_pivot d p k (inl opening) = (1, inl (refl, inl opening.due))

@@ -13,13 +13,13 @@ use Rattle.lp_std.specs.Last.{IsDictionaryOf}
 use Rattle.lp_fraction_dict.specs.Pivots.{IsProper, IsLeaving}
 use Rattle.lp_dict.specs.Tableau.{Tableau, dictionary}
 use Rattle.lp_fraction_dict.proofs.Proper.{proper_after}
-use Rattle.lp_simplex.specs.declared.walk.Due.{Due}
-use Rattle.lp_simplex.specs.declared.walk.Halt.{Halt}
-use Rattle.lp_simplex.specs.declared.walk.Halt.TheVariants as halt
-use Rattle.lp_simplex.specs.declared.walk.Step.TheVariants as step
-use Rattle.lp_simplex.specs.declared.walk.Walk.{Walk}
+use Rattle.lp_simplex.specs.declared.pivoting.Due.{Due}
+use Rattle.lp_simplex.specs.declared.pivoting.Halt.{Halt}
+use Rattle.lp_simplex.specs.declared.pivoting.Halt.TheVariants as halt
+use Rattle.lp_simplex.specs.declared.pivoting.Step.TheVariants as step
+use Rattle.lp_simplex.specs.declared.pivoting.Walk.{Walk}
 use Rattle.lp_simplex.specs.InnerStates.{due_with, IsDue, IsAfter, IsSoFar, StopsBy, StepsTo, HaltsAtLimit, HaltsAt, IsWalk}
-use Rattle.lp_simplex.proofs.Walking.{step_is_due, none_is_due, leaves_row, way_more}
+use Rattle.lp_simplex.proofs.PivotSteps.{step_is_due, none_is_due, leaves_row, way_more}
 
 -- what is required if this variable leaves, or if none does
 pub due_by : (limit : ℕ) (Chosen : ℕ → Type 0) (n : ℕ) (d : Dictionary) (q : ℕ) (leave : Option ℕ) (r : Due) → ¬ (OpeningIsDue d) → Improves d q → Chosen q → IsLeaving d q leave → AllFit (ratio_steps limit n d q) → r ≡ due_with q leave → IsDue limit Chosen n d r

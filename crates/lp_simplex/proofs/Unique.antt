@@ -26,8 +26,8 @@ use Rattle.lp_fraction_dict.proofs.Kept.{get_index}
 use Rattle.lp_fraction_dict.proofs.Proper.{proper_after}
 use Rattle.lp_simplex.specs.InnerStates.{StopsBy}
 use Rattle.lp_simplex.proofs.Stops.{same_stop, fit_or_stop}
-use Rattle.lp_simplex.proofs.Walking.{turn_of, leaves_row, goes_on_by_pivot, goes_on_by_stop}
-use Rattle.lp_simplex.proofs.Standing.{first_stands}
+use Rattle.lp_simplex.proofs.PivotSteps.{turn_of, leaves_row, goes_on_by_pivot, goes_on_by_stop}
+use Rattle.lp_simplex.proofs.ProgramDictionaries.{first_stands}
 
 -- ---- one pivot
 

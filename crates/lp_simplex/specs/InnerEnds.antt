@@ -13,8 +13,8 @@ use Rattle.lp_std.specs.Last.{IsDictionaryOf, IsReadAt}
 use Rattle.lp_core.specs.Ends.{IsPhase, EndsWith}
 use Rattle.lp_dict.specs.Tableau.{dictionary}
 use Rattle.lp_fraction_dict.specs.Reading.{IsDone, last_with}
-use Rattle.lp_simplex.specs.declared.walk.Halt.{Halt}
-use Rattle.lp_simplex.specs.declared.walk.Halt.TheVariants as halt
+use Rattle.lp_simplex.specs.declared.pivoting.Halt.{Halt}
+use Rattle.lp_simplex.specs.declared.pivoting.Halt.TheVariants as halt
 
 -- a further pivot may be required: the opening one, or a variable improves
 abbrev pub MayGoOn : Dictionary → Type 0

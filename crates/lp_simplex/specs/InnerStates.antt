@@ -13,13 +13,13 @@ use Rattle.lp_core.specs.Pivots.{NothingImproves, TestFits, IsAllowedBy, ByChoic
 use Rattle.lp_std.specs.Last.{IsDictionaryOf}
 use Rattle.lp_fraction_dict.specs.Pivots.{IsProper}
 use Rattle.lp_dict.specs.Tableau.{Tableau, dictionary}
-use Rattle.lp_simplex.specs.declared.walk.Due.{Due}
-use Rattle.lp_simplex.specs.declared.walk.Due.TheVariants as due
-use Rattle.lp_simplex.specs.declared.walk.Halt.{Halt}
-use Rattle.lp_simplex.specs.declared.walk.Halt.TheVariants as halt
-use Rattle.lp_simplex.specs.declared.walk.Step.{Step}
-use Rattle.lp_simplex.specs.declared.walk.Step.TheVariants as step
-use Rattle.lp_simplex.specs.declared.walk.Walk.{Walk}
+use Rattle.lp_simplex.specs.declared.pivoting.Due.{Due}
+use Rattle.lp_simplex.specs.declared.pivoting.Due.TheVariants as due
+use Rattle.lp_simplex.specs.declared.pivoting.Halt.{Halt}
+use Rattle.lp_simplex.specs.declared.pivoting.Halt.TheVariants as halt
+use Rattle.lp_simplex.specs.declared.pivoting.Step.{Step}
+use Rattle.lp_simplex.specs.declared.pivoting.Step.TheVariants as step
+use Rattle.lp_simplex.specs.declared.pivoting.Walk.{Walk}
 
 -- what follows when this variable enters: a pivot with the variable that leaves, or an end if none
 -- leaves

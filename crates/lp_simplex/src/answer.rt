@@ -11,14 +11,14 @@ ghost use Rattle.lp_core.specs.Steps.{AllFit, standard_steps};
 ghost use Rattle.lp_core.specs.WellFormed.{IsWellFormed};
 ghost use Rattle.lp_std.specs.declared.stop.Stop.TheVariants as stops;
 ghost use Rattle.lp_std.specs.Meaning.{standard_value, HasNoForm};
-ghost use Rattle.lp_std.specs.Back.{IsFormOf};
+ghost use Rattle.lp_std.specs.Recovery.{IsFormOf};
 ghost use Rattle.lp_std.specs.Last.{IsDictionaryOf};
 ghost use Rattle.lp_dict.specs.Tableau.{dictionary};
 ghost use Rattle.lp_fraction_dict.specs.Reading.{IsDone};
 ghost use Rattle.lp_simplex.specs.InnerEnds.{MayGoOn, CanEnd, IsLedBack, IsBrokenOff, EndsHalted, EndsFormless};
 
 use crate::choosing::Choosing;
-use crate::walk::{Halt, walked};
+use crate::pivoting::{Halt, walked};
 use gq_field::ExactField;
 use lp_core::{Answer, End, Lp, Sequence, StepName};
 use lp_dict::Dict;

@@ -8,7 +8,7 @@ mod existence;
 mod picking;
 mod turning;
 mod turning_answer;
-mod walk;
+mod pivoting;
 
 pub use answer::solve_by;
 pub use choosing::Choosing;

@@ -27,7 +27,7 @@ use Rattle.lp_std.specs.declared.stop.Stop.TheVariants as stop
 use Rattle.lp_std.specs.Meaning.{shift_value, row_value, standard_value}
 use Rattle.lp_std.specs.InnerSteps.{StopsAt, ComputesEnd, IsSized, HasRay, AreSized, rows_over, bounds_over}
 use Rattle.lp_std.specs.Last.{IsDictionaryOf, IsReadAt, IsLast, last_value}
-use Rattle.lp_std.specs.Back.{HasNoWayBack}
+use Rattle.lp_std.specs.Recovery.{HasNoWayBack}
 use Rattle.lp_std.proofs.Stops.{all_fit, stops_first}
 use Rattle.lp_std.proofs.BoundSteps.{counted_by_bounds}
 use Rattle.lp_std.proofs.Shapes.{widths_of_shifts, widths-numbered, variables_counted, variables_few, rows_few}

@@ -8,14 +8,14 @@ use Rattle.lp_core.specs.declared.program.Column.{Column}
 use Rattle.lp_core.specs.Feasible.{bound_value}
 use Rattle.lp_core.specs.StandardForm as form
 use Rattle.lp_core.specs.Steps.{Due, bound_step, bounds_steps}
-use Rattle.lp_form.proofs.Walks.{drop_item}
+use Rattle.lp_form.proofs.LoopSteps.{drop_item}
 use Rattle.lp_std.specs.declared.types.Shift.{Shift}
 use Rattle.lp_std.specs.declared.types.StdRow.{StdRow}
 use Rattle.lp_std.specs.declared.stop.Stop.{Stop}
 use Rattle.lp_std.specs.Meaning.{row_value}
 use Rattle.lp_std.specs.InnerSteps.{first_stop, StopsAt, placed_value, bounds_over}
 use Rattle.lp_std.proofs.Stops.{stop_behind}
-use Rattle.lp_std.proofs.Walks.{column_at-map}
+use Rattle.lp_std.proofs.LoopSteps.{column_at-map}
 use Rattle.lp_std.proofs.RowSteps.{stops_in_front}
 
 pub counted_by_bounds : {F : Type 0} (value : F → Number) (j v : ℕ) (lower upper : Option F) → length (form.bound_rows j v (bound_value value lower) (bound_value value upper)) ≡ form.rows_of_bounds lower upper

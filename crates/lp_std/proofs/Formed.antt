@@ -19,7 +19,7 @@ use Rattle.lp_std.specs.declared.stop.Stop.TheVariants as stop
 use Rattle.lp_std.proofs.Stops.{stop_behind, all_fit, stops_first}
 use Rattle.lp_std.proofs.RowSteps.{stops_on, stops_in_front}
 use Rattle.lp_std.proofs.Shapes.{shift_for, rows_few}
-use Rattle.lp_std.proofs.Walks.{column_at-map}
+use Rattle.lp_std.proofs.LoopSteps.{column_at-map}
 
 module _ {F : Type 0} (value : F → Number) (limit : ℕ) (lp : Lp F) (columns : List (ℕ × Shift F)) (numbered : placed_value value columns ≡ form.columns_of value lp) (rows : List (Row F)) (rows_are : rows ≡ lp.rows) where
   pub rows_stopped : (s : Stop) → StopsAt (rows_steps value limit (placed_value value columns) 1 rows) s → StopsAt (standard_steps value limit lp) s

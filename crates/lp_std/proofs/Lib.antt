@@ -1,12 +1,12 @@
 pub mod Stops
-pub mod Walks
+pub mod LoopSteps
 pub mod RowSteps
 pub mod BoundSteps
 pub mod Picks
 pub mod Shapes
 pub mod Sums
 pub mod SamePoints
-pub mod Walked
+pub mod EntryLists
 pub mod Basics
 pub mod First
 pub mod Lasts
@@ -16,7 +16,7 @@ pub mod Totals
 pub mod Proved
 pub mod Formed
 pub mod Ends
-pub mod EntryWalks
+pub mod EntrySums
 pub mod Recovers
 pub mod Answered
 pub mod Smallest

@@ -12,7 +12,7 @@ use Rattle.lp_core.specs.declared.program.Sense.TheVariants as sense
 use Rattle.lp_core.specs.declared.program.Row.{Row}
 use Rattle.lp_core.specs.StandardForm as form
 use Rattle.lp_core.specs.Steps.{Due, rows_steps, count_of_rows}
-use Rattle.lp_form.proofs.Walks.{drop_item}
+use Rattle.lp_form.proofs.LoopSteps.{drop_item}
 use Rattle.lp_std.specs.declared.types.StdRow.{StdRow}
 use Rattle.lp_std.specs.declared.types.Origin.TheVariants as origin
 use Rattle.lp_std.specs.declared.stop.Stop.{Stop}
@@ -20,7 +20,7 @@ use Rattle.lp_std.specs.declared.stop.Stop.TheVariants as stop
 use Rattle.lp_std.specs.Meaning.{entries_value, row_value}
 use Rattle.lp_std.specs.InnerSteps.{first_stop, StopsAt, sense_steps, rows_over, right_after, spread_entries, shifted_over}
 use Rattle.lp_std.proofs.Stops.{stop_behind, stop_before}
-use Rattle.lp_std.proofs.Walks.{right_sum}
+use Rattle.lp_std.proofs.LoopSteps.{right_sum}
 
 -- an element that is there, as the one that is read
 pub slice_get_here : {X : Type 0} (xs : List X) (i : ℕ) (x : X) → i < length xs → x ≡ get_or xs i x → slice_get xs i ≡ Some x

@@ -1,5 +1,5 @@
 pub mod Meaning
 pub mod InnerSteps
 pub mod Last
-pub mod Back
+pub mod Recovery
 pub mod Points

@@ -2,7 +2,7 @@
 //! dictionary to an answer of the program.
 #![tactic(auto)]
 
-mod back;
+mod recovery;
 mod bounds;
 mod duals;
 mod form;
@@ -12,7 +12,7 @@ mod rows;
 mod stop;
 mod types;
 
-pub use back::recover;
+pub use recovery::recover;
 pub use form::standard;
 pub use laws::same_points;
 pub use stop::Stop;

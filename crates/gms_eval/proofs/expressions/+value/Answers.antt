@@ -13,7 +13,7 @@ use Rattle.gms_eval.specs.Faults.{nothing, faulted, ◌and_then◌}
 use Rattle.gms_eval.specs.Holds.{holds}
 use Rattle.gms_eval.specs.References.{tuple_of, entry_or_zero}
 use Rattle.gms_eval.specs.Value.{value, domain, label_answer}
-use Rattle.gms_eval.specs.InnerWalks.{those_of}
+use Rattle.gms_eval.specs.InnerContracts.{those_of}
 use Rattle.gms_eval.specs.declared.stop.StopKind.TheVariants.{EmptyExtreme}
 use Rattle.std.proofs.lemmas.List.{map_push}
 use Rattle.gms_eval.proofs.Answering.{stops-same, stops-then, stops-along, handed_on, gives-same, then-value, going_on, going_on-start, going_on-more, going_on-fault, going_on-end}

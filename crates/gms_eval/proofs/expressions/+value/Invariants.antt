@@ -9,7 +9,7 @@ use Rattle.gms_eval.specs.Faults.{nothing, faulted, ◌and_then◌}
 use Rattle.gms_eval.specs.Holds.{holds}
 use Rattle.gms_eval.specs.References.{tuple_of}
 use Rattle.gms_eval.specs.Value.{value, label_answer}
-use Rattle.gms_eval.specs.InnerWalks.{those_of}
+use Rattle.gms_eval.specs.InnerContracts.{those_of}
 use Rattle.gms_eval.specs.declared.stop.StopKind.TheVariants.{EmptyExtreme}
 use Rattle.gms_eval.proofs.Answering.{going_on}
 use Rattle.gms_eval.proofs.Chains.{from_here}

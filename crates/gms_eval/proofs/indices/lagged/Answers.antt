@@ -1,7 +1,7 @@
 use Rattle.std.proofs.Common.{ap, sym, ◌∙◌, pos, Some, None, length, to_z, of_z}
 use Rattle.std.proofs.lemmas.Int.{to_z-of_z}
 use mir.Syntax.{w128}
-use Rattle.gms_eval.specs.InnerWalks.{moved_place}
+use Rattle.gms_eval.specs.InnerContracts.{moved_place}
 use Rattle.gms_eval.proofs.Lagging.{lagged-there}
 use Rattle.gms_eval.proofs.indices.lagged.Goals as goal
 

@@ -1,7 +1,7 @@
 use Rattle.std.proofs.Common.{◌-◌, ◌*◌, ◌<◌, refl, subst, arith}
 use Rattle.gms_eval.specs.InnerLeading.{IsReaching, indices_tree}
 use Rattle.gms_eval.specs.Leaders.{reach}
-use Rattle.gms_eval.specs.declared.walk.Walk.{Walk}
+use Rattle.gms_eval.specs.declared.traversals.Walk.{Walk}
 use Rattle.gms_eval.proofs.Entries.{at-some}
 use Rattle.gms_eval.proofs.Shortness.{short-walk, short-no_walk}
 use Rattle.gms_eval.proofs.leading.scan_reference.Goals as goal

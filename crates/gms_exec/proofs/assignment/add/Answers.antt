@@ -1,6 +1,6 @@
 use Rattle.std.proofs.Common.{ap, sym, ◌∙◌}
 use Rattle.std.proofs.lemmas.List.{map_push}
-use Rattle.gms_exec.specs.InnerWalks.{given_in, all_given_in, with_found, found_in}
+use Rattle.gms_exec.specs.InnerContracts.{given_in, all_given_in, with_found, found_in}
 use Rattle.gms_exec.proofs.assignment.add.Goals as goal
 
 pub returns-in-None : goal.returns-in-None

@@ -1,7 +1,7 @@
 use Rattle.std.proofs.Common.{ap, sym, ◌∙◌}
 use Rattle.gms_ast.specs.Trees.{no_index}
 use Rattle.gms_ast.specs.TreeView.{index_tree}
-use Rattle.gms_exec.specs.InnerWalks.{first_set}
+use Rattle.gms_exec.specs.InnerContracts.{first_set}
 use Rattle.gms_exec.proofs.LeftSides.{first-Label, first-Set}
 use Rattle.gms_exec.proofs.assignment.index_set.Goals as goal
 

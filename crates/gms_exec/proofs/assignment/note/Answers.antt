@@ -1,6 +1,6 @@
 use Rattle.std.proofs.Common.{◌≡◌}
 use Rattle.std.proofs.lemmas.Result.{on_ok_weaker}
-use Rattle.gms_exec.specs.InnerWalks.{behind_others}
+use Rattle.gms_exec.specs.InnerContracts.{behind_others}
 use Rattle.gms_exec.proofs.LeftSides.{noted-controlled, noted-free}
 use Rattle.gms_exec.proofs.assignment.note.Goals as goal
 

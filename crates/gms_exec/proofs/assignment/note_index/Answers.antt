@@ -1,6 +1,6 @@
 use Rattle.std.proofs.Common.{◌≡◌, Some, ap, ◌∙◌}
 use Rattle.std.proofs.lemmas.Result.{on_ok_weaker}
-use Rattle.gms_exec.specs.InnerWalks.{noted}
+use Rattle.gms_exec.specs.InnerContracts.{noted}
 use Rattle.gms_exec.proofs.assignment.note_index.Goals as goal
 
 pub returns-in-Some : goal.returns-in-Some

@@ -1,5 +1,5 @@
 use Rattle.std.proofs.Common.{sym, rules}
-use Rattle.gms_exec.specs.InnerWalks.{given_in}
+use Rattle.gms_exec.specs.InnerContracts.{given_in}
 use Rattle.gms_exec.proofs.GivenStates.{after_given-none}
 use Rattle.gms_exec.proofs.Putting.{tidied, put-more, put-end}
 use Rattle.gms_exec.proofs.given.put_all.Goals as goal

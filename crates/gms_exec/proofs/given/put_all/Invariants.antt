@@ -1,6 +1,6 @@
 use Rattle.std.proofs.Common.{◌≡◌, take}
 use Rattle.gms_exec.specs.Given.{after_given}
-use Rattle.gms_exec.specs.InnerWalks.{all_given_in}
+use Rattle.gms_exec.specs.InnerContracts.{all_given_in}
 use Rattle.gms_exec.proofs.given.put_all.Given as goal
 
 abbrev pub invariant-loop-t : goal.invariant-loop-t

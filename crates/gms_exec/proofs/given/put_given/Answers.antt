@@ -1,6 +1,6 @@
 use Rattle.std.proofs.Common.{ap}
 use Rattle.gq_extended.specs.Meaning.{extended}
-use Rattle.gms_exec.specs.InnerWalks.{given_in}
+use Rattle.gms_exec.specs.InnerContracts.{given_in}
 use Rattle.gms_exec.proofs.Putting.{tidied, puts-member, puts-given}
 use Rattle.gms_exec.proofs.given.put_given.Goals as goal
 

@@ -2,7 +2,7 @@ use Rattle.std.proofs.Common.{◌∙◌, ap, not, ◌++◌, ◌∷◌, []}
 use Rattle.std.proofs.lemmas.List.{map_push}
 use Rattle.gq_extended.specs.Meaning.{extended}
 use Rattle.gms_exec.specs.Showing.{value_shown, is_indexed}
-use Rattle.gms_exec.specs.InnerWalks.{entries_in, is_kept}
+use Rattle.gms_exec.specs.InnerContracts.{entries_in, is_kept}
 use Rattle.gms_exec.proofs.Entries.{left-out, put-behind}
 use Rattle.gms_exec.proofs.showing.add.Goals as goal
 

@@ -1,7 +1,7 @@
 use Rattle.std.proofs.Common.{◌∙◌, ap, sym, [], arith}
 use Rattle.std.proofs.lemmas.Option.{get_or_from_slice_get}
 use Rattle.gms_exec.specs.Showing.{entries_shown}
-use Rattle.gms_exec.specs.InnerWalks.{entries_in}
+use Rattle.gms_exec.specs.InnerContracts.{entries_in}
 use Rattle.gms_exec.proofs.Entries.{entries-more, entries-end}
 use Rattle.gms_exec.proofs.showing.given.Goals as goal
 

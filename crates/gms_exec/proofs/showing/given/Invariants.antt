@@ -1,6 +1,6 @@
 use Rattle.std.proofs.Common.{◌≡◌, take}
 use Rattle.gms_exec.specs.Showing.{entries_shown}
-use Rattle.gms_exec.specs.InnerWalks.{entries_in}
+use Rattle.gms_exec.specs.InnerContracts.{entries_in}
 use Rattle.gms_exec.proofs.showing.given.Given as goal
 
 abbrev pub invariant-loop-place : goal.invariant-loop-place

@@ -1,6 +1,6 @@
 use Rattle.std.proofs.Common.{ap, arith}
 use Rattle.gms_exec.specs.Showing.{elements_at}
-use Rattle.gms_exec.specs.InnerWalks.{entries_in}
+use Rattle.gms_exec.specs.InnerContracts.{entries_in}
 use Rattle.gms_exec.proofs.Entries.{entries-more, entries-end}
 use Rattle.gms_exec.proofs.showing.over_all.Goals as goal
 

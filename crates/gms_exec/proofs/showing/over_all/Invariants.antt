@@ -1,6 +1,6 @@
 use Rattle.std.proofs.Common.{◌≡◌, take}
 use Rattle.gms_exec.specs.Showing.{elements_at, entries_shown}
-use Rattle.gms_exec.specs.InnerWalks.{entries_in}
+use Rattle.gms_exec.specs.InnerContracts.{entries_in}
 use Rattle.gms_exec.proofs.showing.over_all.Given as goal
 
 abbrev pub invariant-loop-number : goal.invariant-loop-number

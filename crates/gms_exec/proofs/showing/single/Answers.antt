@@ -1,6 +1,6 @@
 use Rattle.std.proofs.Common.{◌∙◌, ap, ◌++◌, ◌∷◌, []}
 use Rattle.gms_exec.specs.Showing.{entries_shown}
-use Rattle.gms_exec.specs.InnerWalks.{entries_in}
+use Rattle.gms_exec.specs.InnerContracts.{entries_in}
 use Rattle.gms_exec.proofs.showing.single.Goals as goal
 
 pub returns : goal.returns

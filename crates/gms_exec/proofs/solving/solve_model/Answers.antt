@@ -7,12 +7,12 @@ use Rattle.gms_eval.specs.declared.stop.StopKind.TheVariants.{NoSolver}
 use Rattle.gms_rows.specs.ProgramLp.{program_lp}
 use Rattle.gms_rows.specs.Rows.{equations_of}
 use Rattle.gms_exec.specs.Run.{with_evaluated, answered, solve}
-use Rattle.gms_exec.specs.Standing.{ShowsStanding}
+use Rattle.gms_exec.specs.ValidEvents.{ShowsStanding}
 use Rattle.gms_exec.specs.Stepping.{RunView, Answered, come_to}
 use Rattle.gms_exec.proofs.Arms.{runs-value_stops, unless-any}
 use Rattle.gms_exec.proofs.Joining.{answered-nothing}
 use Rattle.gms_exec.proofs.SolveRuns.{runs-fault, runs-grown, solve-does, solve-none, solves-runs, solves-answered, solves-standing, is-none, is-some, some-there}
-use Rattle.gms_exec.proofs.Standings.{standing-nothing}
+use Rattle.gms_exec.proofs.ValidSequences.{standing-nothing}
 use Rattle.gms_exec.proofs.solving.solve_model.Goals as goal
 
 pub generate-requires : goal.generate-requires

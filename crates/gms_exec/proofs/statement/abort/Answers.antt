@@ -9,7 +9,7 @@ use Rattle.std.proofs.lemmas.Result.{err_from_is_err_and}
 use Rattle.gms_exec.specs.Showing.{all_shown}
 use Rattle.gms_exec.proofs.Arms.{runs-event_stopped, runs-value_stops, runs-memory, no-solve_nothing}
 use Rattle.gms_exec.proofs.Decimals.{few-decimals}
-use Rattle.gms_exec.proofs.Standings.{standing-nothing, standing-abort}
+use Rattle.gms_exec.proofs.ValidSequences.{standing-nothing, standing-abort}
 use Rattle.gms_exec.proofs.statement.abort.Goals as goal
 
 pub returns : goal.returns

@@ -6,7 +6,7 @@ use Rattle.gms_eval.specs.Holds.{holds}
 use Rattle.gms_exec.specs.Run.{with_evaluated, abort, abort_where}
 use Rattle.gms_exec.specs.Stepping.{come_to}
 use Rattle.gms_exec.proofs.Arms.{runs-alike, runs-nothing, runs-value_stops}
-use Rattle.gms_exec.proofs.Standings.{standing-nothing}
+use Rattle.gms_exec.proofs.ValidSequences.{standing-nothing}
 use Rattle.gms_exec.proofs.statement.abort_where.Goals as goal
 
 pub returns-in_default-clause-runs : goal.returns-in_default-clause-runs

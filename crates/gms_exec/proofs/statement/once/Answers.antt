@@ -1,7 +1,7 @@
 use Rattle.std.proofs.Common.{◌^◌, ◌-◌, map}
 use Rattle.gq_frac.specs.Frac.{frac_value}
 use Rattle.gq_frac.specs.declared.frac.Frac.{Frac}
-use Rattle.gms_exec.specs.Standing.{ShowsStanding}
+use Rattle.gms_exec.specs.ValidEvents.{ShowsStanding}
 use Rattle.gms_exec.specs.Stepping.{RunView, Answered}
 use Rattle.gms_exec.proofs.Acts.{ran-Solve, lent-runs, kept-settings, kept-plain}
 use Rattle.gms_exec.proofs.Arms.{unless-any, answered-quiet}

@@ -7,7 +7,7 @@ use Rattle.std.proofs.lemmas.Result.{err_from_is_err_and}
 use Rattle.gms_exec.specs.Showing.{all_shown}
 use Rattle.gms_exec.proofs.Arms.{runs-event, runs-value_stops, runs-memory, no-solve_nothing}
 use Rattle.gms_exec.proofs.Decimals.{few-decimals}
-use Rattle.gms_exec.proofs.Standings.{standing-nothing, standing-display}
+use Rattle.gms_exec.proofs.ValidSequences.{standing-nothing, standing-display}
 use Rattle.gms_exec.proofs.statement.show.Goals as goal
 
 pub returns : goal.returns

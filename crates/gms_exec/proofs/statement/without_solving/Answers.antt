@@ -1,7 +1,7 @@
 use Rattle.std.proofs.Common.{map, refl}
 use Rattle.gms_exec.proofs.Acts.{ran-Assign, ran-Display, ran-Options, ran-Abort, ran-nothing}
 use Rattle.gms_exec.proofs.Arms.{no-solve_nothing}
-use Rattle.gms_exec.proofs.Standings.{standing-nothing}
+use Rattle.gms_exec.proofs.ValidSequences.{standing-nothing}
 use Rattle.gms_exec.proofs.statement.without_solving.Goals as goal
 
 pub returns-in-Assign-clause-runs : goal.returns-in-Assign-clause-runs

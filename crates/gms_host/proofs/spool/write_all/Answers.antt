@@ -1,5 +1,5 @@
 use Rattle.gms_host.proofs.Counting.{writing_more, writing_done}
-use Rattle.gms_host.proofs.Fronts.{passes_write}
+use Rattle.gms_host.proofs.WrittenPrefixes.{passes_write}
 use Rattle.gms_host.proofs.spool.write_all.Goals as goal
 
 pub loop-rest-preserved : goal.loop-rest-preserved

@@ -1,5 +1,5 @@
 -- What the program of a joint source begins with.
-use Rattle.gms_joint_source.proofs.FrontPrograms.{is_front}
+use Rattle.gms_joint_source.proofs.ProgramPrefixes.{is_front}
 use Rattle.gms_joint_source.proofs.program_laws.joint_program_laws.Goals as goal
 
 pub returns : goal.returns

@@ -3,7 +3,7 @@ use Rattle.std.proofs.Common.{[], ◌∷◌, All, subst}
 use Rattle.gms_lex.specs.TokenTexts.{IsPlaced}
 use Rattle.gms_lex.specs.Tokens.{end_token}
 use Rattle.gms_lex.proofs.PlacedLemmas.{tokens_placed}
-use Rattle.gms_joint_source.proofs.SeamSeen.{own_seen, have_front, no_ends, begins_with}
+use Rattle.gms_joint_source.proofs.JointDerivations.{own_seen, have_front, no_ends, begins_with}
 use Rattle.gms_joint_source.proofs.source_laws.joint_token_laws.Goals as goal
 
 pub returns : goal.returns

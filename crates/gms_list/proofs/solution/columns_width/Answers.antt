@@ -4,7 +4,7 @@ use Rattle.gq_number.specs.Number.{Number}
 use Rattle.lp_form.specs.declared.key.Key.{Key}
 use Rattle.lp_core.specs.declared.program.Column.{Column}
 use Rattle.lp_core.specs.Numbers.{lp_numbers, column_numbers}
-use Rattle.gms_list.proofs.Walks.{placed}
+use Rattle.gms_list.proofs.AppendedPieces.{placed}
 use Rattle.gms_list.proofs.Longest.{longest_step, longest_done}
 use Rattle.gms_list.specs.SolveText.{key_text}
 use Rattle.gms_list.proofs.solution.columns_width.Goals as goal

@@ -3,7 +3,7 @@ use Rattle.std.proofs.lemmas.Bool.Decides.{nat_tests}
 use Rattle.gms_list.specs.InnerSolves.{mark_in}
 use Rattle.gms_list.specs.SolveText.{is_zero_amount, number_at_place}
 use Rattle.gms_list.proofs.Signs.{zero_told}
-use Rattle.gms_list.proofs.Walks.{chosen, other}
+use Rattle.gms_list.proofs.AppendedPieces.{chosen, other}
 use Rattle.gms_list.proofs.solution.mark.Goals as goal
 
 pub returns-then-is_zero : goal.returns-then-is_zero

@@ -1,7 +1,7 @@
 use Rattle.std.proofs.Common.{◌≡◌, ◌==◌, ◌∙◌, true, false, arith, ap, max, length}
 use Rattle.std.proofs.lemmas.Bool.Decides.{nat_tests}
 use Rattle.gms_fmt.specs.ElementTexts.{element_text}
-use Rattle.gms_list.proofs.Walks.{chosen, other}
+use Rattle.gms_list.proofs.AppendedPieces.{chosen, other}
 use Rattle.gms_list.proofs.solution.wider.Goals as goal
 
 pub returns-then-key-symbol : goal.returns-then-key-symbol

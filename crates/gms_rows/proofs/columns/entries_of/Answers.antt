@@ -1,6 +1,6 @@
 use Rattle.std.proofs.Common.{◌≡◌, ◌<◌, [], ◌∷◌, ◌++◌, take, length, get_or, ap, sym, subst, ◌∙◌, arith}
 use Rattle.std.proofs.lemmas.List.{take_all}
-use Rattle.gms_rows.specs.InnerWalks.{placed_numbers}
+use Rattle.gms_rows.specs.InnerContracts.{placed_numbers}
 use Rattle.gms_rows.proofs.Places.{placed-more}
 use Rattle.gms_rows.proofs.columns.entries_of.Goals as goal
 

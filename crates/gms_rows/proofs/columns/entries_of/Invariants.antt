@@ -1,5 +1,5 @@
 use Rattle.std.proofs.Common.{◌≡◌, take}
-use Rattle.gms_rows.specs.InnerWalks.{placed_numbers}
+use Rattle.gms_rows.specs.InnerContracts.{placed_numbers}
 use Rattle.gms_rows.proofs.columns.entries_of.Given as goal
 
 abbrev pub invariant-loop-place : goal.invariant-loop-place

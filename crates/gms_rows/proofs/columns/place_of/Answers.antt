@@ -1,6 +1,6 @@
 use Rattle.std.proofs.Common.{arith}
 use Rattle.std.proofs.lemmas.Bool.{both_ways}
-use Rattle.gms_rows.specs.InnerWalks.{is_among}
+use Rattle.gms_rows.specs.InnerContracts.{is_among}
 use Rattle.gms_rows.proofs.Places.{place-there, not-found}
 use Rattle.gms_rows.proofs.columns.place_of.Goals as goal
 

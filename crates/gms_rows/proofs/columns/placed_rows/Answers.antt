@@ -9,7 +9,7 @@ use Rattle.lp_core.specs.declared.program.Row.{Row}
 use Rattle.lp_core.specs.Numbers.{row_numbers}
 use Rattle.gms_rows.specs.declared.form_row.FormRow.{FormRow}
 use Rattle.gms_rows.specs.ProgramLp.{placed}
-use Rattle.gms_rows.specs.InnerWalks.{form_row_in, is_among}
+use Rattle.gms_rows.specs.InnerContracts.{form_row_in, is_among}
 use Rattle.gms_rows.proofs.Placing.{placed-AreEntries, placed-row, placed-more_rows, All-push}
 use Rattle.gms_rows.proofs.columns.placed_rows.Goals as goal
 

@@ -3,7 +3,7 @@ use Rattle.std.specs.List.{All}
 use Rattle.lp_core.specs.WellFormed.{AreRowEntries}
 use Rattle.lp_core.specs.Numbers.{row_numbers}
 use Rattle.gms_rows.specs.ProgramLp.{placed}
-use Rattle.gms_rows.specs.InnerWalks.{form_row_in}
+use Rattle.gms_rows.specs.InnerContracts.{form_row_in}
 use Rattle.gms_rows.proofs.columns.placed_rows.Given as goal
 
 abbrev pub invariant-loop-row : goal.invariant-loop-row

@@ -1,6 +1,6 @@
 use Rattle.std.proofs.Common.{get_or, ◌∙◌, sym, ap, []}
 use Rattle.gms_ast.specs.declared.word.Named.{Named}
-use Rattle.gms_rows.specs.InnerWalks.{with_once}
+use Rattle.gms_rows.specs.InnerContracts.{with_once}
 use Rattle.gms_rows.proofs.Naming.{each_once-at}
 use Rattle.gms_rows.proofs.equations.listed.Goals as goal
 

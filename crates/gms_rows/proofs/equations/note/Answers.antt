@@ -1,6 +1,6 @@
 use Rattle.std.proofs.Common.{◌∙◌, ap, sym}
 use Rattle.std.specs.Prelude.{slice_index_or, None}
-use Rattle.gms_rows.specs.InnerWalks.{noted_by}
+use Rattle.gms_rows.specs.InnerContracts.{noted_by}
 use Rattle.gms_rows.proofs.Noting.{noted-nothing, noted-again, noted-new}
 use Rattle.gms_rows.proofs.equations.note.Goals as goal
 

@@ -1,7 +1,7 @@
 use Rattle.std.proofs.Common.{◌∙◌, ap, sym, subst, take}
 use Rattle.std.proofs.lemmas.List.{take_all}
 use Rattle.gms_rows.specs.Rows.{definitions}
-use Rattle.gms_rows.specs.InnerWalks.{AreNoted}
+use Rattle.gms_rows.specs.InnerContracts.{AreNoted}
 use Rattle.gms_rows.proofs.Noting.{definitions-more}
 use Rattle.gms_rows.proofs.equations.noted_statements.Goals as goal
 

@@ -1,7 +1,7 @@
 use Rattle.std.proofs.Common.{◌++◌, map, ◌∙◌, sym, ap}
 use Rattle.std.proofs.lemmas.List.{take_all}
 use Rattle.gms_rows.specs.Rows.{each_once}
-use Rattle.gms_rows.specs.InnerWalks.{with_once}
+use Rattle.gms_rows.specs.InnerContracts.{with_once}
 use Rattle.gms_rows.proofs.Naming.{each_once-more}
 use Rattle.gms_rows.proofs.equations.push_names.Goals as goal
 

@@ -6,7 +6,7 @@ use Rattle.lp_core.specs.Numbers.{lp_numbers}
 use Rattle.gms_rows.specs.declared.form_row.FormRow.{FormRow}
 use Rattle.gms_rows.specs.ProgramLp.{program_of, program_lp, sized_program}
 use Rattle.gms_rows.specs.Rows.{rows_of_model}
-use Rattle.gms_rows.specs.InnerWalks.{form_row_in}
+use Rattle.gms_rows.specs.InnerContracts.{form_row_in}
 use Rattle.gms_rows.proofs.ModelKeys.{model-apart}
 use Rattle.gms_rows.proofs.Programs.{pairs-of_map}
 use Rattle.gms_rows.proofs.generation.generate.Goals as goal

@@ -5,7 +5,7 @@ use Rattle.lp_core.specs.Numbers.{column_numbers, row_numbers, lp_numbers}
 use Rattle.lp_core.specs.WellFormed.{AreRowEntries}
 use Rattle.lp_core.specs.declared.program.Row.{Row}
 use Rattle.gms_rows.specs.ProgramLp.{column_of, place_of_key, program_of, sized_program}
-use Rattle.gms_rows.specs.InnerWalks.{form_row_in, is_among}
+use Rattle.gms_rows.specs.InnerContracts.{form_row_in, is_among}
 use Rattle.gms_rows.proofs.Programs.{keys-up, objective-there, rows-there, keys-few, program-rows, program-columns, program-shown, program-formed}
 use Rattle.gms_rows.proofs.generation.program_of.Goals as goal
 

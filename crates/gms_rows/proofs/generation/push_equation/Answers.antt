@@ -2,8 +2,8 @@ use Rattle.std.proofs.Common.{◌∙◌, map, sym, subst}
 use Rattle.std.proofs.lemmas.List.Elements.{All-nil}
 use Rattle.std.proofs.lemmas.Result.{on_ok_weaker}
 use Rattle.gms_eval.proofs.Answering.{gives-same}
-use Rattle.gms_rows.specs.InnerWalks.{definition_in, form_row_in, HaveOrder}
-use Rattle.gms_rows.proofs.RowWalk.{equation-defined, equation-undefined}
+use Rattle.gms_rows.specs.InnerContracts.{definition_in, form_row_in, HaveOrder}
+use Rattle.gms_rows.proofs.RowSequences.{equation-defined, equation-undefined}
 use Rattle.gms_rows.proofs.generation.push_equation.Goals as goal
 
 pub returns-in-Some-clause-rows : goal.returns-in-Some-clause-rows

@@ -4,8 +4,8 @@ use Rattle.std.proofs.lemmas.List.{take_all}
 use Rattle.std.proofs.lemmas.List.Elements.{All-nil, All-more}
 use Rattle.gms_eval.proofs.Answering.{handed_on}
 use Rattle.gms_rows.specs.Rows.{definitions, definition_of, rows_of_model}
-use Rattle.gms_rows.specs.InnerWalks.{AreNoted, form_row_in, HaveOrder}
-use Rattle.gms_rows.proofs.RowWalk.{model_from, model-more, model-stops, model-end}
+use Rattle.gms_rows.specs.InnerContracts.{AreNoted, form_row_in, HaveOrder}
+use Rattle.gms_rows.proofs.RowSequences.{model_from, model-more, model-stops, model-end}
 use Rattle.gms_rows.proofs.generation.rows_of_model.Goals as goal
 
 pub loop-equation-init : goal.loop-equation-init

@@ -1,8 +1,8 @@
 use Rattle.std.proofs.Common.{◌≡◌, [], map, drop, take}
 use Rattle.std.specs.List.{All}
 use Rattle.gms_rows.specs.Rows.{definitions, definition_of}
-use Rattle.gms_rows.specs.InnerWalks.{form_row_in, HaveOrder}
-use Rattle.gms_rows.proofs.RowWalk.{model_from}
+use Rattle.gms_rows.specs.InnerContracts.{form_row_in, HaveOrder}
+use Rattle.gms_rows.proofs.RowSequences.{model_from}
 use Rattle.gms_rows.proofs.generation.rows_of_model.Given as goal
 
 abbrev pub invariant-loop-equation : goal.invariant-loop-equation

@@ -13,7 +13,7 @@ use Rattle.gms_eval.proofs.NodeValues.{of_expr}
 use Rattle.gms_eval.proofs.Shapes.{tree-sets}
 use Rattle.gms_rows.specs.Affine.{plus, affine}
 use Rattle.gms_rows.specs.Forms.{Form, form_in, zero_form, scaled_form}
-use Rattle.gms_rows.specs.InnerWalks.{parts_in, signed_join, added_at, chain_form, total_form}
+use Rattle.gms_rows.specs.InnerContracts.{parts_in, signed_join, added_at, chain_form, total_form}
 use Rattle.gms_rows.proofs.Joins.{join-more, join-end, part-stops, join-stops}
 use Rattle.gms_rows.proofs.OtherNodes.{form-other}
 use Rattle.gms_rows.proofs.Parts.{affine-none, variable_answer, form-Ref, form-Fold, form-Neg, form-Plus, form-Times, form-Guard, part_mark, part_form, behind, front_form, chain-is, chosen-so, chosen-not, constant-shows}

@@ -1,7 +1,7 @@
 use Rattle.std.proofs.Common.{◌≡◌, option_map, drop, take, length}
 use Rattle.gms_ast.specs.TreeView.{tree_of}
 use Rattle.gms_rows.specs.Forms.{form_in}
-use Rattle.gms_rows.specs.InnerWalks.{parts_in, added_at, chain_form}
+use Rattle.gms_rows.specs.InnerContracts.{parts_in, added_at, chain_form}
 use Rattle.gms_rows.proofs.Parts.{behind}
 use Rattle.gms_rows.proofs.linear.+affine.Given as goal
 

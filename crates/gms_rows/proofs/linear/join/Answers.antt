@@ -3,7 +3,7 @@ use Rattle.gms_ast.specs.Trees.{signed}
 use Rattle.gms_eval.proofs.Answering.{gives-same}
 use Rattle.gms_rows.specs.Affine.{with_next}
 use Rattle.gms_rows.specs.Forms.{form_in, quotient_of}
-use Rattle.gms_rows.specs.InnerWalks.{signed_join}
+use Rattle.gms_rows.specs.InnerContracts.{signed_join}
 use Rattle.gms_rows.proofs.Parts.{next-sum, next-over, next-times}
 use Rattle.gms_rows.proofs.linear.join.Goals as goal
 

@@ -1,5 +1,5 @@
 use Rattle.std.proofs.Common.{◌≡◌, drop}
-use Rattle.gms_rows.specs.InnerWalks.{is_in}
+use Rattle.gms_rows.specs.InnerContracts.{is_in}
 use Rattle.gms_rows.proofs.rows.push_once.Given as goal
 
 abbrev pub invariant-loop-other : goal.invariant-loop-other

@@ -4,9 +4,9 @@ use Rattle.gms_eval.specs.Faults.{◌and_then◌}
 use Rattle.gms_eval.proofs.Answering.{handed_on, stops-same}
 use Rattle.gms_eval.proofs.Inner.{inner-controlled}
 use Rattle.gms_rows.specs.Rows.{row_under, rows_of_definition}
-use Rattle.gms_rows.specs.InnerWalks.{definition_in, form_row_in}
+use Rattle.gms_rows.specs.InnerContracts.{definition_in, form_row_in}
 use Rattle.gms_rows.specs.ElementRows.{AreInOrder}
-use Rattle.gms_rows.proofs.RowWalk.{row_of, rows_of-given, rows_of-stops, rows_from, rows_from-more, rows_from-stops, rows_from-end, lent-condition, order-of_one}
+use Rattle.gms_rows.proofs.RowSequences.{row_of, rows_of-given, rows_of-stops, rows_from, rows_from-more, rows_from-stops, rows_from-end, lent-condition, order-of_one}
 use Rattle.gms_rows.proofs.rows.push_rows.Goals as goal
 
 pub returns-in_err-elements-clause-rows : goal.returns-in_err-elements-clause-rows

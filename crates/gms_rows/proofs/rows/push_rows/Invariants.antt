@@ -1,8 +1,8 @@
 use Rattle.std.proofs.Common.{◌≡◌, ◌++◌, map, drop, Ok}
 use Rattle.gms_eval.specs.Faults.{◌and_then◌}
 use Rattle.gms_rows.specs.Rows.{rows_of_definition}
-use Rattle.gms_rows.specs.InnerWalks.{definition_in, form_row_in}
-use Rattle.gms_rows.proofs.RowWalk.{rows_from, row_of}
+use Rattle.gms_rows.specs.InnerContracts.{definition_in, form_row_in}
+use Rattle.gms_rows.proofs.RowSequences.{rows_from, row_of}
 use Rattle.gms_rows.proofs.rows.push_rows.Given as goal
 
 abbrev pub invariant-loop-element : goal.invariant-loop-element

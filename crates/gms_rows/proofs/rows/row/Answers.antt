@@ -3,7 +3,7 @@ use Rattle.gms_eval.specs.Faults.{◌and_then◌}
 use Rattle.gms_eval.proofs.Answering.{handed_on, stops-same, stops-then}
 use Rattle.gms_rows.specs.Forms.{form_in}
 use Rattle.gms_rows.specs.Rows.{row_under}
-use Rattle.gms_rows.specs.InnerWalks.{definition_in, form_row_in}
+use Rattle.gms_rows.specs.InnerContracts.{definition_in, form_row_in}
 use Rattle.gms_rows.proofs.Parts.{tuple_answer}
 use Rattle.gms_rows.proofs.OneRow.{row_at, row-is, row-left_stops, row-right_stops, row-step_stops, row-made}
 use Rattle.gms_rows.proofs.rows.row.Goals as goal

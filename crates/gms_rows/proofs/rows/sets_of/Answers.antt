@@ -1,6 +1,6 @@
 use Rattle.std.proofs.Common.{ℕ, Vec, ◌∙◌, sym, ap}
 use Rattle.std.specs.declared.alloc.Global.{Global}
-use Rattle.gms_rows.specs.InnerWalks.{with_once}
+use Rattle.gms_rows.specs.InnerContracts.{with_once}
 use Rattle.gms_rows.proofs.IndexSets.{set_names, once-Set, once-Label, names-Set, names-Label}
 use Rattle.gms_rows.proofs.rows.sets_of.Goals as goal
 use Rattle.gms_rows.proofs.rows.sets_of.Goals.{in-Set+in_ok-push_once-in-Set, in-Label}

@@ -1,7 +1,7 @@
 use Rattle.std.proofs.Common.{if◌then◌else◌, ap, subst}
 use Rattle.lp_form.specs.Forms.{sum_form_step, difference_step}
 use Rattle.gms_rows.specs.Forms.{form_in, number_in_form, where_fits, entries_of_two}
-use Rattle.gms_rows.specs.InnerWalks.{ShowsFault}
+use Rattle.gms_rows.specs.InnerContracts.{ShowsFault}
 use Rattle.gms_rows.proofs.Faulting.{stops-told}
 use Rattle.gms_rows.proofs.steps.add.Goals as goal
 

@@ -2,7 +2,7 @@ use Rattle.std.proofs.Common.{ap, sym, refl, ◌∙◌}
 use Rattle.gms_ast.specs.TreeView.{tree_of}
 use Rattle.gms_ast.proofs.TreeEquations.{tree_of-Plus, tree_of-Times}
 use Rattle.gms_rows.specs.Affine.{has_variables, some_has_variables}
-use Rattle.gms_rows.specs.InnerWalks.{parts_in}
+use Rattle.gms_rows.specs.InnerContracts.{parts_in}
 use Rattle.gms_rows.proofs.Having.{next-has, next-has_none, none-left}
 use Rattle.gms_rows.proofs.variables.+variables.Goals as goal
 

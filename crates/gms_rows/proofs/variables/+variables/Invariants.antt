@@ -1,6 +1,6 @@
 use Rattle.std.proofs.Common.{◌≡◌, drop}
 use Rattle.gms_rows.specs.Affine.{some_has_variables}
-use Rattle.gms_rows.specs.InnerWalks.{parts_in}
+use Rattle.gms_rows.specs.InnerContracts.{parts_in}
 use Rattle.gms_rows.proofs.variables.+variables.Given as goal
 
 abbrev pub invariant-some_has_variables-loop-part : goal.invariant-some_has_variables-loop-part

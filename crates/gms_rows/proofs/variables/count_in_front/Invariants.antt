@@ -1,6 +1,6 @@
 use Rattle.std.proofs.Common.{◌≡◌, ◌+◌, drop}
 use Rattle.gms_rows.specs.Affine.{in_front}
-use Rattle.gms_rows.specs.InnerWalks.{parts_in}
+use Rattle.gms_rows.specs.InnerContracts.{parts_in}
 use Rattle.gms_rows.proofs.variables.count_in_front.Given as goal
 
 abbrev pub invariant-loop-place : goal.invariant-loop-place

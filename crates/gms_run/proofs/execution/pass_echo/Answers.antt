@@ -2,7 +2,7 @@
 use Rattle.std.proofs.Common.{◌++◌, ◌∙◌, ap}
 use Rattle.std.proofs.lemmas.Result.{err_from_is_err_and}
 use Rattle.gms_list.specs.ListingText.{echo_text}
-use Rattle.gms_run.proofs.Comings.{comes_put, writing_memory}
+use Rattle.gms_run.proofs.CallResults.{comes_put, writing_memory}
 use Rattle.gms_run.proofs.Reports.{behind_nothing}
 use Rattle.gms_run.proofs.execution.pass_echo.Goals as goal
 

@@ -13,7 +13,7 @@ use Rattle.gms_run.specs.InnerReports.{script_in}
 use Rattle.gms_run.specs.Scripts.{errors_of_script, scripted}
 use Rattle.gms_run.specs.Solving.{solving}
 use Rattle.gms_run.proofs.Beginning.{first_origin, first_plain, first_settings}
-use Rattle.gms_run.proofs.Comings.{writing_memory}
+use Rattle.gms_run.proofs.CallResults.{writing_memory}
 use Rattle.gms_run.proofs.Reports.{lists_as, lists_none, nothing_follows, prepares_errors}
 use Rattle.gms_run.proofs.report.checked.Goals as goal
 

@@ -7,7 +7,7 @@ use Rattle.gms_store.specs.State.{State}
 use Rattle.gms_check.specs.declared.error.CompileError.{CompileError}
 use Rattle.gms_run.specs.InnerReports.{script_in}
 use Rattle.gms_run.specs.Scripts.{errors_of_script}
-use Rattle.gms_run.proofs.Comings.{holds_done}
+use Rattle.gms_run.proofs.CallResults.{holds_done}
 use Rattle.gms_run.proofs.report.errors_for.Goals as goal
 
 pub returns-clause-errors : goal.returns-clause-errors

@@ -3,7 +3,7 @@ use Rattle.std.specs.List.{All}
 use Rattle.lp_slot.specs.SolverNames.{IsSolverName}
 use Rattle.gms_run.specs.InnerReports.{script_in}
 use Rattle.gms_run.specs.Scripts.{errors_of_script}
-use Rattle.gms_run.proofs.Comings.{holds_done}
+use Rattle.gms_run.proofs.CallResults.{holds_done}
 use Rattle.gms_run.proofs.Reports.{lists_each}
 use Rattle.gms_run.proofs.report.has_errors.Goals as goal
 

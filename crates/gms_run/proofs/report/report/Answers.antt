@@ -5,7 +5,7 @@ use Rattle.gms_host.specs.Meaning.{Outside}
 use Rattle.gms_host.proofs.Counting.{writing_done, writing_more}
 use Rattle.gms_run.specs.InnerReports.{matter_in}
 use Rattle.gms_run.specs.Solving.{solving}
-use Rattle.gms_run.proofs.Comings.{comes_err, writing_err, writing_failed}
+use Rattle.gms_run.proofs.CallResults.{comes_err, writing_err, writing_failed}
 use Rattle.gms_run.proofs.Reports.{counted, lists_ended, front_ended}
 use Rattle.gms_run.proofs.report.report.Goals as goal
 

@@ -3,7 +3,7 @@ use Rattle.std.proofs.Common.{◌≡◌, ◌<◌, ◌^◌, ◌∙◌, length, ma
 use Rattle.std.specs.Prelude.{string_bytes}
 use Rattle.std.proofs.lemmas.List.{length-map}
 use Rattle.gms_save.specs.Saves.{GivesBack, Restores}
-use Rattle.gms_run.proofs.Going.{wanting, wanting_back}
+use Rattle.gms_run.proofs.Restorable.{wanting, wanting_back}
 use Rattle.gms_run.proofs.restart.restored.Goals as goal
 
 pub restore-requires : goal.restore-requires

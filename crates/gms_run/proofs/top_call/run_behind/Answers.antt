@@ -3,7 +3,7 @@ use Rattle.std.specs.declared.alloc.Global.{Global}
 use Rattle.gms_host.specs.Rules.{CountsReading, IsThere}
 use Rattle.gms_command.specs.CommandLine.{asked_by}
 use Rattle.gms_run.specs.Solving.{solving}
-use Rattle.gms_run.proofs.Comings.{failed_with}
+use Rattle.gms_run.proofs.CallResults.{failed_with}
 use Rattle.gms_run.proofs.Runs.{counts_read, counts_read_memory, counts_unread, of_behind, unread_behind}
 use Rattle.gms_run.proofs.top_call.run_behind.Goals as goal
 

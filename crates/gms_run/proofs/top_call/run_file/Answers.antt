@@ -4,7 +4,7 @@ use Rattle.gms_host.specs.Rules.{CountsReading, IsThere}
 use Rattle.gms_command.specs.CommandLine.{Origin, asked_by}
 use Rattle.gms_run.specs.Statuses.{IsUnreadOf}
 use Rattle.gms_run.specs.Solving.{solving}
-use Rattle.gms_run.proofs.Comings.{failed_with}
+use Rattle.gms_run.proofs.CallResults.{failed_with}
 use Rattle.gms_run.proofs.Runs.{counts_read, counts_read_memory, counts_unread, of_file, unread}
 use Rattle.gms_run.proofs.top_call.run_file.Goals as goal
 

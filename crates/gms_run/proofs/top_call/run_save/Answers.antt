@@ -5,7 +5,7 @@ use Rattle.gms_save.specs.Saves.{GivesBack, IsRestored}
 use Rattle.gms_command.specs.CommandLine.{asked_by}
 use Rattle.gms_run.specs.Scripts.{IsUnrestored}
 use Rattle.gms_run.specs.Solving.{solving}
-use Rattle.gms_run.proofs.Going.{can_go_on}
+use Rattle.gms_run.proofs.Restorable.{can_go_on}
 use Rattle.gms_run.proofs.Runs.{counts_nothing, of_joint, of_unrestored}
 use Rattle.gms_run.proofs.top_call.run_save.Goals as goal
 

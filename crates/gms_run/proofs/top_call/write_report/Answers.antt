@@ -8,7 +8,7 @@ use Rattle.gms_command.specs.CommandLine.{asked_by}
 use Rattle.gms_run.specs.InnerReports.{matter_in}
 use Rattle.gms_run.specs.Listings.{SavesSo}
 use Rattle.gms_run.specs.Solving.{solving}
-use Rattle.gms_run.proofs.Comings.{comes_broken, comes_err, writing_err, writing_failed, writing_memory}
+use Rattle.gms_run.proofs.CallResults.{comes_broken, comes_err, writing_err, writing_failed, writing_memory}
 use Rattle.gms_run.proofs.Reports.{are_closing, counted}
 use Rattle.gms_run.proofs.Runs.{reported, unclosed, unopened, unsaid, unsaved, unwritten}
 use Rattle.gms_run.proofs.top_call.write_report.Goals as goal

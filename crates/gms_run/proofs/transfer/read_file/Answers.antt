@@ -2,7 +2,7 @@ use Rattle.std.proofs.lemmas.Result.{err_from_is_err_and}
 use Rattle.gms_host.specs.Meaning.{Outside}
 use Rattle.std.proofs.Common.{◌+◌, Err, ap, ◌∙◌}
 use Rattle.gms_host.proofs.Counting.{reading_more}
-use Rattle.gms_run.proofs.Comings.{reading_err}
+use Rattle.gms_run.proofs.CallResults.{reading_err}
 use Rattle.gms_run.proofs.Transfers.{file_unopened, reads_file}
 use Rattle.gms_run.proofs.transfer.read_file.Goals as goal
 

@@ -1,5 +1,5 @@
 use Rattle.gms_host.proofs.Counting.{writing_more, writing_done}
-use Rattle.gms_host.proofs.Fronts.{speaks_say}
+use Rattle.gms_host.proofs.WrittenPrefixes.{speaks_say}
 use Rattle.gms_run.proofs.transfer.say_line.Goals as goal
 
 pub loop-rest-preserved : goal.loop-rest-preserved

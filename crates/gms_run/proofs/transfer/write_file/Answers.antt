@@ -3,7 +3,7 @@ use Rattle.std.proofs.Common.{◌∙◌, ap, inl, inr}
 use Rattle.std.proofs.lemmas.Result.{err_from_is_err_and}
 use Rattle.gms_host.specs.Meaning.{Outside}
 use Rattle.gms_host.proofs.Counting.{writing_more}
-use Rattle.gms_run.proofs.Comings.{comes_broken, writing_err, writing_failed}
+use Rattle.gms_run.proofs.CallResults.{comes_broken, writing_err, writing_failed}
 use Rattle.gms_run.proofs.Transfers.{closes_file, unwritten_file}
 use Rattle.gms_run.proofs.transfer.write_file.Goals as goal
 

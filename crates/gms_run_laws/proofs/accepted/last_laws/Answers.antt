@@ -1,6 +1,6 @@
 use Rattle.gms_run_laws.proofs.FewPositions.{few-lasting}
 use Rattle.gms_run_laws.proofs.Lasting.{loaded-begins, start-lasts}
-use Rattle.gms_run_laws.proofs.StandingLoaded.{loaded-stands}
+use Rattle.gms_run_laws.proofs.LoadedPositions.{loaded-stands}
 use Rattle.gms_run_laws.proofs.Starting.{begins-lasting}
 use Rattle.gms_run_laws.proofs.StaticDomains.{loaded-fixed}
 use Rattle.gms_run_laws.proofs.TidyLoaded.{loaded-well}

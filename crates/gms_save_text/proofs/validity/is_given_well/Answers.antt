@@ -8,7 +8,7 @@ use Rattle.gms_tuple.specs.TupleSet.{has}
 use Rattle.gms_store.specs.State.{Symbol, symbol_at, given_in, differs_in, fits_at, statuses_in}
 use Rattle.gms_save_text.specs.Validity.{are_statuses, stands_in}
 use Rattle.gms_save_text.proofs.Sorts.{own_symbol}
-use Rattle.gms_save_text.proofs.Standings.{alias_well}
+use Rattle.gms_save_text.proofs.FittingTuples.{alias_well}
 use Rattle.gms_save_text.proofs.validity.is_given_well.Goals as goal
 
 pub returns-then-is_alias : goal.returns-then-is_alias

@@ -1,5 +1,5 @@
 use Rattle.std.proofs.Common.{◌∙◌, sym}
-use Rattle.gms_save_text.proofs.Standings.{member_at}
+use Rattle.gms_save_text.proofs.FittingTuples.{member_at}
 use Rattle.gms_save_text.proofs.validity.is_near.Goals as goal
 
 pub returns : goal.returns

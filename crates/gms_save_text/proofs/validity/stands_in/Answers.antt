@@ -2,7 +2,7 @@ use Rattle.std.proofs.Common.{◌≡◌, ◌∙◌, ◌≤◌, ◌+◌, ◌&&◌
 use Rattle.std.specs.Prelude.{nat_lt}
 use Rattle.std.proofs.lemmas.Bool.Decides.{nat_tests}
 use Rattle.gms_save_text.specs.Validity.{stands_at, stands_in}
-use Rattle.gms_save_text.proofs.Standings.{stands-not, stands-next}
+use Rattle.gms_save_text.proofs.FittingTuples.{stands-not, stands-next}
 use Rattle.gms_save_text.proofs.validity.stands_in.Goals as goal
 use Rattle.gms_save_text.proofs.validity.stands_in.Goals.{then-label-labels-via-then-label-labels, then-label-labels-via-else-label-labels+in_ok-stands_at+then-not-branch}
 

@@ -1,6 +1,6 @@
 use Rattle.gms_store.proofs.Parts.{less_from_index}
 use Rattle.std.proofs.Common.{◌∙◌, sym}
-use Rattle.gms_set.proofs.Behind.{given-behind, none-behind}
+use Rattle.gms_set.proofs.LaterTuples.{given-behind, none-behind}
 use Rattle.gms_set.proofs.seen.is_behind.Goals as goal
 
 pub returns-in-Some : goal.returns-in-Some

@@ -4,7 +4,7 @@ use Rattle.gms_tuple.specs.TupleOrder.{same_tuple}
 use Rattle.gms_tuple.specs.TupleSet.{has}
 use Rattle.gms_tuple.proofs.Members.{inserted-known}
 use Rattle.gms_set.specs.Expansion.{tuples_of}
-use Rattle.gms_set.proofs.Behind.{new-behind, seen-more}
+use Rattle.gms_set.proofs.LaterTuples.{new-behind, seen-more}
 use Rattle.gms_set.proofs.seen.see.Goals as goal
 
 pub returns-then-is_behind-clause-new : goal.returns-then-is_behind-clause-new

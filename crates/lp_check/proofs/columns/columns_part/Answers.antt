@@ -5,7 +5,7 @@ use Rattle.lp_core.specs.Feasible.{bound_value}
 use Rattle.lp_check.specs.BoundSteps.{all_reduced_steps, reduced_cost_bound_steps, plus_steps, columns_steps, columns_sum}
 use Rattle.lp_check.specs.Partials.{costs_of, reduced_costs, reduced_sum, first_unfit}
 use Rattle.lp_check.proofs.Fits.{room_for, goes_on, stops, ends, first_fits, second_fits, fit_no_stop}
-use Rattle.lp_check.proofs.Walks.{all_reduced_from, columns_from, columns_sum_from}
+use Rattle.lp_check.proofs.StepSequences.{all_reduced_from, columns_from, columns_sum_from}
 use Rattle.lp_check.proofs.columns.columns_part.Goals as goal
 
 pub reduced_cost-requires-clause-room : goal.reduced_cost-requires-clause-room

@@ -6,7 +6,7 @@ use Rattle.lp_core.specs.Sums.{value_of_column}
 use Rattle.lp_core.proofs.Checks.{number_of-map}
 use Rattle.lp_check.specs.BoundSteps.{columns_steps, columns_sum, plus_steps}
 use Rattle.lp_check.proofs.Fits.{goes_on, stops, ends}
-use Rattle.lp_check.proofs.Walks.{columns_from, columns_sum_from}
+use Rattle.lp_check.proofs.StepSequences.{columns_from, columns_sum_from}
 use Rattle.lp_check.proofs.columns.columns_part_by.Goals as goal
 
 pub returns-in_err-partial : goal.returns-in_err-partial

@@ -4,7 +4,7 @@ use Rattle.std.proofs.lemmas.Result.{err_from_is_err_and}
 use Rattle.lp_check.specs.BoundSteps.{all_reduced_steps, reduced_cost_bound_steps}
 use Rattle.lp_check.specs.Partials.{costs_of}
 use Rattle.lp_check.proofs.Fits.{room_for_count, count_on, count_stops, count_ends}
-use Rattle.lp_check.proofs.Walks.{all_reduced_from}
+use Rattle.lp_check.proofs.StepSequences.{all_reduced_from}
 use Rattle.lp_check.proofs.columns.reduced_costs_fit.Goals as goal
 
 pub reduced_cost-requires-clause-room : goal.reduced_cost-requires-clause-room

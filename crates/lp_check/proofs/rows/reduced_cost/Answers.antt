@@ -7,7 +7,7 @@ use Rattle.lp_core.specs.Feasible.{bound_value}
 use Rattle.lp_check.specs.BoundSteps.{reduced_cost_bound_steps, less_steps}
 use Rattle.lp_check.specs.Partials.{reduced_sum}
 use Rattle.lp_check.proofs.Fits.{room_for, goes_on, stops, ends}
-use Rattle.lp_check.proofs.Walks.{reduced_from, reduced_sum_from}
+use Rattle.lp_check.proofs.StepSequences.{reduced_from, reduced_sum_from}
 use Rattle.lp_check.proofs.rows.reduced_cost.Goals as goal
 
 pub entry_in-entry-requires : goal.entry_in-entry-requires

@@ -4,7 +4,7 @@ use Rattle.std.proofs.lemmas.Result.{err_from_is_err_and}
 use Rattle.lp_core.specs.Feasible.{bound_value}
 use Rattle.lp_check.specs.BoundSteps.{row_bound_steps, rows_sum, plus_steps}
 use Rattle.lp_check.proofs.Fits.{room_for, goes_on, stops, ends}
-use Rattle.lp_check.proofs.Walks.{rows_from, rows_sum_from}
+use Rattle.lp_check.proofs.StepSequences.{rows_from, rows_sum_from}
 use Rattle.lp_check.proofs.rows.rows_part.Goals as goal
 
 pub plus-requires : goal.plus-requires

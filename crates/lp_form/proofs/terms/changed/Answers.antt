@@ -2,7 +2,7 @@ use Rattle.std.proofs.Common.{arith}
 use Rattle.std.proofs.lemmas.Result.{err_from_is_err_and}
 use Rattle.lp_form.specs.InnerOperations.{step_by}
 use Rattle.lp_form.specs.InnerMerging.{Changes}
-use Rattle.lp_form.proofs.Walks.{on_fault, answered_err, answered_ok, turn_changed, turn_unchanged, changing-end}
+use Rattle.lp_form.proofs.LoopSteps.{on_fault, answered_err, answered_ok, turn_changed, turn_unchanged, changing-end}
 use Rattle.lp_form.proofs.terms.changed.Goals as goal
 
 pub returns-in_err-changed : goal.returns-in_err-changed

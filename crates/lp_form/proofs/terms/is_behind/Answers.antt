@@ -1,6 +1,6 @@
 use Rattle.std.proofs.Common.{sym, ap, ◌∙◌}
 use Rattle.std.specs.Option.{option_copied}
-use Rattle.lp_form.proofs.Walks.{behind-before, Less-from_test}
+use Rattle.lp_form.proofs.LoopSteps.{behind-before, Less-from_test}
 use Rattle.lp_form.proofs.terms.is_behind.Goals as goal
 
 pub returns-in-Some-Some : goal.returns-in-Some-Some

@@ -3,7 +3,7 @@ use Rattle.std.proofs.lemmas.Result.{err_from_is_err_and}
 use Rattle.gq_number.specs.Number.{◌+ℚ◌}
 use Rattle.gq_field.specs.Fits.{sum_fits}
 use Rattle.lp_form.specs.InnerMerging.{Comes, Merges}
-use Rattle.lp_form.proofs.Walks.{on_fault, answered_err, answered_ok, before_end, comes_rests, comes-left_some, comes-right_some, comes-both_some, turn_left, turn_right, turn_summed, turn_unsummed, merging-end}
+use Rattle.lp_form.proofs.LoopSteps.{on_fault, answered_err, answered_ok, before_end, comes_rests, comes-left_some, comes-right_some, comes-both_some, turn_left, turn_right, turn_summed, turn_unsummed, merging-end}
 use Rattle.lp_form.proofs.terms.merged.Goals as goal
 
 pub loop-turn-preserved-in-Left : goal.loop-turn-preserved-in-Left

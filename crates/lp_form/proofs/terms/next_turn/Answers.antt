@@ -1,6 +1,6 @@
 use Rattle.std.proofs.Common.{sym, ap, ◌∙◌}
 use Rattle.std.specs.Option.{option_copied}
-use Rattle.lp_form.proofs.Walks.{comes_after}
+use Rattle.lp_form.proofs.LoopSteps.{comes_after}
 use Rattle.lp_form.proofs.terms.next_turn.Goals as goal
 
 pub returns-in-Greater : goal.returns-in-Greater

@@ -2,7 +2,7 @@ use Rattle.std.proofs.Common.{◌≡◌, ◌<◌, ◌≤◌, ◌-◌, ◌^◌, l
 use Rattle.std.specs.Prelude.{slice_get, MatchOption}
 use Rattle.lp_integer_rows.specs.declared.line.Line.{Line}
 use Rattle.lp_integer_rows.specs.Form.{AreLines, ArePlanned, IsPlan, IsSomeCrowded, AreTurned, AreSameLines}
-use Rattle.lp_integer_dict.specs.Room.{HaveRoomAfter, AreMade, AreTurnedInRoom}
+use Rattle.lp_integer_dict.specs.WithinBound.{HaveRoomAfter, AreMade, AreTurnedInRoom}
 use Rattle.lp_integer_rows.proofs.Plans.{index_get}
 use Rattle.lp_integer_dict.proofs.Sameness.{line_above, plan_of, same_are}
 use Rattle.lp_integer_dict.proofs.Arriving.{by_copies, made_so}

@@ -3,7 +3,7 @@ use Rattle.std.specs.Prelude.{MatchOption}
 use Rattle.gq_number.specs.Number.{whole}
 use Rattle.gq_number.specs.Order.{◌<ℚ◌}
 use Rattle.lp_integer_rows.specs.Form.{AreLines, lines_number}
-use Rattle.lp_integer_dict.specs.Room.{AreTurnedInRoom, HaveNoRoomMade}
+use Rattle.lp_integer_dict.specs.WithinBound.{AreTurnedInRoom, HaveNoRoomMade}
 use Rattle.lp_integer_dict.proofs.apart.turn_apart.Goals as goal
 
 pub made_apart-requires-clause-lines : goal.made_apart-requires-clause-lines

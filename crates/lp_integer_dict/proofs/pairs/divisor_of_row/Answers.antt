@@ -3,7 +3,7 @@ use Rattle.std.specs.Int.{◌∣◌, w128}
 use Rattle.std.proofs.Math.Nat.{dvd_refl, dvd_trans}
 use Rattle.std.proofs.lemmas.Int.{to_z-of_z}
 use Rattle.gq_number.proofs.Gcd.{gcd_pos, gcd-dvd_left, gcd-dvd_right, dvd-gcd}
-use Rattle.lp_integer_dict.specs.Room.{line_denominator, row_number}
+use Rattle.lp_integer_dict.specs.WithinBound.{line_denominator, row_number}
 use Rattle.lp_integer_dict.proofs.pairs.divisor_of_row.Goals as goal
 
 pub loop-c-init : goal.loop-c-init

@@ -1,6 +1,6 @@
 use Rattle.std.specs.Prelude.{ℕ, ◌<◌, nat_abs}
 use Rattle.std.specs.Int.{◌∣◌}
-use Rattle.lp_integer_dict.specs.Room.{line_denominator, row_number}
+use Rattle.lp_integer_dict.specs.WithinBound.{line_denominator, row_number}
 use Rattle.lp_integer_dict.proofs.pairs.divisor_of_row.Given as goal
 
 abbrev pub invariant-loop-c : goal.invariant-loop-c

@@ -4,7 +4,7 @@ use Rattle.std.specs.Int.{◌∣◌, w128}
 use Rattle.std.proofs.lemmas.Int.{to_z-of_z}
 use Rattle.std.proofs.lemmas.Nat.Gcd.{le_of_dvd}
 use Rattle.lp_integer_rows.specs.Form.{wholes}
-use Rattle.lp_integer_dict.specs.Room.{AreWhole, line_denominator, row_number}
+use Rattle.lp_integer_dict.specs.WithinBound.{AreWhole, line_denominator, row_number}
 use Rattle.lp_integer_rows.proofs.Plans.{index_get}
 use Rattle.lp_integer_dict.proofs.Pairing.{IsRow, rows_are}
 use Rattle.lp_integer_dict.proofs.Lowest.{IsReckoned, lowest}

@@ -2,7 +2,7 @@ use Rattle.std.proofs.Common.{rules, ◌≡◌, ℕ, ◌<◌, ◌≤◌, nat_abs
 use Rattle.std.specs.Int.{w128}
 use Rattle.std.proofs.lemmas.Bool.{cases_eq}
 use Rattle.std.proofs.lemmas.Int.{to_z-of_z}
-use Rattle.lp_integer_dict.specs.Room.{line_denominator, row_number}
+use Rattle.lp_integer_dict.specs.WithinBound.{line_denominator, row_number}
 use Rattle.lp_integer_dict.proofs.pairs.most_of_row.Goals as goal
 
 pub loop-c-init : goal.loop-c-init

@@ -1,7 +1,7 @@
 use Rattle.std.proofs.Common.{◌≤◌, ◌+◌, ◌*◌, inl, inr, sym, subst, arith}
 use Rattle.std.specs.Prelude.{IsTrue}
 use Rattle.std.proofs.lemmas.Bool.{cases_eq}
-use Rattle.lp_integer_dict.specs.Room.{row_most}
+use Rattle.lp_integer_dict.specs.WithinBound.{row_most}
 use Rattle.lp_integer_dict.proofs.Pairing.{found_within, first_most, second_most}
 use Rattle.lp_integer_dict.proofs.pairs.rows_are_roomy.Goals as goal
 

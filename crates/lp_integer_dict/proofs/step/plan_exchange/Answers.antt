@@ -3,7 +3,7 @@ use Rattle.std.specs.Prelude.{IfOk, MatchOption}
 use Rattle.gq_number.specs.Number.{whole}
 use Rattle.gq_number.specs.Order.{◌<ℚ◌}
 use Rattle.lp_integer_rows.specs.Form.{AreLines, AreBounded, AreSameLines, lines_number}
-use Rattle.lp_integer_dict.specs.Room.{IsRoomyPlan, FactorsHaveNoRoom}
+use Rattle.lp_integer_dict.specs.WithinBound.{IsRoomyPlan, FactorsHaveNoRoom}
 use Rattle.lp_integer_dict.proofs.Sameness.{same_are, same_bounded, same_lines, same_numbers}
 use Rattle.lp_integer_rows.proofs.Results.{ok_anyway}
 use Rattle.lp_integer_dict.proofs.step.plan_exchange.Goals as goal

@@ -1,7 +1,7 @@
 use Rattle.std.proofs.Common.{◌≡◌, length, inl, inr, true≢false, Some, sym, ◌∙◌, subst, arith}
 use Rattle.std.specs.Prelude.{slice_get, MatchOption}
 use Rattle.lp_integer_rows.specs.Form.{ArePlanned, IsPlan, IsSomeCrowded}
-use Rattle.lp_integer_dict.specs.Room.{KeepsRoom}
+use Rattle.lp_integer_dict.specs.WithinBound.{KeepsRoom}
 use Rattle.lp_integer_rows.proofs.Plans.{index_get, some_at}
 use Rattle.lp_integer_dict.proofs.Sameness.{line_above, plan_of}
 use Rattle.lp_integer_dict.proofs.step.plan_once.Goals as goal

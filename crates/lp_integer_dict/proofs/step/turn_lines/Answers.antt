@@ -2,7 +2,7 @@ use Rattle.std.proofs.Common.{◌≡◌, ◌<◌, true, false, true≢false, len
 use Rattle.gq_number.specs.Number.{whole}
 use Rattle.gq_number.specs.Order.{◌<ℚ◌}
 use Rattle.lp_integer_rows.specs.Form.{AreLines, AreSameLines, lines_number}
-use Rattle.lp_integer_dict.specs.Room.{AreTurnedInRoom, FactorsHaveNoRoom, HaveNoRoomMade, LinesHaveNoRoom}
+use Rattle.lp_integer_dict.specs.WithinBound.{AreTurnedInRoom, FactorsHaveNoRoom, HaveNoRoomMade, LinesHaveNoRoom}
 use Rattle.lp_integer_dict.proofs.Sameness.{same_are, same_numbers}
 use Rattle.lp_integer_dict.proofs.Arriving.{same_turned}
 use Rattle.lp_integer_rows.proofs.Results.{if_ok, if_both}

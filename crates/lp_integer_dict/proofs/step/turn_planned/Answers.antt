@@ -1,7 +1,7 @@
 use Rattle.std.proofs.Common.{◌<◌, length, sym, subst, arith}
 use Rattle.std.specs.Prelude.{MatchOption}
 use Rattle.lp_integer_rows.specs.Form.{IsPlan, AreTurned}
-use Rattle.lp_integer_dict.specs.Room.{IsRoomyPlan, FactorsHaveNoRoom}
+use Rattle.lp_integer_dict.specs.WithinBound.{IsRoomyPlan, FactorsHaveNoRoom}
 use Rattle.lp_integer_dict.proofs.Sameness.{same_are, same_bounded}
 use Rattle.lp_integer_dict.proofs.Arriving.{turned_by_plan, same_turned}
 use Rattle.lp_integer_dict.proofs.step.turn_planned.Goals as goal

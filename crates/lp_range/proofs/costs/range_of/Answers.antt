@@ -1,7 +1,7 @@
 use Rattle.std.proofs.Common.{◌+◌, List, map, drop, refl, sym, ap, ◌∙◌}
 use Rattle.std.specs.Prelude.{slice_index_or}
 use Rattle.std.proofs.lemmas.List.{drop_all}
-use Rattle.lp_form.proofs.Walks.{drop_item, get_or_itself}
+use Rattle.lp_form.proofs.LoopSteps.{drop_item, get_or_itself}
 use Rattle.lp_core.specs.Feasible.{bound_value}
 use Rattle.lp_std.specs.Meaning.{shift_value}
 use Rattle.lp_dict.specs.Tableau.{dictionary}

@@ -1,4 +1,4 @@
-use Rattle.lp_form.proofs.Walks.{get_or_itself}
+use Rattle.lp_form.proofs.LoopSteps.{get_or_itself}
 use Rattle.std.proofs.Common.{◌≡◌, ◌+◌, arith}
 use Rattle.std.specs.Prelude.{slice_index_or}
 use Rattle.lp_core.specs.declared.answer.Pivot.{Pivot}

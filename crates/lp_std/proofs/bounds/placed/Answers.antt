@@ -4,7 +4,7 @@ use Rattle.lp_core.specs.StandardForm as form
 use Rattle.lp_core.proofs.ShapeSteps.{counted_more}
 use Rattle.lp_std.specs.declared.types.Shift.{Shift}
 use Rattle.lp_std.specs.Meaning.{shift_value}
-use Rattle.lp_std.proofs.Walks.{numbered_goes, numbered_ends}
+use Rattle.lp_std.proofs.LoopSteps.{numbered_goes, numbered_ends}
 use Rattle.lp_std.proofs.bounds.placed.Goals as goal
 
 pub overflow_add-next : goal.overflow_add-next

@@ -3,7 +3,7 @@ use Rattle.std.proofs.lemmas.Result.{err_from_is_err_and}
 use Rattle.lp_core.specs.StandardForm as form
 use Rattle.lp_core.specs.Steps.{dual_steps}
 use Rattle.lp_std.specs.InnerSteps.{first_stop, slack_multiplier}
-use Rattle.lp_std.proofs.EntryWalks.{dual_goes, dual_stops, dual_made, count_here, duals_end, dual_steps_end}
+use Rattle.lp_std.proofs.EntrySums.{dual_goes, dual_stops, dual_made, count_here, duals_end, dual_steps_end}
 use Rattle.lp_std.proofs.duals.duals_of.Goals as goal
 
 pub dual_of-requires : goal.dual_of-requires

@@ -4,7 +4,7 @@ use Rattle.std.proofs.lemmas.Result.{err_from_is_err_and}
 use Rattle.lp_core.specs.StandardForm as form
 use Rattle.lp_core.specs.Steps.{reduced_steps}
 use Rattle.lp_std.specs.InnerSteps.{first_stop, placed_value, slack_multiplier}
-use Rattle.lp_std.proofs.EntryWalks.{reduced_goes, reduced_stops, reduced_made, own_count, reduced_steps_end, reduced_end}
+use Rattle.lp_std.proofs.EntrySums.{reduced_goes, reduced_stops, reduced_made, own_count, reduced_steps_end, reduced_end}
 use Rattle.lp_std.proofs.duals.reduced_costs_of.Goals as goal
 
 pub reduced_of-requires-clause-there : goal.reduced_of-requires-clause-there

@@ -7,7 +7,7 @@ use Rattle.lp_core.specs.Steps.{level_step}
 use Rattle.lp_std.specs.declared.types.Shift.{Shift}
 use Rattle.lp_std.specs.Meaning.{shift_value}
 use Rattle.lp_std.specs.InnerSteps.{first_stop, placed_value}
-use Rattle.lp_std.proofs.Walked.{map-map, walk_goes, walk_stops, walk_ends, walk_single, made_more, made_all}
+use Rattle.lp_std.proofs.EntryLists.{map-map, walk_goes, walk_stops, walk_ends, walk_single, made_more, made_all}
 use Rattle.lp_std.proofs.levels.levels_of.Goals as goal
 
 pub level_of-requires : goal.level_of-requires

@@ -4,7 +4,7 @@ use Rattle.lp_core.specs.StandardForm as form
 use Rattle.lp_core.specs.Steps.{level_step}
 use Rattle.lp_std.specs.Meaning.{shift_value}
 use Rattle.lp_std.specs.InnerSteps.{first_stop, placed_value}
-use Rattle.lp_std.proofs.Walked.{walk}
+use Rattle.lp_std.proofs.EntryLists.{walk}
 use Rattle.lp_std.proofs.levels.levels_of.Given as goal
 
 abbrev pub invariant-loop-j : goal.invariant-loop-j

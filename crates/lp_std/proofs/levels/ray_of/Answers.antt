@@ -5,7 +5,7 @@ use Rattle.lp_core.specs.StandardForm as form
 use Rattle.lp_core.specs.Steps.{ray_step}
 use Rattle.lp_std.specs.declared.types.Shift.{Shift}
 use Rattle.lp_std.specs.Meaning.{shift_value}
-use Rattle.lp_std.proofs.Walked.{map-map, walk_goes, walk_stops, walk_ends, made_more, made_all}
+use Rattle.lp_std.proofs.EntryLists.{map-map, walk_goes, walk_stops, walk_ends, made_more, made_all}
 use Rattle.lp_std.proofs.levels.ray_of.Goals as goal
 
 pub change_of-requires : goal.change_of-requires

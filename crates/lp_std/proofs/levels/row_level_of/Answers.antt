@@ -9,7 +9,7 @@ use Rattle.lp_core.specs.declared.answer.StepName.TheVariants.{Recover}
 use Rattle.lp_core.specs.Sums.{row_sum}
 use Rattle.lp_core.specs.Steps.{product_fits, row_level_steps}
 use Rattle.lp_std.specs.InnerSteps.{first_stop}
-use Rattle.lp_std.proofs.EntryWalks.{entry_goes, entry_stops, sum_more}
+use Rattle.lp_std.proofs.EntrySums.{entry_goes, entry_stops, sum_more}
 use Rattle.lp_std.proofs.levels.row_level_of.Goals as goal
 
 pub loop-column-init : goal.loop-column-init

@@ -9,7 +9,7 @@ use Rattle.lp_core.specs.declared.program.Row.{Row}
 use Rattle.lp_core.specs.Sums.{row_sum}
 use Rattle.lp_core.specs.Steps.{row_level_steps}
 use Rattle.lp_std.specs.InnerSteps.{first_stop}
-use Rattle.lp_std.proofs.Walked.{walk_goes, walk_stops, walk_ends, made_more, made_all}
+use Rattle.lp_std.proofs.EntryLists.{walk_goes, walk_stops, walk_ends, made_more, made_all}
 use Rattle.lp_std.proofs.levels.row_levels_of.Goals as goal
 
 pub row_level_of-requires-clause-there : goal.row_level_of-requires-clause-there

@@ -6,7 +6,7 @@ use Rattle.lp_core.specs.declared.program.Row.{Row}
 use Rattle.lp_core.specs.Sums.{row_sum}
 use Rattle.lp_core.specs.Steps.{row_level_steps}
 use Rattle.lp_std.specs.InnerSteps.{first_stop}
-use Rattle.lp_std.proofs.Walked.{walk}
+use Rattle.lp_std.proofs.EntryLists.{walk}
 use Rattle.lp_std.proofs.levels.row_levels_of.Given as goal
 
 abbrev pub invariant-loop-i : goal.invariant-loop-i

@@ -1,7 +1,7 @@
 use Rattle.std.proofs.Common.{◌<◌, length, sym, ◌∙◌, arith, subst}
 use Rattle.std.proofs.lemmas.List.Elements.{All-get_or}
 use Rattle.std.proofs.lemmas.Result.{err_from_is_err_and}
-use Rattle.lp_std.proofs.Walks.{steps_go, steps_stop, right_goes, steps_end, right_ends}
+use Rattle.lp_std.proofs.LoopSteps.{steps_go, steps_stop, right_goes, steps_end, right_ends}
 use Rattle.lp_std.proofs.rows.right_of.Goals as goal
 
 pub returns-in_err-left-clause-err : goal.returns-in_err-left-clause-err

@@ -2,7 +2,7 @@ use Rattle.std.proofs.Common.{◌<◌, ◌+◌, ◌^◌, length, sym, ap, ◌∙
 use Rattle.std.proofs.lemmas.List.Elements.{All-get_or}
 use Rattle.lp_core.specs.StandardForm as form
 use Rattle.lp_std.specs.Meaning.{shift_value}
-use Rattle.lp_std.proofs.Walks.{spread_more}
+use Rattle.lp_std.proofs.LoopSteps.{spread_more}
 use Rattle.lp_std.proofs.rows.spread_row.Goals as goal
 
 pub push_spread-requires : goal.push_spread-requires

@@ -16,13 +16,13 @@ use Rattle.gms_ast.proofs.TreeEquations.{tree_of-Ref, tree_of-Call, tree_of-Fold
 use Rattle.gms_check.specs.InnerChecking.{Checking, faulted, known_of, noted, seen, with_controlled, with_sets}
 use Rattle.gms_check.specs.Linearity.{has_variable, have_variable, is_sum}
 use Rattle.gms_check.specs.InnerPartLists.{chosen_list, in_no_place, placed_list, plain_list, related_list, signed_list}
-use Rattle.gms_check.specs.declared.standing.Standing.{Standing}
+use Rattle.gms_check.specs.declared.contexts.Standing.{Standing}
 use Rattle.gms_check.specs.declared.expression.Operation.TheVariants.{Multiplies, Divides}
 use Rattle.gms_check.specs.declared.error.ErrorKind.{ErrorKind}
 use Rattle.gms_check.specs.declared.error.ErrorKind.TheVariants.{WrongKind, Nonlinear, Function}
 use Rattle.gms_check.specs.Kinds.{part_count, takes_arguments}
 use Rattle.gms_check.specs.Past.{Known}
-use Rattle.gms_check.specs.Standing.{as_condition, as_guarded, as_inner, as_number, as_part}
+use Rattle.gms_check.specs.Contexts.{as_condition, as_guarded, as_inner, as_number, as_part}
 use Rattle.gms_check.specs.Uses.{Uses, amount_uses, calling, control_uses, controlling, folding, logic, part_uses, reading, sets_of_control, steps, uses}
 use Rattle.gms_check.proofs.ControlTrees.{tree-where}
 use Rattle.gms_check.proofs.Depths.{indices-fall, indices-less_deep}

@@ -9,7 +9,7 @@ use Rattle.gms_check.specs.InnerChecking.{faulted, known_of, noted, seen}
 use Rattle.gms_check.specs.declared.error.ErrorKind.TheVariants.{WrongKind}
 use Rattle.gms_check.specs.Linearity.{has_variable}
 use Rattle.gms_check.specs.InnerPartLists.{in_no_place, placed_list, signed_list}
-use Rattle.gms_check.specs.Standing.{as_condition, as_number, as_part}
+use Rattle.gms_check.specs.Contexts.{as_condition, as_number, as_part}
 use Rattle.gms_check.specs.StatementUses.{index_list}
 use Rattle.gms_check.specs.Uses.{amount_uses, steps, uses}
 use Rattle.gms_check.proofs.checker.Checker.+expression.Given as goal

@@ -7,7 +7,7 @@ use Rattle.gms_ast.specs.declared.program.Stmt.{Stmt}
 use Rattle.gms_ast.specs.declared.expression.Index.{Index}
 use Rattle.gms_ast.specs.TreeView.{control_tree, tree_of}
 use Rattle.gms_check.specs.InnerChecking.{noted, seen, with_controlled, with_sets}
-use Rattle.gms_check.specs.Standing.{as_side}
+use Rattle.gms_check.specs.Contexts.{as_side}
 use Rattle.gms_check.specs.StatementUses.{index_list, left_uses, option_uses, show_uses, statement_uses, with_left}
 use Rattle.gms_check.specs.Uses.{condition_uses, control_uses, defining, index_sets, sets_of_control, uses, Uses}
 use Rattle.gms_check.proofs.ActUses.{uses-Abort, uses-Assign, uses-Define, uses-Loop, uses-Options}

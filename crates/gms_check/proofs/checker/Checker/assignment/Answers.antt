@@ -1,7 +1,7 @@
 use Rattle.std.proofs.Common.{◌≡◌, ◌∙◌, ap, List, ℕ, ◌∷◌, ◌++◌, take, length}
 use Rattle.gms_ast.specs.TreeView.{tree_of}
 use Rattle.gms_store.specs.State.{State}
-use Rattle.gms_check.specs.declared.standing.Standing.{Standing}
+use Rattle.gms_check.specs.declared.contexts.Standing.{Standing}
 use Rattle.gms_check.specs.InnerChecking.{Checking, noted, seen, with_sets}
 use Rattle.gms_check.specs.StatementUses.{index_list, left_uses, right_standing, with_left}
 use Rattle.gms_check.specs.Uses.{assigning, index_sets, uses}

@@ -2,7 +2,7 @@ use Rattle.std.proofs.Common.{◌≡◌, ◌∙◌, ap, refl, List, ℕ, Bool, [
 use Rattle.gms_ast.specs.TreeView.{tree_of}
 use Rattle.gms_check.specs.InnerChecking.{Checking, faulted, known_of, noted, seen}
 use Rattle.gms_check.specs.Kinds.{is_left_amount}
-use Rattle.gms_check.specs.Standing.{as_number}
+use Rattle.gms_check.specs.Contexts.{as_number}
 use Rattle.gms_check.specs.Uses.{shifting, uses}
 use Rattle.gms_check.specs.declared.error.ErrorKind.TheVariants.{WrongKind}
 use Rattle.gms_check.proofs.Noting.{noted-by, noted-then}

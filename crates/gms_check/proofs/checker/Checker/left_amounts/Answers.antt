@@ -4,7 +4,7 @@ use Rattle.gms_ast.specs.declared.expression.Expr.{Expr}
 use Rattle.gms_ast.specs.declared.expression.Index.{Index, Set}
 use Rattle.gms_ast.specs.TreeView.{tree_of}
 use Rattle.gms_check.specs.InnerChecking.{Checking, noted, seen}
-use Rattle.gms_check.specs.Standing.{as_number}
+use Rattle.gms_check.specs.Contexts.{as_number}
 use Rattle.gms_check.specs.StatementUses.{index_list}
 use Rattle.gms_check.specs.Uses.{shift_uses, shifting, uses}
 use Rattle.gms_check.proofs.LagAmounts.{shifts-alone, shifts-label, shifts-lagged}

@@ -8,7 +8,7 @@ use Rattle.gms_check.specs.InnerFaults.{index_faults}
 use Rattle.gms_check.specs.Kinds.{has_wrong_set}
 use Rattle.gms_check.specs.Linearity.{is_variable_by}
 use Rattle.gms_check.specs.Past.{is_among}
-use Rattle.gms_check.specs.Standing.{may_stand}
+use Rattle.gms_check.specs.Contexts.{may_stand}
 use Rattle.gms_check.specs.StatementUses.{index_list}
 use Rattle.gms_check.specs.Uses.{index_sets, reading}
 use Rattle.gms_check.specs.declared.error.ErrorKind.TheVariants.{UnknownName, WrongKind, WrongArity, DomainOfSet, DomainOfLabel, Uncontrolled, NotOrdered, Endogenous}

@@ -1,7 +1,7 @@
 use Rattle.std.proofs.Common.{◌≡◌, ap, List, ℕ}
 use Rattle.gms_ast.specs.TreeView.{tree_of}
 use Rattle.gms_check.specs.InnerChecking.{seen, with_sets}
-use Rattle.gms_check.specs.Standing.{as_side}
+use Rattle.gms_check.specs.Contexts.{as_side}
 use Rattle.gms_check.specs.Uses.{uses}
 use Rattle.gms_check.proofs.StatementParts.{sides-done}
 use Rattle.gms_check.proofs.checker.Checker.sides.Goals as goal

@@ -3,7 +3,7 @@ use Rattle.gms_check.specs.InnerChecking.{Checking, faulted, known_of, seen}
 use Rattle.gms_scope.specs.Names.{has_no_declaration, declared_kind}
 use Rattle.gms_check.specs.declared.error.ErrorKind.TheVariants.{UnknownName, WrongKind, Endogenous}
 use Rattle.gms_check.specs.Linearity.{is_variable_by}
-use Rattle.gms_check.specs.Standing.{as_condition, may_stand}
+use Rattle.gms_check.specs.Contexts.{as_condition, may_stand}
 use Rattle.gms_check.specs.Uses.{showing}
 use Rattle.gms_check.proofs.Noting.{alone, chain-3, not-not, noted-by}
 use Rattle.gms_check.proofs.checker.Checker.symbol.Goals as goal

@@ -3,7 +3,7 @@ use Rattle.gms_ast.specs.declared.expression.Index.{Index}
 use Rattle.gms_scope.specs.Names.{declared_kind}
 use Rattle.gms_check.specs.InnerChecking.{faulted, known_of, seen}
 use Rattle.gms_check.specs.InnerFaults.{index_faults}
-use Rattle.gms_check.specs.Standing.{may_be_assigned}
+use Rattle.gms_check.specs.Contexts.{may_be_assigned}
 use Rattle.gms_check.specs.StatementUses.{index_list}
 use Rattle.gms_check.specs.Uses.{assigning}
 use Rattle.gms_check.proofs.Noting.{noted-by}

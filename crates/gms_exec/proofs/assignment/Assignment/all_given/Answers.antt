@@ -1,7 +1,7 @@
 use Rattle.std.proofs.Common.{ap, sym, ◌∙◌}
 use Rattle.gms_ast.specs.TreeView.{tree_of}
 use Rattle.gms_eval.proofs.Answering.{stops-same, stops-then, handed_on, gives-same}
-use Rattle.gms_exec.specs.InnerWalks.{all_given_in}
+use Rattle.gms_exec.specs.InnerContracts.{all_given_in}
 use Rattle.gms_exec.proofs.Assigning.{each_of, given-by-sets, given-by-found}
 use Rattle.gms_exec.proofs.assignment.Assignment.all_given.Goals as goal
 

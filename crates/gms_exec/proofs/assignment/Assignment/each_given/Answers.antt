@@ -4,7 +4,7 @@ use Rattle.gms_eval.specs.Bindings.{controlled}
 use Rattle.gms_eval.proofs.Answering.{stops-same, handed_on}
 use Rattle.gms_eval.proofs.Inner.{inner-start, inner-controlled, inner-kept}
 use Rattle.gms_exec.specs.Assignment.{target_of, element_under}
-use Rattle.gms_exec.specs.InnerWalks.{all_given_in, found_in}
+use Rattle.gms_exec.specs.InnerContracts.{all_given_in, found_in}
 use Rattle.gms_exec.proofs.LeftSides.{finding, finding-more, finding-end, finding-stops}
 use Rattle.gms_exec.proofs.assignment.Assignment.each_given.Goals as goal
 

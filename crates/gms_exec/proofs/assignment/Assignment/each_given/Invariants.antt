@@ -2,7 +2,7 @@ use Rattle.std.proofs.Common.{◌≡◌, drop, length, take}
 use Rattle.gms_ast.specs.TreeView.{tree_of}
 use Rattle.gms_eval.specs.Bindings.{controlled}
 use Rattle.gms_exec.specs.Assignment.{target_of, element_under}
-use Rattle.gms_exec.specs.InnerWalks.{all_given_in}
+use Rattle.gms_exec.specs.InnerContracts.{all_given_in}
 use Rattle.gms_exec.proofs.Assigning.{each_of}
 use Rattle.gms_exec.proofs.LeftSides.{finding}
 use Rattle.gms_exec.proofs.assignment.Assignment.each_given.Given as goal

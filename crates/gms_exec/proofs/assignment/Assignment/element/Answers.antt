@@ -6,7 +6,7 @@ use Rattle.gms_eval.specs.References.{tuple_of}
 use Rattle.gms_eval.specs.Value.{label_answer}
 use Rattle.gms_eval.proofs.Answering.{stops-same, stops-then, handed_on, gives-same, then-value}
 use Rattle.gms_exec.specs.Assignment.{target_of, given_under, element_under}
-use Rattle.gms_exec.specs.InnerWalks.{found_in, found_at}
+use Rattle.gms_exec.specs.InnerContracts.{found_in, found_at}
 use Rattle.gms_exec.proofs.Assigning.{element-by}
 use Rattle.gms_exec.proofs.assignment.Assignment.element.Goals as goal
 

@@ -6,7 +6,7 @@ use Rattle.gms_eval.proofs.Answering.{stops-same, stops-then, handed_on, gives-s
 use Rattle.gms_exec.specs.Given.{member}
 use Rattle.gms_exec.specs.Membership.{membership}
 use Rattle.gms_exec.specs.Assignment.{target_of, given_under, where_taken}
-use Rattle.gms_exec.specs.InnerWalks.{given_in}
+use Rattle.gms_exec.specs.InnerContracts.{given_in}
 use Rattle.gms_exec.proofs.Assigning.{given-of-set, given-of-value}
 use Rattle.gms_exec.proofs.assignment.Assignment.given.Goals as goal
 

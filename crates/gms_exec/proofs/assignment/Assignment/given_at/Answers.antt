@@ -2,7 +2,7 @@ use Rattle.std.proofs.Common.{◌∙◌, ap, Ok, Some}
 use Rattle.gms_ast.specs.TreeView.{tree_of}
 use Rattle.gms_eval.proofs.Answering.{stops-same, stops-then, handed_on, then-value}
 use Rattle.gms_exec.specs.Assignment.{target_of, given_under}
-use Rattle.gms_exec.specs.InnerWalks.{given_in, found_in, found_at}
+use Rattle.gms_exec.specs.InnerContracts.{given_in, found_in, found_at}
 use Rattle.gms_exec.proofs.assignment.Assignment.given_at.Goals as goal
 
 pub returns-in_err-given-in-Some : goal.returns-in_err-given-in-Some

@@ -1,7 +1,7 @@
 use Rattle.std.proofs.Common.{ap, sym, ◌∙◌, Ok}
 use Rattle.gms_eval.proofs.Answering.{stops-then, then-value}
 use Rattle.gms_exec.specs.Given.{after_given}
-use Rattle.gms_exec.specs.InnerWalks.{all_given_in}
+use Rattle.gms_exec.specs.InnerContracts.{all_given_in}
 use Rattle.gms_exec.proofs.Assigning.{assigns-handed}
 use Rattle.gms_exec.proofs.assignment.Assignment.run.Goals as goal
 

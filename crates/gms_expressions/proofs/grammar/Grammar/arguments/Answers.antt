@@ -11,7 +11,7 @@ use Rattle.gms_expressions.proofs.Nesting.{callable_inside, reads_inside}
 use Rattle.gms_expressions.proofs.Closings.{next_inside, closing_answer, arguments_got, arguments_refuses}
 use Rattle.gms_expressions.proofs.Lists.{arguments_start, arguments_on}
 use Rattle.gms_expressions.proofs.Made.{views_push}
-use Rattle.gms_expressions.proofs.Going.{went_by}
+use Rattle.gms_expressions.proofs.Extending.{went_by}
 use Rattle.gms_expressions.proofs.Loops.{loop_memory}
 use Rattle.gms_expressions.proofs.grammar.Grammar.arguments.Goals as goal
 

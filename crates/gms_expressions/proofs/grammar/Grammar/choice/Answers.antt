@@ -18,7 +18,7 @@ use Rattle.gms_expressions.proofs.Chains.{chain_first, chain_alone, chain_start,
 use Rattle.gms_grammar.specs.Terminals.{is}
 use Rattle.gms_expressions.specs.InnerReadings.{seen_from}
 use Rattle.gms_expressions.proofs.Grows.{some_led, none_led}
-use Rattle.gms_expressions.proofs.Going.{went_by}
+use Rattle.gms_expressions.proofs.Extending.{went_by}
 use Rattle.gms_expressions.proofs.grammar.Grammar.choice.Goals as goal
 
 pub returns-in_err-first : goal.returns-in_err-first

@@ -9,7 +9,7 @@ use Rattle.gms_expressions.proofs.Steps.{refuses_the, refuses_first, refuses_sec
 use Rattle.gms_expressions.proofs.Sums.{leads_condition}
 use Rattle.gms_expressions.proofs.Grows.{none_led}
 use Rattle.gms_expressions.proofs.Alternatives.{control_alone, control_got, over_alone, over_with}
-use Rattle.gms_expressions.proofs.Going.{went_then, went_by}
+use Rattle.gms_expressions.proofs.Extending.{went_then, went_by}
 use Rattle.gms_expressions.proofs.grammar.Grammar.control.Goals as goal
 
 pub nested-requires : goal.nested-requires

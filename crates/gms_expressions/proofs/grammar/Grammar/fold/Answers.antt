@@ -10,7 +10,7 @@ use Rattle.gms_expressions.proofs.Nexts.{gives_next, refuses_lacking, refuses_un
 use Rattle.gms_expressions.proofs.Nesting.{callable_inside, reads_inside, here_inside}
 use Rattle.gms_expressions.proofs.Closings.{next_inside}
 use Rattle.gms_expressions.proofs.Operands.{fold_got, at_inside, refused_inside}
-use Rattle.gms_expressions.proofs.Going.{went_then, went_by}
+use Rattle.gms_expressions.proofs.Extending.{went_then, went_by}
 use Rattle.gms_expressions.proofs.grammar.Grammar.fold.Goals as goal
 
 pub control-requires : goal.control-requires

@@ -15,7 +15,7 @@ use Rattle.gms_expressions.proofs.Guarding.{guards_begin, not_begun, some_begun}
 use Rattle.gms_ast.proofs.TreeEquations.{tree_of-Guard}
 use Rattle.gms_ast.specs.TreeView.{tree_of}
 use Rattle.gms_ast.specs.Numbers.{in_numbers}
-use Rattle.gms_expressions.proofs.Going.{went_by}
+use Rattle.gms_expressions.proofs.Extending.{went_by}
 use Rattle.gms_expressions.proofs.grammar.Grammar.guarded.Goals as goal
 
 pub returns-in_err-first : goal.returns-in_err-first

@@ -13,7 +13,7 @@ use Rattle.gms_expressions.proofs.Closings.{next_inside, closing_answer}
 use Rattle.gms_expressions.proofs.Operands.{at_inside, refused_inside}
 use Rattle.gms_expressions.proofs.Grows.{none_led, some_led}
 use Rattle.gms_expressions.proofs.Indexing.{no_indices, indices_start, indices_on, indices_got, indices_refuses, some_answer}
-use Rattle.gms_expressions.proofs.Going.{went_by}
+use Rattle.gms_expressions.proofs.Extending.{went_by}
 use Rattle.gms_expressions.proofs.grammar.Grammar.indices.Goals as goal
 
 pub index-requires : goal.index-requires

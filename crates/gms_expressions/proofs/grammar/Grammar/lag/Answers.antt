@@ -6,7 +6,7 @@ use Rattle.gms_expressions.proofs.Steps.{refuses_the, refuses_first, refuses_sec
 use Rattle.gms_expressions.proofs.Nexts.{gives_next, refuses_lacking}
 use Rattle.gms_expressions.proofs.Chains.{place_read}
 use Rattle.gms_expressions.proofs.Lagging.{lag_got}
-use Rattle.gms_expressions.proofs.Going.{went_by}
+use Rattle.gms_expressions.proofs.Extending.{went_by}
 use Rattle.gms_expressions.proofs.grammar.Grammar.lag.Goals as goal
 
 pub returns-in_err-operator : goal.returns-in_err-operator

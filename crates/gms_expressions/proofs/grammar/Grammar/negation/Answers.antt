@@ -4,7 +4,7 @@ use Rattle.gms_expressions.specs.ExpressionTrees.{negation}
 use Rattle.gms_expressions.proofs.Parts.{in_node}
 use Rattle.gms_expressions.proofs.Signs.{handed_on, negated_got, got_the}
 use Rattle.gms_expressions.proofs.Steps.{refuses_the, refuses_second, refuses_memory}
-use Rattle.gms_expressions.proofs.Going.{went_by}
+use Rattle.gms_expressions.proofs.Extending.{went_by}
 use Rattle.gms_expressions.proofs.grammar.Grammar.negation.Goals as goal
 
 pub returns-in_err-operand : goal.returns-in_err-operand

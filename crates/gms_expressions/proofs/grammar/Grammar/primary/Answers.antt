@@ -9,7 +9,7 @@ use Rattle.gms_expressions.proofs.Parts.{in_node, in_right}
 use Rattle.gms_expressions.proofs.Signs.{answered, got_the, got_left, got_right}
 use Rattle.gms_expressions.proofs.Steps.{refuses_at, refuses_the, refuses_left, refuses_right}
 use Rattle.gms_expressions.proofs.Leading.{leads_of, constant_leads, named_leads, IsNone, leads_of_none}
-use Rattle.gms_expressions.proofs.Going.{went_same}
+use Rattle.gms_expressions.proofs.Extending.{went_same}
 use Rattle.gms_expressions.proofs.grammar.Grammar.primary.Goals as goal
 
 pub returns-in-Number : goal.returns-in-Number

@@ -2,7 +2,7 @@ use Rattle.std.proofs.Common.{refl}
 use Rattle.gms_expressions.specs.ExpressionTrees.{signed_power}
 use Rattle.gms_expressions.proofs.Signs.{handed_on, signed_got}
 use Rattle.gms_expressions.proofs.Steps.{refuses_second, refuses_memory}
-use Rattle.gms_expressions.proofs.Going.{went_by}
+use Rattle.gms_expressions.proofs.Extending.{went_by}
 use Rattle.gms_expressions.proofs.grammar.Grammar.signed_power.Goals as goal
 
 pub returns-in_err-operand : goal.returns-in_err-operand

@@ -19,7 +19,7 @@ use Rattle.gms_expressions.proofs.Chains.{chain_alone, chain_start, chain_on, ch
 use Rattle.gms_grammar.specs.Terminals.{is}
 use Rattle.gms_expressions.specs.InnerReadings.{seen_from}
 use Rattle.gms_expressions.proofs.Grows.{some_led, none_led}
-use Rattle.gms_expressions.proofs.Going.{went_by}
+use Rattle.gms_expressions.proofs.Extending.{went_by}
 use Rattle.gms_expressions.proofs.grammar.Grammar.sum.Goals as goal
 
 pub returns-in_err-operand : goal.returns-in_err-operand

@@ -5,7 +5,7 @@ use Rattle.gms_expressions.proofs.Signs.{handed_on}
 use Rattle.gms_expressions.proofs.Steps.{refuses_the, refuses_first, refuses_memory}
 use Rattle.gms_expressions.proofs.Nexts.{falls}
 use Rattle.gms_expressions.proofs.Lists.{names_start, names_on, names_got, names_refuses}
-use Rattle.gms_expressions.proofs.Going.{went_by}
+use Rattle.gms_expressions.proofs.Extending.{went_by}
 use Rattle.gms_expressions.proofs.Loops.{loop_memory}
 use Rattle.gms_expressions.proofs.reader.Reader.names.Goals as goal
 

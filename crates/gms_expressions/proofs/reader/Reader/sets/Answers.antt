@@ -12,7 +12,7 @@ use Rattle.gms_expressions.proofs.Grows.{none_led, some_led}
 use Rattle.gms_expressions.proofs.Closings.{closing_answer}
 use Rattle.gms_expressions.proofs.Operands.{at_inside, refused_inside, sets_one}
 use Rattle.gms_expressions.proofs.Alternatives.{no_name, right_answer}
-use Rattle.gms_expressions.proofs.Going.{went_by}
+use Rattle.gms_expressions.proofs.Extending.{went_by}
 use Rattle.gms_expressions.proofs.reader.Reader.sets.Goals as goal
 
 pub returns-in_err-set : goal.returns-in_err-set

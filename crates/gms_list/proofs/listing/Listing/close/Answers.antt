@@ -1,5 +1,5 @@
 use Rattle.std.proofs.lemmas.List.{append_assoc}
-use Rattle.gms_list.proofs.Walks.{untouched, reshaped}
+use Rattle.gms_list.proofs.AppendedPieces.{untouched, reshaped}
 use Rattle.gms_list.proofs.listing.Listing.close.Goals as goal
 
 pub returns-in_err-line : goal.returns-in_err-line

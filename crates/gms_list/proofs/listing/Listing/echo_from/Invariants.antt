@@ -1,7 +1,7 @@
 use Rattle.std.proofs.Common.{◌≡◌, ◌+◌, ◌≤◌, map, length}
 use Rattle.gms_lines.specs.Lines.{lines, content}
 use Rattle.gms_list.specs.ListingText.{numbered_from, echo_text}
-use Rattle.gms_list.proofs.Walks.{Walked}
+use Rattle.gms_list.proofs.AppendedPieces.{Walked}
 use Rattle.gms_list.proofs.listing.Listing.echo_from.Given as goal
 
 abbrev pub invariant-loop-number : goal.invariant-loop-number

@@ -1,5 +1,5 @@
 use Rattle.std.proofs.Common.{arith, ap, flat_map, get_or}
-use Rattle.gms_list.proofs.Walks.{walk, loop_step, loop_broke, loop_done, map_same, same_at}
+use Rattle.gms_list.proofs.AppendedPieces.{walk, loop_step, loop_broke, loop_done, map_same, same_at}
 use Rattle.gms_list.specs.ListingText.{compile_error_text}
 use Rattle.gms_list.proofs.listing.Listing.errors.Goals as goal
 

@@ -1,5 +1,5 @@
 use Rattle.std.proofs.Common.{flat_map, map, drop}
-use Rattle.gms_list.proofs.Walks.{Walked}
+use Rattle.gms_list.proofs.AppendedPieces.{Walked}
 use Rattle.gms_list.specs.ListingText.{compile_error_text, compile_errors_text}
 use Rattle.gms_list.proofs.listing.Listing.errors.Given as goal
 

@@ -13,7 +13,7 @@ use Rattle.gms_event.specs.declared.event.Shown.{Shown}
 use Rattle.gms_event.specs.EventView.{event_in, shown_in}
 use Rattle.gms_list.specs.Conditions.{IsListable, IsListableSolve, HasProof}
 use Rattle.gms_list.specs.ListingText.{event_text, items_text, stop_text}
-use Rattle.gms_list.proofs.Walks.{reshaped}
+use Rattle.gms_list.proofs.AppendedPieces.{reshaped}
 use Rattle.gms_list.proofs.EventTexts.{solve_shown, solve_missing}
 use Rattle.gms_list.proofs.listing.Listing.event.Goals as goal
 

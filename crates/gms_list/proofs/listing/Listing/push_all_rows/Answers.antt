@@ -1,7 +1,7 @@
 use Rattle.std.proofs.Common.{arith, get_or, ap, flat_map}
 use Rattle.lp_core.specs.Numbers.{lp_numbers}
 use Rattle.gms_list.specs.InnerSolves.{solution_in}
-use Rattle.gms_list.proofs.Walks.{walk, loop_step, loop_broke, loop_done, map_same, same_at}
+use Rattle.gms_list.proofs.AppendedPieces.{walk, loop_step, loop_broke, loop_done, map_same, same_at}
 use Rattle.gms_list.specs.SolveText.{equation_points}
 use Rattle.gms_list.proofs.listing.Listing.push_all_rows.Goals as goal
 

@@ -1,6 +1,6 @@
 use Rattle.std.proofs.Common.{◌≡◌, ◌==◌, true, false, arith}
 use Rattle.std.proofs.lemmas.Bool.Decides.{nat_tests}
-use Rattle.gms_list.proofs.Walks.{reshaped, chosen, other}
+use Rattle.gms_list.proofs.AppendedPieces.{reshaped, chosen, other}
 use Rattle.gms_list.proofs.listing.Listing.push_behind_rows.Goals as goal
 
 pub returns-then-count-eq0 : goal.returns-then-count-eq0

@@ -1,6 +1,6 @@
 use Rattle.std.proofs.Common.{◌≡◌, ◌∙◌, ◌++◌, ap, sym, codes, if◌then◌else◌, true, false}
 use Rattle.gms_fmt.specs.Columns.{right_in}
-use Rattle.gms_list.proofs.Walks.{reshaped}
+use Rattle.gms_list.proofs.AppendedPieces.{reshaped}
 use Rattle.gms_list.proofs.Signs.{zero_told}
 use Rattle.gms_list.specs.SolveText.{amount, is_zero_amount}
 use Rattle.gms_list.proofs.listing.Listing.push_cell.Goals as goal

@@ -3,7 +3,7 @@ use Rattle.gq_number.specs.Number.{Number}
 use Rattle.lp_core.specs.Numbers.{lp_numbers, entries_numbers}
 use Rattle.gms_list.specs.Amounts.{line_of}
 use Rattle.gms_list.specs.SolveText.{amount, key_text}
-use Rattle.gms_list.proofs.Walks.{walk, loop_step, loop_broke, loop_done, filtered, where_kept}
+use Rattle.gms_list.proofs.AppendedPieces.{walk, loop_step, loop_broke, loop_done, filtered, where_kept}
 use Rattle.gms_list.proofs.listing.Listing.push_coefficients.Goals as goal
 
 pub loop-column-init : goal.loop-column-init

@@ -3,7 +3,7 @@ use Rattle.gq_number.specs.Number.{Number}
 use Rattle.lp_core.specs.Numbers.{lp_numbers, row_numbers, entries_numbers}
 use Rattle.gms_list.specs.Amounts.{line_of}
 use Rattle.gms_list.specs.SolveText.{amount, key_text, column_entry_line}
-use Rattle.gms_list.proofs.Walks.{Walked, where_kept}
+use Rattle.gms_list.proofs.AppendedPieces.{Walked, where_kept}
 use Rattle.gms_list.proofs.listing.Listing.push_coefficients.Given as goal
 
 abbrev pub invariant-loop-column : goal.invariant-loop-column

@@ -1,6 +1,6 @@
 use Rattle.std.proofs.Common.{arith, refl, ap, flat_map}
 use Rattle.std.specs.List.{enumerate_from}
-use Rattle.gms_list.proofs.Walks.{walk, placed, placed_step, placed_broke, placed_end}
+use Rattle.gms_list.proofs.AppendedPieces.{walk, placed, placed_step, placed_broke, placed_end}
 use Rattle.std.proofs.Common.{ℕ, map}
 use Rattle.gq_number.specs.Number.{Number}
 use Rattle.lp_core.specs.declared.program.Column.{Column}

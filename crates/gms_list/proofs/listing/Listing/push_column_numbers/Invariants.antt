@@ -1,5 +1,5 @@
 use Rattle.std.proofs.Common.{◌≡◌, flat_map}
-use Rattle.gms_list.proofs.Walks.{Walked, placed}
+use Rattle.gms_list.proofs.AppendedPieces.{Walked, placed}
 use Rattle.std.proofs.Common.{ℕ, map}
 use Rattle.gq_number.specs.Number.{Number}
 use Rattle.lp_core.specs.declared.program.Column.{Column}

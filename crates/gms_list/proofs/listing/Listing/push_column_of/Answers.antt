@@ -3,7 +3,7 @@ use Rattle.std.proofs.lemmas.Bool.Decides.{nat_tests}
 use Rattle.gms_fmt.proofs.Appending.{failed}
 use Rattle.lp_core.specs.Numbers.{lp_numbers, column_numbers}
 use Rattle.gms_list.specs.SolveText.{column_lines}
-use Rattle.gms_list.proofs.Walks.{passed, none_left, taken_in, left_passed, left_none, left_taken, reshaped}
+use Rattle.gms_list.proofs.AppendedPieces.{passed, none_left, taken_in, left_passed, left_none, left_taken, reshaped}
 use Rattle.gms_list.proofs.listing.Listing.push_column_of.Goals as goal
 
 pub returns-then-column-variable-clause-appended : goal.returns-then-column-variable-clause-appended

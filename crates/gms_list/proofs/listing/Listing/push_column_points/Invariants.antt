@@ -3,7 +3,7 @@ use Rattle.gq_number.specs.Number.{Number}
 use Rattle.lp_core.specs.declared.program.Column.{Column}
 use Rattle.lp_core.specs.Numbers.{lp_numbers, column_numbers}
 use Rattle.gms_list.specs.InnerSolves.{solution_in}
-use Rattle.gms_list.proofs.Walks.{Walked, placed}
+use Rattle.gms_list.proofs.AppendedPieces.{Walked, placed}
 use Rattle.gms_list.specs.SolveText.{column_point, columns_of_variable}
 use Rattle.gms_list.proofs.listing.Listing.push_column_points.Given as goal
 

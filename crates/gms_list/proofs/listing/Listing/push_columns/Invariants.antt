@@ -2,7 +2,7 @@ use Rattle.std.proofs.Common.{◌≡◌, ℕ, ◌==◌, flat_map, filter, take}
 use Rattle.gq_number.specs.Number.{Number}
 use Rattle.lp_core.specs.declared.program.Column.{Column}
 use Rattle.lp_core.specs.Numbers.{lp_numbers, column_numbers}
-use Rattle.gms_list.proofs.Walks.{Walked, placed}
+use Rattle.gms_list.proofs.AppendedPieces.{Walked, placed}
 use Rattle.gms_list.specs.SolveText.{column_lines, columns_of_variable}
 use Rattle.gms_list.proofs.listing.Listing.push_columns.Given as goal
 

@@ -1,5 +1,5 @@
 use Rattle.std.proofs.Common.{◌∙◌}
-use Rattle.gms_list.proofs.Walks.{untouched, reshaped}
+use Rattle.gms_list.proofs.AppendedPieces.{untouched, reshaped}
 use Rattle.gms_list.proofs.Shapes.{crossed_line}
 use Rattle.std.proofs.Common.{ap₂, ◌++◌, sym, List, ℕ}
 use Rattle.std.specs.Prelude.{option_to_list}

@@ -1,5 +1,5 @@
 use Rattle.std.proofs.Common.{◌∙◌, codes, map}
-use Rattle.gms_list.proofs.Walks.{untouched, reshaped}
+use Rattle.gms_list.proofs.AppendedPieces.{untouched, reshaped}
 use Rattle.gms_list.proofs.Shapes.{word_line}
 use Rattle.gms_list.proofs.BoundLines.{bound_shown, bound_not_shown}
 use Rattle.gms_list.proofs.listing.Listing.push_dual_bound.Goals as goal

@@ -3,7 +3,7 @@ use Rattle.gq_extended.specs.Meaning.{extended}
 use Rattle.gq_extended.specs.Extended.{Extended}
 use Rattle.gms_event.specs.EventView.{shown_in}
 use Rattle.gms_list.specs.ListingText.{entry_text, tuple_width, TupleValues}
-use Rattle.gms_list.proofs.Walks.{untouched, reshaped}
+use Rattle.gms_list.proofs.AppendedPieces.{untouched, reshaped}
 use Rattle.gms_list.proofs.listing.Listing.push_entries.Goals as goal
 
 lines_with : (labels : List (List ℕ)) (decimals width : ℕ) (seen entries : TupleValues) → seen ≡ entries → width ≡ tuple_width labels seen →

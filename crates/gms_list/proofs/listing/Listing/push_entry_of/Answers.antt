@@ -1,7 +1,7 @@
 use Rattle.std.proofs.Common.{◌≡◌, ◌==◌, ◌∙◌, ◌++◌, true, false, arith, ap, sym}
 use Rattle.std.proofs.lemmas.Bool.Decides.{nat_tests}
 use Rattle.std.proofs.lemmas.List.{append-nil}
-use Rattle.gms_list.proofs.Walks.{reshaped, chosen, other}
+use Rattle.gms_list.proofs.AppendedPieces.{reshaped, chosen, other}
 use Rattle.gms_list.proofs.listing.Listing.push_entry_of.Goals as goal
 
 pub returns-then-column-j : goal.returns-then-column-j

@@ -1,4 +1,4 @@
-use Rattle.gms_list.proofs.Walks.{walk, step, broke, last}
+use Rattle.gms_list.proofs.AppendedPieces.{walk, step, broke, last}
 use Rattle.std.proofs.Common.{◌∙◌, ◌++◌, ◌==◌, codes, ap, flat_map, take, if◌then◌else◌}
 use Rattle.lp_core.specs.Numbers.{lp_numbers}
 use Rattle.gms_fmt.specs.ElementTexts.{label_in_table}

@@ -9,7 +9,7 @@ use Rattle.gms_list.specs.InnerSolves.{solution_in}
 use Rattle.gms_list.specs.Amounts.{line_of}
 use Rattle.gms_list.specs.SolveText.{row_point, rows_of_equation, longest_element}
 use Rattle.gms_list.proofs.Counts.{rows_counted}
-use Rattle.gms_list.proofs.Walks.{walk, step, broke, last, untouched, chosen, other}
+use Rattle.gms_list.proofs.AppendedPieces.{walk, step, broke, last, untouched, chosen, other}
 use Rattle.gms_list.proofs.Shapes.{headed_line}
 use Rattle.gms_list.proofs.listing.Listing.push_equation_points.Goals as goal
 

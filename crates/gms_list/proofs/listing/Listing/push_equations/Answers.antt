@@ -2,7 +2,7 @@ use Rattle.std.proofs.Common.{◌≡◌, ◌==◌, ◌∙◌, ◌++◌, arith, g
 use Rattle.std.proofs.lemmas.Bool.Decides.{nat_tests}
 use Rattle.std.proofs.lemmas.List.{append-nil}
 use Rattle.lp_core.specs.Numbers.{lp_numbers}
-use Rattle.gms_list.proofs.Walks.{walk, loop_step, loop_broke, loop_done, untouched, reshaped, map_same, same_at}
+use Rattle.gms_list.proofs.AppendedPieces.{walk, loop_step, loop_broke, loop_done, untouched, reshaped, map_same, same_at}
 use Rattle.gms_list.specs.SolveText.{equation_text}
 use Rattle.gms_list.proofs.Listed.{no_rows, some_rows}
 use Rattle.gms_list.proofs.listing.Listing.push_equations.Goals as goal

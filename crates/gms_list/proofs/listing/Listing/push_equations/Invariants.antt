@@ -1,6 +1,6 @@
 use Rattle.std.proofs.Common.{◌≡◌, flat_map, map, drop}
 use Rattle.lp_core.specs.Numbers.{lp_numbers}
-use Rattle.gms_list.proofs.Walks.{Walked}
+use Rattle.gms_list.proofs.AppendedPieces.{Walked}
 use Rattle.gms_list.specs.SolveText.{equation_text}
 use Rattle.gms_list.proofs.listing.Listing.push_equations.Given as goal
 

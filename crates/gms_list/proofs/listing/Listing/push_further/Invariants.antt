@@ -1,5 +1,5 @@
 use Rattle.std.proofs.Common.{◌≡◌, flat_map, map, drop}
-use Rattle.gms_list.proofs.Walks.{Walked}
+use Rattle.gms_list.proofs.AppendedPieces.{Walked}
 use Rattle.std.proofs.Common.{ℕ, codes, ◌++◌}
 use Rattle.gms_list.specs.ListingText.{pair_text, further_pairs}
 use Rattle.gms_list.proofs.listing.Listing.push_further.Given as goal

@@ -3,7 +3,7 @@ use Rattle.std.specs.Prelude.{slice_get}
 use Rattle.std.proofs.lemmas.List.{append-nil}
 use Rattle.std.proofs.lemmas.Option.{slice_get_read, slice_get_past}
 use Rattle.lp_core.specs.Numbers.{lp_numbers}
-use Rattle.gms_list.proofs.Walks.{walk, step, broke, last, reshaped}
+use Rattle.gms_list.proofs.AppendedPieces.{walk, step, broke, last, reshaped}
 use Rattle.gms_list.proofs.ProofLines.{rows_are, crossed_is, crossed_nowhere}
 use Rattle.gms_list.proofs.listing.Listing.push_infeasible.Goals as goal
 

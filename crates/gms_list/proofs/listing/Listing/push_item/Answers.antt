@@ -1,4 +1,4 @@
-use Rattle.gms_list.proofs.Walks.{reshaped}
+use Rattle.gms_list.proofs.AppendedPieces.{reshaped}
 use Rattle.gms_list.proofs.Displayed.{text_is, symbol_is}
 use Rattle.gms_event.specs.EventView.{shown_in}
 use Rattle.gms_list.proofs.listing.Listing.push_item.Goals as goal

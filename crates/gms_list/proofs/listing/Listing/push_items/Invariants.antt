@@ -1,5 +1,5 @@
 use Rattle.std.proofs.Common.{◌≡◌, flat_map, map, drop}
-use Rattle.gms_list.proofs.Walks.{Walked}
+use Rattle.gms_list.proofs.AppendedPieces.{Walked}
 use Rattle.gms_event.specs.EventView.{shown_in}
 use Rattle.gms_list.specs.ListingText.{item_text, items_text}
 use Rattle.gms_list.proofs.listing.Listing.push_items.Given as goal

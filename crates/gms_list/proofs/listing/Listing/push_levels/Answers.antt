@@ -2,7 +2,7 @@ use Rattle.std.proofs.Common.{◌∙◌, ◌++◌, ap, sym, refl}
 use Rattle.std.proofs.lemmas.List.{append-nil}
 use Rattle.lp_core.specs.Numbers.{lp_numbers, end_numbers}
 use Rattle.gms_list.specs.SolveText.{solution_text, solution_of}
-use Rattle.gms_list.proofs.Walks.{reshaped}
+use Rattle.gms_list.proofs.AppendedPieces.{reshaped}
 use Rattle.gms_list.proofs.SolveLines.{levels_shown, levels_missing}
 use Rattle.gms_list.proofs.listing.Listing.push_levels.Goals as goal
 

@@ -1,6 +1,6 @@
 use Rattle.std.proofs.Common.{◌≡◌, ◌++◌, codes, decimal, ap, ◌∙◌}
 use Rattle.gms_fmt.specs.Columns.{right_in}
-use Rattle.gms_list.proofs.Walks.{walk, step, broke, last, untouched}
+use Rattle.gms_list.proofs.AppendedPieces.{walk, step, broke, last, untouched}
 use Rattle.gms_list.proofs.Echoes.{styled_decimal-right, numbered}
 use Rattle.gms_list.proofs.listing.Listing.push_line.Goals as goal
 

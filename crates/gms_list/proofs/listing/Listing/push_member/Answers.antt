@@ -1,5 +1,5 @@
 use Rattle.std.proofs.Common.{◌∙◌}
-use Rattle.gms_list.proofs.Walks.{untouched, reshaped}
+use Rattle.gms_list.proofs.AppendedPieces.{untouched, reshaped}
 use Rattle.gms_list.proofs.Shapes.{member_line}
 use Rattle.gms_list.proofs.listing.Listing.push_member.Goals as goal
 

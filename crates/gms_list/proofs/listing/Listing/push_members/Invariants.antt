@@ -1,5 +1,5 @@
 use Rattle.std.proofs.Common.{◌≡◌, flat_map, map, drop}
-use Rattle.gms_list.proofs.Walks.{Walked}
+use Rattle.gms_list.proofs.AppendedPieces.{Walked}
 use Rattle.gq_extended.specs.Meaning.{extended}
 use Rattle.gms_list.specs.ListingText.{member_text}
 use Rattle.gms_list.proofs.listing.Listing.push_members.Given as goal

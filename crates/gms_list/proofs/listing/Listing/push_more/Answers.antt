@@ -4,7 +4,7 @@ use Rattle.std.proofs.lemmas.Bool.Decides.{nat_tests}
 use Rattle.std.proofs.lemmas.List.{append-nil}
 use Rattle.gms_list.proofs.Listed.{not_more, more}
 use Rattle.gms_list.proofs.Shapes.{more_line}
-use Rattle.gms_list.proofs.Walks.{untouched, reshaped}
+use Rattle.gms_list.proofs.AppendedPieces.{untouched, reshaped}
 use Rattle.gms_list.proofs.listing.Listing.push_more.Goals as goal
 
 pub returns-then-count-most : goal.returns-then-count-most

@@ -1,6 +1,6 @@
 use Rattle.std.proofs.Common.{◌≡◌, ◌∙◌, ◌++◌, ap, sym, codes, [], List, ℕ, Bool, if◌then◌else◌, true, false}
 use Rattle.std.proofs.lemmas.List.{append-nil}
-use Rattle.gms_list.proofs.Walks.{untouched, reshaped}
+use Rattle.gms_list.proofs.AppendedPieces.{untouched, reshaped}
 use Rattle.gms_list.proofs.Shapes.{number_line}
 use Rattle.gms_list.proofs.Signs.{zero_told}
 use Rattle.gq_text.specs.ExactText.{exact_text}

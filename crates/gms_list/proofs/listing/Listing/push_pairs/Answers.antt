@@ -1,5 +1,5 @@
 use Rattle.std.proofs.Common.{arith}
-use Rattle.gms_list.proofs.Walks.{walk, broke}
+use Rattle.gms_list.proofs.AppendedPieces.{walk, broke}
 use Rattle.gms_list.proofs.Pairs.{pairs_first}
 use Rattle.gms_list.proofs.listing.Listing.push_pairs.Goals as goal
 

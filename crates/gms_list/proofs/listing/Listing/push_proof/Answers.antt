@@ -1,7 +1,7 @@
 use Rattle.std.proofs.Common.{◌∙◌, ◌≢◌, ap, sym, codes, map, refl, length, subst, true, false, None, List}
 use Rattle.lp_check.specs.BoundSteps.{objective_bound}
 use Rattle.gms_list.specs.Conditions.{HasProof}
-use Rattle.gms_list.proofs.Walks.{walk, step, broke, last, untouched}
+use Rattle.gms_list.proofs.AppendedPieces.{walk, step, broke, last, untouched}
 use Rattle.gms_list.proofs.ProofLines.{optimal_ends, infeasible_ends, unbounded_ends, interrupted_ends, refused_ends}
 use Rattle.gms_list.proofs.ProvedEnds.{optimal_duals, infeasible_duals}
 use Rattle.gms_list.proofs.listing.Listing.push_proof.Goals as goal

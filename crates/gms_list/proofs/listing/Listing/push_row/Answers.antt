@@ -1,4 +1,4 @@
-use Rattle.gms_list.proofs.Walks.{walk, step, broke, stop, last, untouched}
+use Rattle.gms_list.proofs.AppendedPieces.{walk, step, broke, stop, last, untouched}
 use Rattle.std.proofs.Common.{◌∙◌, ◌++◌, codes, decimal, ap, sym}
 use Rattle.lp_core.specs.Numbers.{lp_numbers, row_numbers, column_numbers, entries_numbers}
 use Rattle.gms_list.specs.SolveText.{terms_text}

@@ -3,7 +3,7 @@ use Rattle.std.proofs.lemmas.Bool.Decides.{nat_tests}
 use Rattle.gms_fmt.proofs.Appending.{failed}
 use Rattle.lp_core.specs.Numbers.{lp_numbers, row_numbers}
 use Rattle.gms_list.specs.SolveText.{row_text}
-use Rattle.gms_list.proofs.Walks.{passed, none_left, taken_in, left_passed, left_none, left_taken, reshaped}
+use Rattle.gms_list.proofs.AppendedPieces.{passed, none_left, taken_in, left_passed, left_none, left_taken, reshaped}
 use Rattle.gms_list.proofs.listing.Listing.push_row_of.Goals as goal
 
 pub returns-then-row-equation-clause-appended : goal.returns-then-row-equation-clause-appended

@@ -3,7 +3,7 @@ use Rattle.gq_number.specs.Number.{Number}
 use Rattle.lp_core.specs.declared.program.Row.{Row}
 use Rattle.lp_core.specs.Numbers.{lp_numbers, row_numbers}
 use Rattle.gms_list.specs.InnerSolves.{solution_in}
-use Rattle.gms_list.proofs.Walks.{walk, placed, kept_step, kept_broke, kept_end}
+use Rattle.gms_list.proofs.AppendedPieces.{walk, placed, kept_step, kept_broke, kept_end}
 use Rattle.gms_list.specs.SolveText.{row_point}
 use Rattle.gms_list.proofs.listing.Listing.push_row_points.Goals as goal
 

@@ -3,7 +3,7 @@ use Rattle.gq_number.specs.Number.{Number}
 use Rattle.lp_core.specs.declared.program.Row.{Row}
 use Rattle.lp_core.specs.Numbers.{lp_numbers, row_numbers}
 use Rattle.gms_list.specs.InnerSolves.{solution_in}
-use Rattle.gms_list.proofs.Walks.{Walked, placed}
+use Rattle.gms_list.proofs.AppendedPieces.{Walked, placed}
 use Rattle.gms_list.specs.SolveText.{row_point, rows_of_equation}
 use Rattle.gms_list.proofs.listing.Listing.push_row_points.Given as goal
 

@@ -2,7 +2,7 @@ use Rattle.std.proofs.Common.{arith, ap, ℕ, ◌==◌, flat_map, filter, take}
 use Rattle.gq_number.specs.Number.{Number}
 use Rattle.lp_core.specs.declared.program.Row.{Row}
 use Rattle.lp_core.specs.Numbers.{lp_numbers, row_numbers}
-use Rattle.gms_list.proofs.Walks.{walk, placed, taken_step, taken_broke, taken_end}
+use Rattle.gms_list.proofs.AppendedPieces.{walk, placed, taken_step, taken_broke, taken_end}
 use Rattle.gms_list.specs.SolveText.{row_text}
 use Rattle.gms_list.proofs.listing.Listing.push_rows.Goals as goal
 

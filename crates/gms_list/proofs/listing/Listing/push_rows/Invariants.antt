@@ -2,7 +2,7 @@ use Rattle.std.proofs.Common.{◌≡◌, ℕ, ◌==◌, flat_map, filter, take}
 use Rattle.gq_number.specs.Number.{Number}
 use Rattle.lp_core.specs.declared.program.Row.{Row}
 use Rattle.lp_core.specs.Numbers.{lp_numbers, row_numbers}
-use Rattle.gms_list.proofs.Walks.{Walked, placed}
+use Rattle.gms_list.proofs.AppendedPieces.{Walked, placed}
 use Rattle.gms_list.specs.SolveText.{row_text, rows_of_equation}
 use Rattle.gms_list.proofs.listing.Listing.push_rows.Given as goal
 

@@ -1,7 +1,7 @@
 use Rattle.std.proofs.Common.{ap}
 use Rattle.lp_core.specs.Numbers.{lp_numbers, end_numbers}
 use Rattle.gms_list.specs.SolveText.{proof_text}
-use Rattle.gms_list.proofs.Walks.{step, broke, last, reshaped}
+use Rattle.gms_list.proofs.AppendedPieces.{step, broke, last, reshaped}
 use Rattle.gms_list.proofs.SolveLines.{solve_begun}
 use Rattle.gms_list.proofs.listing.Listing.push_solve.Goals as goal
 

@@ -1,4 +1,4 @@
-use Rattle.gms_list.proofs.Walks.{walk, step, broke, stop, last, untouched}
+use Rattle.gms_list.proofs.AppendedPieces.{walk, step, broke, stop, last, untouched}
 use Rattle.std.proofs.Common.{◌∙◌, ◌++◌, codes, decimal, ap, sym}
 use Rattle.gms_list.specs.ListingText.{count_text, pairs_text}
 use Rattle.gms_list.proofs.Shapes.{stop_line}

@@ -1,6 +1,6 @@
 use Rattle.std.proofs.Common.{◌∙◌, ap, length, map, sum}
 use Rattle.lp_core.specs.declared.program.Row.{Row}
-use Rattle.gms_list.proofs.Walks.{walk, step, broke, last, untouched}
+use Rattle.gms_list.proofs.AppendedPieces.{walk, step, broke, last, untouched}
 use Rattle.gms_list.proofs.SolveLines.{summary_of}
 use Rattle.gms_list.proofs.listing.Listing.push_summary.Goals as goal
 

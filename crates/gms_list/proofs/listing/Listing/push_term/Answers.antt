@@ -1,5 +1,5 @@
 use Rattle.std.proofs.Common.{◌∙◌}
-use Rattle.gms_list.proofs.Walks.{untouched, reshaped}
+use Rattle.gms_list.proofs.AppendedPieces.{untouched, reshaped}
 use Rattle.gms_list.proofs.Shapes.{term}
 use Rattle.std.proofs.Common.{ap}
 use Rattle.gms_list.specs.SolveText.{amount}

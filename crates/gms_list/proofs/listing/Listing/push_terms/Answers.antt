@@ -1,7 +1,7 @@
 use Rattle.std.proofs.Common.{◌≡◌, ◌<◌, ◌∙◌, ◌++◌, ap, refl, arith, length}
 use Rattle.std.proofs.lemmas.Bool.Decides.{nat_tests}
 use Rattle.lp_core.specs.Numbers.{lp_numbers}
-use Rattle.gms_list.proofs.Walks.{walk, loop_step, loop_broke, loop_done, reshaped}
+use Rattle.gms_list.proofs.AppendedPieces.{walk, loop_step, loop_broke, loop_done, reshaped}
 use Rattle.gms_list.proofs.Terms.{no_terms, some_terms}
 use Rattle.gms_list.specs.SolveText.{term_text}
 use Rattle.gms_list.proofs.listing.Listing.push_terms.Goals as goal

@@ -1,6 +1,6 @@
 use Rattle.std.proofs.Common.{◌≡◌, flat_map, map, drop, ℕ}
 use Rattle.lp_core.specs.Numbers.{lp_numbers, entries_numbers}
-use Rattle.gms_list.proofs.Walks.{Walked}
+use Rattle.gms_list.proofs.AppendedPieces.{Walked}
 use Rattle.gms_list.specs.SolveText.{term_text, terms_text}
 use Rattle.gms_list.proofs.listing.Listing.push_terms.Given as goal
 

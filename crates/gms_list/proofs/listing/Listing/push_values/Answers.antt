@@ -1,5 +1,5 @@
 use Rattle.std.proofs.Common.{codes}
-use Rattle.gms_list.proofs.Walks.{walk, step, broke, last, reshaped}
+use Rattle.gms_list.proofs.AppendedPieces.{walk, step, broke, last, reshaped}
 use Rattle.gms_list.proofs.Displayed.{indexed_values, plain_values}
 use Rattle.gms_event.specs.EventView.{shown_in}
 use Rattle.gms_list.proofs.listing.Listing.push_values.Goals as goal

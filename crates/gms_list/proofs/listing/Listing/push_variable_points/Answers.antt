@@ -4,7 +4,7 @@ use Rattle.gms_fmt.specs.ElementTexts.{label_in_table}
 use Rattle.gms_list.specs.InnerSolves.{solution_in}
 use Rattle.gms_list.specs.Amounts.{line_of}
 use Rattle.gms_list.specs.SolveText.{column_point, columns_of_variable}
-use Rattle.gms_list.proofs.Walks.{walk, step, broke, last, untouched}
+use Rattle.gms_list.proofs.AppendedPieces.{walk, step, broke, last, untouched}
 use Rattle.gms_list.proofs.Shapes.{headed_line}
 use Rattle.gms_list.proofs.listing.Listing.push_variable_points.Goals as goal
 

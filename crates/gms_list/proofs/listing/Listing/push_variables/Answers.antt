@@ -6,7 +6,7 @@ use Rattle.gms_list.specs.InnerSolves.{solution_in}
 use Rattle.gms_list.specs.SolveText.{variable_text}
 use Rattle.gms_list.proofs.Counts.{variables_are}
 use Rattle.gms_list.proofs.Listed.{no_columns, some_columns}
-use Rattle.gms_list.proofs.Walks.{walk, loop_step, loop_broke, loop_done, map_same, same_at, untouched, reshaped}
+use Rattle.gms_list.proofs.AppendedPieces.{walk, loop_step, loop_broke, loop_done, map_same, same_at, untouched, reshaped}
 use Rattle.gms_list.proofs.listing.Listing.push_variables.Goals as goal
 
 pub returns-then-most-eq0 : goal.returns-then-most-eq0

@@ -1,5 +1,5 @@
 use Rattle.std.proofs.Common.{◌∙◌, codes, refl}
-use Rattle.gms_list.proofs.Walks.{untouched, reshaped}
+use Rattle.gms_list.proofs.AppendedPieces.{untouched, reshaped}
 use Rattle.gms_list.proofs.Shapes.{error_line}
 use Rattle.gms_list.proofs.listing.Listing.save_fault.Goals as goal
 

@@ -1,5 +1,5 @@
 use Rattle.std.proofs.Common.{◌∙◌}
-use Rattle.gms_list.proofs.Walks.{untouched, reshaped}
+use Rattle.gms_list.proofs.AppendedPieces.{untouched, reshaped}
 use Rattle.gms_list.proofs.Shapes.{error_line}
 use Rattle.std.proofs.Common.{codes}
 use Rattle.gms_list.proofs.listing.Listing.source_fault.Goals as goal

@@ -1,5 +1,5 @@
 use Rattle.std.proofs.Common.{length, ◌-◌, ◌+◌, ◌*◌}
-use Rattle.gms_parse.specs.Walks.{ReaderState}
+use Rattle.gms_parse.specs.ReadStates.{ReaderState}
 use Rattle.gms_parse.specs.InnerReadings.{Starts, Tableless}
 use Rattle.gms_parse.proofs.Looped.{Bodying}
 use Rattle.gms_parse.proofs.reader.Reader.+loops.Given as goal

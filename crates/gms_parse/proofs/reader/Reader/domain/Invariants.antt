@@ -3,7 +3,7 @@ use Rattle.gms_grammar.specs.Grammar.{the}
 use Rattle.gms_grammar.specs.GamsGrammar.{DomainPosition}
 use Rattle.gms_grammar.specs.Terminals.{is}
 use Rattle.gms_grammar.specs.declared.terminal.Terminal.TheVariants.{Comma}
-use Rattle.gms_parse.specs.Walks.{ReaderState}
+use Rattle.gms_parse.specs.ReadStates.{ReaderState}
 use Rattle.gms_parse.specs.InnerReadings.{Starts}
 use Rattle.gms_parse.specs.InnerMeanings.{IsPosition}
 use Rattle.gms_parse.proofs.Listing.{Listing}

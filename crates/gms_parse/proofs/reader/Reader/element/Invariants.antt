@@ -1,5 +1,5 @@
 use Rattle.std.proofs.Common.{ℕ, length, ◌-◌}
-use Rattle.gms_parse.specs.Walks.{ReaderState}
+use Rattle.gms_parse.specs.ReadStates.{ReaderState}
 use Rattle.gms_parse.specs.InnerReadings.{Has, Starless, Tableless}
 use Rattle.gms_parse.proofs.Items.{Positions}
 use Rattle.gms_parse.proofs.reader.Reader.element.Given as goal

@@ -2,7 +2,7 @@ use Rattle.std.proofs.Common.{ℕ, length, ◌-◌, [], ◌∷◌}
 use Rattle.gms_grammar.specs.GamsGrammar.{name}
 use Rattle.gms_grammar.specs.Terminals.{is_terminal_among}
 use Rattle.gms_grammar.specs.declared.terminal.Terminal.TheVariants.{Comma, Break}
-use Rattle.gms_parse.specs.Walks.{ReaderState}
+use Rattle.gms_parse.specs.ReadStates.{ReaderState}
 use Rattle.gms_parse.specs.InnerReadings.{Starts}
 use Rattle.gms_parse.specs.InnerMeanings.{IsNamed}
 use Rattle.gms_parse.proofs.Listing.{Listing}

@@ -1,5 +1,5 @@
 use Rattle.std.proofs.Common.{length, ◌-◌}
-use Rattle.gms_parse.specs.Walks.{ReaderState}
+use Rattle.gms_parse.specs.ReadStates.{ReaderState}
 use Rattle.gms_ast.specs.StatementView.{declared_in}
 use Rattle.gms_parse.specs.InnerReadings.{Starts, Tableless}
 use Rattle.gms_parse.specs.InnerMeanings.{item_meaning, items_part}

@@ -1,6 +1,6 @@
 use Rattle.std.proofs.Common.{length, ◌-◌}
 use Rattle.gms_grammar.specs.Grammar.{the}
-use Rattle.gms_parse.specs.Walks.{ReaderState}
+use Rattle.gms_parse.specs.ReadStates.{ReaderState}
 use Rattle.gms_parse.specs.InnerReadings.{Has, Starless, Tableless}
 use Rattle.gms_parse.specs.InnerMeanings.{IsListed, listed_part}
 use Rattle.gms_parse.proofs.Items.{separators}

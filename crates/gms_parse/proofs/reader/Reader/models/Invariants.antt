@@ -1,6 +1,6 @@
 use Rattle.std.proofs.Common.{ℕ, length, ◌-◌}
 use Rattle.gms_grammar.specs.GamsGrammar.{ModelItems}
-use Rattle.gms_parse.specs.Walks.{ReaderState}
+use Rattle.gms_parse.specs.ReadStates.{ReaderState}
 use Rattle.gms_parse.specs.InnerReadings.{Starts}
 use Rattle.gms_parse.proofs.Itemized.{Itemizing}
 use Rattle.gms_parse.proofs.Models.{model_meaning}

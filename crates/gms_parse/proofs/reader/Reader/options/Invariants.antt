@@ -4,7 +4,7 @@ use Rattle.gms_grammar.specs.GamsGrammar.{Setting}
 use Rattle.gms_grammar.specs.Terminals.{is}
 use Rattle.gms_grammar.specs.declared.terminal.Terminal.TheVariants.{Comma, Option}
 use Rattle.gms_parse.specs.declared.reader.Tables.{Tables}
-use Rattle.gms_parse.specs.Walks.{ReaderState}
+use Rattle.gms_parse.specs.ReadStates.{ReaderState}
 use Rattle.gms_parse.specs.InnerReadings.{Has}
 use Rattle.gms_parse.specs.InnerMeanings.{IsSetting}
 use Rattle.gms_parse.proofs.Listing.{Listing}

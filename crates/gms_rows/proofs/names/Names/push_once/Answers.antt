@@ -1,6 +1,6 @@
 use Rattle.std.proofs.Common.{◌∙◌, ap, sym, true, false}
 use Rattle.std.proofs.lemmas.List.{get_or_default}
-use Rattle.gms_rows.specs.InnerWalks.{with_once}
+use Rattle.gms_rows.specs.InnerContracts.{with_once}
 use Rattle.gms_rows.proofs.Noting.{once-marked}
 use Rattle.gms_rows.proofs.names.Names.push_once.Goals as goal
 

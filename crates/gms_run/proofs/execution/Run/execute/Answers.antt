@@ -6,10 +6,10 @@ use Rattle.gms_host.specs.Meaning.{Outside}
 use Rattle.gms_host.proofs.Counting.{writing_more}
 use Rattle.gms_command.specs.CommandLine.{asked_by}
 use Rattle.gms_run.specs.InnerReports.{script_in}
-use Rattle.gms_run.specs.Jobs.{job_of}
+use Rattle.gms_run.specs.ProgramsToRun.{job_of}
 use Rattle.gms_run.specs.Scripts.{scripted}
 use Rattle.gms_run.specs.Solving.{solver_views, solving}
-use Rattle.gms_run.proofs.Comings.{comes_as, comes_err, both_of, told_as, writing_err}
+use Rattle.gms_run.proofs.CallResults.{comes_as, comes_err, both_of, told_as, writing_err}
 use Rattle.gms_run.proofs.Executing.{breaks_echoed, breaks_first, ends_echoed, room_behind}
 use Rattle.gms_run.proofs.Reports.{follows_job, job_of_script, prepares_job, unwritten_job}
 use Rattle.gms_run.proofs.execution.Run.execute.Goals as goal

@@ -4,7 +4,7 @@ use Rattle.gms_eval.specs.Gives.{fault_of}
 use Rattle.gms_event.specs.Events.{stops}
 use Rattle.gms_event.specs.EventView.{events_in}
 use Rattle.lp_core.specs.Numbers.{answer_numbers}
-use Rattle.gms_exec.proofs.Behind.{behind_statement}
+use Rattle.gms_exec.proofs.EarlierEvents.{behind_statement}
 use Rattle.gms_exec.specs.Run.{of_statement}
 use Rattle.gms_list.specs.ListingText.{event_text, events_text}
 use Rattle.gms_run.specs.InnerRuns.{between}

@@ -5,7 +5,7 @@ use Rattle.gms_host.proofs.Counting.{writing_done, writing_more, writing_none}
 use Rattle.gms_run.specs.InnerRuns.{between, pending}
 use Rattle.gms_run.specs.InnerSteps.{CanExecute, work}
 use Rattle.gms_run.specs.Solving.{solver_views}
-use Rattle.gms_run.proofs.Comings.{comes_broken, writing_failed, writing_memory}
+use Rattle.gms_run.proofs.CallResults.{comes_broken, writing_failed, writing_memory}
 use Rattle.gms_run.proofs.Executing.{Executes, broke, came_done, came_stopped, come_more, come_start, executes_run, room_behind, same_many}
 use Rattle.gms_run.proofs.execution.Run.statements.Goals as goal
 

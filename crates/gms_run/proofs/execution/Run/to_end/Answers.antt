@@ -10,7 +10,7 @@ use Rattle.gms_range_lines.specs.Answered.{AreSomeAnswers}
 use Rattle.gms_command.specs.CommandLine.{asked_by}
 use Rattle.gms_run.specs.InnerReports.{IsRemarked}
 use Rattle.gms_run.specs.Solving.{solving}
-use Rattle.gms_run.proofs.Comings.{comes_err, writing_err, writing_memory}
+use Rattle.gms_run.proofs.CallResults.{comes_err, writing_err, writing_memory}
 use Rattle.gms_run.proofs.Reports.{ends_answered}
 use Rattle.gms_run.proofs.execution.Run.to_end.Goals as goal
 

@@ -3,8 +3,8 @@ use Rattle.std.proofs.lemmas.Result.{err_from_is_err_and}
 use Rattle.gms_host.specs.Spooling.{Passes, WritesFront}
 use Rattle.gms_host.proofs.Counting.{writing_more}
 use Rattle.gms_list.specs.ListingText.{end_text}
-use Rattle.gms_run.specs.Jobs.{status_code}
-use Rattle.gms_run.proofs.Comings.{comes_broken, comes_flushed, writing_memory}
+use Rattle.gms_run.specs.ProgramsToRun.{status_code}
+use Rattle.gms_run.proofs.CallResults.{comes_broken, comes_flushed, writing_memory}
 use Rattle.gms_run.proofs.outlet.Outlet.end.Goals as goal
 
 pub returns-in_err-close-clause-outside : goal.returns-in_err-close-clause-outside

@@ -1,7 +1,7 @@
 use Rattle.std.proofs.Common.{◌≡◌, ◌+◌, ◌<◌, length, Some, None, inl, inr, refl, sym, ap, ◌∙◌, subst, arith}
 use Rattle.std.specs.Prelude.{slice_get, Contains}
 use Rattle.lp_fraction_dict.specs.Tableau.{IsPlace}
-use Rattle.lp_integer_dict.specs.Room.{AreWhole}
+use Rattle.lp_integer_dict.specs.WithinBound.{AreWhole}
 use Rattle.lp_integer_dict.specs.Whole.{WholeTableau, IsWhole}
 use Rattle.lp_integer_rows.proofs.Plans.{get_within, index_get}
 use Rattle.lp_integer_dict.proofs.Wholes.{sign_plain, sign_off, entering_tells}

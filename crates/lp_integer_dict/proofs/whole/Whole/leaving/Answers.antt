@@ -1,5 +1,5 @@
 use Rattle.std.proofs.Common.{◌+◌, length, Some, None, sym, ap, ◌∙◌, subst, arith}
-use Rattle.lp_integer_dict.specs.Room.{AreWhole}
+use Rattle.lp_integer_dict.specs.WithinBound.{AreWhole}
 use Rattle.lp_integer_dict.specs.Whole.{WholeTableau, IsWhole, integer_dictionary}
 use Rattle.lp_integer_dict.proofs.Bounds.{every_ratio_fits}
 use Rattle.lp_integer_dict.proofs.Wholes.{kept_ratio, bounded}

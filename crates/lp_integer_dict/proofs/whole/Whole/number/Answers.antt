@@ -1,6 +1,6 @@
 use Rattle.std.proofs.Common.{◌+◌, ◌≤◌, nat_abs, length, sym, ap, ap₂, ◌∙◌, subst, arith}
 use Rattle.lp_integer_rows.specs.Form.{lines_number, numbers_above}
-use Rattle.lp_integer_dict.specs.Room.{AreWhole}
+use Rattle.lp_integer_dict.specs.WithinBound.{AreWhole}
 use Rattle.lp_integer_dict.specs.Whole.{WholeTableau}
 use Rattle.lp_integer_dict.proofs.Wholes.{row_number}
 use Rattle.lp_integer_dict.proofs.whole.Whole.number.Goals as goal

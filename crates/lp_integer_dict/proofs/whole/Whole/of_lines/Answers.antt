@@ -1,6 +1,6 @@
 use Rattle.std.proofs.Common.{ℕ, ◌+◌, ◌<◌, refl, subst, arith}
 use Rattle.lp_integer_rows.specs.Form.{AreBounded}
-use Rattle.lp_integer_dict.specs.Room.{IsSomeGreat}
+use Rattle.lp_integer_dict.specs.WithinBound.{IsSomeGreat}
 use Rattle.lp_integer_dict.proofs.whole.Whole.of_lines.Goals as goal
 
 pub invariant_of-whole : goal.invariant_of-whole

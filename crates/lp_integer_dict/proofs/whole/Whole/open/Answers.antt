@@ -3,7 +3,7 @@ use Rattle.std.specs.Prelude.{slice_get}
 use Rattle.lp_core.specs.Dictionary.{IsLegal, exchanged}
 use Rattle.lp_integer_dict.specs.Whole.{WholeTableau, integer_dictionary}
 use Rattle.lp_integer_rows.specs.Form.{AreLines}
-use Rattle.lp_integer_dict.specs.Room.{HasRoomFor, HasNoRoomFor}
+use Rattle.lp_integer_dict.specs.WithinBound.{HasRoomFor, HasNoRoomFor}
 use Rattle.lp_integer_dict.proofs.Crowding.{opens_some, after_open}
 use Rattle.lp_integer_dict.proofs.Pivoting.{tableau_after, k_in}
 use Rattle.lp_integer_rows.proofs.Plans.{some_at}

@@ -1,6 +1,6 @@
 use Rattle.std.proofs.Common.{◌≡◌, ◌+◌, inr, length, None, refl, sym, ap, ◌∙◌, subst, arith}
 use Rattle.lp_core.specs.Dictionary.{IsLegal, exchanged}
-use Rattle.lp_integer_dict.specs.Room.{LinesHaveNoRoom}
+use Rattle.lp_integer_dict.specs.WithinBound.{LinesHaveNoRoom}
 use Rattle.lp_integer_dict.specs.Whole.{WholeTableau, integer_dictionary, kept_place}
 use Rattle.lp_integer_dict.proofs.Crowding.{tableau_same, whole_same, dictionary_same}
 use Rattle.lp_integer_dict.proofs.Pivoting.{tableau_after, k_in, column_in, after_out, off_bounded, off_pivot_above, turned_are}

@@ -1,5 +1,0 @@
-use Rattle.lp_integer_dict.proofs.Rooms.{RoomBelow}
-use Rattle.lp_integer_dict.proofs.room.keeps_each.Given as goal
-
-abbrev pub invariant-loop-i : goal.invariant-loop-i
-invariant-loop-i l = RoomBelow l.i l.leaving l.pivot l.of_leaving l.u l.lines l.plans l.bound

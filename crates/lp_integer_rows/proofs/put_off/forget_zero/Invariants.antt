@@ -1,5 +1,0 @@
-use Rattle.lp_integer_rows.proofs.Putting.{AreForgottenTo}
-use Rattle.lp_integer_rows.proofs.put_off.forget_zero.Given as goal
-
-abbrev pub invariant-loop-i : goal.invariant-loop-i
-invariant-loop-i l = AreForgottenTo l.initial.lines.items l.lines.items l.i
