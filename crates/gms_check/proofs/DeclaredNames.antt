@@ -35,27 +35,27 @@ use Rattle.gms_check.proofs.Outlines.{base-drawn, drawn-given, outline}
 abbrev pub IsBare : Content → Type 0
 IsBare c = (is_undeclared c || is_free c) ≡ true
 
-behind-kind : (name : ℕ) (kind : DeclKind) → alias_target name (content_of kind) ≡ name
-behind-kind name declaring.Set = refl
-behind-kind name declaring.Parameter = refl
-behind-kind name declaring.Scalar = refl
-behind-kind name declaring.Table = refl
-behind-kind name declaring.Free = refl
-behind-kind name declaring.Positive = refl
-behind-kind name declaring.Negative = refl
-behind-kind name declaring.Discrete = refl
-behind-kind name declaring.Equation = refl
+following-kind : (name : ℕ) (kind : DeclKind) → alias_target name (content_of kind) ≡ name
+following-kind name declaring.Set = refl
+following-kind name declaring.Parameter = refl
+following-kind name declaring.Scalar = refl
+following-kind name declaring.Table = refl
+following-kind name declaring.Free = refl
+following-kind name declaring.Positive = refl
+following-kind name declaring.Negative = refl
+following-kind name declaring.Discrete = refl
+following-kind name declaring.Equation = refl
 
-behind-retyped : (name : ℕ) (entries : Entries Attributes) (kind : DeclKind) → alias_target name (retyped (variable_of type.Free entries) (content_of kind)) ≡ name
-behind-retyped name entries declaring.Set = refl
-behind-retyped name entries declaring.Parameter = refl
-behind-retyped name entries declaring.Scalar = refl
-behind-retyped name entries declaring.Table = refl
-behind-retyped name entries declaring.Free = refl
-behind-retyped name entries declaring.Positive = refl
-behind-retyped name entries declaring.Negative = refl
-behind-retyped name entries declaring.Discrete = refl
-behind-retyped name entries declaring.Equation = refl
+following-retyped : (name : ℕ) (entries : Entries Attributes) (kind : DeclKind) → alias_target name (retyped (variable_of type.Free entries) (content_of kind)) ≡ name
+following-retyped name entries declaring.Set = refl
+following-retyped name entries declaring.Parameter = refl
+following-retyped name entries declaring.Scalar = refl
+following-retyped name entries declaring.Table = refl
+following-retyped name entries declaring.Free = refl
+following-retyped name entries declaring.Positive = refl
+following-retyped name entries declaring.Negative = refl
+following-retyped name entries declaring.Discrete = refl
+following-retyped name entries declaring.Equation = refl
 
 -- the content of a name after a declaration of it
 abbrev content_again : DeclKind → Content → Content
@@ -68,26 +68,26 @@ content-declared kind domain s = by (is_undeclared s.content)
     by true = refl
     by false = refl
 
-behind-again : (name : ℕ) (kind : DeclKind) (c : Content) → IsBare c → alias_target name (content_again kind c) ≡ name
-behind-again name kind undeclared bare = behind-kind name kind
-behind-again name kind (alias_of base) bare = absurd cc
-behind-again name kind (set_of members) bare = absurd cc
-behind-again name kind (parameter_of entries) bare = absurd cc
-behind-again name kind (variable_of type.Free entries) bare = behind-retyped name entries kind
-behind-again name kind (variable_of type.Positive entries) bare = absurd cc
-behind-again name kind (variable_of type.Negative entries) bare = absurd cc
-behind-again name kind (variable_of type.Discrete entries) bare = absurd cc
-behind-again name kind (equation_of entries) bare = absurd cc
-behind-again name kind (model_with model solver) bare = absurd cc
+following-again : (name : ℕ) (kind : DeclKind) (c : Content) → IsBare c → alias_target name (content_again kind c) ≡ name
+following-again name kind undeclared bare = following-kind name kind
+following-again name kind (alias_of base) bare = absurd cc
+following-again name kind (set_of members) bare = absurd cc
+following-again name kind (parameter_of entries) bare = absurd cc
+following-again name kind (variable_of type.Free entries) bare = following-retyped name entries kind
+following-again name kind (variable_of type.Positive entries) bare = absurd cc
+following-again name kind (variable_of type.Negative entries) bare = absurd cc
+following-again name kind (variable_of type.Discrete entries) bare = absurd cc
+following-again name kind (equation_of entries) bare = absurd cc
+following-again name kind (model_with model solver) bare = absurd cc
 
-behind-bare : (name : ℕ) (c : Content) → IsBare c → alias_target name c ≡ name
-behind-bare name undeclared bare = refl
-behind-bare name (alias_of base) bare = absurd cc
-behind-bare name (set_of members) bare = refl
-behind-bare name (parameter_of entries) bare = refl
-behind-bare name (variable_of t entries) bare = refl
-behind-bare name (equation_of entries) bare = refl
-behind-bare name (model_with model solver) bare = refl
+following-bare : (name : ℕ) (c : Content) → IsBare c → alias_target name c ≡ name
+following-bare name undeclared bare = refl
+following-bare name (alias_of base) bare = absurd cc
+following-bare name (set_of members) bare = refl
+following-bare name (parameter_of entries) bare = refl
+following-bare name (variable_of t entries) bare = refl
+following-bare name (equation_of entries) bare = refl
+following-bare name (model_with model solver) bare = refl
 
 -- the name that is declared stands for itself
 own-declared : (kind : DeclKind) (domain : List (Option ℕ)) (state : State) (name : ℕ) → IsBare (symbol_at state name).content → base_of (declare kind domain state name) name ≡ name
@@ -97,10 +97,10 @@ own-declared kind domain state name bare = by (nat_lt name (length state.symbols
     by true within =
         ap (λ (s : Symbol). alias_target name s.content) (put-same state name (declared_again kind domain (symbol_at state name)) within)
         ∙ ap (alias_target name) (content-declared kind domain (symbol_at state name))
-        ∙ behind-again name kind (symbol_at state name).content bare
+        ∙ following-again name kind (symbol_at state name).content bare
     by false past =
         ap (λ (s : State). base_of s name) (put-past state name (declared_again kind domain (symbol_at state name)) past)
-        ∙ behind-bare name (symbol_at state name).content bare
+        ∙ following-bare name (symbol_at state name).content bare
 
 -- ---- data of a name
 

@@ -106,14 +106,14 @@ changed-still f state i still =
 abbrev empty_symbol : Symbol → Symbol
 empty_symbol x = with_content x (empty_content x.content)
 
-behind-empty : (n : ℕ) (content : Content) → alias_target n (empty_content content) ≡ alias_target n content
-behind-empty n undeclared = refl
-behind-empty n (alias_of base) = refl
-behind-empty n (set_of members) = refl
-behind-empty n (parameter_of entries) = refl
-behind-empty n (variable_of v entries) = refl
-behind-empty n (equation_of entries) = refl
-behind-empty n (model_with model solver) = refl
+following-empty : (n : ℕ) (content : Content) → alias_target n (empty_content content) ≡ alias_target n content
+following-empty n undeclared = refl
+following-empty n (alias_of base) = refl
+following-empty n (set_of members) = refl
+following-empty n (parameter_of entries) = refl
+following-empty n (variable_of v entries) = refl
+following-empty n (equation_of entries) = refl
+following-empty n (model_with model solver) = refl
 
 kind-empty : (content : Content) → kind_in (empty_content content) ≡ kind_in content
 kind-empty undeclared = refl
@@ -145,7 +145,7 @@ new-empty (model_with model solver) = refl
 module _ (state : State) (name : ℕ) where
   base-emptied : (n : ℕ) → base_of (with_no_data state name) n ≡ base_of state n
   base-emptied n =
-      read-kept (λ (x : Symbol). alias_target n x.content) state (base_of state name) (empty_symbol (symbol_at state (base_of state name))) (behind-empty n (symbol_at state (base_of state name)).content) n
+      read-kept (λ (x : Symbol). alias_target n x.content) state (base_of state name) (empty_symbol (symbol_at state (base_of state name))) (following-empty n (symbol_at state (base_of state name)).content) n
 
   kind-emptied : (n : ℕ) → declared_kind (with_no_data state name) n ≡ declared_kind state n
   kind-emptied n =
@@ -203,16 +203,16 @@ empty-new declaring.Negative = refl
 empty-new declaring.Discrete = refl
 empty-new declaring.Equation = refl
 
-behind-new : (n : ℕ) (kind : DeclKind) → alias_target n (content_of kind) ≡ n
-behind-new n declaring.Set = refl
-behind-new n declaring.Parameter = refl
-behind-new n declaring.Scalar = refl
-behind-new n declaring.Table = refl
-behind-new n declaring.Free = refl
-behind-new n declaring.Positive = refl
-behind-new n declaring.Negative = refl
-behind-new n declaring.Discrete = refl
-behind-new n declaring.Equation = refl
+following-new : (n : ℕ) (kind : DeclKind) → alias_target n (content_of kind) ≡ n
+following-new n declaring.Set = refl
+following-new n declaring.Parameter = refl
+following-new n declaring.Scalar = refl
+following-new n declaring.Table = refl
+following-new n declaring.Free = refl
+following-new n declaring.Positive = refl
+following-new n declaring.Negative = refl
+following-new n declaring.Discrete = refl
+following-new n declaring.Equation = refl
 
 empty-retyped : (entries : Entries Attributes) (kind : DeclKind) → empty_content (retyped (variable_of type.Free entries) (content_of kind)) ≡ retyped (variable_of type.Free entries) (content_of kind)
 empty-retyped entries declaring.Set = refl
@@ -225,16 +225,16 @@ empty-retyped entries declaring.Negative = refl
 empty-retyped entries declaring.Discrete = refl
 empty-retyped entries declaring.Equation = refl
 
-behind-retyped : (n : ℕ) (entries : Entries Attributes) (kind : DeclKind) → alias_target n (retyped (variable_of type.Free entries) (content_of kind)) ≡ n
-behind-retyped n entries declaring.Set = refl
-behind-retyped n entries declaring.Parameter = refl
-behind-retyped n entries declaring.Scalar = refl
-behind-retyped n entries declaring.Table = refl
-behind-retyped n entries declaring.Free = refl
-behind-retyped n entries declaring.Positive = refl
-behind-retyped n entries declaring.Negative = refl
-behind-retyped n entries declaring.Discrete = refl
-behind-retyped n entries declaring.Equation = refl
+following-retyped : (n : ℕ) (entries : Entries Attributes) (kind : DeclKind) → alias_target n (retyped (variable_of type.Free entries) (content_of kind)) ≡ n
+following-retyped n entries declaring.Set = refl
+following-retyped n entries declaring.Parameter = refl
+following-retyped n entries declaring.Scalar = refl
+following-retyped n entries declaring.Table = refl
+following-retyped n entries declaring.Free = refl
+following-retyped n entries declaring.Positive = refl
+following-retyped n entries declaring.Negative = refl
+following-retyped n entries declaring.Discrete = refl
+following-retyped n entries declaring.Equation = refl
 
 module _ (kind : DeclKind) (domain : List (Option ℕ)) where
   abbrev again : Symbol → Symbol
@@ -258,17 +258,17 @@ module _ (kind : DeclKind) (domain : List (Option ℕ)) where
       by (equation_of entries) = refl
       by (model_with model solver) = refl
 
-  behind-again : (n : ℕ) (x : Symbol) → alias_target n (again x).content ≡ alias_target n x.content
-  behind-again n x = by x.content
+  following-again : (n : ℕ) (x : Symbol) → alias_target n (again x).content ≡ alias_target n x.content
+  following-again n x = by x.content
     where
       typed : (t : VariableType) (entries : Entries Attributes) → alias_target n (again (with_content x (variable_of t entries))).content ≡ n
-      typed type.Free entries = behind-retyped n entries kind
+      typed type.Free entries = following-retyped n entries kind
       typed type.Positive entries = refl
       typed type.Negative entries = refl
       typed type.Discrete entries = refl
 
       by : (content : Content) → alias_target n (again (with_content x content)).content ≡ alias_target n content
-      by undeclared = behind-new n kind
+      by undeclared = following-new n kind
       by (alias_of base) = refl
       by (set_of members) = refl
       by (parameter_of entries) = refl
@@ -278,7 +278,7 @@ module _ (kind : DeclKind) (domain : List (Option ℕ)) where
 
   base-declared : (state : State) (name n : ℕ) → base_of (declare kind domain state name) n ≡ base_of state n
   base-declared state name n =
-      read-kept (λ (x : Symbol). alias_target n x.content) state name (again (symbol_at state name)) (behind-again n (symbol_at state name)) n
+      read-kept (λ (x : Symbol). alias_target n x.content) state name (again (symbol_at state name)) (following-again n (symbol_at state name)) n
 
   -- a name may be declared before or after the data of others are removed
   declared-emptied : (state : State) (m n : ℕ) → with_no_data (declare kind domain state m) n ≡ declare kind domain (with_no_data state n) m
@@ -332,14 +332,14 @@ module _ (t : List ℕ) where
   empty-membership (equation_of entries) on = refl
   empty-membership (model_with model solver) on = refl
 
-  behind-membership : (n : ℕ) (content : Content) (on : Bool) → alias_target n (with_membership content t on) ≡ alias_target n content
-  behind-membership n undeclared on = refl
-  behind-membership n (alias_of base) on = refl
-  behind-membership n (set_of members) on = refl
-  behind-membership n (parameter_of entries) on = refl
-  behind-membership n (variable_of v entries) on = refl
-  behind-membership n (equation_of entries) on = refl
-  behind-membership n (model_with model solver) on = refl
+  following-membership : (n : ℕ) (content : Content) (on : Bool) → alias_target n (with_membership content t on) ≡ alias_target n content
+  following-membership n undeclared on = refl
+  following-membership n (alias_of base) on = refl
+  following-membership n (set_of members) on = refl
+  following-membership n (parameter_of entries) on = refl
+  following-membership n (variable_of v entries) on = refl
+  following-membership n (equation_of entries) on = refl
+  following-membership n (model_with model solver) on = refl
 
   empty-value : (content : Content) (x : Extended) → empty_content (with_value content t x) ≡ empty_content content
   empty-value undeclared x = refl
@@ -350,14 +350,14 @@ module _ (t : List ℕ) where
   empty-value (equation_of entries) x = refl
   empty-value (model_with model solver) x = refl
 
-  behind-value : (n : ℕ) (content : Content) (x : Extended) → alias_target n (with_value content t x) ≡ alias_target n content
-  behind-value n undeclared x = refl
-  behind-value n (alias_of base) x = refl
-  behind-value n (set_of members) x = refl
-  behind-value n (parameter_of entries) x = refl
-  behind-value n (variable_of v entries) x = refl
-  behind-value n (equation_of entries) x = refl
-  behind-value n (model_with model solver) x = refl
+  following-value : (n : ℕ) (content : Content) (x : Extended) → alias_target n (with_value content t x) ≡ alias_target n content
+  following-value n undeclared x = refl
+  following-value n (alias_of base) x = refl
+  following-value n (set_of members) x = refl
+  following-value n (parameter_of entries) x = refl
+  following-value n (variable_of v entries) x = refl
+  following-value n (equation_of entries) x = refl
+  following-value n (model_with model solver) x = refl
 
   -- a change of a content, where the tuple fits
   abbrev fitting : (Content → Content) → Symbol → Symbol
@@ -379,9 +379,9 @@ module _ (t : List ℕ) where
 module _ {F : Type 0} (value : F → Number) where
   emptied-datum : (name : ℕ) (state : State) (datum : List ℕ × Option (Ext F)) → with_no_data (with_datum value name state datum) name ≡ with_no_data state name
   emptied-datum name state (t, None) =
-      emptied-fitting t (λ c. with_membership c t true) (λ c. empty-membership t c true) (λ n c. behind-membership t n c true) state name
+      emptied-fitting t (λ c. with_membership c t true) (λ c. empty-membership t c true) (λ n c. following-membership t n c true) state name
   emptied-datum name state (t, Some x) =
-      emptied-fitting t (λ c. with_value c t (extended value x)) (λ c. empty-value t c (extended value x)) (λ n c. behind-value t n c (extended value x)) state name
+      emptied-fitting t (λ c. with_value c t (extended value x)) (λ c. empty-value t c (extended value x)) (λ n c. following-value t n c (extended value x)) state name
 
   -- data that are given and taken out
   pub emptied-given : (name : ℕ) (state : State) (given : List (List ℕ × Option (Ext F))) → with_no_data (given_to value name state given) name ≡ with_no_data state name

@@ -209,5 +209,5 @@ module _ {X : Type 0} (test : X → Bool) where
       by false is rest = λ k d l. absurd (omega (arith, l))
 
 -- as many parts as there are positions
-pub counted : (due count : ℕ) → not (is_wrong_count due count) ≡ true → count ≡ due
-counted due count e = grind (arith, nat_tests)
+pub counted : (expected count : ℕ) → not (is_wrong_count expected count) ≡ true → count ≡ expected
+counted expected count e = grind (arith, nat_tests)

@@ -30,14 +30,14 @@ use Rattle.gms_check.proofs.Soundness.{neither-first, neither-second}
 has-joined : (xs ys : List (List ℕ)) (t : List ℕ) → has (xs ++ ys) t ≡ (has xs t || has ys t)
 has-joined xs ys t = list_any-append (λ member. same_tuple member t) xs ys
 
-repeat-behind : (xs ys : List (List ℕ)) → has_repeat (xs ++ ys) ≡ false → has_repeat ys ≡ false
-repeat-behind [] ys e = e
-repeat-behind (x ∷ xs) ys e = repeat-behind xs ys (neither-second (has (xs ++ ys) x) (has_repeat (xs ++ ys)) e)
+repeat-following : (xs ys : List (List ℕ)) → has_repeat (xs ++ ys) ≡ false → has_repeat ys ≡ false
+repeat-following [] ys e = e
+repeat-following (x ∷ xs) ys e = repeat-following xs ys (neither-second (has (xs ++ ys) x) (has_repeat (xs ++ ys)) e)
 
 -- what is among the first is not among the others
-apart-behind : (xs ys : List (List ℕ)) (t : List ℕ) → has_repeat (xs ++ ys) ≡ false → has xs t ≡ true → has ys t ≡ false
-apart-behind [] ys t e there = absurd cc
-apart-behind (x ∷ xs) ys t e there = by (same_tuple x t) refl (apart-behind xs ys t (neither-second (has (xs ++ ys) x) (has_repeat (xs ++ ys)) e)) there
+apart-following : (xs ys : List (List ℕ)) (t : List ℕ) → has_repeat (xs ++ ys) ≡ false → has xs t ≡ true → has ys t ≡ false
+apart-following [] ys t e there = absurd cc
+apart-following (x ∷ xs) ys t e there = by (same_tuple x t) refl (apart-following xs ys t (neither-second (has (xs ++ ys) x) (has_repeat (xs ++ ys)) e)) there
   where
     by : (b : Bool) → same_tuple x t ≡ b → (has xs t ≡ true → has ys t ≡ false) → (b || has xs t) ≡ true → has ys t ≡ false
     by true same later h =
@@ -98,9 +98,9 @@ module _ {F Y : Type 0} (takes : Option (Ext F) → Y → Y) where
       where
         by : (a b : Bool) → has (tuples_of ds) t ≡ a → has ts t ≡ b → after_data (a || b) (ds ++ expansion.tuples_with_value x ts) datum ≡ after_data a ds (if b then Some x else datum)
         by true b there second =
-            reads-joined old ds (expansion.tuples_with_value x ts) t ∙ reads-none (reads old ds t) (expansion.tuples_with_value x ts) t (ap (λ us. has us t) (tuples-of_value x ts) ∙ apart-behind (tuples_of ds) ts t once there)
+            reads-joined old ds (expansion.tuples_with_value x ts) t ∙ reads-none (reads old ds t) (expansion.tuples_with_value x ts) t (ap (λ us. has us t) (tuples-of_value x ts) ∙ apart-following (tuples_of ds) ts t once there)
         by false true none there =
-            reads-joined old ds (expansion.tuples_with_value x ts) t ∙ ap (λ y. reads y (expansion.tuples_with_value x ts) t) (reads-none old ds t none) ∙ reads-once old x ts t (repeat-behind (tuples_of ds) ts once) there
+            reads-joined old ds (expansion.tuples_with_value x ts) t ∙ ap (λ y. reads y (expansion.tuples_with_value x ts) t) (reads-none old ds t none) ∙ reads-once old x ts t (repeat-following (tuples_of ds) ts once) there
         by false false none second = refl
 
 -- ---- how long the tuples are

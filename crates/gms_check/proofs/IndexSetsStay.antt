@@ -15,7 +15,7 @@ use Rattle.gms_tuple.proofs.Ordered.{ordered-nil}
 use Rattle.gms_store.specs.State.{State, Content, undeclared, alias_of, set_of, parameter_of, variable_of, equation_of, model_with, Symbol, no_symbol, symbol_at, base_of, symbol_of, members_in, members_of}
 use Rattle.gms_store.specs.Declarations.{is_set, is_undeclared, blank_state, kind_in}
 use Rattle.gms_scope.specs.Names.{is_set_name, has_one_position, is_index_set, declared_kind}
-use Rattle.gms_check.specs.Checked.{StandsAfter}
+use Rattle.gms_check.specs.Checked.{FollowsIn}
 use Rattle.gms_check.specs.Kinds.{is_variable_kind}
 use Rattle.gms_check.specs.Loaded.{sound, loaded}
 use Rattle.gms_check.specs.Names.{is_variable}
@@ -106,19 +106,19 @@ module _ {F : Type 0} (value : F → Number) (program : Program F) where
       let blank = blank_state (length program.names) in
       (grows-past value (sound before) blank n (blank-fits (length program.names) n)).0
 
-  grows-on : (before : List (Stmt F)) (statement : Stmt F) → StandsAfter program before statement → Grows (before_state before) (loaded value program)
+  grows-on : (before : List (Stmt F)) (statement : Stmt F) → FollowsIn program before statement → Grows (before_state before) (loaded value program)
   grows-on before statement stands =
       let rest : List (Stmt F) = statement ∷ stands.0 in
       let blank = blank_state (length program.names) in
       subst (Grows (before_state before)) (sym (ap (λ (all : List (Stmt F)). fold (after_statement value) blank (sound all)) stands.1 ∙ ap (fold (after_statement value) blank) (map-append (λ statement. (statement, true)) before rest) ∙ fold-append (after_statement value) blank (sound before) (sound rest))) (grows-past value (sound rest) (before_state before))
 
   -- an index set before a statement is one when the program begins
-  pub index-set-loaded : (before : List (Stmt F)) (statement : Stmt F) → StandsAfter program before statement → (set : ℕ) → is_index_set (before_state before) set ≡ true → IsOverOne (loaded value program) set
+  pub index-set-loaded : (before : List (Stmt F)) (statement : Stmt F) → FollowsIn program before statement → (set : ℕ) → is_index_set (before_state before) set ≡ true → IsOverOne (loaded value program) set
   index-set-loaded before statement stands set is =
       stays-one (before_state before) (loaded value program) (fits-before before) (grows-on before statement stands) set is
 
   -- a name that is declared before a statement comes after itself when the program begins
-  after-itself : (before : List (Stmt F)) (statement : Stmt F) → StandsAfter program before statement → (name : ℕ) → is_undeclared (symbol_at (before_state before) name).content ≡ false → IsAfter (symbol_at (before_state before) name) (symbol_at (loaded value program) name)
+  after-itself : (before : List (Stmt F)) (statement : Stmt F) → FollowsIn program before statement → (name : ℕ) → is_undeclared (symbol_at (before_state before) name).content ≡ false → IsAfter (symbol_at (before_state before) name) (symbol_at (loaded value program) name)
   after-itself before statement stands name declared =
       by (grows-on before statement stands name (fits-before before name)).1
     where
@@ -127,14 +127,14 @@ module _ {F : Type 0} (value : F → Number) (program : Program F) where
       by (inr after) = after
 
   -- so it is of the same kind then, over the same domain
-  pub kind-loaded : (before : List (Stmt F)) (statement : Stmt F) → StandsAfter program before statement → (name : ℕ) → is_undeclared (symbol_at (before_state before) name).content ≡ false → declared_kind (loaded value program) name ≡ declared_kind (before_state before) name
+  pub kind-loaded : (before : List (Stmt F)) (statement : Stmt F) → FollowsIn program before statement → (name : ℕ) → is_undeclared (symbol_at (before_state before) name).content ≡ false → declared_kind (loaded value program) name ≡ declared_kind (before_state before) name
   kind-loaded before statement stands name declared = (after-itself before statement stands name declared).same_kind
 
-  pub domain-loaded : (before : List (Stmt F)) (statement : Stmt F) → StandsAfter program before statement → (name : ℕ) → is_undeclared (symbol_at (before_state before) name).content ≡ false → (symbol_at (loaded value program) name).domain ≡ (symbol_at (before_state before) name).domain
+  pub domain-loaded : (before : List (Stmt F)) (statement : Stmt F) → FollowsIn program before statement → (name : ℕ) → is_undeclared (symbol_at (before_state before) name).content ≡ false → (symbol_at (loaded value program) name).domain ≡ (symbol_at (before_state before) name).domain
   domain-loaded before statement stands name declared = (after-itself before statement stands name declared).domain
 
   -- and it is a variable exactly where it is one when the program begins
-  pub variable-loaded : (before : List (Stmt F)) (statement : Stmt F) → StandsAfter program before statement → (name : ℕ) → is_undeclared (symbol_at (before_state before) name).content ≡ false → is_variable (symbol_at (loaded value program) name).content ≡ is_variable (symbol_at (before_state before) name).content
+  pub variable-loaded : (before : List (Stmt F)) (statement : Stmt F) → FollowsIn program before statement → (name : ℕ) → is_undeclared (symbol_at (before_state before) name).content ≡ false → is_variable (symbol_at (loaded value program) name).content ≡ is_variable (symbol_at (before_state before) name).content
   variable-loaded before statement stands name declared =
       by-kind (symbol_at (loaded value program) name).content
       ∙ ap is_variable_kind (kind-loaded before statement stands name declared)

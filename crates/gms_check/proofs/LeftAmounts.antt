@@ -21,10 +21,10 @@ use Rattle.gms_store.specs.State.{Content, undeclared, alias_of, set_of, paramet
 use Rattle.gms_store.specs.Declarations.{kind_in}
 use Rattle.gms_scope.specs.Names.{is_index_set, declared_kind, positions}
 use Rattle.gms_check.specs.declared.error.ErrorKind.TheVariants.{Endogenous, WrongKind}
-use Rattle.gms_check.specs.Checked.{StandsAfter}
+use Rattle.gms_check.specs.Checked.{FollowsIn}
 use Rattle.gms_check.specs.CompileErrors.{compile_errors, errors_after, known_after}
-use Rattle.gms_check.specs.Kinds.{has_wrong_set, has_no_indices, is_left_amount, is_variable_kind, is_without_positions, may_shift}
-use Rattle.gms_check.specs.LeftSides.{AreLeftIndices, StandsIn, is_fixed_amount}
+use Rattle.gms_check.specs.Kinds.{has_wrong_set, has_no_indices, is_target_amount, is_variable_kind, is_without_positions, may_shift}
+use Rattle.gms_check.specs.LeftSides.{AreTargetIndices, IsNestedIn, is_fixed_amount}
 use Rattle.gms_check.specs.Linearity.{is_variable_by}
 use Rattle.gms_check.specs.Loaded.{sound}
 use Rattle.gms_check.specs.Names.{is_variable}
@@ -61,7 +61,7 @@ module _ {F : Type 0} (known : Known F) where
   scalar-bare kind.Variable alone bare e plain = absurd cc
   scalar-bare k alone bare e plain = absurd cc
 
-  amount-fixed : (at : Place) (controlled : List ℕ) (amount : tree.Tree F) → is_left_amount known amount ≡ true → AreClean known (uses as_number at controlled amount) → is_fixed_amount amount ≡ true
+  amount-fixed : (at : Place) (controlled : List ℕ) (amount : tree.Tree F) → is_target_amount known amount ≡ true → AreClean known (uses as_number at controlled amount) → is_fixed_amount amount ≡ true
   amount-fixed at controlled (tree.number n) e clean = refl
   amount-fixed at controlled (tree.reference place name suffix.None indices) e clean =
       ap (λ i. is_fixed_amount (tree.reference place name suffix.None i)) (bare-index indices (scalar-bare (declared_kind known.state name) (is_without_positions (positions known.state name)) (has_no_indices indices) e (plain (clean.0 Endogenous))))
@@ -70,18 +70,18 @@ module _ {F : Type 0} (known : Known F) where
       plain e = no-variable (symbol_at known.state name).content e
   amount-fixed at controlled amount e clean = absurd cc
 
-  left-indices : (controlled : List ℕ) (indices : tree.Indices F) → has_wrong_set known (index_sets indices) ≡ false → AreClean known (shift_uses controlled indices) → AreLeftIndices known.state indices
+  left-indices : (controlled : List ℕ) (indices : tree.Indices F) → has_wrong_set known (index_sets indices) ≡ false → AreClean known (shift_uses controlled indices) → AreTargetIndices known.state indices
   left-indices controlled tree.no_index sets clean = tt
   left-indices controlled (tree.label n rest) sets clean = left-indices controlled rest sets clean
   left-indices controlled (tree.set name rest) sets clean =
       (not-false (is_index_set known.state name) (neither-first (not (is_index_set known.state name)) (has_wrong_set known (index_sets rest)) sets), left-indices controlled rest (neither-second (not (is_index_set known.state name)) (has_wrong_set known (index_sets rest)) sets) clean)
   left-indices controlled (tree.lagged name op at amount rest) sets clean = (
     not-false (is_index_set known.state name) (neither-first (not (is_index_set known.state name)) (has_wrong_set known (index_sets rest)) sets),
-    (amount-fixed at controlled amount (not-false (is_left_amount known amount) (clean.0 WrongKind)) (clean-left known (uses as_number at controlled amount) (shift_uses controlled rest) clean.1), left-indices controlled rest (neither-second (not (is_index_set known.state name)) (has_wrong_set known (index_sets rest)) sets) (clean-right known (uses as_number at controlled amount) (shift_uses controlled rest) clean.1)),
+    (amount-fixed at controlled amount (not-false (is_target_amount known amount) (clean.0 WrongKind)) (clean-left known (uses as_number at controlled amount) (shift_uses controlled rest) clean.1), left-indices controlled rest (neither-second (not (is_index_set known.state name)) (has_wrong_set known (index_sets rest)) sets) (clean-right known (uses as_number at controlled amount) (shift_uses controlled rest) clean.1)),
   )
 
   -- the left side of an assignment without errors
-  assigned-left : (statement : Stmt F) (controlled : List ℕ) (target : Target F) (condition : Option (Expr F)) (right_at : Place) (right : Expr F) → statement.act ≡ Assign target condition right_at (Value right) → AreClean known (statement_uses statement known.state controlled) → AreLeftIndices known.state (index_list target.indices)
+  assigned-left : (statement : Stmt F) (controlled : List ℕ) (target : Target F) (condition : Option (Expr F)) (right_at : Place) (right : Expr F) → statement.act ≡ Assign target condition right_at (Value right) → AreClean known (statement_uses statement known.state controlled) → AreTargetIndices known.state (index_list target.indices)
   assigned-left statement controlled target condition right_at right is clean =
       let inside = with_left controlled target.indices in
       let whole = subst (AreClean known) (uses-act statement known.state controlled ∙ ap (λ (act : Act F). act_uses act known.state statement.at controlled) is ∙ uses-Assign known.state statement.at controlled target condition right_at right) clean in
@@ -97,7 +97,7 @@ module _ {F : Type 0} (known : Known F) where
 
   -- a statement in the loops of another one uses what has no error, with the sets of the loops
   -- controlled
-  inner-clean : (depth : ℕ) (outer inner : Stmt F) (controlled : List ℕ) → StandsIn depth inner outer → AreClean known (statement_uses outer known.state controlled) → (sets : List ℕ) × AreClean known (statement_uses inner known.state sets)
+  inner-clean : (depth : ℕ) (outer inner : Stmt F) (controlled : List ℕ) → IsNestedIn depth inner outer → AreClean known (statement_uses outer known.state controlled) → (sets : List ℕ) × AreClean known (statement_uses inner known.state sets)
   inner-clean zero outer inner controlled same clean = (controlled, subst (λ (s : Stmt F). AreClean known (statement_uses s known.state controlled)) same clean)
   inner-clean (suc depth) outer inner controlled inside clean =
       let sets = controlled ++ sets_of_control (control_tree inside.control) in
@@ -106,12 +106,12 @@ module _ {F : Type 0} (known : Known F) where
       inner-clean depth inside.next inner sets inside.holds (clean-one_of sets inside.before inside.rest inside.next (subst (λ (statements : List (Stmt F)). AreClean known (flat_map (λ (s : Stmt F). statement_uses s known.state sets) statements)) inside.stands body))
 
 module _ {F : Type 0} (value : F → Number) where
-  pub program-inner : (program : Program F) (solvers : List (List ℕ)) (before : List (Stmt F)) (outer inner : Stmt F) (depth : ℕ) → compile_errors value program solvers ≡ [] → StandsAfter program before outer → StandsIn depth inner outer → (sets : List ℕ) × AreClean (known_after value program solvers (sound before)) (statement_uses inner (known_after value program solvers (sound before)).state sets)
+  pub program-inner : (program : Program F) (solvers : List (List ℕ)) (before : List (Stmt F)) (outer inner : Stmt F) (depth : ℕ) → compile_errors value program solvers ≡ [] → FollowsIn program before outer → IsNestedIn depth inner outer → (sets : List ℕ) × AreClean (known_after value program solvers (sound before)) (statement_uses inner (known_after value program solvers (sound before)).state sets)
   program-inner program solvers before outer inner depth none stands inside =
       let known = known_after value program solvers (sound before) in
       inner-clean known depth outer inner [] inside (statement-clean known outer (after-sound value program solvers before [] outer stands.0 (sym (ap (errors_after value program solvers []) stands.1) ∙ none)))
 
-  pub program-left : (program : Program F) (solvers : List (List ℕ)) (before : List (Stmt F)) (outer inner : Stmt F) (depth : ℕ) (target : Target F) (condition : Option (Expr F)) (right_at : Place) (right : Expr F) → compile_errors value program solvers ≡ [] → StandsAfter program before outer → StandsIn depth inner outer → inner.act ≡ Assign target condition right_at (Value right) → AreLeftIndices (known_after value program solvers (sound before)).state (index_list target.indices)
+  pub program-left : (program : Program F) (solvers : List (List ℕ)) (before : List (Stmt F)) (outer inner : Stmt F) (depth : ℕ) (target : Target F) (condition : Option (Expr F)) (right_at : Place) (right : Expr F) → compile_errors value program solvers ≡ [] → FollowsIn program before outer → IsNestedIn depth inner outer → inner.act ≡ Assign target condition right_at (Value right) → AreTargetIndices (known_after value program solvers (sound before)).state (index_list target.indices)
   program-left program solvers before outer inner depth target condition right_at right none stands inside is =
       let one = program-inner program solvers before outer inner depth none stands inside in
       assigned-left (known_after value program solvers (sound before)) inner one.0 target condition right_at right is one.1

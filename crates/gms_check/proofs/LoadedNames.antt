@@ -29,7 +29,7 @@ use Rattle.gms_store.specs.State as state_words
 use Rattle.gms_store.specs.Declarations.{alias_symbol, blank_state, can_join, content_of, declare, declare_alias, declare_model, declare_models, declared_again, is_free, is_undeclared, model_symbol, names_of, positions_of, put_at, symbol_of_kind}
 use Rattle.gms_set.specs.Expansion.{ExpandedData, expanded}
 use Rattle.gms_scope.specs.Names.{has_no_declaration}
-use Rattle.gms_check.specs.Checked.{StandsAfter}
+use Rattle.gms_check.specs.Checked.{FollowsIn}
 use Rattle.gms_check.specs.CompileErrors.{act_errors, declaration_errors, errors_after, errors_of, known_after, known_after_item, known_in, is_faultless, statement_error}
 use Rattle.gms_check.specs.declared.error.CompileError.{CompileError}
 use Rattle.gms_check.specs.DeclarationUses.{item_uses, kind_uses}
@@ -50,10 +50,10 @@ use Rattle.gms_check.proofs.Soundness.{after-sound, neither-first, neither-secon
 -- a declaration without errors: its first names have none, and later names have none after these
 module _ {F : Type 0} (kind : DeclKind) where
   -- what is known after names that have no error
-  abbrev known_behind : Known F → List (Decl F) → Known F
-  known_behind known items = known_in known (fold (with_item known.value kind) known.state items)
+  abbrev known_later : Known F → List (Decl F) → Known F
+  known_later known items = known_in known (fold (with_item known.value kind) known.state items)
 
-  next-known : (known : Known F) (item : Decl F) (items : List (Decl F)) → declaration_errors known kind (item ∷ items) ≡ [] → AreClean known (item_uses known kind item) × (declaration_errors (known_behind known (item ∷ [])) kind items ≡ [])
+  next-known : (known : Known F) (item : Decl F) (items : List (Decl F)) → declaration_errors known kind (item ∷ items) ≡ [] → AreClean known (item_uses known kind item) × (declaration_errors (known_later known (item ∷ [])) kind items ≡ [])
   next-known known item items e =
       let errors = errors_of known (item_uses known kind item) in
       let none : errors ≡ [] = none-left errors (declaration_errors (known_after_item known kind item) kind items) e in
@@ -61,22 +61,22 @@ module _ {F : Type 0} (kind : DeclKind) where
       (are-clean known (item_uses known kind item) none, sym (ap (λ (k : Known F). declaration_errors k kind items) next) ∙ none-right errors (declaration_errors (known_after_item known kind item) kind items) e)
 
   -- the names after some
-  behind-items : (known : Known F) (first rest : List (Decl F)) → declaration_errors known kind (first ++ rest) ≡ [] → declaration_errors (known_behind known first) kind rest ≡ []
-  behind-items known [] rest e = e
-  behind-items known (item ∷ first) rest e =
-      behind-items (known_behind known (item ∷ [])) first rest (next-known known item (first ++ rest) e).1
+  following-items : (known : Known F) (first rest : List (Decl F)) → declaration_errors known kind (first ++ rest) ≡ [] → declaration_errors (known_later known first) kind rest ≡ []
+  following-items known [] rest e = e
+  following-items known (item ∷ first) rest e =
+      following-items (known_later known (item ∷ [])) first rest (next-known known item (first ++ rest) e).1
 
-  size-front : (known : Known F) (first rest : List (Decl F)) → declaration_errors known kind (first ++ rest) ≡ [] → length (fold (with_item known.value kind) known.state first).symbols ≡ length known.state.symbols
-  size-front known [] rest e = refl
-  size-front known (item ∷ first) rest e =
+  size-prefix : (known : Known F) (first rest : List (Decl F)) → declaration_errors known kind (first ++ rest) ≡ [] → length (fold (with_item known.value kind) known.state first).symbols ≡ length known.state.symbols
+  size-prefix known [] rest e = refl
+  size-prefix known (item ∷ first) rest e =
       let next = next-known known item (first ++ rest) e in
-      size-front (known_behind known (item ∷ [])) first rest next.1 ∙ item-size known kind item next.0
+      size-prefix (known_later known (item ∷ [])) first rest next.1 ∙ item-size known kind item next.0
 
   size-items : (known : Known F) (items : List (Decl F)) → declaration_errors known kind items ≡ [] → length (fold (with_item known.value kind) known.state items).symbols ≡ length known.state.symbols
   size-items known [] e = refl
   size-items known (item ∷ items) e =
       let next = next-known known item items e in
-      size-items (known_behind known (item ∷ [])) items next.1 ∙ item-size known kind item next.0
+      size-items (known_later known (item ∷ [])) items next.1 ∙ item-size known kind item next.0
 
 -- the names of a declaration, of a statement without an error
 declaration-clean : {F : Type 0} (known : Known F) (statement : Stmt F) (kind : DeclKind) (items : List (Decl F)) → statement.act ≡ Declare kind items → statement_error known statement ≡ None → declaration_errors known kind items ≡ []
@@ -138,7 +138,7 @@ module _ {F : Type 0} (n : ℕ) (P : Symbol → Type 0) (Of : DeclKind → Decl 
   items-keep kind known [] e those p = p
   items-keep kind known (item ∷ items) e those p =
       let next = next-known kind known item items e in
-      items-keep kind (known_behind kind known (item ∷ [])) items next.1 (λ first rest other is. those (item ∷ first) rest other (ap (λ xs. item ∷ xs) is)) (kept.item known kind item next.0 (those [] items item refl) p)
+      items-keep kind (known_later kind known (item ∷ [])) items next.1 (λ first rest other is. those (item ∷ first) rest other (ap (λ xs. item ∷ xs) is)) (kept.item known kind item next.0 (those [] items item refl) p)
 
   models-keep : (models : List ModelDecl) (state : State) → AllNamed Named (map (λ (model : ModelDecl). model.named.name) models) → P (symbol_at state n) → P (symbol_at (declare_models state models) n)
   models-keep [] state those p = p
@@ -259,33 +259,33 @@ module _ {F : Type 0} (value : F → Number) (program : Program F) (accepted : I
       ap (state_after value count) (map-append {B = Stmt F × Bool} (λ (statement : Stmt F). (statement, true)) before (statement ∷ [])) ∙ fold-append (after_statement value) (blank_state count) (sound before) ((statement, true) ∷ [])
 
   -- the statements from here on keep what holds of a name
-  walk : (n : ℕ) (P : Symbol → Type 0) → ((before : List (Stmt F)) (statement : Stmt F) → StandsAfter program before statement → statement_error (known_behind_all before) statement ≡ None → P (symbol_at (state_after value count (sound before)) n) → P (symbol_at (after_act value (state_after value count (sound before)) statement.act) n)) → (before rest : List (Stmt F)) → program.statements.items ≡ before ++ rest → P (symbol_at (state_after value count (sound before)) n) → P (symbol_at (loaded value program) n)
-  walk n P step before [] is p =
+  traversal : (n : ℕ) (P : Symbol → Type 0) → ((before : List (Stmt F)) (statement : Stmt F) → FollowsIn program before statement → statement_error (known_behind_all before) statement ≡ None → P (symbol_at (state_after value count (sound before)) n) → P (symbol_at (after_act value (state_after value count (sound before)) statement.act) n)) → (before rest : List (Stmt F)) → program.statements.items ≡ before ++ rest → P (symbol_at (state_after value count (sound before)) n) → P (symbol_at (loaded value program) n)
+  traversal n P step before [] is p =
       subst (λ (statements : List (Stmt F)). P (symbol_at (state_after value count (sound statements)) n)) (sym (is ∙ append-nil before)) p
-  walk n P step before (statement ∷ rest) is p =
-      walk n P step (before ++ statement ∷ []) rest (is ∙ sym (append_assoc before (statement ∷ []) rest)) (subst (λ (state : State). P (symbol_at state n)) (sym (state-then before statement)) (step before statement (rest, is) (error-none before rest statement is) p))
+  traversal n P step before (statement ∷ rest) is p =
+      traversal n P step (before ++ statement ∷ []) rest (is ∙ sym (append_assoc before (statement ∷ []) rest)) (subst (λ (state : State). P (symbol_at state n)) (sym (state-then before statement)) (step before statement (rest, is) (error-none before rest statement is) p))
 
   -- each statement leaves the same number of names
-  size-walk : (before done rest : List (Stmt F)) → program.statements.items ≡ before ++ rest → length (state_after value count (sound before)).symbols ≡ count → (front behind : List (Stmt F)) → rest ≡ front ++ behind → length (state_after value count (sound (before ++ front))).symbols ≡ count
-  size-walk before done rest is size [] behind parts =
+  size-traversal : (before done rest : List (Stmt F)) → program.statements.items ≡ before ++ rest → length (state_after value count (sound before)).symbols ≡ count → (prefix following : List (Stmt F)) → rest ≡ prefix ++ following → length (state_after value count (sound (before ++ prefix))).symbols ≡ count
+  size-traversal before done rest is size [] following parts =
       ap (λ (statements : List (Stmt F)). length (state_after value count (sound statements)).symbols) (append-nil before) ∙ size
-  size-walk before done rest is size (statement ∷ front) behind parts =
-      let whole : program.statements.items ≡ before ++ statement ∷ (front ++ behind) = is ∙ ap (λ xs. before ++ xs) parts in
-      sym (ap (λ (statements : List (Stmt F)). length (state_after value count (sound statements)).symbols) (append_assoc before (statement ∷ []) front))
-      ∙ size-walk (before ++ statement ∷ []) done (front ++ behind) (whole ∙ sym (append_assoc before (statement ∷ []) (front ++ behind))) (ap (λ (state : State). length state.symbols) (state-then before statement) ∙ size-act (known_behind_all before) statement (error-none before (front ++ behind) statement whole) ∙ size) front behind refl
+  size-traversal before done rest is size (statement ∷ prefix) following parts =
+      let whole : program.statements.items ≡ before ++ statement ∷ (prefix ++ following) = is ∙ ap (λ xs. before ++ xs) parts in
+      sym (ap (λ (statements : List (Stmt F)). length (state_after value count (sound statements)).symbols) (append_assoc before (statement ∷ []) prefix))
+      ∙ size-traversal (before ++ statement ∷ []) done (prefix ++ following) (whole ∙ sym (append_assoc before (statement ∷ []) (prefix ++ following))) (ap (λ (state : State). length state.symbols) (state-then before statement) ∙ size-act (known_behind_all before) statement (error-none before (prefix ++ following) statement whole) ∙ size) prefix following refl
 
   size-after : (before rest : List (Stmt F)) → program.statements.items ≡ before ++ rest → length (state_after value count (sound before)).symbols ≡ count
   size-after before rest is =
-      size-walk [] [] program.statements.items refl (length-replicate count no_symbol) before rest is
+      size-traversal [] [] program.statements.items refl (length-replicate count no_symbol) before rest is
 
   -- a property of a name that is kept by all that the program declares holds at its end
-  module _ (n : ℕ) (P : Symbol → Type 0) (Of : DeclKind → Decl F → Type 0) (Named : ℕ → Type 0) (kept : IsKept F n P Of Named) (those : (kind : DeclKind) (item : Decl F) → Declares program kind item → Of kind item) (all : (before : List (Stmt F)) (statement : Stmt F) → StandsAfter program before statement → AllNamed Named (names_declared statement.act)) where
-    step-keeps : (before : List (Stmt F)) (statement : Stmt F) → StandsAfter program before statement → statement_error (known_behind_all before) statement ≡ None → P (symbol_at (state_after value count (sound before)) n) → P (symbol_at (after_act value (state_after value count (sound before)) statement.act) n)
+  module _ (n : ℕ) (P : Symbol → Type 0) (Of : DeclKind → Decl F → Type 0) (Named : ℕ → Type 0) (kept : IsKept F n P Of Named) (those : (kind : DeclKind) (item : Decl F) → Declares program kind item → Of kind item) (all : (before : List (Stmt F)) (statement : Stmt F) → FollowsIn program before statement → AllNamed Named (names_declared statement.act)) where
+    step-keeps : (before : List (Stmt F)) (statement : Stmt F) → FollowsIn program before statement → statement_error (known_behind_all before) statement ≡ None → P (symbol_at (state_after value count (sound before)) n) → P (symbol_at (after_act value (state_after value count (sound before)) statement.act) n)
     step-keeps before statement stands none p =
         act-keeps n P Of Named kept (known_behind_all before) statement none (λ kind first rest item is. those kind item (record { before = before; statement = statement; stands = stands; first = first; rest = rest; act = is })) (all before statement stands) p
 
     keeps-all : P no_symbol → P (symbol_at (loaded value program) n)
-    keeps-all p = walk n P step-keeps [] program.statements.items refl (subst P (sym (blank-at count n)) p)
+    keeps-all p = traversal n P step-keeps [] program.statements.items refl (subst P (sym (blank-at count n)) p)
 
     -- from a declaration on
     keeps-from : (kind : DeclKind) (item : Decl F) (d : Declares program kind item) → P (symbol_at (with_item value kind (fold (with_item value kind) (state_after value count (sound d.before)) d.first) item) n) → P (symbol_at (loaded value program) n)
@@ -293,16 +293,16 @@ module _ {F : Type 0} (value : F → Number) (program : Program F) (accepted : I
         let known = known_behind_all d.before in
         let none = error-none d.before d.stands.0 d.statement d.stands.1 in
         let errors = declaration-clean known d.statement kind (d.first ++ item ∷ d.rest) d.act none in
-        let here = known_behind kind known d.first in
-        let next = next-known kind here item d.rest (behind-items kind known d.first (item ∷ d.rest) errors) in
-        let last = items-keep n P Of Named kept kind (known_behind kind here (item ∷ [])) d.rest next.1 (λ first rest other is. those kind other (record { before = d.before; statement = d.statement; stands = d.stands; first = d.first ++ item ∷ first; rest = rest; act = d.act ∙ ap (λ (xs : List (Decl F)). Declare kind xs) (ap (λ xs. d.first ++ item ∷ xs) is ∙ sym (append_assoc d.first (item ∷ first) (other ∷ rest))) })) p in
-        walk n P step-keeps (d.before ++ d.statement ∷ []) d.stands.0 (d.stands.1 ∙ sym (append_assoc d.before (d.statement ∷ []) d.stands.0)) (subst (λ (state : State). P (symbol_at state n)) (sym (state-then d.before d.statement ∙ ap (after_act value known.state) d.act ∙ fold-append (with_item value kind) known.state d.first (item ∷ d.rest))) last)
+        let here = known_later kind known d.first in
+        let next = next-known kind here item d.rest (following-items kind known d.first (item ∷ d.rest) errors) in
+        let last = items-keep n P Of Named kept kind (known_later kind here (item ∷ [])) d.rest next.1 (λ first rest other is. those kind other (record { before = d.before; statement = d.statement; stands = d.stands; first = d.first ++ item ∷ first; rest = rest; act = d.act ∙ ap (λ (xs : List (Decl F)). Declare kind xs) (ap (λ xs. d.first ++ item ∷ xs) is ∙ sym (append_assoc d.first (item ∷ first) (other ∷ rest))) })) p in
+        traversal n P step-keeps (d.before ++ d.statement ∷ []) d.stands.0 (d.stands.1 ∙ sym (append_assoc d.before (d.statement ∷ []) d.stands.0)) (subst (λ (state : State). P (symbol_at state n)) (sym (state-then d.before d.statement ∙ ap (after_act value known.state) d.act ∙ fold-append (with_item value kind) known.state d.first (item ∷ d.rest))) last)
 
   -- ---- the name of a declaration
 
   module _ (kind : DeclKind) (item : Decl F) (d : Declares program kind item) (within : item.named.name < count) where
     abbrev before_it : Known F
-    before_it = known_behind kind (known_behind_all d.before) d.first
+    before_it = known_later kind (known_behind_all d.before) d.first
 
     errors-none : declaration_errors (known_behind_all d.before) kind (d.first ++ item ∷ d.rest) ≡ []
     errors-none =
@@ -310,11 +310,11 @@ module _ {F : Type 0} (value : F → Number) (program : Program F) (accepted : I
 
     is-clean : AreClean before_it (item_uses before_it kind item)
     is-clean =
-        (next-known kind before_it item d.rest (behind-items kind (known_behind_all d.before) d.first (item ∷ d.rest) errors-none)).0
+        (next-known kind before_it item d.rest (following-items kind (known_behind_all d.before) d.first (item ∷ d.rest) errors-none)).0
 
     is-within : nat_lt item.named.name (length before_it.state.symbols) ≡ true
     is-within =
-        ap (nat_lt item.named.name) (size-front kind (known_behind_all d.before) d.first (item ∷ d.rest) errors-none ∙ size-after d.before (d.statement ∷ d.stands.0) d.stands.1) ∙ is-less item.named.name count within
+        ap (nat_lt item.named.name) (size-prefix kind (known_behind_all d.before) d.first (item ∷ d.rest) errors-none ∙ size-after d.before (d.statement ∷ d.stands.0) d.stands.1) ∙ is-less item.named.name count within
 
     -- its data
     abbrev own_data : ExpandedData F

@@ -38,14 +38,14 @@ drawn state = record { symbols = map outline state.symbols; settings = first_set
 
 -- ---- what is read of it
 
-behind-shape : (name : ℕ) (c : Content) → alias_target name (shape c) ≡ alias_target name c
-behind-shape name undeclared = refl
-behind-shape name (alias_of base) = refl
-behind-shape name (set_of members) = refl
-behind-shape name (parameter_of entries) = refl
-behind-shape name (variable_of type entries) = refl
-behind-shape name (equation_of entries) = refl
-behind-shape name (model_with model solver) = refl
+following-shape : (name : ℕ) (c : Content) → alias_target name (shape c) ≡ alias_target name c
+following-shape name undeclared = refl
+following-shape name (alias_of base) = refl
+following-shape name (set_of members) = refl
+following-shape name (parameter_of entries) = refl
+following-shape name (variable_of type entries) = refl
+following-shape name (equation_of entries) = refl
+following-shape name (model_with model solver) = refl
 
 kind-shape : (c : Content) → kind_in (shape c) ≡ kind_in c
 kind-shape undeclared = refl
@@ -89,7 +89,7 @@ module _ (state : State) where
   at-drawn n = read-outline state.symbols n
 
   pub base-drawn : (n : ℕ) → base_of (drawn state) n ≡ base_of state n
-  base-drawn n = ap (λ (s : Symbol). alias_target n s.content) (at-drawn n) ∙ behind-shape n (symbol_at state n).content
+  base-drawn n = ap (λ (s : Symbol). alias_target n s.content) (at-drawn n) ∙ following-shape n (symbol_at state n).content
 
   pub kind-drawn : (n : ℕ) → declared_kind (drawn state) n ≡ declared_kind state n
   kind-drawn n = ap (λ (s : Symbol). kind_in s.content) (at-drawn n) ∙ kind-shape (symbol_at state n).content

@@ -330,9 +330,9 @@ module _ {F : Type 0} (value : F → Number) where
           let go = models-go (length program.names) models facts stands.known stands.defined_size in
           let state = names-state models facts in
           let drawn_state : drawn (with_models sound n models).state ≡ drawn (declare_models facts.state models) = ap (λ (f : Facts). drawn f.state) same ∙ ap drawn state in
-          let grown : drawn n.state ≡ drawn (declare_models facts.state models) = ap drawn state in
-          let grows : Grows (drawn facts.state) (drawn (declare_models facts.state models)) = subst (Grows (drawn facts.state)) grown go.grows in
-          let known : IsKnown (length program.names) (drawn (declare_models facts.state models)) n.declared = subst (λ (t : State). IsKnown (length program.names) t n.declared) grown go.known in
+          let extended : drawn n.state ≡ drawn (declare_models facts.state models) = ap drawn state in
+          let grows : Grows (drawn facts.state) (drawn (declare_models facts.state models)) = subst (Grows (drawn facts.state)) extended go.grows in
+          let known : IsKnown (length program.names) (drawn (declare_models facts.state models)) n.declared = subst (λ (t : State). IsKnown (length program.names) t n.declared) extended go.known in
           let equations : n.equations ≡ filter (is_equation_in (drawn (declare_models facts.state models))) (equations_before past) = go.equated ∙ append-nil facts.equations ∙ stands.equations ∙ sym (kept-equations (length program.names) (drawn facts.state) (drawn (declare_models facts.state models)) facts.declared n.declared stands.known known grows (equations_before past) stands.settled) in
           let settled : AreSettled (length program.names) (drawn (declare_models facts.state models)) (equations_before past) = settled-grows (length program.names) (drawn facts.state) (drawn (declare_models facts.state models)) grows (equations_before past) stands.settled in
           let size : length n.defined ≡ length program.names = ap length keeps.defined ∙ stands.defined_size in

@@ -8,8 +8,8 @@ use Rattle.gms_ast.specs.declared.program.Program.{Program}
 use Rattle.gms_ast.specs.declared.program.Stmt.{Stmt}
 use Rattle.gms_ast.specs.TreeView.{control_tree, tree_of}
 use Rattle.gms_ast.specs.Trees.{Tree, Parts, Indices, no_index, label, set, lagged, Control}
-use Rattle.gms_check.specs.declared.contexts.Standing.{Standing}
-use Rattle.gms_check.specs.Checked.{StandsAfter}
+use Rattle.gms_check.specs.declared.contexts.Context.{Context}
+use Rattle.gms_check.specs.Checked.{FollowsIn}
 use Rattle.gms_check.specs.CompileErrors.{compile_errors, errors_after, known_after}
 use Rattle.gms_check.specs.Loaded.{sound}
 use Rattle.gms_check.specs.Past.{Known}
@@ -26,36 +26,36 @@ use Rattle.gms_check.proofs.Soundness.{after-sound, sound-use, statement-clean}
 module _ {F : Type 0} (known : Known F) (within : List ℕ) where
   mutual
     -- in an expression
-    in-tree : {what : Asking F} {around : List ℕ} {tree : Tree F} → InTree within what around tree → (standing : Standing) (at : Place) → AreClean known (uses standing at around tree) → IsMeant known within what
-    in-tree (a_reference {name = name} {suffix = suffix} {indices = indices}) standing at clean =
-        (standing, sound-use known (reading standing within name suffix indices) clean.0)
-    in-tree (an_ord {name = name}) standing at clean = sound-use known (ordinal standing within name) clean.0
-    in-tree (in_amount inside) standing at clean = in-indices inside clean.1
-    in-tree (in_argument {at = place} inside) standing at clean = in-parts inside (as_inner standing) place clean.1
-    in-tree (in_condition {around = around} {at = place} {control = control} {body = body} inside) standing at clean =
-        in-control inside place (clean-left known (control_uses place around control) (uses (as_inner standing) place (around ++ sets_of_control control) body) clean.1)
-    in-tree (in_body {around = around} {at = place} {control = control} {body = body} inside) standing at clean =
-        in-tree inside (as_inner standing) place (clean-right known (control_uses place around control) (uses (as_inner standing) place (around ++ sets_of_control control) body) clean.1)
-    in-tree (in_negated inside) standing at clean = in-tree inside (as_part standing) at clean
-    in-tree (in_sum inside) standing at clean = in-parts inside (as_part standing) at clean
-    in-tree (in_product {around = around} {parts = parts} inside) standing at clean =
-        in-parts inside (as_part standing) at (clean-left known (part_uses (as_part standing) at around parts) (steps standing at parts) clean)
-    in-tree (in_power {around = around} {parts = parts} inside) standing at clean =
-        in-parts inside (as_part standing) at (clean-left known (part_uses (as_part standing) at around parts) (steps standing at parts) clean)
-    in-tree (in_relation inside) standing at clean = in-parts inside as_number at clean.1
-    in-tree (in_not inside) standing at clean = in-tree inside (as_denied standing) at clean
-    in-tree (in_and inside) standing at clean = in-parts inside as_condition at clean.1
-    in-tree (in_or inside) standing at clean = in-parts inside as_condition at clean.1
-    in-tree (in_guarded {around = around} {operand = operand} {guards = guards} inside) standing at clean =
-        in-tree inside (as_guarded standing) at (clean-left known (uses (as_guarded standing) at around operand) (part_uses as_condition at around guards) clean)
-    in-tree (in_guard {around = around} {operand = operand} {guards = guards} inside) standing at clean =
-        in-parts inside as_condition at (clean-right known (uses (as_guarded standing) at around operand) (part_uses as_condition at around guards) clean)
+    in-tree : {what : Asking F} {around : List ℕ} {tree : Tree F} → InTree within what around tree → (context : Context) (at : Place) → AreClean known (uses context at around tree) → IsMeant known within what
+    in-tree (a_reference {name = name} {suffix = suffix} {indices = indices}) context at clean =
+        (context, sound-use known (reading context within name suffix indices) clean.0)
+    in-tree (an_ord {name = name}) context at clean = sound-use known (ordinal context within name) clean.0
+    in-tree (in_amount inside) context at clean = in-indices inside clean.1
+    in-tree (in_argument {at = place} inside) context at clean = in-parts inside (as_inner context) place clean.1
+    in-tree (in_condition {around = around} {at = place} {control = control} {body = body} inside) context at clean =
+        in-control inside place (clean-left known (control_uses place around control) (uses (as_inner context) place (around ++ sets_of_control control) body) clean.1)
+    in-tree (in_body {around = around} {at = place} {control = control} {body = body} inside) context at clean =
+        in-tree inside (as_inner context) place (clean-right known (control_uses place around control) (uses (as_inner context) place (around ++ sets_of_control control) body) clean.1)
+    in-tree (in_negated inside) context at clean = in-tree inside (as_part context) at clean
+    in-tree (in_sum inside) context at clean = in-parts inside (as_part context) at clean
+    in-tree (in_product {around = around} {parts = parts} inside) context at clean =
+        in-parts inside (as_part context) at (clean-left known (part_uses (as_part context) at around parts) (steps context at parts) clean)
+    in-tree (in_power {around = around} {parts = parts} inside) context at clean =
+        in-parts inside (as_part context) at (clean-left known (part_uses (as_part context) at around parts) (steps context at parts) clean)
+    in-tree (in_relation inside) context at clean = in-parts inside as_number at clean.1
+    in-tree (in_not inside) context at clean = in-tree inside (as_denied context) at clean
+    in-tree (in_and inside) context at clean = in-parts inside as_condition at clean.1
+    in-tree (in_or inside) context at clean = in-parts inside as_condition at clean.1
+    in-tree (in_guarded {around = around} {operand = operand} {guards = guards} inside) context at clean =
+        in-tree inside (as_guarded context) at (clean-left known (uses (as_guarded context) at around operand) (part_uses as_condition at around guards) clean)
+    in-tree (in_guard {around = around} {operand = operand} {guards = guards} inside) context at clean =
+        in-parts inside as_condition at (clean-right known (uses (as_guarded context) at around operand) (part_uses as_condition at around guards) clean)
 
-    in-parts : {what : Asking F} {around : List ℕ} {parts : Parts F} → InParts within what around parts → (standing : Standing) (at : Place) → AreClean known (part_uses standing at around parts) → IsMeant known within what
-    in-parts (in_part {around = around} {mark = mark} {tree = tree} {rest = rest} inside) standing at clean =
-        in-tree inside standing (place_by_mark mark at) (clean-left known (uses standing (place_by_mark mark at) around tree) (part_uses standing at around rest) clean)
-    in-parts (in_later_part {around = around} {mark = mark} {tree = tree} {rest = rest} inside) standing at clean =
-        in-parts inside standing at (clean-right known (uses standing (place_by_mark mark at) around tree) (part_uses standing at around rest) clean)
+    in-parts : {what : Asking F} {around : List ℕ} {parts : Parts F} → InParts within what around parts → (context : Context) (at : Place) → AreClean known (part_uses context at around parts) → IsMeant known within what
+    in-parts (in_part {around = around} {mark = mark} {tree = tree} {rest = rest} inside) context at clean =
+        in-tree inside context (place_by_mark mark at) (clean-left known (uses context (place_by_mark mark at) around tree) (part_uses context at around rest) clean)
+    in-parts (in_later_part {around = around} {mark = mark} {tree = tree} {rest = rest} inside) context at clean =
+        in-parts inside context at (clean-right known (uses context (place_by_mark mark at) around tree) (part_uses context at around rest) clean)
 
     in-indices : {what : Asking F} {around : List ℕ} {indices : Indices F} → InIndices within what around indices → AreClean known (amount_uses around indices) → IsMeant known within what
     in-indices (in_lag {around = around} {at = place} {amount = amount} {rest = rest} inside) clean =
@@ -139,6 +139,6 @@ module _ {F : Type 0} (known : Known F) (within : List ℕ) where
 
 module _ {F : Type 0} (value : F → Number) where
   -- in a program without errors
-  pub program-meant : (program : Program F) (solvers : List (List ℕ)) (before : List (Stmt F)) (statement : Stmt F) (depth : ℕ) (within : List ℕ) (what : Asking F) → compile_errors value program solvers ≡ [] → StandsAfter program before statement → InStatement depth within what [] statement → IsMeant (known_after value program solvers (sound before)) within what
+  pub program-meant : (program : Program F) (solvers : List (List ℕ)) (before : List (Stmt F)) (statement : Stmt F) (depth : ℕ) (within : List ℕ) (what : Asking F) → compile_errors value program solvers ≡ [] → FollowsIn program before statement → InStatement depth within what [] statement → IsMeant (known_after value program solvers (sound before)) within what
   program-meant program solvers before statement depth within what none stands inside =
       in-statement (known_after value program solvers (sound before)) within what depth statement [] inside (statement-clean (known_after value program solvers (sound before)) statement (after-sound value program solvers before [] statement stands.0 (sym (ap (errors_after value program solvers []) stands.1) ∙ none)))

@@ -18,7 +18,7 @@ use Rattle.gms_store.specs.State.{State}
 use Rattle.gms_scope.specs.Names.{is_equation, is_index_set, is_set_name, has_no_declaration, declared_kind, positions}
 use Rattle.gms_check.specs.declared.error.ErrorKind.TheVariants.{UnknownName, WrongKind, WrongArity, DomainOfSet, DomainOfLabel, Uncontrolled, ControlledTwice, NotOrdered}
 use Rattle.gms_check.specs.declared.error.CompileError.{CompileError}
-use Rattle.gms_check.specs.Checked.{AreIndices, AreSound, IsChecked, IsReading, IsSound, StandsAfter}
+use Rattle.gms_check.specs.Checked.{AreIndices, AreSound, IsChecked, IsReading, IsSound, FollowsIn}
 use Rattle.gms_check.specs.CompileErrors.{act_errors, compile_errors, errors_after, errors_of, known_after, statement_error}
 use Rattle.gms_check.specs.Controls.{is_controlled_twice, is_ordered, lagged_sets}
 use Rattle.gms_check.specs.Domains.{has_unfit_label, has_unfit_set, index_count, is_wrong_count}
@@ -46,12 +46,12 @@ neither-second false b e = e
 pub at-most : (m n : ℕ) → nat_lt m n ≡ false → n ≤ m
 at-most m n e = grind (arith, nat_tests)
 
-pub right-count : (due count : ℕ) → is_wrong_count due count ≡ false → count ≡ due
-right-count due count e =
-    eqb-true count due (not-false (count == due) (neither-first (not (count == due)) (nat_lt 10 count) e))
+pub right-count : (expected count : ℕ) → is_wrong_count expected count ≡ false → count ≡ expected
+right-count expected count e =
+    eqb-true count expected (not-false (count == expected) (neither-first (not (count == expected)) (nat_lt 10 count) e))
 
-pub few-count : (due count : ℕ) → is_wrong_count due count ≡ false → count ≤ 10
-few-count due count e = at-most 10 count (neither-second (not (count == due)) (nat_lt 10 count) e)
+pub few-count : (expected count : ℕ) → is_wrong_count expected count ≡ false → count ≤ 10
+few-count expected count e = at-most 10 count (neither-second (not (count == expected)) (nat_lt 10 count) e)
 
 each-one : {X : Type 0} (test : X → Bool) (xs : List X) → list_any (λ x. not (test x)) xs ≡ false → AllByRecursion (λ x. test x ≡ true) xs
 each-one test [] e = tt
@@ -75,17 +75,17 @@ module _ {F : Type 0} where
 
   -- what has no error is sound
   pub sound-use : (known : Known F) (used : Use F) → IsClean known used → IsSound known used
-  sound-use known (reading standing controlled name suffix indices) clean = record {
+  sound-use known (reading context controlled name suffix indices) clean = record {
     declared = neither-first (has_no_declaration known.state name) (list_any (has_no_declaration known.state) (index_sets indices)) (clean UnknownName);
-    stands = not-false (may_stand standing (declared_kind known.state name) suffix) (neither-first (not (may_stand standing (declared_kind known.state name) suffix)) (has_wrong_set known (index_sets indices)) (clean WrongKind));
-    fitting = are-indices known name indices (neither-second (not (may_stand standing (declared_kind known.state name) suffix)) (has_wrong_set known (index_sets indices)) (clean WrongKind)) (clean WrongArity) (clean DomainOfSet) (clean DomainOfLabel) (clean NotOrdered);
+    stands = not-false (may_stand context (declared_kind known.state name) suffix) (neither-first (not (may_stand context (declared_kind known.state name) suffix)) (has_wrong_set known (index_sets indices)) (clean WrongKind));
+    fitting = are-indices known name indices (neither-second (not (may_stand context (declared_kind known.state name) suffix)) (has_wrong_set known (index_sets indices)) (clean WrongKind)) (clean WrongArity) (clean DomainOfSet) (clean DomainOfLabel) (clean NotOrdered);
     controls = all-pass (is_among controlled) (index_sets indices) (clean Uncontrolled);
   }
-  sound-use known (ordinal standing controlled name) clean =
+  sound-use known (ordinal context controlled name) clean =
       let ordered = not-false (is_ordered known name) (clean NotOrdered) in
       ((and_parts (is_index_set known.state name) _ ordered).0, not-false (is_among controlled name) (clean Uncontrolled), ordered)
-  sound-use known (cardinal standing name) clean =
-      not-false (is_set_name known.state name) (neither-second (not standing.numbers) (not (is_set_name known.state name)) (clean WrongKind))
+  sound-use known (cardinal context name) clean =
+      not-false (is_set_name known.state name) (neither-second (not context.numbers) (not (is_set_name known.state name)) (clean WrongKind))
   sound-use known (controlling controlled sets) clean =
       (all-pass (is_index_set known.state) sets (clean WrongKind), clean ControlledTwice, at-most 10 (length sets) (clean WrongArity))
   sound-use known (assigning name suffix indices) clean =

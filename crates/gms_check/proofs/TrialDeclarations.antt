@@ -59,10 +59,10 @@ module _ {F : Type 0} where
   core-domain known (Some named ∷ domain) =
       ap (λ (errors : List CompileError). errors_at known (named.at, bounding named.name) ++ errors) (core-domain known domain)
 
-  core-items : (known : Known F) (due : ℕ) (items : List (Item F)) → errors_of known (map (λ (item : Item F). (item.at, placing due (length item.parts))) items) ≡ errors_of (core_of known) (map (λ (item : Item F). (item.at, placing due (length item.parts))) items)
-  core-items known due [] = refl
-  core-items known due (item ∷ items) =
-      ap (λ (errors : List CompileError). errors_at known (item.at, placing due (length item.parts)) ++ errors) (core-items known due items)
+  core-items : (known : Known F) (expected : ℕ) (items : List (Item F)) → errors_of known (map (λ (item : Item F). (item.at, placing expected (length item.parts))) items) ≡ errors_of (core_of known) (map (λ (item : Item F). (item.at, placing expected (length item.parts))) items)
+  core-items known expected [] = refl
+  core-items known expected (item ∷ items) =
+      ap (λ (errors : List CompileError). errors_at known (item.at, placing expected (length item.parts)) ++ errors) (core-items known expected items)
 
   core-failure : (known : Known F) (result : Result (ExpandedData F) SetFault) → errors_of known (failure result) ≡ errors_of (core_of known) (failure result)
   core-failure known (Ok given) = refl

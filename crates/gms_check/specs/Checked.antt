@@ -7,7 +7,7 @@ use Rattle.gms_ast.specs.declared.expression.Suffix.{Suffix}
 use Rattle.gms_ast.specs.declared.program.Stmt.{Stmt}
 use Rattle.gms_ast.specs.declared.program.Program.{Program}
 use Rattle.gms_ast.specs.Trees.{Indices}
-use Rattle.gms_check.specs.declared.contexts.Standing.{Standing}
+use Rattle.gms_check.specs.declared.contexts.Context.{Context}
 use Rattle.gms_check.specs.Contexts.{may_stand, may_be_assigned}
 use Rattle.gms_check.specs.Uses.{Use, Uses, reading, ordinal, cardinal, controlling, assigning, defining, index_sets}
 use Rattle.gms_check.specs.StatementUses.{statement_uses}
@@ -33,19 +33,19 @@ module _ {F : Type 0} where
 
   -- A reference that has a meaning: its name is declared and may occur in this context, its indices
   -- fit it, and each index set is controlled.
-  pub record IsReading (known : Known F) (standing : Standing) (controlled : List ℕ) (name : ℕ) (suffix : Suffix) (indices : Indices F) : Type 0 where
+  pub record IsReading (known : Known F) (context : Context) (controlled : List ℕ) (name : ℕ) (suffix : Suffix) (indices : Indices F) : Type 0 where
     pub declared : has_no_declaration known.state name ≡ false
-    pub stands : may_stand standing (declared_kind known.state name) suffix ≡ true
+    pub stands : may_stand context (declared_kind known.state name) suffix ≡ true
     pub fitting : AreIndices known name indices
     pub controls : All (λ index. is_among controlled index ≡ true) (index_sets indices)
 
   -- what holds of each use in a program without errors: of references and controls this, of any
   -- other that no error's condition holds
   abbrev pub IsSound : Known F → Use F → Type 0
-  IsSound known (reading standing controlled name suffix indices) = IsReading known standing controlled name suffix indices
-  IsSound known (ordinal standing controlled name) =
+  IsSound known (reading context controlled name suffix indices) = IsReading known context controlled name suffix indices
+  IsSound known (ordinal context controlled name) =
       (is_index_set known.state name ≡ true) × (is_among controlled name ≡ true) × (is_ordered known name ≡ true)
-  IsSound known (cardinal standing name) = is_set_name known.state name ≡ true
+  IsSound known (cardinal context name) = is_set_name known.state name ≡ true
   IsSound known (controlling controlled sets) =
       All (λ name. is_index_set known.state name ≡ true) sets × (is_controlled_twice controlled sets ≡ false) × (length sets ≤ 10)
   IsSound known (assigning name suffix indices) =
@@ -59,11 +59,11 @@ module _ {F : Type 0} where
   AreSound known uses = All (λ u. IsSound known u.1) uses
 
   -- a statement follows these in a program
-  abbrev pub StandsAfter : Program F → List (Stmt F) → Stmt F → Type 0
-  StandsAfter program before statement = (rest : List (Stmt F)) × (program.statements.items ≡ before ++ statement ∷ rest)
+  abbrev pub FollowsIn : Program F → List (Stmt F) → Stmt F → Type 0
+  FollowsIn program before statement = (rest : List (Stmt F)) × (program.statements.items ≡ before ++ statement ∷ rest)
 
   -- a program without errors: every statement's parts are sound, by what the statements before it
   -- declare
   abbrev pub IsChecked : (F → Number) → Program F → List (List ℕ) → Type 0
   IsChecked value program solvers =
-      (before : List (Stmt F)) (statement : Stmt F) → StandsAfter program before statement → AreSound (known_after value program solvers (sound before)) (statement_uses statement (known_after value program solvers (sound before)).state [])
+      (before : List (Stmt F)) (statement : Stmt F) → FollowsIn program before statement → AreSound (known_after value program solvers (sound before)) (statement_uses statement (known_after value program solvers (sound before)).state [])

@@ -17,8 +17,8 @@ is_controlled_twice controlled (name ∷ sets) = is_among controlled name || is_
 module _ {F : Type 0} where
   -- Uncontrolled: nothing controls a set that is an index, or of which `ord` is taken
   abbrev pub uncontrolled : Known F → Use F → Bool
-  uncontrolled known (reading standing controlled name suffix indices) = list_any (λ index. not (is_among controlled index)) (index_sets indices)
-  uncontrolled known (ordinal standing controlled name) = not (is_among controlled name)
+  uncontrolled known (reading context controlled name suffix indices) = list_any (λ index. not (is_among controlled index)) (index_sets indices)
+  uncontrolled known (ordinal context controlled name) = not (is_among controlled name)
   uncontrolled known used = false
 
   -- ControlledTwice: a fold or a loop controls a set that is already controlled
@@ -41,8 +41,8 @@ module _ {F : Type 0} where
 
   -- NotOrdered: a set that is not ordered has a lag, or its `ord` is taken
   abbrev pub not_ordered : Known F → Use F → Bool
-  not_ordered known (reading standing controlled name suffix indices) = list_any (λ index. not (is_ordered known index)) (lagged_sets indices)
+  not_ordered known (reading context controlled name suffix indices) = list_any (λ index. not (is_ordered known index)) (lagged_sets indices)
   not_ordered known (assigning name suffix indices) = list_any (λ index. not (is_ordered known index)) (lagged_sets indices)
   not_ordered known (defining name indices) = list_any (λ index. not (is_ordered known index)) (lagged_sets indices)
-  not_ordered known (ordinal standing controlled name) = not (is_ordered known name)
+  not_ordered known (ordinal context controlled name) = not (is_ordered known name)
   not_ordered known used = false

@@ -18,7 +18,7 @@ use Rattle.gms_tuple.specs.TupleSet.{has}
 use Rattle.gms_store.specs.declared.kind.VariableType.{VariableType}
 use Rattle.gms_store.specs.declared.kind.VariableType.TheVariants.{Free, Positive, Negative, Discrete}
 use Rattle.gms_store.specs.State.{zero}
-use Rattle.gms_check.specs.Checked.{StandsAfter}
+use Rattle.gms_check.specs.Checked.{FollowsIn}
 use Rattle.gms_check.specs.Past.{is_among, names_declared}
 
 -- whether a declaration is of names that have values
@@ -52,7 +52,7 @@ module _ {F : Type 0} where
   pub record Declares (program : Program F) (kind : DeclKind) (item : Decl F) : Type 0 where
     pub before : List (Stmt F)
     pub statement : Stmt F
-    pub stands : StandsAfter program before statement
+    pub stands : FollowsIn program before statement
     pub first : List (Decl F)
     pub rest : List (Decl F)
     pub act : statement.act ≡ Declare kind (first ++ item ∷ rest)
@@ -64,7 +64,7 @@ module _ {F : Type 0} where
   -- no statement declares a name
   abbrev pub IsUndeclared : Program F → ℕ → Type 0
   IsUndeclared program name =
-      (before : List (Stmt F)) (statement : Stmt F) → StandsAfter program before statement → is_among (names_declared statement.act) name ≡ false
+      (before : List (Stmt F)) (statement : Stmt F) → FollowsIn program before statement → is_among (names_declared statement.act) name ≡ false
 
 module _ {F : Type 0} (value : F → Number) where
   -- the value of a parameter, from what items give it: 0 if they give none

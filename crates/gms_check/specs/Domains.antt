@@ -12,7 +12,7 @@ use Rattle.gms_check.specs.IndexList.{have_unfit_label, have_unfit_set}
 
 -- whether a number of indices is not the expected one, or over 10
 abbrev pub is_wrong_count : ℕ → ℕ → Bool
-is_wrong_count due count = not (count == due) || nat_lt 10 count
+is_wrong_count expected count = not (count == expected) || nat_lt 10 count
 
 module _ {F : Type 0} where
   -- how many indices there are
@@ -25,12 +25,12 @@ module _ {F : Type 0} where
   -- WrongArity: there are more or fewer indices or parts than the name has positions, or more than
   -- 10; a control has more than 10 sets
   abbrev pub wrong_arity : Known F → Use F → Bool
-  wrong_arity known (reading standing controlled name suffix indices) = is_wrong_count (length (positions known.state name)) (index_count indices)
+  wrong_arity known (reading context controlled name suffix indices) = is_wrong_count (length (positions known.state name)) (index_count indices)
   wrong_arity known (assigning name suffix indices) = is_wrong_count (length (positions known.state name)) (index_count indices)
   wrong_arity known (defining name indices) = is_wrong_count (length (positions known.state name)) (index_count indices)
   wrong_arity known (controlling controlled sets) = nat_lt 10 (length sets)
   wrong_arity known (naming kind name domain) = nat_lt 10 (length (positions_of kind domain))
-  wrong_arity known (placing due count) = is_wrong_count due count
+  wrong_arity known (placing expected count) = is_wrong_count expected count
   wrong_arity known used = false
 
   -- whether some index set does not fit its position of a name
@@ -43,14 +43,14 @@ module _ {F : Type 0} where
 
   -- DomainOfSet: a set is at a position whose set it is not below
   abbrev pub domain_of_set : Known F → Use F → Bool
-  domain_of_set known (reading standing controlled name suffix indices) = has_unfit_set known name (positions known.state name) indices
+  domain_of_set known (reading context controlled name suffix indices) = has_unfit_set known name (positions known.state name) indices
   domain_of_set known (assigning name suffix indices) = has_unfit_set known name (positions known.state name) indices
   domain_of_set known (defining name indices) = has_unfit_set known name (positions known.state name) indices
   domain_of_set known used = false
 
   -- DomainOfLabel: a label is at a position whose set does not have it
   abbrev pub domain_of_label : Known F → Use F → Bool
-  domain_of_label known (reading standing controlled name suffix indices) = has_unfit_label known name (positions known.state name) indices
+  domain_of_label known (reading context controlled name suffix indices) = has_unfit_label known name (positions known.state name) indices
   domain_of_label known (assigning name suffix indices) = has_unfit_label known name (positions known.state name) indices
   domain_of_label known (defining name indices) = has_unfit_label known name (positions known.state name) indices
   domain_of_label known (failing Outside) = true

@@ -56,8 +56,8 @@ error_name DataFault = codes "DataFault"
 error_name Restart = codes "Restart"
 
 -- whether a place comes before another in the source
-abbrev pub stands_before : Place → Place → Bool
-stands_before a b = nat_lt a.line b.line || a.line == b.line && nat_lt a.column b.column
+abbrev pub precedes : Place → Place → Bool
+precedes a b = nat_lt a.line b.line || a.line == b.line && nat_lt a.column b.column
 
 -- whether two places are equal
 abbrev pub same_place : Place → Place → Bool
@@ -65,7 +65,7 @@ same_place a b = a.line == b.line && a.column == b.column
 
 -- whether an error comes before another: by its place, and at one place by its number
 abbrev pub comes_first : CompileError → CompileError → Bool
-comes_first a b = stands_before a.at b.at || same_place a.at b.at && nat_lt (error_code a.kind) (error_code b.kind)
+comes_first a b = precedes a.at b.at || same_place a.at b.at && nat_lt (error_code a.kind) (error_code b.kind)
 
 -- an error, or another one if that comes first
 abbrev pub earlier : CompileError → Option CompileError → CompileError

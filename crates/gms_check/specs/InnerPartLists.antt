@@ -5,7 +5,7 @@ use Rattle.gms_ast.specs.declared.expression.Expr.{Expr}
 use Rattle.gms_ast.specs.declared.expression.RelOp.{RelOp}
 use Rattle.gms_ast.specs.Trees.{Parts, plain, placed, signed, related, chosen}
 use Rattle.gms_ast.specs.TreeView.{parts_of, tree_of}
-use Rattle.gms_check.specs.declared.contexts.Standing.{Standing}
+use Rattle.gms_check.specs.declared.contexts.Context.{Context}
 use Rattle.gms_check.specs.declared.error.ErrorKind.{ErrorKind}
 use Rattle.gms_check.specs.declared.error.ErrorKind.TheVariants.{WrongKind, Nonlinear}
 use Rattle.gms_check.specs.declared.expression.Operation.{Operation}
@@ -37,10 +37,10 @@ module _ {F : Type 0} where
   chosen_list parts = parts_of (map (λ (p : Bool × Expr F). (chosen p.0, tree_of p.1)) parts)
 
 -- whether the operands of a step are wrong by their kind
-abbrev pub step_wrong : Standing → Operation → Bool
-step_wrong standing Multiplies = false
-step_wrong standing Divides = not standing.numbers
-step_wrong standing Raises = not standing.numbers
+abbrev pub step_wrong : Context → Operation → Bool
+step_wrong context Multiplies = false
+step_wrong context Divides = not context.numbers
+step_wrong context Raises = not context.numbers
 
 -- whether a step is not linear, by whether the operands before it and the right one have variables
 abbrev pub step_curved : Operation → Bool → Bool → Bool
@@ -49,7 +49,7 @@ step_curved Divides earlier right = right
 step_curved Raises earlier right = earlier || right
 
 -- the possible errors of a step, by whether the operands before it and the right one have variables
-abbrev pub step_faults : Standing → Operation → Bool → Bool → List (Bool × ErrorKind)
-step_faults standing Multiplies earlier right = (false, WrongKind) ∷ (standing.variables && (earlier && right), Nonlinear) ∷ []
-step_faults standing Divides earlier right = (not standing.numbers, WrongKind) ∷ (standing.variables && right, Nonlinear) ∷ []
-step_faults standing Raises earlier right = (not standing.numbers, WrongKind) ∷ (standing.variables && (earlier || right), Nonlinear) ∷ []
+abbrev pub step_faults : Context → Operation → Bool → Bool → List (Bool × ErrorKind)
+step_faults context Multiplies earlier right = (false, WrongKind) ∷ (context.variables && (earlier && right), Nonlinear) ∷ []
+step_faults context Divides earlier right = (not context.numbers, WrongKind) ∷ (context.variables && right, Nonlinear) ∷ []
+step_faults context Raises earlier right = (not context.numbers, WrongKind) ∷ (context.variables && (earlier || right), Nonlinear) ∷ []

@@ -9,7 +9,7 @@ use Rattle.gms_ast.specs.declared.expression.Suffix.TheVariants as suffix
 use Rattle.gms_ast.specs.Trees.{Tree, number, reference, Parts, no_part, part, Indices, no_index}
 use Rattle.gms_store.specs.declared.kind.SymbolKind.{SymbolKind}
 use Rattle.gms_store.specs.declared.kind.SymbolKind.TheVariants as kind
-use Rattle.gms_check.specs.declared.contexts.Standing.{Standing}
+use Rattle.gms_check.specs.declared.contexts.Context.{Context}
 use Rattle.gms_check.specs.Contexts.{as_condition, may_stand, may_be_assigned}
 use Rattle.gms_check.specs.Uses.{Use, literal, truth, reading, ordinal, cardinal, calling, folding, controlling, stepping, multiplies, divides, raises, logic, assigning, defining, shifting, not_continuous, bounding, first_alias, second_alias, listing, solving, optimizing, showing, index_sets}
 use Rattle.gms_check.specs.Past.{Known}
@@ -60,11 +60,11 @@ may_shift kind scalar = false
 
 module _ {F : Type 0} where
   -- whether an amount of a lag on the left is a whole literal or a scalar
-  abbrev pub is_left_amount : Known F → Tree F → Bool
-  is_left_amount known (number n) = is_whole (known.value n)
-  is_left_amount known (reference at name suffix.None indices) =
+  abbrev pub is_target_amount : Known F → Tree F → Bool
+  is_target_amount known (number n) = is_whole (known.value n)
+  is_target_amount known (reference at name suffix.None indices) =
       may_shift (declared_kind known.state name) (is_without_positions (positions known.state name) && has_no_indices indices)
-  is_left_amount known tree = false
+  is_target_amount known tree = false
 
   -- whether some index is no one-dimensional set
   abbrev pub has_wrong_set : Known F → List ℕ → Bool
@@ -75,23 +75,23 @@ module _ {F : Type 0} where
   -- on the left of an assignment an attribute of an equation, and an amount of a lag that is not a
   -- whole literal or a scalar
   abbrev pub wrong_kind : Known F → Use F → Bool
-  wrong_kind known (literal standing) = not standing.numbers
-  wrong_kind known (truth standing) = not standing.membership
-  wrong_kind known (reading standing controlled name suffix indices) =
-      not (may_stand standing (declared_kind known.state name) suffix) || has_wrong_set known (index_sets indices)
-  wrong_kind known (ordinal standing controlled name) = not standing.numbers || not (is_set_name known.state name)
-  wrong_kind known (cardinal standing name) = not standing.numbers || not (is_set_name known.state name)
-  wrong_kind known (calling standing function args) = not standing.numbers
-  wrong_kind known (folding standing op body) = not standing.numbers
+  wrong_kind known (literal context) = not context.numbers
+  wrong_kind known (truth context) = not context.membership
+  wrong_kind known (reading context controlled name suffix indices) =
+      not (may_stand context (declared_kind known.state name) suffix) || has_wrong_set known (index_sets indices)
+  wrong_kind known (ordinal context controlled name) = not context.numbers || not (is_set_name known.state name)
+  wrong_kind known (cardinal context name) = not context.numbers || not (is_set_name known.state name)
+  wrong_kind known (calling context function args) = not context.numbers
+  wrong_kind known (folding context op body) = not context.numbers
   wrong_kind known (controlling controlled sets) = has_wrong_set known sets
-  wrong_kind known (stepping standing multiplies earlier right) = false
-  wrong_kind known (stepping standing divides earlier right) = not standing.numbers
-  wrong_kind known (stepping standing raises earlier right) = not standing.numbers
-  wrong_kind known (logic standing) = not standing.numbers
+  wrong_kind known (stepping context multiplies earlier right) = false
+  wrong_kind known (stepping context divides earlier right) = not context.numbers
+  wrong_kind known (stepping context raises earlier right) = not context.numbers
+  wrong_kind known (logic context) = not context.numbers
   wrong_kind known (assigning name suffix indices) =
       not (may_be_assigned (declared_kind known.state name) suffix) || has_wrong_set known (index_sets indices)
   wrong_kind known (defining name indices) = not (is_equation (declared_kind known.state name)) || has_wrong_set known (index_sets indices)
-  wrong_kind known (shifting amount) = not (is_left_amount known amount)
+  wrong_kind known (shifting amount) = not (is_target_amount known amount)
   wrong_kind known (bounding name) = not (is_index_set known.state name)
   wrong_kind known (first_alias first second) = not (has_no_declaration known.state first) && not (is_set_name known.state first)
   wrong_kind known (second_alias first second) = not (has_no_declaration known.state second) && not (is_set_name known.state second)
@@ -108,5 +108,5 @@ module _ {F : Type 0} where
 
   -- Function: a function that is left out, or that takes another number of arguments
   abbrev pub wrong_function : Known F → Use F → Bool
-  wrong_function known (calling standing function args) = not (takes_arguments function (part_count args))
+  wrong_function known (calling context function args) = not (takes_arguments function (part_count args))
   wrong_function known used = false

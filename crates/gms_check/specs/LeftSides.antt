@@ -18,11 +18,11 @@ is_fixed_amount (tree.reference at name suffix.None tree.no_index) = true
 is_fixed_amount e = false
 
 -- each set among indices has one dimension, and each amount of a lag is a number or a scalar
-abbrev pub AreLeftIndices : {F : Type 0} → State → tree.Indices F → Type 0
-AreLeftIndices state tree.no_index = Unit {0}
-AreLeftIndices state (tree.label label rest) = AreLeftIndices state rest
-AreLeftIndices state (tree.set name rest) = (is_index_set state name ≡ true) × AreLeftIndices state rest
-AreLeftIndices state (tree.lagged name op at amount rest) = (is_index_set state name ≡ true) × ((is_fixed_amount amount ≡ true) × AreLeftIndices state rest)
+abbrev pub AreTargetIndices : {F : Type 0} → State → tree.Indices F → Type 0
+AreTargetIndices state tree.no_index = Unit {0}
+AreTargetIndices state (tree.label label rest) = AreTargetIndices state rest
+AreTargetIndices state (tree.set name rest) = (is_index_set state name ≡ true) × AreTargetIndices state rest
+AreTargetIndices state (tree.lagged name op at amount rest) = (is_index_set state name ≡ true) × ((is_fixed_amount amount ≡ true) × AreTargetIndices state rest)
 
 module _ {F : Type 0} where
   -- A loop whose body has a statement with a property.
@@ -37,6 +37,6 @@ module _ {F : Type 0} where
     pub holds : Inner next
 
   -- a statement is another one, or `depth` loops deep in it
-  abbrev pub StandsIn : ℕ → Stmt F → Stmt F → Type 0
-  StandsIn zero inner outer = outer ≡ inner
-  StandsIn (suc depth) inner outer = IsIn (StandsIn depth inner) outer
+  abbrev pub IsNestedIn : ℕ → Stmt F → Stmt F → Type 0
+  IsNestedIn zero inner outer = outer ≡ inner
+  IsNestedIn (suc depth) inner outer = IsIn (IsNestedIn depth inner) outer

@@ -47,17 +47,17 @@ module _ {F : Type 0} where
   -- operands with variables, a division by one, one as base or exponent of a power, and a function,
   -- prod, smin or smax of one
   abbrev pub nonlinear : Known F → Use F → Bool
-  nonlinear known (stepping standing multiplies earlier right) =
-      standing.variables && (list_any (has_variable known) earlier && has_variable known right)
-  nonlinear known (stepping standing divides earlier right) = standing.variables && has_variable known right
-  nonlinear known (stepping standing raises earlier right) =
-      standing.variables && (list_any (has_variable known) earlier || has_variable known right)
-  nonlinear known (calling standing function args) = standing.variables && have_variable known args
-  nonlinear known (folding standing op body) = standing.variables && (not (is_sum op) && has_variable known body)
+  nonlinear known (stepping context multiplies earlier right) =
+      context.variables && (list_any (has_variable known) earlier && has_variable known right)
+  nonlinear known (stepping context divides earlier right) = context.variables && has_variable known right
+  nonlinear known (stepping context raises earlier right) =
+      context.variables && (list_any (has_variable known) earlier || has_variable known right)
+  nonlinear known (calling context function args) = context.variables && have_variable known args
+  nonlinear known (folding context op body) = context.variables && (not (is_sum op) && has_variable known body)
   nonlinear known used = false
 
   -- Endogenous: a variable without suffix is displayed, or occurs where the context admits none
   abbrev pub endogenous : Known F → Use F → Bool
-  endogenous known (reading standing controlled name suffix indices) = not standing.variables && is_variable_by known name suffix
+  endogenous known (reading context controlled name suffix indices) = not context.variables && is_variable_by known name suffix
   endogenous known (showing name suffix) = is_variable_by known name suffix
   endogenous known used = false

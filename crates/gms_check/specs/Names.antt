@@ -38,9 +38,9 @@ repeats_domain state domain old = same_domain state domain old
 module _ {F : Type 0} where
   -- the names that a use requires to be declared before
   abbrev pub names_used : Use F → List ℕ
-  names_used (reading standing controlled name suffix indices) = name ∷ index_sets indices
-  names_used (ordinal standing controlled name) = name ∷ []
-  names_used (cardinal standing name) = name ∷ []
+  names_used (reading context controlled name suffix indices) = name ∷ index_sets indices
+  names_used (ordinal context controlled name) = name ∷ []
+  names_used (cardinal context name) = name ∷ []
   names_used (controlling controlled sets) = sets
   names_used (assigning name suffix indices) = name ∷ index_sets indices
   names_used (defining name indices) = name ∷ index_sets indices

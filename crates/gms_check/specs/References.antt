@@ -23,7 +23,7 @@ use Rattle.gms_ast.specs.declared.word.Named.{Named}
 use Rattle.gms_ast.specs.TreeView.{tree_of, control_tree}
 use Rattle.gms_ast.specs.Trees.{Mark, Tree, reference, place_in_set, call, fold_over, negated, sum, product, power, relation, not_so, all_of, one_of, guarded, Parts, part, Indices, label, set, lagged, Control, over_where}
 use Rattle.gms_scope.specs.Names.{is_index_set}
-use Rattle.gms_check.specs.declared.contexts.Standing.{Standing}
+use Rattle.gms_check.specs.declared.contexts.Context.{Context}
 use Rattle.gms_check.specs.Checked.{IsReading}
 use Rattle.gms_check.specs.Controls.{is_ordered}
 use Rattle.gms_check.specs.Past.{Known, is_among}
@@ -147,5 +147,5 @@ module _ {F : Type 0} where
   -- a reference has a meaning at its place; the set of an `ord` is one-dimensional, controlled and
   -- ordered
   abbrev pub IsMeant : Known F → List ℕ → Asking F → Type 0
-  IsMeant known within (reads name suffix indices) = (standing : Standing) × IsReading known standing within name suffix indices
+  IsMeant known within (reads name suffix indices) = (context : Context) × IsReading known context within name suffix indices
   IsMeant known within (orders name) = (is_index_set known.state name ≡ true) × (is_among within name ≡ true) × (is_ordered known name ≡ true)

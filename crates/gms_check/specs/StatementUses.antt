@@ -18,12 +18,12 @@ use Rattle.gms_ast.specs.Trees.{Tree, Indices}
 use Rattle.gms_ast.specs.TreeView.{indices_of, tree_of, index_tree, control_tree}
 use Rattle.gms_store.specs.State.{State, symbol_at}
 use Rattle.gms_store.specs.Declarations.{is_set}
-use Rattle.gms_check.specs.declared.contexts.Standing.{Standing}
+use Rattle.gms_check.specs.declared.contexts.Context.{Context}
 use Rattle.gms_check.specs.Contexts.{as_number, as_side, as_members}
 use Rattle.gms_check.specs.Uses.{Use, Uses, assigning, defining, first_alias, second_alias, solving, method, optimizing, showing, option_word, option_value, sets_of_control, index_sets, uses, control_uses, shift_uses, condition_uses}
 
 -- the context of the right side of an assignment to a name
-abbrev pub right_standing : State → ℕ → Standing
+abbrev pub right_standing : State → ℕ → Context
 right_standing state name = if is_set (symbol_at state name).content then as_members else as_number
 
 -- what a statement uses, by what is declared and the sets that are controlled

@@ -10,7 +10,7 @@ use Rattle.gms_ast.specs.declared.declaration.DeclKind.{DeclKind}
 use Rattle.gms_ast.specs.declared.program.Setting.{Setting}
 use Rattle.gms_ast.specs.Trees.{Mark, plain, placed, signed, related, chosen, Tree, number, plus_infinity, not_available, yes, no, reference, place_in_set, size_of_set, call, fold_over, negated, sum, product, power, relation, not_so, all_of, one_of, guarded, Parts, no_part, part, Indices, no_index, label, set, lagged, Control, over, over_where}
 use Rattle.gms_set.specs.declared.fault.SetError.{SetError}
-use Rattle.gms_check.specs.declared.contexts.Standing.{Standing}
+use Rattle.gms_check.specs.declared.contexts.Context.{Context}
 use Rattle.gms_check.specs.Contexts.{as_number, as_condition, as_part, as_guarded, as_inner, as_denied}
 
 -- A step between two operands.
@@ -22,25 +22,25 @@ pub data Operation : Type 0 where
 -- What is used at a place. Names are numbers in the program's table.
 pub data Use (F : Type 0) : Type 0 where
   -- a number, an infinity or NA
-  literal : Standing → Use F
+  literal : Context → Use F
   -- `yes` or `no`
-  truth : Standing → Use F
+  truth : Context → Use F
   -- a reference, where these sets are controlled: name, suffix and indices
-  reading : Standing → List ℕ → ℕ → Suffix → Indices F → Use F
+  reading : Context → List ℕ → ℕ → Suffix → Indices F → Use F
   -- `ord` of a set, where these sets are controlled
-  ordinal : Standing → List ℕ → ℕ → Use F
+  ordinal : Context → List ℕ → ℕ → Use F
   -- `card` of a set
-  cardinal : Standing → ℕ → Use F
+  cardinal : Context → ℕ → Use F
   -- a function of arguments
-  calling : Standing → Function → Parts F → Use F
+  calling : Context → Function → Parts F → Use F
   -- a sum or another fold, of this body
-  folding : Standing → FoldOp → Tree F → Use F
+  folding : Context → FoldOp → Tree F → Use F
   -- sets that a fold or a loop controls, where others are controlled already
   controlling : List ℕ → List ℕ → Use F
   -- a step: the operands before it, and its right operand
-  stepping : Standing → Operation → List (Tree F) → Tree F → Use F
+  stepping : Context → Operation → List (Tree F) → Tree F → Use F
   -- relations, `and`, `or` and `xor`
-  logic : Standing → Use F
+  logic : Context → Use F
   -- what an assignment assigns: name, suffix and indices
   assigning : ℕ → Suffix → Indices F → Use F
   -- an equation that is defined, by these indices
@@ -108,48 +108,48 @@ module _ {F : Type 0} where
   index_sets (lagged name op at amount rest) = name ∷ index_sets rest
 
   -- the steps of the parts after these operands
-  abbrev pub later_steps : Standing → Place → List (Tree F) → Parts F → Uses F
-  later_steps standing around earlier no_part = []
-  later_steps standing around earlier (part mark tree rest) =
-      (place_by_mark mark around, stepping standing (operation_of mark) earlier tree) ∷ later_steps standing around (earlier ++ tree ∷ []) rest
+  abbrev pub later_steps : Context → Place → List (Tree F) → Parts F → Uses F
+  later_steps context around earlier no_part = []
+  later_steps context around earlier (part mark tree rest) =
+      (place_by_mark mark around, stepping context (operation_of mark) earlier tree) ∷ later_steps context around (earlier ++ tree ∷ []) rest
 
   -- the steps of a product or a power: one for each part except the first
-  abbrev pub steps : Standing → Place → Parts F → Uses F
-  steps standing around no_part = []
-  steps standing around (part mark tree rest) = later_steps standing around (tree ∷ []) rest
+  abbrev pub steps : Context → Place → Parts F → Uses F
+  steps context around no_part = []
+  steps context around (part mark tree rest) = later_steps context around (tree ∷ []) rest
 
 abbrev mutual
   -- what an expression uses in a context, with a place around it, under these controlled sets
-  pub uses : {F : Type 0} → Standing → Place → List ℕ → Tree F → Uses F
-  uses standing around controlled (number n) = (around, literal standing) ∷ []
-  uses standing around controlled plus_infinity = (around, literal standing) ∷ []
-  uses standing around controlled not_available = (around, literal standing) ∷ []
-  uses standing around controlled yes = (around, truth standing) ∷ []
-  uses standing around controlled no = (around, truth standing) ∷ []
-  uses standing around controlled (reference at name suffix indices) =
-      (at, reading standing controlled name suffix indices) ∷ amount_uses controlled indices
-  uses standing around controlled (place_in_set at name) = (at, ordinal standing controlled name) ∷ []
-  uses standing around controlled (size_of_set at name) = (at, cardinal standing name) ∷ []
-  uses standing around controlled (call at function args) =
-      (at, calling standing function args) ∷ part_uses (as_inner standing) at controlled args
-  uses standing around controlled (fold_over at op control body) =
-      (at, folding standing op body) ∷ (control_uses at controlled control ++ uses (as_inner standing) at (controlled ++ sets_of_control control) body)
-  uses standing around controlled (negated operand) = uses (as_part standing) around controlled operand
-  uses standing around controlled (sum parts) = part_uses (as_part standing) around controlled parts
-  uses standing around controlled (product parts) = part_uses (as_part standing) around controlled parts ++ steps standing around parts
-  uses standing around controlled (power parts) = part_uses (as_part standing) around controlled parts ++ steps standing around parts
-  uses standing around controlled (relation parts) = (around, logic standing) ∷ part_uses as_number around controlled parts
-  uses standing around controlled (not_so operand) = uses (as_denied standing) around controlled operand
-  uses standing around controlled (all_of parts) = (around, logic standing) ∷ part_uses as_condition around controlled parts
-  uses standing around controlled (one_of parts) = (around, logic standing) ∷ part_uses as_condition around controlled parts
-  uses standing around controlled (guarded operand guards) =
-      uses (as_guarded standing) around controlled operand ++ part_uses as_condition around controlled guards
+  pub uses : {F : Type 0} → Context → Place → List ℕ → Tree F → Uses F
+  uses context around controlled (number n) = (around, literal context) ∷ []
+  uses context around controlled plus_infinity = (around, literal context) ∷ []
+  uses context around controlled not_available = (around, literal context) ∷ []
+  uses context around controlled yes = (around, truth context) ∷ []
+  uses context around controlled no = (around, truth context) ∷ []
+  uses context around controlled (reference at name suffix indices) =
+      (at, reading context controlled name suffix indices) ∷ amount_uses controlled indices
+  uses context around controlled (place_in_set at name) = (at, ordinal context controlled name) ∷ []
+  uses context around controlled (size_of_set at name) = (at, cardinal context name) ∷ []
+  uses context around controlled (call at function args) =
+      (at, calling context function args) ∷ part_uses (as_inner context) at controlled args
+  uses context around controlled (fold_over at op control body) =
+      (at, folding context op body) ∷ (control_uses at controlled control ++ uses (as_inner context) at (controlled ++ sets_of_control control) body)
+  uses context around controlled (negated operand) = uses (as_part context) around controlled operand
+  uses context around controlled (sum parts) = part_uses (as_part context) around controlled parts
+  uses context around controlled (product parts) = part_uses (as_part context) around controlled parts ++ steps context around parts
+  uses context around controlled (power parts) = part_uses (as_part context) around controlled parts ++ steps context around parts
+  uses context around controlled (relation parts) = (around, logic context) ∷ part_uses as_number around controlled parts
+  uses context around controlled (not_so operand) = uses (as_denied context) around controlled operand
+  uses context around controlled (all_of parts) = (around, logic context) ∷ part_uses as_condition around controlled parts
+  uses context around controlled (one_of parts) = (around, logic context) ∷ part_uses as_condition around controlled parts
+  uses context around controlled (guarded operand guards) =
+      uses (as_guarded context) around controlled operand ++ part_uses as_condition around controlled guards
 
   -- what the parts of a node use, in sequence
-  pub part_uses : {F : Type 0} → Standing → Place → List ℕ → Parts F → Uses F
-  part_uses standing around controlled no_part = []
-  part_uses standing around controlled (part mark tree rest) =
-      uses standing (place_by_mark mark around) controlled tree ++ part_uses standing around controlled rest
+  pub part_uses : {F : Type 0} → Context → Place → List ℕ → Parts F → Uses F
+  part_uses context around controlled no_part = []
+  part_uses context around controlled (part mark tree rest) =
+      uses context (place_by_mark mark around) controlled tree ++ part_uses context around controlled rest
 
   -- what the amounts of lags use
   pub amount_uses : {F : Type 0} → List ℕ → Indices F → Uses F

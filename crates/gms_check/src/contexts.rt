@@ -7,7 +7,7 @@ use gms_store::SymbolKind;
 
 /// What may occur at a place of an expression.
 #[derive(Clone, Copy, Debug, PartialEq, Eq)]
-pub struct Standing {
+pub struct Context {
     /// What has a number: literals, parameters, attributes, functions, sums and the like,
     /// relations, `and` and `or`.
     pub numbers: bool,
@@ -19,10 +19,10 @@ pub struct Standing {
     pub membership: bool,
 }
 
-impl Standing {
+impl Context {
     /// A number is expected: in an assignment to a parameter or an attribute, in a relation, as an
     /// argument, as the amount of a lag.
-    pub(crate) const NUMBER: Standing = Standing {
+    pub(crate) const NUMBER: Context = Context {
         numbers: true,
         variables: false,
         sets: false,
@@ -30,7 +30,7 @@ impl Standing {
     };
 
     /// One side of an equation, in which variables may occur.
-    pub(crate) const SIDE: Standing = Standing {
+    pub(crate) const SIDE: Context = Context {
         numbers: true,
         variables: true,
         sets: false,
@@ -38,7 +38,7 @@ impl Standing {
     };
 
     /// A condition, or an operand of `and`, `or`, `xor` and `not`.
-    pub(crate) const CONDITION: Standing = Standing {
+    pub(crate) const CONDITION: Context = Context {
         numbers: true,
         variables: false,
         sets: true,
@@ -46,7 +46,7 @@ impl Standing {
     };
 
     /// The right side of an assignment to a set.
-    pub(crate) const MEMBERS: Standing = Standing {
+    pub(crate) const MEMBERS: Context = Context {
         numbers: false,
         variables: false,
         sets: true,
@@ -54,27 +54,27 @@ impl Standing {
     };
 
     /// What may occur in a part of a sum, a product or a power, or in an operand with a sign.
-    pub(crate) fn part(self) -> Standing
+    pub(crate) fn part(self) -> Context
         ensures { result ≡ as_part self }
     {
-        Standing {
+        Context {
             sets: self.membership,
             ..self
         }
     }
 
     /// What may occur in the left operand of `$`.
-    pub(crate) fn guarded(self) -> Standing
+    pub(crate) fn guarded(self) -> Context
         ensures { result ≡ as_guarded self }
     {
-        Standing { sets: true, ..self }
+        Context { sets: true, ..self }
     }
 
     /// What may occur in an argument of a function, or in the body of a sum and the like.
-    pub(crate) fn inner(self) -> Standing
+    pub(crate) fn inner(self) -> Context
         ensures { result ≡ as_inner self }
     {
-        Standing {
+        Context {
             numbers: true,
             variables: self.variables,
             sets: false,
@@ -83,13 +83,13 @@ impl Standing {
     }
 
     /// What may occur in the operand of `not`.
-    pub(crate) fn denied(self) -> Standing
+    pub(crate) fn denied(self) -> Context
         ensures { result ≡ as_denied self }
     {
         if self.membership {
             self
         } else {
-            Standing::CONDITION
+            Context::CONDITION
         }
     }
 

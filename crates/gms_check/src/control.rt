@@ -9,7 +9,7 @@ ghost use Rattle.gms_check.specs.declared.error.ErrorKind.TheVariants.{UnknownNa
 use crate::checker::Checker;
 use crate::error::ErrorKind;
 use crate::indices::{MOST, has_unknown, has_wrong_set};
-use crate::contexts::Standing;
+use crate::contexts::Context;
 use gms_labels::Place;
 use gq_field::ExactField;
 use std::alloc::AllocError;
@@ -52,24 +52,24 @@ impl<'s, F: ExactField> Checker<'s, F> {
     }
 
     /// Checks `ord` of a set. Answers whether it has variables: it has none.
-    pub fn ordinal(&mut self, standing: Standing, at: Place, set: u32) -> bool
-        ensures noted { seen self.new ≡ noted F.value (seen self.old) ((at, ordinal standing (seen self.old).controlled set) ∷ []) }
+    pub fn ordinal(&mut self, context: Context, at: Place, set: u32) -> bool
+        ensures noted { seen self.new ≡ noted F.value (seen self.old) ((at, ordinal context (seen self.old).controlled set) ∷ []) }
         ensures variable { result ≡ false }
     {
         let controlled = self.controlled.has(set);
         let ordered = self.known.is_ordered(set);
-        let variable = self.cardinal(standing, at, set);
+        let variable = self.cardinal(context, at, set);
         self.require(controlled, ErrorKind::Uncontrolled, at);
         self.require(ordered, ErrorKind::NotOrdered, at);
         variable
     }
 
     /// Checks `card` of a set. Answers whether it has variables: it has none.
-    pub fn cardinal(&mut self, standing: Standing, at: Place, set: u32) -> bool
-        ensures noted { seen self.new ≡ noted F.value (seen self.old) ((at, cardinal standing set) ∷ []) }
+    pub fn cardinal(&mut self, context: Context, at: Place, set: u32) -> bool
+        ensures noted { seen self.new ≡ noted F.value (seen self.old) ((at, cardinal context set) ∷ []) }
         ensures variable { result ≡ false }
     {
-        let stands = standing.numbers && self.known.is_set(set);
+        let stands = context.numbers && self.known.is_set(set);
         self.require_known(set, at);
         self.require(stands, ErrorKind::WrongKind, at);
         false

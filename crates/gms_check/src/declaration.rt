@@ -176,12 +176,12 @@ impl<'s, F: ExactField> Checker<'s, F> {
     }
 
     /// Checks that each item of data has as many parts as there are positions.
-    fn parts(&mut self, due: usize, items: &[Item<F>])
+    fn parts(&mut self, expected: usize, items: &[Item<F>])
         ensures { seen self.new
-            ≡ noted F.value (seen self.old) (map (λ (item : Item F). (item.at, placing due (length item.parts))) items.now) }
+            ≡ noted F.value (seen self.old) (map (λ (item : Item F). (item.at, placing expected (length item.parts))) items.now) }
     {
         for item in items {
-            let miscounted = is_wrong_count(due, item.parts.len());
+            let miscounted = is_wrong_count(expected, item.parts.len());
             self.require(!miscounted, ErrorKind::WrongArity, item.at);
         }
     }
@@ -287,12 +287,12 @@ fn declares_variables(kind: DeclKind) -> bool
     )
 }
 
-/// How many of the first items have `due` parts.
-fn first_whole<F>(due: usize, items: &[Item<F>]) -> usize
-    ensures { result ≡ length (take_while (λ (item : Item F). not (is_wrong_count due (length item.parts))) items.now) }
+/// How many of the first items have `expected` parts.
+fn first_whole<F>(expected: usize, items: &[Item<F>]) -> usize
+    ensures { result ≡ length (take_while (λ (item : Item F). not (is_wrong_count expected (length item.parts))) items.now) }
 {
     for (i, item) in items.iter().enumerate() {
-        if is_wrong_count(due, item.parts.len()) {
+        if is_wrong_count(expected, item.parts.len()) {
             return i;
         }
     }

@@ -12,7 +12,7 @@ ghost use Rattle.gms_check.specs.Uses.{amount_uses, calling, control_uses, foldi
 
 use crate::checker::Checker;
 use crate::error::ErrorKind;
-use crate::contexts::Standing;
+use crate::contexts::Context;
 use gms_ast::{Control, Expr, FoldOp, Function, Index, Named, RelOp, Suffix};
 use gms_labels::Place;
 use gq_field::ExactField;
@@ -35,38 +35,38 @@ impl<'s, F: ExactField> Checker<'s, F> {
     pub fn expression(
         &mut self,
         e: &Expr<F>,
-        standing: Standing,
+        context: Context,
         around: Place,
     ) -> Result<bool, AllocError>
-        ensures noted { OnOk result (seen self.new ≡ noted F.value (seen self.old) (uses standing around (seen self.old).controlled (tree_of e.now))) }
+        ensures noted { OnOk result (seen self.new ≡ noted F.value (seen self.old) (uses context around (seen self.old).controlled (tree_of e.now))) }
         ensures variable { IfOk result (λ variable. variable ≡ has_variable (known_of F.value (seen self.old)) (tree_of e.now)) }
     {
         match e {
-            Expr::Number(_) | Expr::PlusInf | Expr::Na => Ok(self.leaf(standing.numbers, around)),
-            Expr::Yes | Expr::No => Ok(self.leaf(standing.membership, around)),
+            Expr::Number(_) | Expr::PlusInf | Expr::Na => Ok(self.leaf(context.numbers, around)),
+            Expr::Yes | Expr::No => Ok(self.leaf(context.membership, around)),
             Expr::Ref {
                 at,
                 name,
                 suffix,
                 indices,
-            } => self.referred(standing, *at, *name, *suffix, indices),
-            Expr::Ord { at, set } => Ok(self.ordinal(standing, *at, *set)),
-            Expr::Card { at, set } => Ok(self.cardinal(standing, *at, *set)),
-            Expr::Call { at, function, args } => self.call(standing, *at, *function, args),
-            Expr::Neg(operand) => self.expression(operand, standing.part(), around),
-            Expr::Plus(parts) => self.sum(parts, standing),
-            Expr::Times(parts) => self.product(parts, standing),
-            Expr::Power(parts) => self.power(parts, standing),
-            Expr::Relate(parts) => self.relations(parts, standing, around),
+            } => self.referred(context, *at, *name, *suffix, indices),
+            Expr::Ord { at, set } => Ok(self.ordinal(context, *at, *set)),
+            Expr::Card { at, set } => Ok(self.cardinal(context, *at, *set)),
+            Expr::Call { at, function, args } => self.call(context, *at, *function, args),
+            Expr::Neg(operand) => self.expression(operand, context.part(), around),
+            Expr::Plus(parts) => self.sum(parts, context),
+            Expr::Times(parts) => self.product(parts, context),
+            Expr::Power(parts) => self.power(parts, context),
+            Expr::Relate(parts) => self.relations(parts, context, around),
             Expr::Not(operand) => {
-                let _operand = self.expression(operand, standing.denied(), around)?;
+                let _operand = self.expression(operand, context.denied(), around)?;
                 Ok(false)
             }
-            Expr::And(parts) => self.all_of(parts, standing, around),
-            Expr::Or(parts) => self.choice(parts, standing, around),
+            Expr::And(parts) => self.all_of(parts, context, around),
+            Expr::Or(parts) => self.choice(parts, context, around),
             Expr::Guard { operand, guards } => {
-                let variable = self.expression(operand, standing.guarded(), around)?;
-                let _guards = self.expressions(guards, Standing::CONDITION, around)?;
+                let variable = self.expression(operand, context.guarded(), around)?;
+                let _guards = self.expressions(guards, Context::CONDITION, around)?;
                 Ok(variable)
             }
             Expr::Fold {
@@ -77,7 +77,7 @@ impl<'s, F: ExactField> Checker<'s, F> {
             } => {
                 let outer = self.controlled.len();
                 self.control(control, *at)?;
-                self.folded(standing, *at, *op, body, outer)
+                self.folded(context, *at, *op, body, outer)
             }
         }
     }
@@ -96,18 +96,18 @@ impl<'s, F: ExactField> Checker<'s, F> {
     #[cycle(expression)]
     fn referred(
         &mut self,
-        standing: Standing,
+        context: Context,
         at: Place,
         name: u32,
         suffix: Suffix,
         indices: &[Index<F>],
     ) -> Result<bool, AllocError>
         ensures noted { OnOk result (seen self.new
-            ≡ noted F.value (seen self.old) ((at, reading standing (seen self.old).controlled name suffix (index_list indices.now)) ∷ amount_uses (seen self.old).controlled (index_list indices.now))) }
+            ≡ noted F.value (seen self.old) ((at, reading context (seen self.old).controlled name suffix (index_list indices.now)) ∷ amount_uses (seen self.old).controlled (index_list indices.now))) }
         ensures variable { IfOk result (λ variable. variable ≡ is_variable_by (known_of F.value (seen self.old)) name suffix) }
     {
         let named = Named { at, name };
-        let variable = self.reference(standing, named, suffix, indices)?;
+        let variable = self.reference(context, named, suffix, indices)?;
         self.amounts(indices)?;
         Ok(variable)
     }
@@ -117,20 +117,20 @@ impl<'s, F: ExactField> Checker<'s, F> {
     #[cycle(expression)]
     fn folded(
         &mut self,
-        standing: Standing,
+        context: Context,
         at: Place,
         op: FoldOp,
         body: &Expr<F>,
         outer: usize,
     ) -> Result<bool, AllocError>
         ensures noted { OnOk result (seen self.new
-            ≡ with_sets (noted F.value (seen self.old) ((at, folding standing op (tree_of body.now)) ∷ uses (as_inner standing) at (seen self.old).controlled (tree_of body.now))) (take outer (seen self.old).controlled)) }
+            ≡ with_sets (noted F.value (seen self.old) ((at, folding context op (tree_of body.now)) ∷ uses (as_inner context) at (seen self.old).controlled (tree_of body.now))) (take outer (seen self.old).controlled)) }
         ensures variable { IfOk result (λ variable. variable ≡ has_variable (known_of F.value (seen self.old)) (tree_of body.now)) }
     {
-        self.require(standing.numbers, ErrorKind::WrongKind, at);
-        let variable = self.expression(body, standing.inner(), at)?;
+        self.require(context.numbers, ErrorKind::WrongKind, at);
+        let variable = self.expression(body, context.inner(), at)?;
         self.controlled.truncate(outer);
-        self.fold_step(standing, op, variable, at);
+        self.fold_step(context, op, variable, at);
         Ok(variable)
     }
 
@@ -139,15 +139,15 @@ impl<'s, F: ExactField> Checker<'s, F> {
     fn expressions(
         &mut self,
         parts: &[Expr<F>],
-        standing: Standing,
+        context: Context,
         around: Place,
     ) -> Result<bool, AllocError>
-        ensures noted { OnOk result (seen self.new ≡ noted F.value (seen self.old) (part_uses standing around (seen self.old).controlled (plain_list parts.now))) }
+        ensures noted { OnOk result (seen self.new ≡ noted F.value (seen self.old) (part_uses context around (seen self.old).controlled (plain_list parts.now))) }
         ensures variable { IfOk result (λ variable. variable ≡ have_variable (known_of F.value (seen self.old)) (plain_list parts.now)) }
     {
         let mut variable = false;
         for part in parts {
-            variable |= self.expression(part, standing, around)?;
+            variable |= self.expression(part, context, around)?;
         }
         Ok(variable)
     }
@@ -161,7 +161,7 @@ impl<'s, F: ExactField> Checker<'s, F> {
             if let Index::Set { lag, .. } = index
                 && let Some((_op, at, amount)) = lag
             {
-                let _variable = self.expression(amount, Standing::NUMBER, *at)?;
+                let _variable = self.expression(amount, Context::NUMBER, *at)?;
             }
         }
         Ok(())
@@ -171,19 +171,19 @@ impl<'s, F: ExactField> Checker<'s, F> {
     #[cycle(expression)]
     fn call(
         &mut self,
-        standing: Standing,
+        context: Context,
         at: Place,
         function: Function,
         args: &[Expr<F>],
     ) -> Result<bool, AllocError>
         ensures noted { OnOk result (seen self.new
-            ≡ noted F.value (seen self.old) ((at, calling standing function (plain_list args.now)) ∷ part_uses (as_inner standing) at (seen self.old).controlled (plain_list args.now))) }
+            ≡ noted F.value (seen self.old) ((at, calling context function (plain_list args.now)) ∷ part_uses (as_inner context) at (seen self.old).controlled (plain_list args.now))) }
         ensures variable { IfOk result (λ variable. variable ≡ have_variable (known_of F.value (seen self.old)) (plain_list args.now)) }
     {
-        self.require(standing.numbers, ErrorKind::WrongKind, at);
+        self.require(context.numbers, ErrorKind::WrongKind, at);
         self.require(takes(function, args.len()), ErrorKind::Function, at);
-        let variable = self.expressions(args, standing.inner(), at)?;
-        self.require(!(standing.variables && variable), ErrorKind::Nonlinear, at);
+        let variable = self.expressions(args, context.inner(), at)?;
+        self.require(!(context.variables && variable), ErrorKind::Nonlinear, at);
         Ok(variable)
     }
 
@@ -196,7 +196,7 @@ impl<'s, F: ExactField> Checker<'s, F> {
     {
         self.control_sets(control.sets.as_slice(), at)?;
         if let Some(condition) = &control.condition {
-            let _variable = self.expression(condition, Standing::CONDITION, at)?;
+            let _variable = self.expression(condition, Context::CONDITION, at)?;
         }
         Ok(())
     }
@@ -206,14 +206,14 @@ impl<'s, F: ExactField> Checker<'s, F> {
     fn sum(
         &mut self,
         parts: &[(Place, bool, Expr<F>)],
-        standing: Standing,
+        context: Context,
     ) -> Result<bool, AllocError>
-        ensures noted { OnOk result (seen self.new ≡ noted F.value (seen self.old) (part_uses (as_part standing) in_no_place (seen self.old).controlled (signed_list parts.now))) }
+        ensures noted { OnOk result (seen self.new ≡ noted F.value (seen self.old) (part_uses (as_part context) in_no_place (seen self.old).controlled (signed_list parts.now))) }
         ensures variable { IfOk result (λ variable. variable ≡ have_variable (known_of F.value (seen self.old)) (signed_list parts.now)) }
     {
         let mut variable = false;
         for (at, _, part) in parts {
-            variable |= self.expression(part, standing.part(), *at)?;
+            variable |= self.expression(part, context.part(), *at)?;
         }
         Ok(variable)
     }
@@ -223,22 +223,22 @@ impl<'s, F: ExactField> Checker<'s, F> {
     fn product(
         &mut self,
         parts: &[(Place, bool, Expr<F>)],
-        standing: Standing,
+        context: Context,
     ) -> Result<bool, AllocError>
         ensures noted { OnOk result (seen self.new
-            ≡ noted F.value (seen self.old) (part_uses (as_part standing) in_no_place (seen self.old).controlled (signed_list parts.now) ++ steps standing in_no_place (signed_list parts.now))) }
+            ≡ noted F.value (seen self.old) (part_uses (as_part context) in_no_place (seen self.old).controlled (signed_list parts.now) ++ steps context in_no_place (signed_list parts.now))) }
         ensures variable { IfOk result (λ variable. variable ≡ have_variable (known_of F.value (seen self.old)) (signed_list parts.now)) }
     {
         let mut earlier = false;
         for (i, (at, divides, part)) in parts.iter().enumerate() {
-            let right = self.expression(part, standing.part(), *at)?;
+            let right = self.expression(part, context.part(), *at)?;
             if i > 0 {
                 let operation = if *divides {
                     Operation::Divides
                 } else {
                     Operation::Multiplies
                 };
-                self.step(standing, operation, earlier, right, *at);
+                self.step(context, operation, earlier, right, *at);
             }
             earlier |= right;
         }
@@ -247,16 +247,16 @@ impl<'s, F: ExactField> Checker<'s, F> {
 
     /// Checks the parts of a power and its steps.
     #[cycle(expression)]
-    fn power(&mut self, parts: &[(Place, Expr<F>)], standing: Standing) -> Result<bool, AllocError>
+    fn power(&mut self, parts: &[(Place, Expr<F>)], context: Context) -> Result<bool, AllocError>
         ensures noted { OnOk result (seen self.new
-            ≡ noted F.value (seen self.old) (part_uses (as_part standing) in_no_place (seen self.old).controlled (placed_list parts.now) ++ steps standing in_no_place (placed_list parts.now))) }
+            ≡ noted F.value (seen self.old) (part_uses (as_part context) in_no_place (seen self.old).controlled (placed_list parts.now) ++ steps context in_no_place (placed_list parts.now))) }
         ensures variable { IfOk result (λ variable. variable ≡ have_variable (known_of F.value (seen self.old)) (placed_list parts.now)) }
     {
         let mut earlier = false;
         for (i, (at, part)) in parts.iter().enumerate() {
-            let right = self.expression(part, standing.part(), *at)?;
+            let right = self.expression(part, context.part(), *at)?;
             if i > 0 {
-                self.step(standing, Operation::Raises, earlier, right, *at);
+                self.step(context, Operation::Raises, earlier, right, *at);
             }
             earlier |= right;
         }
@@ -268,16 +268,16 @@ impl<'s, F: ExactField> Checker<'s, F> {
     fn relations(
         &mut self,
         parts: &[(RelOp, Expr<F>)],
-        standing: Standing,
+        context: Context,
         around: Place,
     ) -> Result<bool, AllocError>
         ensures noted { OnOk result (seen self.new
-            ≡ noted F.value (seen self.old) ((around, logic standing) ∷ part_uses as_number around (seen self.old).controlled (related_list parts.now))) }
+            ≡ noted F.value (seen self.old) ((around, logic context) ∷ part_uses as_number around (seen self.old).controlled (related_list parts.now))) }
         ensures variable { IfOk result (λ variable. variable ≡ false) }
     {
-        self.require(standing.numbers, ErrorKind::WrongKind, around);
+        self.require(context.numbers, ErrorKind::WrongKind, around);
         for (_, part) in parts {
-            let _variable = self.expression(part, Standing::NUMBER, around)?;
+            let _variable = self.expression(part, Context::NUMBER, around)?;
         }
         Ok(false)
     }
@@ -288,15 +288,15 @@ impl<'s, F: ExactField> Checker<'s, F> {
     fn all_of(
         &mut self,
         parts: &[Expr<F>],
-        standing: Standing,
+        context: Context,
         around: Place,
     ) -> Result<bool, AllocError>
         ensures noted { OnOk result (seen self.new
-            ≡ noted F.value (seen self.old) ((around, logic standing) ∷ part_uses as_condition around (seen self.old).controlled (plain_list parts.now))) }
+            ≡ noted F.value (seen self.old) ((around, logic context) ∷ part_uses as_condition around (seen self.old).controlled (plain_list parts.now))) }
         ensures variable { IfOk result (λ variable. variable ≡ false) }
     {
-        self.require(standing.numbers, ErrorKind::WrongKind, around);
-        let _parts = self.expressions(parts, Standing::CONDITION, around)?;
+        self.require(context.numbers, ErrorKind::WrongKind, around);
+        let _parts = self.expressions(parts, Context::CONDITION, around)?;
         Ok(false)
     }
 
@@ -306,51 +306,51 @@ impl<'s, F: ExactField> Checker<'s, F> {
     fn choice(
         &mut self,
         parts: &[(bool, Expr<F>)],
-        standing: Standing,
+        context: Context,
         around: Place,
     ) -> Result<bool, AllocError>
         ensures noted { OnOk result (seen self.new
-            ≡ noted F.value (seen self.old) ((around, logic standing) ∷ part_uses as_condition around (seen self.old).controlled (chosen_list parts.now))) }
+            ≡ noted F.value (seen self.old) ((around, logic context) ∷ part_uses as_condition around (seen self.old).controlled (chosen_list parts.now))) }
         ensures variable { IfOk result (λ variable. variable ≡ false) }
     {
-        self.require(standing.numbers, ErrorKind::WrongKind, around);
+        self.require(context.numbers, ErrorKind::WrongKind, around);
         for (_, part) in parts {
-            let _variable = self.expression(part, Standing::CONDITION, around)?;
+            let _variable = self.expression(part, Context::CONDITION, around)?;
         }
         Ok(false)
     }
 
     /// Checks the step of a fold, by whether its body has variables.
-    fn fold_step(&mut self, standing: Standing, op: FoldOp, variable: bool, at: Place)
-        ensures { seen self.new ≡ faulted (seen self.old) at ((standing.variables && (not (is_sum op) && variable), Nonlinear) ∷ []) }
+    fn fold_step(&mut self, context: Context, op: FoldOp, variable: bool, at: Place)
+        ensures { seen self.new ≡ faulted (seen self.old) at ((context.variables && (not (is_sum op) && variable), Nonlinear) ∷ []) }
     {
         let linear = is_linear_fold(op, variable);
-        self.require_linear(standing, linear, at);
+        self.require_linear(context, linear, at);
     }
 
     /// Checks a step at its right operand, by whether the operands before it and the right one have
     /// variables.
     fn step(
         &mut self,
-        standing: Standing,
+        context: Context,
         operation: Operation,
         earlier: bool,
         right: bool,
         at: Place,
     )
-        ensures { seen self.new ≡ faulted (seen self.old) at (step_faults standing operation earlier right) }
+        ensures { seen self.new ≡ faulted (seen self.old) at (step_faults context operation earlier right) }
     {
-        let stands = may_step(standing, operation);
+        let stands = may_step(context, operation);
         let linear = is_linear_step(operation, earlier, right);
         self.require(stands, ErrorKind::WrongKind, at);
-        self.require_linear(standing, linear, at);
+        self.require_linear(context, linear, at);
     }
 
     /// Checks that a step in an equation is linear.
-    fn require_linear(&mut self, standing: Standing, linear: bool, at: Place)
-        ensures { seen self.new ≡ faulted (seen self.old) at ((standing.variables && not linear, Nonlinear) ∷ []) }
+    fn require_linear(&mut self, context: Context, linear: bool, at: Place)
+        ensures { seen self.new ≡ faulted (seen self.old) at ((context.variables && not linear, Nonlinear) ∷ []) }
     {
-        let curved = standing.variables && !linear;
+        let curved = context.variables && !linear;
         self.require(!curved, ErrorKind::Nonlinear, at);
     }
 }
@@ -366,12 +366,12 @@ fn is_linear_fold(op: FoldOp, variable: bool) -> bool
 }
 
 /// Whether a step admits operands of their kind.
-fn may_step(standing: Standing, operation: Operation) -> bool
-    ensures { not result ≡ step_wrong standing operation }
+fn may_step(context: Context, operation: Operation) -> bool
+    ensures { not result ≡ step_wrong context operation }
 {
     match operation {
         Operation::Multiplies => true,
-        Operation::Divides | Operation::Raises => standing.numbers,
+        Operation::Divides | Operation::Raises => context.numbers,
     }
 }
 

@@ -21,10 +21,10 @@ use std::alloc::{AllocError, Global};
 pub const MOST: usize = 10;
 
 /// Whether a number of indices is not the expected one, or over 10.
-pub fn is_wrong_count(due: usize, count: usize) -> bool
-    ensures { result ≡ is_wrong_count due count }
+pub fn is_wrong_count(expected: usize, count: usize) -> bool
+    ensures { result ≡ is_wrong_count expected count }
 {
-    count != due || count > MOST
+    count != expected || count > MOST
 }
 
 /// The sets among indices, in order.

@@ -17,9 +17,9 @@ ghost use Rattle.gms_store.specs.State.{no_symbol, symbol_at, symbol_of, value_o
 ghost use Rattle.gms_store.specs.Declarations.{names_of, positions_of};
 ghost use Rattle.gms_tuple.specs.TupleSet.{has};
 ghost use Rattle.gms_check.specs.CompileErrors.{compile_errors, known_after};
-ghost use Rattle.gms_check.specs.Checked.{IsChecked, StandsAfter};
+ghost use Rattle.gms_check.specs.Checked.{IsChecked, FollowsIn};
 ghost use Rattle.gms_check.specs.DeclaredData.{Declares, IsFree, IsUndeclared, datum_at, has_values, is_put_in, type_of, value_put};
-ghost use Rattle.gms_check.specs.LeftSides.{AreLeftIndices, StandsIn};
+ghost use Rattle.gms_check.specs.LeftSides.{AreTargetIndices, IsNestedIn};
 ghost use Rattle.gms_check.specs.Loaded.{IsAccepted, loaded, sound};
 ghost use Rattle.gms_check.specs.References.{Asking, InStatement, IsMeant};
 ghost use Rattle.gms_check.specs.StatementUses.{index_list};
@@ -49,7 +49,7 @@ pub fn checked_laws<F: ExactField>()
 /// "Programming Flow Control Features".
 pub fn reference_laws<F: ExactField>()
     ensures { (program : Program F) (solvers : List (List ℕ)) (before : List (Stmt F)) (statement : Stmt F) (depth : ℕ) (within : List ℕ) (what : Asking F) →
-        compile_errors F.value program solvers ≡ [] → StandsAfter program before statement → InStatement depth within what [] statement →
+        compile_errors F.value program solvers ≡ [] → FollowsIn program before statement → InStatement depth within what [] statement →
         IsMeant (known_after F.value program solvers (sound before)) within what }
 {}
 
@@ -58,9 +58,9 @@ pub fn reference_laws<F: ExactField>()
 /// scalar, which is the same at all elements.
 pub fn left_laws<F: ExactField>()
     ensures { (program : Program F) (solvers : List (List ℕ)) (before : List (Stmt F)) (outer inner : Stmt F) (depth : ℕ) (target : Target F) (condition : Option (Expr F)) (right_at : Place) (right : Expr F) →
-        compile_errors F.value program solvers ≡ [] → StandsAfter program before outer → StandsIn depth inner outer →
+        compile_errors F.value program solvers ≡ [] → FollowsIn program before outer → IsNestedIn depth inner outer →
         inner.act ≡ Assign target condition right_at (Value right) →
-        AreLeftIndices (known_after F.value program solvers (sound before)).state (index_list target.indices) }
+        AreTargetIndices (known_after F.value program solvers (sound before)).state (index_list target.indices) }
 {}
 
 /// What is loaded of a program that has no compile error with solvers of some names, before its

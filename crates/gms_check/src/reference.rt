@@ -13,7 +13,7 @@ use crate::indices::{
     index_sets, is_wrong_count, lagged_sets,
 };
 use crate::kinds::is_variable;
-use crate::contexts::Standing;
+use crate::contexts::Context;
 use gms_ast::{Index, Named, Show, Suffix};
 use gms_labels::Place;
 use gq_field::ExactField;
@@ -24,22 +24,22 @@ impl<'s, F: ExactField> Checker<'s, F> {
     /// without suffix.
     pub fn reference(
         &mut self,
-        standing: Standing,
+        context: Context,
         named: Named,
         suffix: Suffix,
         indices: &[Index<F>],
     ) -> Result<bool, AllocError>
         ensures noted { OnOk result (seen self.new
-            ≡ noted F.value (seen self.old) ((named.at, reading standing (seen self.old).controlled named.name suffix (index_list indices.now)) ∷ [])) }
+            ≡ noted F.value (seen self.old) ((named.at, reading context (seen self.old).controlled named.name suffix (index_list indices.now)) ∷ [])) }
         ensures variable { IfOk result (λ variable. variable ≡ is_variable_by (known_of F.value (seen self.old)) named.name suffix) }
     {
         let kind = self.known.kind(named.name);
         let variable = self.is_variable(named.name, suffix);
         let sets = index_sets(self.alloc, indices)?;
         let uncontrolled = has_uncontrolled(&self.controlled, &sets);
-        self.named(named, standing.admits(kind, suffix), indices)?;
+        self.named(named, context.admits(kind, suffix), indices)?;
         self.require(!uncontrolled, ErrorKind::Uncontrolled, named.at);
-        let stands = standing.variables || !variable;
+        let stands = context.variables || !variable;
         self.require(stands, ErrorKind::Endogenous, named.at);
         Ok(variable)
     }
@@ -105,7 +105,7 @@ impl<'s, F: ExactField> Checker<'s, F> {
     {
         let kind = self.known.kind(named.name);
         let variable = self.is_variable(named.name, suffix);
-        let stands = Standing::CONDITION.admits(kind, suffix);
+        let stands = Context::CONDITION.admits(kind, suffix);
         self.require_known(named.name, named.at);
         self.require(stands, ErrorKind::WrongKind, named.at);
         self.require(!variable, ErrorKind::Endogenous, named.at);

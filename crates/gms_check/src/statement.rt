@@ -12,7 +12,7 @@ ghost use Rattle.gms_check.specs.Uses.{assigning, control_uses, defining, index_
 
 use crate::checker::Checker;
 use crate::error::CompileError;
-use crate::contexts::Standing;
+use crate::contexts::Context;
 use gms_ast::{Act, Control, Expr, Index, Named, Right, Stmt, Target};
 use gms_labels::Place;
 use gq_field::ExactField;
@@ -142,8 +142,8 @@ impl<'s, F: ExactField> Checker<'s, F> {
     {
         let outer = self.controlled.len();
         self.left_of_assignment(at, target, condition)?;
-        let standing = self.right_standing(target.name);
-        let _variable = self.expression(right, standing, right_at)?;
+        let context = self.right_standing(target.name);
+        let _variable = self.expression(right, context, right_at)?;
         self.controlled.truncate(outer);
         Ok(())
     }
@@ -166,13 +166,13 @@ impl<'s, F: ExactField> Checker<'s, F> {
     }
 
     /// The context of the right side of an assignment to a name.
-    fn right_standing(&self, name: u32) -> Standing
+    fn right_standing(&self, name: u32) -> Context
         ensures { result ≡ right_standing (seen self.now).facts.state name }
     {
         if self.known.is_set(name) {
-            Standing::MEMBERS
+            Context::MEMBERS
         } else {
-            Standing::NUMBER
+            Context::NUMBER
         }
     }
 
@@ -188,8 +188,8 @@ impl<'s, F: ExactField> Checker<'s, F> {
         ensures { OnOk result (seen self.new
             ≡ noted F.value (with_sets (seen self.old) (take outer (seen self.old).controlled)) (uses as_side left_at (seen self.old).controlled (tree_of left.now) ++ uses as_side right_at (seen self.old).controlled (tree_of right.now))) }
     {
-        let _left = self.expression(left, Standing::SIDE, left_at)?;
-        let _right = self.expression(right, Standing::SIDE, right_at)?;
+        let _left = self.expression(left, Context::SIDE, left_at)?;
+        let _right = self.expression(right, Context::SIDE, right_at)?;
         self.controlled.truncate(outer);
         Ok(())
     }

@@ -4,7 +4,7 @@ ghost use Rattle.std.specs.Prelude.{◌≡◌, ◌∷◌, ◌&&◌, [], option_m
 ghost use Rattle.gms_ast.specs.TreeView.{tree_of};
 ghost use Rattle.gms_check.specs.InnerChecking.{known_of, noted, seen, with_controlled};
 ghost use Rattle.gms_scope.specs.Names.{declared_kind, positions};
-ghost use Rattle.gms_check.specs.Kinds.{is_left_amount, is_without_positions, may_shift};
+ghost use Rattle.gms_check.specs.Kinds.{is_target_amount, is_without_positions, may_shift};
 ghost use Rattle.gms_check.specs.OptionWords.{is_whole};
 ghost use Rattle.gms_check.specs.StatementUses.{index_list};
 ghost use Rattle.gms_check.specs.Contexts.{as_number};
@@ -14,7 +14,7 @@ use crate::checker::Checker;
 use crate::error::ErrorKind;
 use crate::indices::index_sets;
 use crate::kinds::is_equation;
-use crate::contexts::{Standing, may_be_assigned};
+use crate::contexts::{Context, may_be_assigned};
 use gms_ast::{Expr, Index, Named, Suffix, Target};
 use gms_labels::Place;
 use gms_store::SymbolKind;
@@ -92,16 +92,16 @@ impl<'s, F: ExactField> Checker<'s, F> {
         ensures { OnOk result (seen self.new
             ≡ noted F.value (seen self.old) ((at, shifting (tree_of amount.now)) ∷ uses as_number at (seen self.old).controlled (tree_of amount.now))) }
     {
-        let stands = self.is_left_amount(amount);
+        let stands = self.is_target_amount(amount);
         self.require(stands, ErrorKind::WrongKind, at);
-        let _variable = self.expression(amount, Standing::NUMBER, at)?;
+        let _variable = self.expression(amount, Context::NUMBER, at)?;
         Ok(())
     }
 
     /// Whether an amount is a whole literal or a scalar. A variable without suffix is admitted
     /// here: it is another error.
-    fn is_left_amount(&self, amount: &Expr<F>) -> bool
-        ensures { result ≡ is_left_amount (known_of F.value (seen self.now)) (tree_of amount.now) }
+    fn is_target_amount(&self, amount: &Expr<F>) -> bool
+        ensures { result ≡ is_target_amount (known_of F.value (seen self.now)) (tree_of amount.now) }
     {
         match amount {
             Expr::Number(value) => is_whole(*value),
@@ -133,7 +133,7 @@ impl<'s, F: ExactField> Checker<'s, F> {
             ≡ noted F.value (seen self.old) (condition_uses at (seen self.old).controlled (option_map tree_of condition.now))) }
     {
         if let Some(condition) = condition {
-            let _variable = self.expression(condition, Standing::CONDITION, at)?;
+            let _variable = self.expression(condition, Context::CONDITION, at)?;
         }
         Ok(())
     }

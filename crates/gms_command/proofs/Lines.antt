@@ -6,7 +6,7 @@ use Rattle.std.specs.Str.{bytes_eq}
 use Rattle.std.proofs.lemmas.Slice.Eq.{bytes_eq-Decides}
 
 -- A text that is nothing followed by an ending does not end so.
-pub lacks_ending : (text ending : List ℕ) (place : ℕ) → ((front : List ℕ) → text ≡ front ++ ending → ⊥) → bytes_eq (drop place text) ending ≡ false
+pub lacks_ending : (text ending : List ℕ) (place : ℕ) → ((prefix : List ℕ) → text ≡ prefix ++ ending → ⊥) → bytes_eq (drop place text) ending ≡ false
 lacks_ending text ending place none = by_test (bytes_eq (drop place text) ending) refl
   where
     by_test : (b : Bool) → bytes_eq (drop place text) ending ≡ b → bytes_eq (drop place text) ending ≡ false
@@ -32,10 +32,10 @@ five_pieces a b c d e = sym (append_assoc (a ++ b ++ c) d e ∙ append_assoc (a 
 -- A line of eleven pieces, grouped from the right.
 pub eleven_pieces : (a b c d e f g h i j k : List ℕ) → a ++ (b ++ (c ++ (d ++ (e ++ (f ++ (g ++ (h ++ (i ++ (j ++ k))))))))) ≡ a ++ b ++ c ++ d ++ e ++ f ++ g ++ h ++ i ++ j ++ k
 eleven_pieces a b c d e f g h i j k =
-    ap (λ (rest : List ℕ). a ++ (b ++ (c ++ (d ++ rest)))) (seven_pieces e f g h i j k) ∙ front (e ++ f ++ g ++ h ++ i ++ j) ∙ regroup
+    ap (λ (rest : List ℕ). a ++ (b ++ (c ++ (d ++ rest)))) (seven_pieces e f g h i j k) ∙ prefix (e ++ f ++ g ++ h ++ i ++ j) ∙ regroup
   where
-    front : (m : List ℕ) → a ++ (b ++ (c ++ (d ++ (m ++ k)))) ≡ a ++ b ++ c ++ d ++ m ++ k
-    front m = sym (append_assoc (a ++ b ++ c ++ d) m k ∙ append_assoc (a ++ b ++ c) d (m ++ k) ∙ append_assoc (a ++ b) c (d ++ (m ++ k)) ∙ append_assoc a b (c ++ (d ++ (m ++ k))))
+    prefix : (m : List ℕ) → a ++ (b ++ (c ++ (d ++ (m ++ k)))) ≡ a ++ b ++ c ++ d ++ m ++ k
+    prefix m = sym (append_assoc (a ++ b ++ c ++ d) m k ∙ append_assoc (a ++ b ++ c) d (m ++ k) ∙ append_assoc (a ++ b) c (d ++ (m ++ k)) ∙ append_assoc a b (c ++ (d ++ (m ++ k))))
 
     regroup : a ++ b ++ c ++ d ++ (e ++ f ++ g ++ h ++ i ++ j) ++ k ≡ a ++ b ++ c ++ d ++ e ++ f ++ g ++ h ++ i ++ j ++ k
     regroup =

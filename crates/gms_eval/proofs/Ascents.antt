@@ -25,15 +25,15 @@ all_in (labels ∷ lists) (l ∷ tuple) = list_any (λ m. nat_eq m l) labels && 
 abbrev behind_each : List (List ℕ) → List ℕ → List (List ℕ)
 behind_each tuples labels = flat_map (λ label. map (λ tuple. label ∷ tuple) tuples) labels
 
-has-behind : (m l : ℕ) (t : List ℕ) (tuples : List (List ℕ)) → has (map (λ tuple. m ∷ tuple) tuples) (l ∷ t) ≡ (nat_eq m l && has tuples t)
-has-behind m l t [] = elim (nat_eq m l) as (λ b. false ≡ (b && false)) [ true ↦ refl | false ↦ refl ]
-has-behind m l t (s ∷ tuples) =
-    ap (λ r. (nat_eq m l && same_tuple s t) || r) (has-behind m l t tuples)
+has-following : (m l : ℕ) (t : List ℕ) (tuples : List (List ℕ)) → has (map (λ tuple. m ∷ tuple) tuples) (l ∷ t) ≡ (nat_eq m l && has tuples t)
+has-following m l t [] = elim (nat_eq m l) as (λ b. false ≡ (b && false)) [ true ↦ refl | false ↦ refl ]
+has-following m l t (s ∷ tuples) =
+    ap (λ r. (nat_eq m l && same_tuple s t) || r) (has-following m l t tuples)
     ∙ elim (nat_eq m l) as (λ b. ((b && same_tuple s t) || (b && has tuples t)) ≡ (b && (same_tuple s t || has tuples t))) [ true ↦ refl | false ↦ refl ]
 
-has_not-behind : (m : ℕ) (tuples : List (List ℕ)) → has (map (λ tuple. m ∷ tuple) tuples) [] ≡ false
-has_not-behind m [] = refl
-has_not-behind m (s ∷ tuples) = has_not-behind m tuples
+has_not-following : (m : ℕ) (tuples : List (List ℕ)) → has (map (λ tuple. m ∷ tuple) tuples) [] ≡ false
+has_not-following m [] = refl
+has_not-following m (s ∷ tuples) = has_not-following m tuples
 
 -- what is one of two and another is the other and one of them
 pub either-and : (a b c : Bool) → ((a && c) || (b && c)) ≡ ((a || b) && c)
@@ -47,7 +47,7 @@ has-behind_each : (tuples : List (List ℕ)) (labels : List ℕ) (l : ℕ) (t : 
 has-behind_each tuples [] l t = refl
 has-behind_each tuples (m ∷ labels) l t =
     list_any-append (λ member. same_tuple member (l ∷ t)) (map (λ tuple. m ∷ tuple) tuples) (behind_each tuples labels)
-    ∙ ap (λ r. r || has (behind_each tuples labels) (l ∷ t)) (has-behind m l t tuples)
+    ∙ ap (λ r. r || has (behind_each tuples labels) (l ∷ t)) (has-following m l t tuples)
     ∙ ap (λ r. (nat_eq m l && has tuples t) || r) (has-behind_each tuples labels l t)
     ∙ either-and (nat_eq m l) (list_any (λ m. nat_eq m l) labels) (has tuples t)
 
@@ -55,7 +55,7 @@ has_not-behind_each : (tuples : List (List ℕ)) (labels : List ℕ) → has (be
 has_not-behind_each tuples [] = refl
 has_not-behind_each tuples (m ∷ labels) =
     list_any-append (λ member. same_tuple member []) (map (λ tuple. m ∷ tuple) tuples) (behind_each tuples labels)
-    ∙ ap (λ r. r || has (behind_each tuples labels) []) (has_not-behind m tuples)
+    ∙ ap (λ r. r || has (behind_each tuples labels) []) (has_not-following m tuples)
     ∙ has_not-behind_each tuples labels
 
 -- the elements of a product are the tuples with such labels
@@ -104,20 +104,20 @@ ordered-append (x ∷ xs) ys first second across =
     ordered-cons x (xs ++ ys) (All-append (λ y. tuple_cmp x y ≡ Less) xs ys (first-before x xs first) (All-head (λ x. All (λ y. tuple_cmp x y ≡ Less) ys) x xs across))
     (ordered-append xs ys (rest-ordered x xs first) second (All-tail (λ x. All (λ y. tuple_cmp x y ≡ Less) ys) x xs across))
 
-ordered-behind : (l : ℕ) (tuples : List (List ℕ)) → IsOrdered tuples → IsOrdered (map (λ tuple. l ∷ tuple) tuples)
-ordered-behind l [] in_order = ordered-nil
-ordered-behind l (t ∷ tuples) in_order =
+ordered-following : (l : ℕ) (tuples : List (List ℕ)) → IsOrdered tuples → IsOrdered (map (λ tuple. l ∷ tuple) tuples)
+ordered-following l [] in_order = ordered-nil
+ordered-following l (t ∷ tuples) in_order =
     ordered-cons (l ∷ t) (map (λ tuple. l ∷ tuple) tuples) (All-map (λ y. tuple_cmp (l ∷ t) y ≡ Less) (λ tuple. l ∷ tuple) tuples (All-weaker (λ y. tuple_cmp t y ≡ Less) (λ y. tuple_cmp (l ∷ t) (l ∷ y) ≡ Less) (λ y less. same-first l t y less) tuples (first-before t tuples in_order)))
-    (ordered-behind l tuples (rest-ordered t tuples in_order))
+    (ordered-following l tuples (rest-ordered t tuples in_order))
 
 every : {X : Type 0} (P : X → Type 0) → ((x : X) → P x) → (xs : List X) → All P xs
 every P always xs = λ k d l. always (get_or xs k d)
 
-all-behind : (P : List ℕ → Type 0) (tuples : List (List ℕ)) (labels : List ℕ) → All (λ m. (t : List ℕ) → P (m ∷ t)) labels → All P (behind_each tuples labels)
-all-behind P tuples [] all = All-nil P
-all-behind P tuples (m ∷ labels) all =
+all-following : (P : List ℕ → Type 0) (tuples : List (List ℕ)) (labels : List ℕ) → All (λ m. (t : List ℕ) → P (m ∷ t)) labels → All P (behind_each tuples labels)
+all-following P tuples [] all = All-nil P
+all-following P tuples (m ∷ labels) all =
     All-append P (map (λ tuple. m ∷ tuple) tuples) (behind_each tuples labels) (All-map P (λ tuple. m ∷ tuple) tuples (every (λ t. P (m ∷ t)) (All-head (λ m. (t : List ℕ) → P (m ∷ t)) m labels all) tuples))
-    (all-behind P tuples labels (All-tail (λ m. (t : List ℕ) → P (m ∷ t)) m labels all))
+    (all-following P tuples labels (All-tail (λ m. (t : List ℕ) → P (m ∷ t)) m labels all))
 
 unwrapped : (P : List ℕ → Type 0) (labels : List ℕ) → All P (map (λ label. label ∷ []) labels) → All (λ m. P (m ∷ [])) labels
 unwrapped P [] all = All-nil (λ m. P (m ∷ []))
@@ -128,10 +128,10 @@ ordered-behind_each : (tuples : List (List ℕ)) (labels : List ℕ) → AreAsce
 ordered-behind_each tuples [] ascending in_order = ordered-nil
 ordered-behind_each tuples (l ∷ labels) ascending in_order =
     let later = unwrapped (λ y. tuple_cmp (l ∷ []) y ≡ Less) labels (first-before (l ∷ []) (map (λ label. label ∷ []) labels) ascending) in
-    ordered-append (map (λ tuple. l ∷ tuple) tuples) (behind_each tuples labels) (ordered-behind l tuples in_order)
+    ordered-append (map (λ tuple. l ∷ tuple) tuples) (behind_each tuples labels) (ordered-following l tuples in_order)
     (ordered-behind_each tuples labels (rest-ordered (l ∷ []) (map (λ label. label ∷ []) labels) ascending) in_order)
     (All-map (λ x. All (λ y. tuple_cmp x y ≡ Less) (behind_each tuples labels)) (λ tuple. l ∷ tuple) tuples
-    (every (λ t. All (λ y. tuple_cmp (l ∷ t) y ≡ Less) (behind_each tuples labels)) (λ t. all-behind (λ y. tuple_cmp (l ∷ t) y ≡ Less) tuples labels (All-weaker (λ m. tuple_cmp (l ∷ []) (m ∷ []) ≡ Less) (λ m. (s : List ℕ) → tuple_cmp (l ∷ t) (m ∷ s) ≡ Less) (λ m less s. first-decides l m t s less) labels later)) tuples))
+    (every (λ t. All (λ y. tuple_cmp (l ∷ t) y ≡ Less) (behind_each tuples labels)) (λ t. all-following (λ y. tuple_cmp (l ∷ t) y ≡ Less) tuples labels (All-weaker (λ m. tuple_cmp (l ∷ []) (m ∷ []) ≡ Less) (λ m. (s : List ℕ) → tuple_cmp (l ∷ t) (m ∷ s) ≡ Less) (λ m less s. first-decides l m t s less) labels later)) tuples))
 
 -- the product of ascending lists is in order
 pub ordered-product : (lists : List (List ℕ)) → All AreAscending lists → IsOrdered (tuple_product lists)

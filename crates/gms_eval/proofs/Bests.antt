@@ -27,9 +27,9 @@ stays place shift count before = mod-eq_of_lt (let l : place + shift < count = o
 -- and where it does
 passes : (place shift count : ℕ) → place < count → shift < count → count - place ≤ shift → (place + shift) % count ≡ shift - (count - place)
 passes place shift count p s past =
-    let behind : ℕ = shift - (count - place) in
-    let e : place + shift ≡ count + behind = omega arith in
-    ap (λ n. n % count) e ∙ add-mod_left count behind ∙ mod-eq_of_lt (let l : behind < count = omega arith in l)
+    let following : ℕ = shift - (count - place) in
+    let e : place + shift ≡ count + following = omega arith in
+    ap (λ n. n % count) e ∙ add-mod_left count following ∙ mod-eq_of_lt (let l : following < count = omega arith in l)
 
 -- a place moved by an integer is the place moved by the integer's remainder
 turned : (place count : ℕ) (amount : ℤ) (shift : ℕ) → place < count → int_rem_euclid amount (pos count) ≡ pos shift → int_rem_euclid (pos place +ℤ amount) (pos count) ≡ pos ((place + shift) % count)

@@ -27,9 +27,9 @@ use Rattle.gms_eval.specs.Bindings.{Pairs, label_of, paired, controlled}
 use Rattle.gms_eval.specs.Domain.{elements}
 use Rattle.gms_eval.specs.Faults.{Answer, nothing, ◌and_then◌}
 use Rattle.gms_eval.specs.References.{all_there, tuple_of, plain_value}
-use Rattle.gms_eval.specs.InnerLeading.{walked, spread_over, plain_so, Leads, tuple_answer, entry_holds}
+use Rattle.gms_eval.specs.InnerLeading.{traversed, spread_over, plain_so, Leads, tuple_answer, entry_holds}
 use Rattle.gms_eval.specs.Value.{label_answer}
-use Rattle.gms_eval.specs.declared.traversals.Walk.{Walk}
+use Rattle.gms_eval.specs.declared.traversals.Traversal.{Traversal}
 use Rattle.gms_eval.proofs.Scanning.{nothing_not_so}
 use Rattle.gms_eval.proofs.Shapes.{label-alone}
 use Rattle.gms_eval.proofs.Zeros.{whole_zero}
@@ -251,8 +251,8 @@ has-flat_map f (y ∷ xs) x t e there =
 module _ {F : Type 0} (v : F → Number) (limit : ℕ) (state : State) (b : Pairs) (sets : List ℕ) (name : ℕ) (indices : List (Index F)) where
   -- a traversal of the stored tuples that begin with the labels from outside, where each tuple
   -- gives the elements with its labels
-  pub leads-by : (walk : Walk) (prefix : List ℕ) (given : List (List ℕ)) → walk.name ≡ name → given ≡ given_of state name → ((t : List ℕ) → has given t ≡ differs_in (symbol_of state name).content t) → walk.from ≤ walk.upto → walk.upto ≤ length given → slice_range given walk.from walk.upto ≡ those_with given prefix → length walk.places.items ≡ length sets → length sets ≤ 10 → walk.spread ≡ length (elements state walk.free.items) → ((binding : Pairs) → IsOk (tuple_answer v limit state indices binding)) → ((more : Pairs) (t : List ℕ) → tuple_answer v limit state indices (b ++ more) ≡ Ok (Some t) → begins_with t prefix ≡ true) → ((x t : List ℕ) → has (elements state sets) x ≡ true → tuple_answer v limit state indices (controlled b sets x) ≡ Ok (Some t) → has (spread_over state walk.free.items walk.places.items t) x ≡ true) → Leads state b sets (entry_holds v limit state name indices) walk
-  leads-by walk prefix given same_name same_given differs from_upto within range covers few counted ok begins spreads =
+  pub leads-by : (traversal : Traversal) (prefix : List ℕ) (given : List (List ℕ)) → traversal.name ≡ name → given ≡ given_of state name → ((t : List ℕ) → has given t ≡ differs_in (symbol_of state name).content t) → traversal.from ≤ traversal.upto → traversal.upto ≤ length given → slice_range given traversal.from traversal.upto ≡ those_with given prefix → length traversal.places.items ≡ length sets → length sets ≤ 10 → traversal.spread ≡ length (elements state traversal.free.items) → ((binding : Pairs) → IsOk (tuple_answer v limit state indices binding)) → ((more : Pairs) (t : List ℕ) → tuple_answer v limit state indices (b ++ more) ≡ Ok (Some t) → begins_with t prefix ≡ true) → ((x t : List ℕ) → has (elements state sets) x ≡ true → tuple_answer v limit state indices (controlled b sets x) ≡ Ok (Some t) → has (spread_over state traversal.free.items traversal.places.items t) x ≡ true) → Leads state b sets (entry_holds v limit state name indices) traversal
+  leads-by traversal prefix given same_name same_given differs from_upto within range covers few counted ok begins spreads =
       record {
         few = omega arith;
         range = from_upto;
@@ -261,20 +261,20 @@ module _ {F : Type 0} (v : F → Number) (limit : ℕ) (state : State) (b : Pair
         needed = λ x there out. by x there out (tuple_answer v limit state indices (controlled b sets x)) refl (ok (controlled b sets x));
       }
     where
-      stored : (x t : List ℕ) → has (elements state sets) x ≡ true → tuple_answer v limit state indices (controlled b sets x) ≡ Ok (Some t) → is_so (plain_value state name (symbol_of state name).content t) ≡ true → has (walked state walk) x ≡ true
+      stored : (x t : List ℕ) → has (elements state sets) x ≡ true → tuple_answer v limit state indices (controlled b sets x) ≡ Ok (Some t) → is_so (plain_value state name (symbol_of state name).content t) ≡ true → has (traversed state traversal) x ≡ true
       stored x t there e so =
           let kept : has given t ≡ true = differs t ∙ so-differs state name t (symbol_of state name).content refl so in
           let first : begins_with t prefix ≡ true = begins (paired sets x) t e in
           let with_prefix : has (those_with given prefix) t ≡ true = has-filter (λ member. begins_with member prefix) given t ∙ ap (λ c. c && begins_with t prefix) kept ∙ first in
-          let in_range : has (slice_range given walk.from walk.upto) t ≡ true = ap (λ ts. has ts t) range ∙ with_prefix in
-          let at_walk : has (slice_range (given_of state walk.name) walk.from walk.upto) t ≡ true = ap (λ n. has (slice_range (given_of state n) walk.from walk.upto) t) same_name ∙ ap (λ ts. has (slice_range ts walk.from walk.upto) t) (sym same_given) ∙ in_range in
-          has-flat_map (spread_over state walk.free.items walk.places.items) (slice_range (given_of state walk.name) walk.from walk.upto) t x at_walk (spreads x t there e)
+          let in_range : has (slice_range given traversal.from traversal.upto) t ≡ true = ap (λ ts. has ts t) range ∙ with_prefix in
+          let at_walk : has (slice_range (given_of state traversal.name) traversal.from traversal.upto) t ≡ true = ap (λ n. has (slice_range (given_of state n) traversal.from traversal.upto) t) same_name ∙ ap (λ ts. has (slice_range ts traversal.from traversal.upto) t) (sym same_given) ∙ in_range in
+          has-flat_map (spread_over state traversal.free.items traversal.places.items) (slice_range (given_of state traversal.name) traversal.from traversal.upto) t x at_walk (spreads x t there e)
 
-      at_tuple : (x t : List ℕ) → has (elements state sets) x ≡ true → tuple_answer v limit state indices (controlled b sets x) ≡ Ok (Some t) → has (walked state walk) x ≡ false → (so : Bool) → is_so (plain_value state name (symbol_of state name).content t) ≡ so → so ≡ false
-      at_tuple x t there e out true so = absurd (both_ways (has (walked state walk) x) out (stored x t there e so))
+      at_tuple : (x t : List ℕ) → has (elements state sets) x ≡ true → tuple_answer v limit state indices (controlled b sets x) ≡ Ok (Some t) → has (traversed state traversal) x ≡ false → (so : Bool) → is_so (plain_value state name (symbol_of state name).content t) ≡ so → so ≡ false
+      at_tuple x t there e out true so = absurd (both_ways (has (traversed state traversal) x) out (stored x t there e so))
       at_tuple x t there e out false so = refl
 
-      by : (x : List ℕ) → has (elements state sets) x ≡ true → has (walked state walk) x ≡ false → (a : Answer (Option (List ℕ))) → tuple_answer v limit state indices (controlled b sets x) ≡ a → IsOk a → (tuple_answer v limit state indices (controlled b sets x) and_then λ tuple. Ok (plain_so state name tuple)) ≡ Ok false
+      by : (x : List ℕ) → has (elements state sets) x ≡ true → has (traversed state traversal) x ≡ false → (a : Answer (Option (List ℕ))) → tuple_answer v limit state indices (controlled b sets x) ≡ a → IsOk a → (tuple_answer v limit state indices (controlled b sets x) and_then λ tuple. Ok (plain_so state name tuple)) ≡ Ok false
       by x there out (Err fault) e ok = absurd cc
       by x there out (Ok None) e ok = ap (λ a. a and_then λ tuple. Ok (plain_so state name tuple)) e ∙ ap Ok nothing_not_so
       by x there out (Ok (Some t)) e ok =

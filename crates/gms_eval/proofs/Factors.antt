@@ -18,16 +18,16 @@ use Rattle.gms_tuple.specs.TupleSet.{has}
 use Rattle.gms_eval.specs.Bindings.{Pairs, controlled}
 use Rattle.gms_eval.specs.Domain.{elements, those_where, IsSimple}
 use Rattle.gms_eval.specs.Holds.{holds}
-use Rattle.gms_eval.specs.declared.traversals.Walk.{Walk}
+use Rattle.gms_eval.specs.declared.traversals.Traversal.{Traversal}
 use Rattle.gms_eval.specs.Faults.{Answer, ◌and_then◌}
-use Rattle.gms_eval.specs.InnerLeading.{walked, both, Leads, IsScan, plain_so, tuple_answer, entry_holds, expression_holds, all_hold_in_turn, guards_hold}
+use Rattle.gms_eval.specs.InnerLeading.{traversed, both, Leads, IsScan, plain_so, tuple_answer, entry_holds, expression_holds, all_hold_in_turn, guards_hold}
 use Rattle.gms_eval.specs.References.{entry_or_zero}
 use Rattle.gms_eval.specs.Value.{when_so}
 use Rattle.gms_eval.specs.declared.leading.Scan.{Scan}
 use Rattle.gms_eval.proofs.NodeValues.{value-Ref}
 use Rattle.gms_eval.proofs.Scanning.{scan-follows, scan-And, scan-Guard, scan-Guard_unsafe}
 use Rattle.gms_eval.proofs.Simple.{elements-ordered}
-use Rattle.gms_eval.proofs.Thinning.{walk-thinned}
+use Rattle.gms_eval.proofs.Thinning.{traversal-thinned}
 
 module _ {F : Type 0} (v : F → Number) (limit : ℕ) (state : State) (binding : Pairs) (sets : List ℕ) where
   so-entry : (b : Pairs) (at : Place) (name : ℕ) (a : Answer (Option (List ℕ))) → when_so (a and_then entry_or_zero limit state b at name suffix.None) ≡ (a and_then λ tuple. Ok (plain_so state name tuple))
@@ -64,9 +64,9 @@ module _ {F : Type 0} (v : F → Number) (limit : ℕ) (state : State) (binding 
         subst (λ e. IsScan state binding sets (expression_holds v limit state e) scan) (sym is) (scan-Guard v limit state binding sets scan operand guards (subst (λ those. IsScan state binding sets (λ b. both (guards_hold v limit state those b) (expression_holds v limit state operand.value b)) scan) same (subst (λ under. IsScan state binding sets (λ b. both (guards_hold v limit state those b) (expression_holds v limit state under b)) scan) at k)))
 
   -- a traversal that leads visits all elements at which the condition may hold
-  pub led : (e : Expr F) (walk : Walk) (found : List (List ℕ)) → All (IsSimple state) sets → IsOrdered found → ((t : List ℕ) → has found t ≡ (has (walked state walk) t && has (elements state sets) t)) → Leads state binding sets (expression_holds v limit state e) walk → those_where (λ element. holds v limit state (controlled binding sets element) (tree_of e)) found ≡ those_where (λ element. holds v limit state (controlled binding sets element) (tree_of e)) (elements state sets)
-  led e walk found simple ordered members leads =
-      walk-thinned (λ element. holds v limit state (controlled binding sets element) (tree_of e)) (elements state sets) found (elements-ordered state sets simple) ordered (λ t there. second (has (walked state walk) t) (has (elements state sets) t) (sym (members t) ∙ there)) (λ x there out. leads.needed x there (first (has (walked state walk) x) (has (elements state sets) x) there (sym (members x) ∙ out)))
+  pub led : (e : Expr F) (traversal : Traversal) (found : List (List ℕ)) → All (IsSimple state) sets → IsOrdered found → ((t : List ℕ) → has found t ≡ (has (traversed state traversal) t && has (elements state sets) t)) → Leads state binding sets (expression_holds v limit state e) traversal → those_where (λ element. holds v limit state (controlled binding sets element) (tree_of e)) found ≡ those_where (λ element. holds v limit state (controlled binding sets element) (tree_of e)) (elements state sets)
+  led e traversal found simple ordered members leads =
+      traversal-thinned (λ element. holds v limit state (controlled binding sets element) (tree_of e)) (elements state sets) found (elements-ordered state sets simple) ordered (λ t there. second (has (traversed state traversal) t) (has (elements state sets) t) (sym (members t) ∙ there)) (λ x there out. leads.needed x there (first (has (traversed state traversal) x) (has (elements state sets) x) there (sym (members x) ∙ out)))
     where
       second : (a b : Bool) → (a && b) ≡ true → b ≡ true
       second true b e = e

@@ -13,8 +13,8 @@ use Rattle.gms_tuple.proofs.Ordered.{same_tuple-Decides, same_tuple_refl, first-
 use Rattle.gms_tuple.proofs.Members.{after-first, has-removed}
 use Rattle.gms_store.specs.State.{State, given_of}
 use Rattle.gms_eval.specs.Domain.{elements}
-use Rattle.gms_eval.specs.InnerLeading.{steps_of, spread_over, picked, walked}
-use Rattle.gms_eval.specs.declared.traversals.Walk.{Walk}
+use Rattle.gms_eval.specs.InnerLeading.{steps_of, spread_over, picked, traversed}
+use Rattle.gms_eval.specs.declared.traversals.Traversal.{Traversal}
 use Rattle.gms_eval.proofs.Reaching.{mul-le}
 
 -- ---- ordered lists within lists
@@ -80,21 +80,21 @@ mul-less : (a b m : ℕ) → a ≤ b → a * m ≤ b * m
 mul-less a b m le = rw (mul_comm a m, mul_comm b m) (mul-le m a b le)
 
 -- a traversal visits no more elements than its steps
-pub walked-most : (state : State) (walk : Walk) → walk.spread ≡ length (elements state walk.free.items) → length (walked state walk) ≤ steps_of walk
-walked-most state walk counted =
-    let given : List (List ℕ) = slice_range (given_of state walk.name) walk.from walk.upto in
-    let spread : ℕ = length (elements state walk.free.items) in
-    let all : length (walked state walk) ≡ length given * spread = each-length spread (spread_over state walk.free.items walk.places.items) given (λ tuple. length-map (elements state walk.free.items) (λ rest. picked walk.places.items (tuple ++ rest))) in
-    let few : length given ≤ walk.upto - walk.from = omega (arith, length-take (walk.upto - walk.from) (drop walk.from (given_of state walk.name))) in
-    let most : length given * spread ≤ (walk.upto - walk.from) * spread = mul-less (length given) (walk.upto - walk.from) spread few in
-    let same : steps_of walk ≡ (walk.upto - walk.from) * spread = ap (λ n. (walk.upto - walk.from) * n) counted in
+pub traversed-most : (state : State) (traversal : Traversal) → traversal.spread ≡ length (elements state traversal.free.items) → length (traversed state traversal) ≤ steps_of traversal
+traversed-most state traversal counted =
+    let given : List (List ℕ) = slice_range (given_of state traversal.name) traversal.from traversal.upto in
+    let spread : ℕ = length (elements state traversal.free.items) in
+    let all : length (traversed state traversal) ≡ length given * spread = each-length spread (spread_over state traversal.free.items traversal.places.items) given (λ tuple. length-map (elements state traversal.free.items) (λ rest. picked traversal.places.items (tuple ++ rest))) in
+    let few : length given ≤ traversal.upto - traversal.from = omega (arith, length-take (traversal.upto - traversal.from) (drop traversal.from (given_of state traversal.name))) in
+    let most : length given * spread ≤ (traversal.upto - traversal.from) * spread = mul-less (length given) (traversal.upto - traversal.from) spread few in
+    let same : steps_of traversal ≡ (traversal.upto - traversal.from) * spread = ap (λ n. (traversal.upto - traversal.from) * n) counted in
     omega (arith, all, most, same)
 
 -- the elements that are found are no more than the steps
-pub found-most : (state : State) (sets : List ℕ) (walk : Walk) (found list : List (List ℕ)) → walk.spread ≡ length (elements state walk.free.items) → list ≡ found → IsOrdered found → ((t : List ℕ) → has found t ≡ (has (walked state walk) t && has (elements state sets) t)) → length list ≤ steps_of walk
-found-most state sets walk found list counted is ordered members =
-    let most : length found ≤ length (walked state walk) = ordered-most found (walked state walk) ordered (λ t there. first (has (walked state walk) t) (has (elements state sets) t) (sym (members t) ∙ there)) in
-    omega (arith, ap length is, most, walked-most state walk counted)
+pub found-most : (state : State) (sets : List ℕ) (traversal : Traversal) (found list : List (List ℕ)) → traversal.spread ≡ length (elements state traversal.free.items) → list ≡ found → IsOrdered found → ((t : List ℕ) → has found t ≡ (has (traversed state traversal) t && has (elements state sets) t)) → length list ≤ steps_of traversal
+found-most state sets traversal found list counted is ordered members =
+    let most : length found ≤ length (traversed state traversal) = ordered-most found (traversed state traversal) ordered (λ t there. first (has (traversed state traversal) t) (has (elements state sets) t) (sym (members t) ∙ there)) in
+    omega (arith, ap length is, most, traversed-most state traversal counted)
   where
     first : (a b : Bool) → (a && b) ≡ true → a ≡ true
     first true b e = refl

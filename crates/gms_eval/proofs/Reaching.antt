@@ -21,7 +21,7 @@ use Rattle.gms_store.specs.State.{State, given_of}
 use Rattle.gms_eval.specs.Bindings.{Pairs, label_of}
 use Rattle.gms_eval.specs.Domain.{most_elements, elements, labels_of}
 use Rattle.gms_eval.specs.InnerLeading.{indices_tree}
-use Rattle.gms_eval.specs.Leaders.{before_others, without_lags, number_of_indices, front_of, is_plain_index, is_told, free_behind, reach}
+use Rattle.gms_eval.specs.Leaders.{before_others, without_lags, number_of_indices, leading_labels, is_plain_index, is_told, free_after, reach}
 use Rattle.gms_eval.proofs.Sizes.{size_from, length-size_of, elements-few}
 
 pub mul-le : (n a b : ℕ) → a ≤ b → n * a ≤ n * b
@@ -58,46 +58,46 @@ module _ {F : Type 0} where
   -- ---- labels known outside
 
   module _ (b : Pairs) (index : Index F) where
-    pub front-Label : (n : ℕ) → index ≡ Label n → (rest : tree.Indices F) → front_of b (index_tree index rest) ≡ before_others (Some n) (front_of b rest)
-    front-Label n is rest = ap (λ i. front_of b (index_tree i rest)) is ∙ ap (front_of b) (tree-Label n rest)
+    pub beginning-Label : (n : ℕ) → index ≡ Label n → (rest : tree.Indices F) → leading_labels b (index_tree index rest) ≡ before_others (Some n) (leading_labels b rest)
+    beginning-Label n is rest = ap (λ i. leading_labels b (index_tree i rest)) is ∙ ap (leading_labels b) (tree-Label n rest)
 
-    pub front-Set : (name : ℕ) (label : Option ℕ) (lag : Option (LagOp × Place × Box (Expr F) Global)) → label ≡ label_of b name → index ≡ Set name lag → lag ≡ None → (rest : tree.Indices F) → front_of b (index_tree index rest) ≡ before_others label (front_of b rest)
-    front-Set name label lag known is none rest =
-        ap (λ i. front_of b (index_tree i rest)) (is ∙ ap (Set name) none)
-        ∙ ap (front_of b) (tree-Set name rest)
-        ∙ ap (λ o. before_others o (front_of b rest)) (sym known)
+    pub beginning-Set : (name : ℕ) (label : Option ℕ) (lag : Option (LagOp × Place × Box (Expr F) Global)) → label ≡ label_of b name → index ≡ Set name lag → lag ≡ None → (rest : tree.Indices F) → leading_labels b (index_tree index rest) ≡ before_others label (leading_labels b rest)
+    beginning-Set name label lag known is none rest =
+        ap (λ i. leading_labels b (index_tree i rest)) (is ∙ ap (Set name) none)
+        ∙ ap (leading_labels b) (tree-Set name rest)
+        ∙ ap (λ o. before_others o (leading_labels b rest)) (sym known)
 
-    pub front-lagged : (name : ℕ) (lag : Option (LagOp × Place × Box (Expr F) Global)) (some : LagOp × Place × Box (Expr F) Global) → index ≡ Set name lag → lag ≡ Some some → (rest : tree.Indices F) → front_of b (index_tree index rest) ≡ []
-    front-lagged name lag some is there rest =
-        ap (λ i. front_of b (index_tree i rest)) (is ∙ ap (Set name) there) ∙ ap (front_of b) (tree-lagged name some rest)
+    pub beginning-lagged : (name : ℕ) (lag : Option (LagOp × Place × Box (Expr F) Global)) (some : LagOp × Place × Box (Expr F) Global) → index ≡ Set name lag → lag ≡ Some some → (rest : tree.Indices F) → leading_labels b (index_tree index rest) ≡ []
+    beginning-lagged name lag some is there rest =
+        ap (λ i. leading_labels b (index_tree i rest)) (is ∙ ap (Set name) there) ∙ ap (leading_labels b) (tree-lagged name some rest)
 
   module _ (b : Pairs) (indices : List (Index F)) (i : ℕ) where
     -- the prefix of the remaining indices
     abbrev pub front_from : List ℕ
-    front_from = front_of b (indices_tree (drop i indices))
+    front_from = leading_labels b (indices_tree (drop i indices))
 
-    front-at : (index : Index F) (label : Option ℕ) → i < length indices → index ≡ get_or indices i index → ((rest : tree.Indices F) → front_of b (index_tree index rest) ≡ before_others label (front_of b rest)) → front_of b (indices_tree (drop i indices)) ≡ before_others label (front_of b (indices_tree (drop (i + 1) indices)))
-    front-at index label l at front =
-        at_drop_more (λ those. front_of b (indices_tree those)) indices i index l
-        ∙ ap (λ x. front_of b (index_tree x (indices_tree (drop (i + 1) indices)))) (sym at)
-        ∙ front (indices_tree (drop (i + 1) indices))
+    beginning-at : (index : Index F) (label : Option ℕ) → i < length indices → index ≡ get_or indices i index → ((rest : tree.Indices F) → leading_labels b (index_tree index rest) ≡ before_others label (leading_labels b rest)) → leading_labels b (indices_tree (drop i indices)) ≡ before_others label (leading_labels b (indices_tree (drop (i + 1) indices)))
+    beginning-at index label l at beginning =
+        at_drop_more (λ those. leading_labels b (indices_tree those)) indices i index l
+        ∙ ap (λ x. leading_labels b (index_tree x (indices_tree (drop (i + 1) indices)))) (sym at)
+        ∙ beginning (indices_tree (drop (i + 1) indices))
 
     -- one label more
-    pub front-more : (index : Index F) (label : ℕ) (prefix prefix' whole : List ℕ) → prefix' ≡ prefix ++ label ∷ [] → i < length indices → index ≡ get_or indices i index → ((rest : tree.Indices F) → front_of b (index_tree index rest) ≡ before_others (Some label) (front_of b rest)) → prefix ++ front_of b (indices_tree (drop i indices)) ≡ whole → prefix' ++ front_of b (indices_tree (drop (i + 1) indices)) ≡ whole
-    front-more index label prefix prefix' whole is l at front known =
-        ap (λ p. p ++ front_of b (indices_tree (drop (i + 1) indices))) is
-        ∙ append_assoc prefix (label ∷ []) (front_of b (indices_tree (drop (i + 1) indices)))
-        ∙ ap (λ t. prefix ++ t) (sym (front-at index (Some label) l at front))
+    pub beginning-more : (index : Index F) (label : ℕ) (prefix prefix' whole : List ℕ) → prefix' ≡ prefix ++ label ∷ [] → i < length indices → index ≡ get_or indices i index → ((rest : tree.Indices F) → leading_labels b (index_tree index rest) ≡ before_others (Some label) (leading_labels b rest)) → prefix ++ leading_labels b (indices_tree (drop i indices)) ≡ whole → prefix' ++ leading_labels b (indices_tree (drop (i + 1) indices)) ≡ whole
+    beginning-more index label prefix prefix' whole is l at beginning known =
+        ap (λ p. p ++ leading_labels b (indices_tree (drop (i + 1) indices))) is
+        ∙ append_assoc prefix (label ∷ []) (leading_labels b (indices_tree (drop (i + 1) indices)))
+        ∙ ap (λ t. prefix ++ t) (sym (beginning-at index (Some label) l at beginning))
         ∙ known
 
     -- no label more
-    pub front-stop : (index : Index F) (prefix whole : List ℕ) → i < length indices → index ≡ get_or indices i index → ((rest : tree.Indices F) → front_of b (index_tree index rest) ≡ before_others None (front_of b rest)) → prefix ++ front_of b (indices_tree (drop i indices)) ≡ whole → prefix ≡ whole
-    front-stop index prefix whole l at front known =
-        sym (append-nil prefix) ∙ ap (λ t. prefix ++ t) (sym (front-at index None l at front)) ∙ known
+    pub beginning-stop : (index : Index F) (prefix whole : List ℕ) → i < length indices → index ≡ get_or indices i index → ((rest : tree.Indices F) → leading_labels b (index_tree index rest) ≡ before_others None (leading_labels b rest)) → prefix ++ leading_labels b (indices_tree (drop i indices)) ≡ whole → prefix ≡ whole
+    beginning-stop index prefix whole l at beginning known =
+        sym (append-nil prefix) ∙ ap (λ t. prefix ++ t) (sym (beginning-at index None l at beginning)) ∙ known
 
-    pub front-end : (prefix whole : List ℕ) → length indices ≤ i → prefix ++ front_of b (indices_tree (drop i indices)) ≡ whole → prefix ≡ whole
-    front-end prefix whole all known =
-        sym (append-nil prefix) ∙ ap (λ t. prefix ++ t) (sym (at_drop_all (λ those. front_of b (indices_tree those)) indices i all)) ∙ known
+    pub beginning-end : (prefix whole : List ℕ) → length indices ≤ i → prefix ++ leading_labels b (indices_tree (drop i indices)) ≡ whole → prefix ≡ whole
+    beginning-end prefix whole all known =
+        sym (append-nil prefix) ∙ ap (λ t. prefix ++ t) (sym (at_drop_all (λ those. leading_labels b (indices_tree those)) indices i all)) ∙ known
 
   -- ---- sets among indices
 
@@ -174,37 +174,37 @@ module _ {F : Type 0} where
 
 module _ {F : Type 0} (b : Pairs) (indices : tree.Indices F) where
   module _ (sets : List ℕ) (i : ℕ) where
-    free-at : i < length sets → free_behind b indices (take i sets) (drop i sets) ≡ (if is_told b indices (take i sets) (get_or sets i 0) then free_behind b indices (take (i + 1) sets) (drop (i + 1) sets) else get_or sets i 0 ∷ free_behind b indices (take (i + 1) sets) (drop (i + 1) sets))
+    free-at : i < length sets → free_after b indices (take i sets) (drop i sets) ≡ (if is_told b indices (take i sets) (get_or sets i 0) then free_after b indices (take (i + 1) sets) (drop (i + 1) sets) else get_or sets i 0 ∷ free_after b indices (take (i + 1) sets) (drop (i + 1) sets))
     free-at l =
-        at_drop_more (free_behind b indices (take i sets)) sets i 0 l
-        ∙ ap (λ t. if is_told b indices (take i sets) (get_or sets i 0) then free_behind b indices t (drop (i + 1) sets) else get_or sets i 0 ∷ free_behind b indices t (drop (i + 1) sets)) (sym (take_more sets i 0 l))
+        at_drop_more (free_after b indices (take i sets)) sets i 0 l
+        ∙ ap (λ t. if is_told b indices (take i sets) (get_or sets i 0) then free_after b indices t (drop (i + 1) sets) else get_or sets i 0 ∷ free_after b indices t (drop (i + 1) sets)) (sym (take_more sets i 0 l))
 
     -- the tuple says what the next set stands for
-    pub free-told : (free whole : List ℕ) (told : Bool) → told ≡ true → told ≡ is_told b indices (take i sets) (get_or sets i 0) → i < length sets → free ++ free_behind b indices (take i sets) (drop i sets) ≡ whole → free ++ free_behind b indices (take (i + 1) sets) (drop (i + 1) sets) ≡ whole
+    pub free-told : (free whole : List ℕ) (told : Bool) → told ≡ true → told ≡ is_told b indices (take i sets) (get_or sets i 0) → i < length sets → free ++ free_after b indices (take i sets) (drop i sets) ≡ whole → free ++ free_after b indices (take (i + 1) sets) (drop (i + 1) sets) ≡ whole
     free-told free whole told on is l known =
-        ap (λ t. free ++ (if t then free_behind b indices (take (i + 1) sets) (drop (i + 1) sets) else get_or sets i 0 ∷ free_behind b indices (take (i + 1) sets) (drop (i + 1) sets))) (sym on ∙ is)
+        ap (λ t. free ++ (if t then free_after b indices (take (i + 1) sets) (drop (i + 1) sets) else get_or sets i 0 ∷ free_after b indices (take (i + 1) sets) (drop (i + 1) sets))) (sym on ∙ is)
         ∙ ap (λ t. free ++ t) (sym (free-at l))
         ∙ known
 
     -- or nothing of it
-    pub free-more : (free free' whole : List ℕ) (told : Bool) → free' ≡ free ++ get_or sets i 0 ∷ [] → told ≡ false → told ≡ is_told b indices (take i sets) (get_or sets i 0) → i < length sets → free ++ free_behind b indices (take i sets) (drop i sets) ≡ whole → free' ++ free_behind b indices (take (i + 1) sets) (drop (i + 1) sets) ≡ whole
+    pub free-more : (free free' whole : List ℕ) (told : Bool) → free' ≡ free ++ get_or sets i 0 ∷ [] → told ≡ false → told ≡ is_told b indices (take i sets) (get_or sets i 0) → i < length sets → free ++ free_after b indices (take i sets) (drop i sets) ≡ whole → free' ++ free_after b indices (take (i + 1) sets) (drop (i + 1) sets) ≡ whole
     free-more free free' whole told more off is l known =
-        ap (λ p. p ++ free_behind b indices (take (i + 1) sets) (drop (i + 1) sets)) more
-        ∙ append_assoc free (get_or sets i 0 ∷ []) (free_behind b indices (take (i + 1) sets) (drop (i + 1) sets))
-        ∙ ap (λ t. free ++ (if t then free_behind b indices (take (i + 1) sets) (drop (i + 1) sets) else get_or sets i 0 ∷ free_behind b indices (take (i + 1) sets) (drop (i + 1) sets))) (sym off ∙ is)
+        ap (λ p. p ++ free_after b indices (take (i + 1) sets) (drop (i + 1) sets)) more
+        ∙ append_assoc free (get_or sets i 0 ∷ []) (free_after b indices (take (i + 1) sets) (drop (i + 1) sets))
+        ∙ ap (λ t. free ++ (if t then free_after b indices (take (i + 1) sets) (drop (i + 1) sets) else get_or sets i 0 ∷ free_after b indices (take (i + 1) sets) (drop (i + 1) sets))) (sym off ∙ is)
         ∙ ap (λ t. free ++ t) (sym (free-at l))
         ∙ known
 
-    pub free-end : (free whole : List ℕ) → length sets ≤ i → free ++ free_behind b indices (take i sets) (drop i sets) ≡ whole → free ≡ whole
+    pub free-end : (free whole : List ℕ) → length sets ≤ i → free ++ free_after b indices (take i sets) (drop i sets) ≡ whole → free ≡ whole
     free-end free whole all known =
-        sym (append-nil free) ∙ ap (λ t. free ++ t) (sym (at_drop_all (free_behind b indices (take i sets)) sets i all)) ∙ known
+        sym (append-nil free) ∙ ap (λ t. free ++ t) (sym (at_drop_all (free_after b indices (take i sets)) sets i all)) ∙ known
 
   -- there are no more free sets than sets
-  free-few : (before sets : List ℕ) → length (free_behind b indices before sets) ≤ length sets
+  free-few : (before sets : List ℕ) → length (free_after b indices before sets) ≤ length sets
   free-few before [] = omega arith
   free-few before (name ∷ rest) = by (is_told b indices before name) (free-few (before ++ name ∷ []) rest)
     where
-      by : (told : Bool) → length (free_behind b indices (before ++ name ∷ []) rest) ≤ length rest → length (if told then free_behind b indices (before ++ name ∷ []) rest else name ∷ free_behind b indices (before ++ name ∷ []) rest) ≤ suc (length rest)
+      by : (told : Bool) → length (free_after b indices (before ++ name ∷ []) rest) ≤ length rest → length (if told then free_after b indices (before ++ name ∷ []) rest else name ∷ free_after b indices (before ++ name ∷ []) rest) ≤ suc (length rest)
       by true le = omega (arith, le)
       by false le = omega (arith, le)
 
@@ -228,13 +228,13 @@ module _ {F : Type 0} (b : Pairs) (indices : tree.Indices F) where
         let below : n * free ≤ n * size = mul-le n free size some.1 in
         inr (omega (arith, suc-mul n free, some.0), omega (arith, suc-mul n free, suc-mul n size, some.1, below))
 
-    pub free-size : (before sets : List ℕ) → NoMore (size_from list sets) (size_from list (free_behind b indices before sets))
+    pub free-size : (before sets : List ℕ) → NoMore (size_from list sets) (size_from list (free_after b indices before sets))
     free-size before [] = inr (omega arith, omega arith)
     free-size before (name ∷ rest) = by (is_told b indices before name) (free-size (before ++ name ∷ []) rest)
       where
-        by : (told : Bool) → NoMore (size_from list rest) (size_from list (free_behind b indices (before ++ name ∷ []) rest)) → NoMore (length (list name) * size_from list rest) (size_from list (if told then free_behind b indices (before ++ name ∷ []) rest else name ∷ free_behind b indices (before ++ name ∷ []) rest))
-        by true h = told-more (length (list name)) (size_from list rest) (size_from list (free_behind b indices (before ++ name ∷ []) rest)) h
-        by false h = free-both (length (list name)) (size_from list rest) (size_from list (free_behind b indices (before ++ name ∷ []) rest)) h
+        by : (told : Bool) → NoMore (size_from list rest) (size_from list (free_after b indices (before ++ name ∷ []) rest)) → NoMore (length (list name) * size_from list rest) (size_from list (if told then free_after b indices (before ++ name ∷ []) rest else name ∷ free_after b indices (before ++ name ∷ []) rest))
+        by true h = told-more (length (list name)) (size_from list rest) (size_from list (free_after b indices (before ++ name ∷ []) rest)) h
+        by false h = free-both (length (list name)) (size_from list rest) (size_from list (free_after b indices (before ++ name ∷ []) rest)) h
 
 -- ---- how many elements a traversal visits
 
@@ -251,26 +251,26 @@ no-elements state sets many = by (nat_le (length sets) 10) refl
 
 module _ {F : Type 0} (state : State) (b : Pairs) (sets : List ℕ) (name : ℕ) (indices : tree.Indices F) where
   -- the sets have no element, or the free ones have at least one and no more than they
-  free-elements : length sets ≤ 10 → (length (elements state sets) ≡ 0) ⊎ ((0 < length (elements state (free_behind b indices [] sets))) × (length (elements state (free_behind b indices [] sets)) ≤ length (elements state sets)))
+  free-elements : length sets ≤ 10 → (length (elements state sets) ≡ 0) ⊎ ((0 < length (elements state (free_after b indices [] sets))) × (length (elements state (free_after b indices [] sets)) ≤ length (elements state sets)))
   free-elements few =
       let whole = size-elements state sets few in
-      let few_free : length (free_behind b indices [] sets) ≤ 10 = omega (arith, few, free-few b indices [] sets) in
-      let free = size-elements state (free_behind b indices [] sets) few_free in
+      let few_free : length (free_after b indices [] sets) ≤ 10 = omega (arith, few, free-few b indices [] sets) in
+      let free = size-elements state (free_after b indices [] sets) few_free in
       elim (free-size b indices (labels_of state) [] sets) [
         | inl none ↦ inl (whole ∙ none)
         | inr some ↦ inr (omega (arith, free, some.0), omega (arith, free, whole, some.1))
       ]
 
   -- at least `bound` stored tuples lead to at least `bound` elements
-  pub reach-many : (bound count : ℕ) → length sets ≤ 10 → bound ≤ length (elements state sets) → bound ≤ count → count ≡ length (those_with (given_of state name) (front_of b indices)) → bound ≤ reach state b sets name indices
+  pub reach-many : (bound count : ℕ) → length sets ≤ 10 → bound ≤ length (elements state sets) → bound ≤ count → count ≡ length (those_with (given_of state name) (leading_labels b indices)) → bound ≤ reach state b sets name indices
   reach-many bound count few below many is =
       elim (free-elements few) [
         | inl none ↦ omega (arith, below, none)
-        | inr some ↦ let more : count * 1 ≤ count * length (elements state (free_behind b indices [] sets)) = mul-le count 1 (length (elements state (free_behind b indices [] sets))) some.0 in let same : reach state b sets name indices ≡ count * length (elements state (free_behind b indices [] sets)) = ap (λ k. k * length (elements state (free_behind b indices [] sets))) (sym is) in omega (arith, many, more, same, mul-one count)
+        | inr some ↦ let more : count * 1 ≤ count * length (elements state (free_after b indices [] sets)) = mul-le count 1 (length (elements state (free_after b indices [] sets))) some.0 in let same : reach state b sets name indices ≡ count * length (elements state (free_after b indices [] sets)) = ap (λ k. k * length (elements state (free_after b indices [] sets))) (sym is) in omega (arith, many, more, same, mul-one count)
       ]
 
   -- and so do free sets that have too many elements
-  pub reach-wide : (bound free : ℕ) → length sets ≤ 10 → bound ≤ length (elements state sets) → length (elements state sets) ≤ most_elements → most_elements < free → free ≤ length (elements state (free_behind b indices [] sets)) → bound ≤ reach state b sets name indices
+  pub reach-wide : (bound free : ℕ) → length sets ≤ 10 → bound ≤ length (elements state sets) → length (elements state sets) ≤ most_elements → most_elements < free → free ≤ length (elements state (free_after b indices [] sets)) → bound ≤ reach state b sets name indices
   reach-wide bound free few below small wide is =
       elim (free-elements few) [
         | inl none ↦ omega (arith, below, none)
@@ -281,10 +281,10 @@ module _ {F : Type 0} (state : State) (b : Pairs) (sets : List ℕ) (name : ℕ)
   reach-none bound many below = omega (arith, no-elements state sets many, below)
 
   -- how many elements the traversal visits
-  pub reach-is : (count spread : ℕ) → count ≡ length (those_with (given_of state name) (front_of b indices)) → spread ≡ length (elements state (free_behind b indices [] sets)) → count * spread ≡ reach state b sets name indices
+  pub reach-is : (count spread : ℕ) → count ≡ length (those_with (given_of state name) (leading_labels b indices)) → spread ≡ length (elements state (free_after b indices [] sets)) → count * spread ≡ reach state b sets name indices
   reach-is count spread is wide =
-      ap (λ k. k * spread) is ∙ ap (λ k. length (those_with (given_of state name) (front_of b indices)) * k) wide
+      ap (λ k. k * spread) is ∙ ap (λ k. length (those_with (given_of state name) (leading_labels b indices)) * k) wide
 
 -- the stored tuples with a prefix are those of the span
-pub span-count : (given : List (List ℕ)) (front : List ℕ) (from upto : ℕ) → upto ≡ from + count_with given front → upto - from ≡ length (those_with given front)
-span-count given front from upto is = omega (arith, is, length-filter (λ member. begins_with member front) given)
+pub span-count : (given : List (List ℕ)) (beginning : List ℕ) (from upto : ℕ) → upto ≡ from + count_with given beginning → upto - from ≡ length (those_with given beginning)
+span-count given beginning from upto is = omega (arith, is, length-filter (λ member. begins_with member beginning) given)

@@ -14,7 +14,7 @@ use Rattle.gms_eval.specs.Faults.{Answer, Fault, nothing, ◌and_then◌}
 use Rattle.gms_eval.specs.InnerLeading.{Condition, both, each_in_turn, Leads, IsScan, expression_holds, all_hold_in_turn, guards_hold}
 use Rattle.gms_eval.specs.Value.{when_so}
 use Rattle.gms_eval.specs.declared.leading.Scan.{Scan}
-use Rattle.gms_eval.specs.declared.traversals.Walk.{Walk}
+use Rattle.gms_eval.specs.declared.traversals.Traversal.{Traversal}
 use Rattle.gms_eval.proofs.Guards.{holds-start, one-fails}
 use Rattle.gms_eval.proofs.NodeValues.{of_expr, value-And, value-Guard}
 use Rattle.gms_eval.proofs.Zeros.{whole_zero}
@@ -50,12 +50,12 @@ module _ (state : State) (binding : Pairs) (sets : List ℕ) where
   scan-follows one other scan ok fails known =
       record {
         safe = λ so b. ok b (known.safe so b);
-        leads = walk-follows scan.walk known.leads;
+        leads = traversal-follows scan.traversal known.leads;
       }
     where
-      walk-follows : (walk : Option Walk) → IfSome walk (λ w. Leads state binding sets one w) → IfSome walk (λ w. Leads state binding sets other w)
-      walk-follows None l = l
-      walk-follows (Some w) l =
+      traversal-follows : (traversal : Option Traversal) → IfSome traversal (λ w. Leads state binding sets one w) → IfSome traversal (λ w. Leads state binding sets other w)
+      traversal-follows None l = l
+      traversal-follows (Some w) l =
           record { few = l.few; range = l.range; within = l.within; counted = l.counted; needed = λ x long out. fails (controlled binding sets x) (l.needed x long out) }
 
   -- of a scan in which a fault is possible, only that the condition fails where the other does
@@ -63,50 +63,50 @@ module _ (state : State) (binding : Pairs) (sets : List ℕ) where
   scan-unsafe one other scan unsafe fails known =
       record {
         safe = λ so. absurd (let f : false ≡ true = sym unsafe ∙ so in cc);
-        leads = walk-follows scan.walk known.leads;
+        leads = traversal-follows scan.traversal known.leads;
       }
     where
-      walk-follows : (walk : Option Walk) → IfSome walk (λ w. Leads state binding sets one w) → IfSome walk (λ w. Leads state binding sets other w)
-      walk-follows None l = l
-      walk-follows (Some w) l =
+      traversal-follows : (traversal : Option Traversal) → IfSome traversal (λ w. Leads state binding sets one w) → IfSome traversal (λ w. Leads state binding sets other w)
+      traversal-follows None l = l
+      traversal-follows (Some w) l =
           record { few = l.few; range = l.range; within = l.within; counted = l.counted; needed = λ x long out. fails (controlled binding sets x) (l.needed x long out) }
 
   -- without a traversal, nothing is known of a condition that may have a fault
-  pub scan-nothing : (one : Condition) (scan : Scan) → scan.safe ≡ false → scan.walk ≡ None → IsScan state binding sets one scan
+  pub scan-nothing : (one : Condition) (scan : Scan) → scan.safe ≡ false → scan.traversal ≡ None → IsScan state binding sets one scan
   scan-nothing one scan unsafe none =
       record {
         safe = λ so. absurd (let f : false ≡ true = sym unsafe ∙ so in cc);
-        leads = subst (λ walk. IfSome walk (λ w. Leads state binding sets one w)) (sym none) tt;
+        leads = subst (λ traversal. IfSome traversal (λ w. Leads state binding sets one w)) (sym none) tt;
       }
 
   -- without a traversal, a condition that never has a fault
-  pub scan-safe : (one : Condition) (scan : Scan) → scan.walk ≡ None → ((b : Pairs) → IsOk (one b)) → IsScan state binding sets one scan
+  pub scan-safe : (one : Condition) (scan : Scan) → scan.traversal ≡ None → ((b : Pairs) → IsOk (one b)) → IsScan state binding sets one scan
   scan-safe one scan none ok =
       record {
         safe = λ so b. ok b;
-        leads = subst (λ walk. IfSome walk (λ w. Leads state binding sets one w)) (sym none) tt;
+        leads = subst (λ traversal. IfSome traversal (λ w. Leads state binding sets one w)) (sym none) tt;
       }
 
   -- the traversal of the second condition serves, where the first has no fault
-  pub scan-second : (one other : Condition) (first second result : Scan) (walk : Walk) → first.safe ≡ true → second.walk ≡ Some walk → result.safe ≡ second.safe → result.walk ≡ Some walk → IsScan state binding sets one first → IsScan state binding sets other second → IsScan state binding sets (λ b. both (one b) (other b)) result
-  scan-second one other first second result walk sure has_walk same_safe same_walk known later =
-      let l : Leads state binding sets other walk = subst (λ w. IfSome w (λ w. Leads state binding sets other w)) has_walk later.leads in
+  pub scan-second : (one other : Condition) (first second result : Scan) (traversal : Traversal) → first.safe ≡ true → second.traversal ≡ Some traversal → result.safe ≡ second.safe → result.traversal ≡ Some traversal → IsScan state binding sets one first → IsScan state binding sets other second → IsScan state binding sets (λ b. both (one b) (other b)) result
+  scan-second one other first second result traversal sure has_walk same_safe same_walk known later =
+      let l : Leads state binding sets other traversal = subst (λ w. IfSome w (λ w. Leads state binding sets other w)) has_walk later.leads in
       record {
         safe = λ so b. both-ok (one b) (other b) (known.safe sure b) (later.safe (sym same_safe ∙ so) b);
         leads = subst (λ w. IfSome w (λ w. Leads state binding sets (λ b. both (one b) (other b)) w)) (sym same_walk) (record { few = l.few; range = l.range; within = l.within; counted = l.counted; needed = λ x long out. second-false (one (controlled binding sets x)) (other (controlled binding sets x)) (known.safe sure (controlled binding sets x)) (l.needed x long out) });
       }
 
   -- and else that of the first
-  pub scan-first : (one other : Condition) (first second result : Scan) → first.safe ≡ true → result.safe ≡ second.safe → result.walk ≡ first.walk → IsScan state binding sets one first → IsScan state binding sets other second → IsScan state binding sets (λ b. both (one b) (other b)) result
+  pub scan-first : (one other : Condition) (first second result : Scan) → first.safe ≡ true → result.safe ≡ second.safe → result.traversal ≡ first.traversal → IsScan state binding sets one first → IsScan state binding sets other second → IsScan state binding sets (λ b. both (one b) (other b)) result
   scan-first one other first second result sure same_safe same_walk known later =
       record {
         safe = λ so b. both-ok (one b) (other b) (known.safe sure b) (later.safe (sym same_safe ∙ so) b);
-        leads = subst (λ w. IfSome w (λ w. Leads state binding sets (λ b. both (one b) (other b)) w)) (sym same_walk) (walk-first first.walk known.leads);
+        leads = subst (λ w. IfSome w (λ w. Leads state binding sets (λ b. both (one b) (other b)) w)) (sym same_walk) (traversal-first first.traversal known.leads);
       }
     where
-      walk-first : (walk : Option Walk) → IfSome walk (λ w. Leads state binding sets one w) → IfSome walk (λ w. Leads state binding sets (λ b. both (one b) (other b)) w)
-      walk-first None l = l
-      walk-first (Some w) l =
+      traversal-first : (traversal : Option Traversal) → IfSome traversal (λ w. Leads state binding sets one w) → IfSome traversal (λ w. Leads state binding sets (λ b. both (one b) (other b)) w)
+      traversal-first None l = l
+      traversal-first (Some w) l =
           record { few = l.few; range = l.range; within = l.within; counted = l.counted; needed = λ x long out. first-false (one (controlled binding sets x)) (other (controlled binding sets x)) (l.needed x long out) }
 
 -- ---- conditions in sequence
@@ -245,7 +245,7 @@ module _ {F : Type 0} (v : F → Number) (limit : ℕ) (state : State) where
       scan-follows state binding sets (λ b. both (guards_hold v limit state (drop p guards) b) (expression_holds v limit state guard b)) (guards_hold v limit state (drop (p - 1) guards)) scan (λ b ok. ap is_ok (guards-more guards p guard b some within at) ∙ ok) (λ b e. guards-more guards p guard b some within at ∙ e) known
 
   -- before the last guard none is evaluated
-  pub scan-no_guard : (binding : Pairs) (sets : List ℕ) (guards : List (Expr F)) (scan : Scan) → scan.walk ≡ None → IsScan state binding sets (guards_hold v limit state (drop (length guards) guards)) scan
+  pub scan-no_guard : (binding : Pairs) (sets : List ℕ) (guards : List (Expr F)) (scan : Scan) → scan.traversal ≡ None → IsScan state binding sets (guards_hold v limit state (drop (length guards) guards)) scan
   scan-no_guard binding sets guards scan none =
       scan-safe state binding sets (guards_hold v limit state (drop (length guards) guards)) scan none (λ b. ap is_ok (holds-start (of_expr v limit state b) guards))
 

@@ -17,9 +17,9 @@ use Rattle.gms_ast.specs.TreeView.{tree_step, index_step, control_step, tree_of}
 use Rattle.gms_ast.proofs.TreeEquations.{tree_of-Ref, tree_of-And, tree_of-Guard}
 use Rattle.gms_store.specs.State.{State}
 use Rattle.gms_eval.specs.Bindings.{Pairs}
-use Rattle.gms_eval.specs.InnerLeading.{steps_of, IsBounded, Leading, IsShort, IsBareReference, later_walk, indices_tree, parts_tree}
+use Rattle.gms_eval.specs.InnerLeading.{steps_of, IsBounded, Leading, IsShort, IsBareReference, later_traversal, indices_tree, parts_tree}
 use Rattle.gms_eval.specs.Leaders.{without_lags, is_bare, never_fails, none_fails, MayLead, OneMayLead, LastMayLead, reach}
-use Rattle.gms_eval.specs.declared.traversals.Walk.{Walk}
+use Rattle.gms_eval.specs.declared.traversals.Traversal.{Traversal}
 use Rattle.gms_eval.specs.declared.leading.Scan.{Scan}
 use Rattle.gms_eval.proofs.Reaching.{count-indices}
 
@@ -125,7 +125,7 @@ module _ {F : Type 0} where
         let here : MayLead name i (tree.guarded (tree_of operand.value) (parts_tree those)) = subst (MayLead name i) tree-guard may in
         elim here [
           | inl last ↦ last
-          | inr behind ↦ not_both (none_fails (parts_tree those)) behind.0 (sym told ∙ unsafe)
+          | inr following ↦ not_both (none_fails (parts_tree those)) following.0 (sym told ∙ unsafe)
         ]
 
     module _ (under : Expr F) (at : under ≡ operand.value) where
@@ -141,7 +141,7 @@ module _ {F : Type 0} where
           let here : MayLead name i (tree.guarded (tree_of operand.value) (parts_tree those)) = subst (MayLead name i) tree-guard may in
           elim here [
             | inl last ↦ inl last
-            | inr behind ↦ inr (subst (λ x. MayLead name i (tree_of x)) (sym at) behind.1)
+            | inr following ↦ inr (subst (λ x. MayLead name i (tree_of x)) (sym at) following.1)
           ]
 
   -- ---- conditions in sequence
@@ -179,28 +179,28 @@ module _ {F : Type 0} where
     part-leads name i may = more-leads name i (take k parts) part (subst (λ ps. OneMayLead name i (parts_tree ps)) taken may)
 
   -- after one that may fail
-  front-fails : (xs ys : List (Expr F)) → none_fails (parts_tree xs) ≡ false → none_fails (parts_tree (xs ++ ys)) ≡ false
-  front-fails [] ys off = not_both true refl off
-  front-fails (x ∷ xs) ys off = by (front-fails xs ys) (never_fails (tree_of x)) off
+  beginning-fails : (xs ys : List (Expr F)) → none_fails (parts_tree xs) ≡ false → none_fails (parts_tree (xs ++ ys)) ≡ false
+  beginning-fails [] ys off = not_both true refl off
+  beginning-fails (x ∷ xs) ys off = by (beginning-fails xs ys) (never_fails (tree_of x)) off
     where
       by : (none_fails (parts_tree xs) ≡ false → none_fails (parts_tree (xs ++ ys)) ≡ false) → (b : Bool) → (b && none_fails (parts_tree xs)) ≡ false → (b && none_fails (parts_tree (xs ++ ys))) ≡ false
       by rest true other = rest other
       by rest false other = refl
 
-  front-leads : (name : ℕ) (i : tree.Indices F) (xs ys : List (Expr F)) → none_fails (parts_tree xs) ≡ false → OneMayLead name i (parts_tree (xs ++ ys)) → OneMayLead name i (parts_tree xs)
-  front-leads name i [] ys off may = not_both true refl off
-  front-leads name i (x ∷ xs) ys off (inl may) = inl may
-  front-leads name i (x ∷ xs) ys off (inr later) =
-      inr (later.0, front-leads name i xs ys (ap (λ v. v && none_fails (parts_tree xs)) (sym later.0) ∙ off) later.1)
+  beginning-leads : (name : ℕ) (i : tree.Indices F) (xs ys : List (Expr F)) → none_fails (parts_tree xs) ≡ false → OneMayLead name i (parts_tree (xs ++ ys)) → OneMayLead name i (parts_tree xs)
+  beginning-leads name i [] ys off may = not_both true refl off
+  beginning-leads name i (x ∷ xs) ys off (inl may) = inl may
+  beginning-leads name i (x ∷ xs) ys off (inr later) =
+      inr (later.0, beginning-leads name i xs ys (ap (λ v. v && none_fails (parts_tree xs)) (sym later.0) ∙ off) later.1)
 
   module _ (parts : List (Expr F)) (k : ℕ) where
     pub parts-unsafe : (safe : Bool) → safe ≡ false → safe ≡ none_fails (parts_tree (take k parts)) → safe ≡ none_fails (parts_tree parts)
     parts-unsafe safe unsafe told =
-        unsafe ∙ sym (ap (λ ps. none_fails (parts_tree ps)) (sym (take-append-drop k parts)) ∙ front-fails (take k parts) (drop k parts) (sym told ∙ unsafe))
+        unsafe ∙ sym (ap (λ ps. none_fails (parts_tree ps)) (sym (take-append-drop k parts)) ∙ beginning-fails (take k parts) (drop k parts) (sym told ∙ unsafe))
 
     pub parts-unsafe_leads : (safe : Bool) → safe ≡ false → safe ≡ none_fails (parts_tree (take k parts)) → (name : ℕ) (i : tree.Indices F) → OneMayLead name i (parts_tree parts) → OneMayLead name i (parts_tree (take k parts))
     parts-unsafe_leads safe unsafe told name i may =
-        front-leads name i (take k parts) (drop k parts) (sym told ∙ unsafe) (subst (λ ps. OneMayLead name i (parts_tree ps)) (sym (take-append-drop k parts)) may)
+        beginning-leads name i (take k parts) (drop k parts) (sym told ∙ unsafe) (subst (λ ps. OneMayLead name i (parts_tree ps)) (sym (take-append-drop k parts)) may)
 
   -- ---- guards
 
@@ -223,30 +223,30 @@ module _ {F : Type 0} where
     pub guard-more_leads : (name : ℕ) (i : tree.Indices F) → LastMayLead name i (parts_tree (drop (p - 1) guards)) → LastMayLead name i (parts_tree (drop p guards)) ⊎ MayLead name i (tree_of guard)
     guard-more_leads name i may =
         let here : LastMayLead name i (tree.part tree.plain (tree_of guard) (parts_tree (drop p guards))) = subst (LastMayLead name i) guard-at may in
-        elim here [ inl last ↦ inl last | inr behind ↦ inr behind.1 ]
+        elim here [ inl last ↦ inl last | inr following ↦ inr following.1 ]
 
-  behind-fails : (xs ys : List (Expr F)) → none_fails (parts_tree ys) ≡ false → none_fails (parts_tree (xs ++ ys)) ≡ false
-  behind-fails [] ys off = off
-  behind-fails (x ∷ xs) ys off = ap (λ v. never_fails (tree_of x) && v) (behind-fails xs ys off) ∙ and-false (never_fails (tree_of x))
+  following-fails : (xs ys : List (Expr F)) → none_fails (parts_tree ys) ≡ false → none_fails (parts_tree (xs ++ ys)) ≡ false
+  following-fails [] ys off = off
+  following-fails (x ∷ xs) ys off = ap (λ v. never_fails (tree_of x) && v) (following-fails xs ys off) ∙ and-false (never_fails (tree_of x))
 
-  behind-leads : (name : ℕ) (i : tree.Indices F) (xs ys : List (Expr F)) → none_fails (parts_tree ys) ≡ false → LastMayLead name i (parts_tree (xs ++ ys)) → LastMayLead name i (parts_tree ys)
-  behind-leads name i [] ys off may = may
-  behind-leads name i (x ∷ xs) ys off (inl last) = behind-leads name i xs ys off last
-  behind-leads name i (x ∷ xs) ys off (inr first) = not_both (none_fails (parts_tree (xs ++ ys))) first.0 (behind-fails xs ys off)
+  following-leads : (name : ℕ) (i : tree.Indices F) (xs ys : List (Expr F)) → none_fails (parts_tree ys) ≡ false → LastMayLead name i (parts_tree (xs ++ ys)) → LastMayLead name i (parts_tree ys)
+  following-leads name i [] ys off may = may
+  following-leads name i (x ∷ xs) ys off (inl last) = following-leads name i xs ys off last
+  following-leads name i (x ∷ xs) ys off (inr first) = not_both (none_fails (parts_tree (xs ++ ys))) first.0 (following-fails xs ys off)
 
   module _ (guards : List (Expr F)) (p : ℕ) where
     pub guards-unsafe : (safe : Bool) → safe ≡ false → safe ≡ none_fails (parts_tree (drop p guards)) → safe ≡ none_fails (parts_tree guards)
     guards-unsafe safe unsafe told =
-        unsafe ∙ sym (ap (λ gs. none_fails (parts_tree gs)) (sym (take-append-drop p guards)) ∙ behind-fails (take p guards) (drop p guards) (sym told ∙ unsafe))
+        unsafe ∙ sym (ap (λ gs. none_fails (parts_tree gs)) (sym (take-append-drop p guards)) ∙ following-fails (take p guards) (drop p guards) (sym told ∙ unsafe))
 
     pub guards-unsafe_leads : (safe : Bool) → safe ≡ false → safe ≡ none_fails (parts_tree (drop p guards)) → (name : ℕ) (i : tree.Indices F) → LastMayLead name i (parts_tree guards) → LastMayLead name i (parts_tree (drop p guards))
     guards-unsafe_leads safe unsafe told name i may =
-        behind-leads name i (take p guards) (drop p guards) (sym told ∙ unsafe) (subst (λ gs. LastMayLead name i (parts_tree gs)) (sym (take-append-drop p guards)) may)
+        following-leads name i (take p guards) (drop p guards) (sym told ∙ unsafe) (subst (λ gs. LastMayLead name i (parts_tree gs)) (sym (take-append-drop p guards)) may)
 
-comes-both : (first second : Option Walk) (bound one two : ℕ) → two ≤ one → IsBounded bound one first → IsBounded one two second → IsBounded bound two (later_walk first second)
+comes-both : (first second : Option Traversal) (bound one two : ℕ) → two ≤ one → IsBounded bound one first → IsBounded one two second → IsBounded bound two (later_traversal first second)
 comes-both None None bound one two le a c = omega (arith, le, a, c)
-comes-both (Some walk) None bound one two le a c = omega (arith, le, a, c)
-comes-both first (Some walk) bound one two le a c = c
+comes-both (Some traversal) None bound one two le a c = omega (arith, le, a, c)
+comes-both first (Some traversal) bound one two le a c = c
 
 -- ---- how short a traversal is
 
@@ -257,7 +257,7 @@ module _ {F : Type 0} (state : State) (b : Pairs) (sets : List ℕ) where
       record { below = s.below; comes = s.comes; fewest = λ name i leads. s.fewest name i (fewer name i leads) }
 
   -- where none leads
-  pub short-none : (bound : ℕ) (leading : Leading F) (scan : Scan) → scan.bound ≡ bound → scan.walk ≡ None → ((name : ℕ) (i : tree.Indices F) → leading name i → ⊥) → IsShort state b sets bound leading scan
+  pub short-none : (bound : ℕ) (leading : Leading F) (scan : Scan) → scan.bound ≡ bound → scan.traversal ≡ None → ((name : ℕ) (i : tree.Indices F) → leading name i → ⊥) → IsShort state b sets bound leading scan
   short-none bound leading scan same none off =
       record {
         below = omega (arith, same);
@@ -266,11 +266,11 @@ module _ {F : Type 0} (state : State) (b : Pairs) (sets : List ℕ) where
       }
 
   -- two conditions, of which the second is examined with the bound of the first
-  pub short-both : (bound : ℕ) (one other both : Leading F) (first second result : Scan) → result.bound ≡ second.bound → result.walk ≡ later_walk first.walk second.walk → ((name : ℕ) (i : tree.Indices F) → both name i → one name i ⊎ other name i) → IsShort state b sets bound one first → IsShort state b sets first.bound other second → IsShort state b sets bound both result
+  pub short-both : (bound : ℕ) (one other both : Leading F) (first second result : Scan) → result.bound ≡ second.bound → result.traversal ≡ later_traversal first.traversal second.traversal → ((name : ℕ) (i : tree.Indices F) → both name i → one name i ⊎ other name i) → IsShort state b sets bound one first → IsShort state b sets first.bound other second → IsShort state b sets bound both result
   short-both bound one other both first second result same_bound same_walk parts s t =
       record {
         below = omega (arith, same_bound, s.below, t.below);
-        comes = subst (IsBounded bound result.bound) (sym same_walk) (subst (λ n. IsBounded bound n (later_walk first.walk second.walk)) (sym same_bound) (comes-both first.walk second.walk bound first.bound second.bound t.below s.comes t.comes));
+        comes = subst (IsBounded bound result.bound) (sym same_walk) (subst (λ n. IsBounded bound n (later_traversal first.traversal second.traversal)) (sym same_bound) (comes-both first.traversal second.traversal bound first.bound second.bound t.below s.comes t.comes));
         fewest = λ name i leads. elim (parts name i leads) [
           | inl here ↦ omega (arith, same_bound, t.below, s.fewest name i here)
           | inr there ↦ omega (arith, same_bound, t.fewest name i there)
@@ -285,16 +285,16 @@ module _ {F : Type 0} (state : State) (b : Pairs) (sets : List ℕ) where
     reach-same other i h = ap (λ n. reach state b sets n (indices_tree indices)) h.2 ∙ ap (reach state b sets other) h.3
 
     -- a reference by which a traversal goes
-    pub short-walk : (walk : Walk) → scan.walk ≡ Some walk → scan.bound ≡ steps_of walk → steps_of walk < bound → (length indices ≤ 10 → steps_of walk ≡ reach state b sets name (indices_tree indices)) → IsShort state b sets bound (IsBareReference name (indices_tree indices)) scan
-    short-walk walk there same shorter is =
+    pub short-traversal : (traversal : Traversal) → scan.traversal ≡ Some traversal → scan.bound ≡ steps_of traversal → steps_of traversal < bound → (length indices ≤ 10 → steps_of traversal ≡ reach state b sets name (indices_tree indices)) → IsShort state b sets bound (IsBareReference name (indices_tree indices)) scan
+    short-traversal traversal there same shorter is =
         record {
           below = omega (arith, same, shorter);
-          comes = subst (IsBounded bound scan.bound) (sym there) (let le : steps_of walk ≤ scan.bound = omega (arith, same) in le);
+          comes = subst (IsBounded bound scan.bound) (sym there) (let le : steps_of traversal ≤ scan.bound = omega (arith, same) in le);
           fewest = λ other i h. omega (arith, same, is (few other i h), reach-same other i h);
         }
 
     -- and one that it does not
-    pub short-no_walk : scan.walk ≡ None → scan.bound ≡ bound → (length indices ≤ 10 → bound ≤ reach state b sets name (indices_tree indices)) → IsShort state b sets bound (IsBareReference name (indices_tree indices)) scan
+    pub short-no_walk : scan.traversal ≡ None → scan.bound ≡ bound → (length indices ≤ 10 → bound ≤ reach state b sets name (indices_tree indices)) → IsShort state b sets bound (IsBareReference name (indices_tree indices)) scan
     short-no_walk none same le =
         record {
           below = omega (arith, same);

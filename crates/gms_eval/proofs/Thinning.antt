@@ -32,8 +32,8 @@ module _ (test : List ℕ → Answer Bool) where
 
   -- traversing only some elements in order finds the same, where they include all for which the
   -- test may hold
-  pub walk-thinned : (xs among : List (List ℕ)) → IsOrdered xs → IsOrdered among → ((t : List ℕ) → has among t ≡ true → has xs t ≡ true) → ((x : List ℕ) → has xs x ≡ true → has among x ≡ false → test x ≡ Ok false) → those_where test among ≡ those_where test xs
-  walk-thinned xs among in_order among_in_order within out =
+  pub traversal-thinned : (xs among : List (List ℕ)) → IsOrdered xs → IsOrdered among → ((t : List ℕ) → has among t ≡ true → has xs t ≡ true) → ((x : List ℕ) → has xs x ≡ true → has among x ≡ false → test x ≡ Ok false) → those_where test among ≡ those_where test xs
+  traversal-thinned xs among in_order among_in_order within out =
       ap (those_where test) (same_from_members among (filter (has among) xs) among_in_order (IsOrdered-filter (has among) xs in_order) (λ t. both t ∙ sym (has-filter (has among) xs t)))
       ∙ thinned (has among) xs (λ k d l. out (get_or xs k d) (has-Contains xs (get_or xs k d) (Contains-get_or xs k d l)))
     where

@@ -43,11 +43,11 @@ one_longer tuple label labels =
 
 -- the labels of further indices fill a tuple
 pub filled-is : (tuple : List ℕ) (labels : List (Option ℕ)) → length tuple ≤ 10 → filled (Some tuple) labels ≡ followed tuple labels
-filled-is tuple [] room =
+filled-is tuple [] within_bound =
     ap Some (sym (append-nil tuple))
     ∙ sym (when (nat_le (length tuple + 0) 10) (Some (tuple ++ [])) (le-leb (length tuple + 0) 10 (omega arith)))
-filled-is tuple (None ∷ labels) room = filled-None labels ∙ nothing_if (nat_le (length tuple + suc (length labels)) 10)
-filled-is tuple (Some label ∷ labels) room =
+filled-is tuple (None ∷ labels) within_bound = filled-None labels ∙ nothing_if (nat_le (length tuple + suc (length labels)) 10)
+filled-is tuple (Some label ∷ labels) within_bound =
     elim (cases_lt (length tuple) 10) [
       | inl shorter ↦
           ap (λ o. filled o labels) (when (nat_lt (length tuple) 10) (Some (tuple ++ label ∷ [])) (lt-ltb (length tuple) 10 shorter))

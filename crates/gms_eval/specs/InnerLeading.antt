@@ -17,7 +17,7 @@ use Rattle.gms_eval.specs.Holds.{holds}
 use Rattle.gms_eval.specs.Leaders.{without_lags, number_of_indices, reach}
 use Rattle.gms_eval.specs.References.{tuple_of, plain_value}
 use Rattle.gms_eval.specs.Value.{value, label_answer}
-use Rattle.gms_eval.specs.declared.traversals.Walk.{Walk}
+use Rattle.gms_eval.specs.declared.traversals.Traversal.{Traversal}
 use Rattle.gms_eval.specs.declared.leading.Scan.{Scan}
 
 -- ---- traversals
@@ -31,9 +31,9 @@ abbrev pub spread_over : State → List ℕ → List ℕ → List ℕ → List (
 spread_over state free places tuple = map (λ rest. picked places (tuple ++ rest)) (elements state free)
 
 -- the elements that a traversal visits, in the order of the stored tuples
-abbrev pub walked : State → Walk → List (List ℕ)
-walked state walk =
-    flat_map (spread_over state walk.free.items walk.places.items) (slice_range (given_of state walk.name) walk.from walk.upto)
+abbrev pub traversed : State → Traversal → List (List ℕ)
+traversed state traversal =
+    flat_map (spread_over state traversal.free.items traversal.places.items) (slice_range (given_of state traversal.name) traversal.from traversal.upto)
 
 -- ---- conditions
 
@@ -51,33 +51,33 @@ each_in_turn answers = fold both (Ok true) answers
 
 -- A traversal that leads a condition: the condition fails at each element of the sets that the
 -- traversal does not visit.
-pub record Leads (state : State) (binding : Pairs) (sets : List ℕ) (condition : Condition) (walk : Walk) : Type 0 where
-  pub few : length walk.places.items ≤ 10
-  pub range : walk.from ≤ walk.upto
-  pub within : walk.upto ≤ length (given_of state walk.name)
-  pub counted : walk.spread ≡ length (elements state walk.free.items)
-  pub needed : (element : List ℕ) → has (elements state sets) element ≡ true → has (walked state walk) element ≡ false → condition (controlled binding sets element) ≡ Ok false
+pub record Leads (state : State) (binding : Pairs) (sets : List ℕ) (condition : Condition) (traversal : Traversal) : Type 0 where
+  pub few : length traversal.places.items ≤ 10
+  pub range : traversal.from ≤ traversal.upto
+  pub within : traversal.upto ≤ length (given_of state traversal.name)
+  pub counted : traversal.spread ≡ length (elements state traversal.free.items)
+  pub needed : (element : List ℕ) → has (elements state sets) element ≡ true → has (traversed state traversal) element ≡ false → condition (controlled binding sets element) ≡ Ok false
 
 -- What is known of a condition: whether it never has a fault, and a traversal that leads it.
 pub record IsScan (state : State) (binding : Pairs) (sets : List ℕ) (condition : Condition) (scan : Scan) : Type 0 where
   pub safe : IsTrue scan.safe → (other : Pairs) → IsOk (condition other)
-  pub leads : IfSome scan.walk (λ walk. Leads state binding sets condition walk)
+  pub leads : IfSome scan.traversal (λ traversal. Leads state binding sets condition traversal)
 
 -- ---- how short a traversal is
 
 -- how many elements a traversal visits at most
-abbrev pub steps_of : Walk → ℕ
-steps_of walk = (walk.upto - walk.from) * walk.spread
+abbrev pub steps_of : Traversal → ℕ
+steps_of traversal = (traversal.upto - traversal.from) * traversal.spread
 
 -- a traversal visits exactly `count` elements; without a traversal, `count` is at least the bound
-abbrev pub IsReaching : ℕ → ℕ → Option Walk → Type 0
+abbrev pub IsReaching : ℕ → ℕ → Option Traversal → Type 0
 IsReaching bound count None = bound ≤ count
-IsReaching bound count (Some walk) = steps_of walk ≡ count
+IsReaching bound count (Some traversal) = steps_of traversal ≡ count
 
 -- a traversal visits at most `count` elements; without a traversal, `count` is at least the bound
-abbrev pub IsBounded : ℕ → ℕ → Option Walk → Type 0
+abbrev pub IsBounded : ℕ → ℕ → Option Traversal → Type 0
 IsBounded bound count None = bound ≤ count
-IsBounded bound count (Some walk) = steps_of walk ≤ count
+IsBounded bound count (Some traversal) = steps_of traversal ≤ count
 
 -- which references may lead a traversal
 abbrev pub Leading : Type 0 → Type 1
@@ -87,7 +87,7 @@ Leading F = ℕ → tree.Indices F → Type 0
 -- this one, it visits no more elements than its bound, and no leading reference visits fewer.
 pub record IsShort {F : Type 0} (state : State) (binding : Pairs) (sets : List ℕ) (bound : ℕ) (leading : Leading F) (scan : Scan) : Type 0 where
   pub below : scan.bound ≤ bound
-  pub comes : IsBounded bound scan.bound scan.walk
+  pub comes : IsBounded bound scan.bound scan.traversal
   pub fewest : (name : ℕ) (indices : tree.Indices F) → leading name indices → scan.bound ≤ reach state binding sets name indices
 
 -- the indices of a reference, as a tree has them
@@ -104,9 +104,9 @@ IsBareReference other those name indices =
     (without_lags those ≡ true) × (number_of_indices those ≤ 10) × (other ≡ name) × (those ≡ indices)
 
 -- the traversal of the second of two conditions, or else that of the first
-abbrev pub later_walk : Option Walk → Option Walk → Option Walk
-later_walk first None = first
-later_walk first (Some walk) = Some walk
+abbrev pub later_traversal : Option Traversal → Option Traversal → Option Traversal
+later_traversal first None = first
+later_traversal first (Some traversal) = Some traversal
 
 -- ---- references
 

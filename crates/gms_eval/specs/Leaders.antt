@@ -77,11 +77,11 @@ module _ {F : Type 0} where
 
   -- The first labels of each tuple of a reference: those of its first indices that are labels, or
   -- sets that stand for a label outside.
-  abbrev pub front_of : Pairs → tree.Indices F → List ℕ
-  front_of binding tree.no_index = []
-  front_of binding (tree.label label rest) = label ∷ front_of binding rest
-  front_of binding (tree.set name rest) = before_others (label_of binding name) (front_of binding rest)
-  front_of binding (tree.lagged name op at amount rest) = []
+  abbrev pub leading_labels : Pairs → tree.Indices F → List ℕ
+  leading_labels binding tree.no_index = []
+  leading_labels binding (tree.label label rest) = label ∷ leading_labels binding rest
+  leading_labels binding (tree.set name rest) = before_others (label_of binding name) (leading_labels binding rest)
+  leading_labels binding (tree.lagged name op at amount rest) = []
 
   -- a set occurs among indices without a lag
   abbrev pub is_plain_index : ℕ → tree.Indices F → Bool
@@ -98,14 +98,14 @@ module _ {F : Type 0} where
       not (is_some (label_of binding name) || list_any (λ other. other == name) before) && is_plain_index name indices
 
   -- the sets of a control, after these, whose labels the tuple of a reference does not determine
-  abbrev pub free_behind : Pairs → tree.Indices F → List ℕ → List ℕ → List ℕ
-  free_behind binding indices before [] = []
-  free_behind binding indices before (name ∷ rest) =
-      let others = free_behind binding indices (before ++ name ∷ []) rest in
+  abbrev pub free_after : Pairs → tree.Indices F → List ℕ → List ℕ → List ℕ
+  free_after binding indices before [] = []
+  free_after binding indices before (name ∷ rest) =
+      let others = free_after binding indices (before ++ name ∷ []) rest in
       if is_told binding indices before name then others else name ∷ others
 
   -- How many elements a traversal by a reference visits at most: its stored tuples that begin with
   -- the labels known outside, times the elements of the sets that they do not determine.
   abbrev pub reach : State → Pairs → List ℕ → ℕ → tree.Indices F → ℕ
   reach state binding sets name indices =
-      length (those_with (given_of state name) (front_of binding indices)) * length (elements state (free_behind binding indices [] sets))
+      length (those_with (given_of state name) (leading_labels binding indices)) * length (elements state (free_after binding indices [] sets))

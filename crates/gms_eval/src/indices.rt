@@ -94,7 +94,7 @@ pub(crate) fn place_in_set<F: ExactField>(
 /// The integer that a value is, if it is one.
 fn whole_number<F: ExactField>(value: Ext<F>) -> Option<i128>
     ensures value { result ≡ whole_number (extended F.value value) }
-    ensures room { IfSome result (λ n. nat_abs n < 2 ^ 127) }
+    ensures within_bound { IfSome result (λ n. nat_abs n < 2 ^ 127) }
 {
     let Ext::Number(number) = value else {
         return None;
@@ -125,18 +125,18 @@ fn around(count: usize, amount: i128, place: usize) -> usize
     ensures { pos result ≡ int_rem_euclid (pos place +ℤ amount) (pos count) }
 {
     let shift = amount.rem_euclid(count as i128) as usize;
-    let behind = count - place;
-    if shift < behind {
+    let following = count - place;
+    if shift < following {
         place + shift
     } else {
-        shift - behind
+        shift - following
     }
 }
 
 /// The place to which a lead or a lag goes from one of `count` places.
 fn moved(count: usize, op: LagOp, amount: i128, place: usize) -> Option<usize>
     requires place { place < count }
-    requires room { nat_abs amount < 2 ^ 127 }
+    requires within_bound { nat_abs amount < 2 ^ 127 }
     ensures value { result ≡ moved_place count op amount (pos place) }
     ensures within { IfSome result (λ n. n < count) }
 {

@@ -10,14 +10,14 @@ ghost use Rattle.gms_tuple.specs.TupleSet.{has};
 ghost use Rattle.gms_eval.specs.Bindings.{Pairs, label_of, controlled};
 ghost use Rattle.gms_eval.specs.Domain.{most_elements, elements, those_where};
 ghost use Rattle.gms_eval.specs.Holds.{holds};
-ghost use Rattle.gms_eval.specs.InnerLeading.{Condition, both, Leads, IsScan, IsReaching, IsShort, IsBareReference, later_walk, indices_tree, parts_tree, spread_over, label_answers, tuple_answer, entry_holds, expression_holds, all_hold_in_turn, guards_hold};
-ghost use Rattle.gms_eval.specs.Leaders.{before_others, without_lags, never_fails, none_fails, MayLead, OneMayLead, LastMayLead, front_of, is_plain_index, is_told, free_behind, reach};
+ghost use Rattle.gms_eval.specs.InnerLeading.{Condition, both, Leads, IsScan, IsReaching, IsShort, IsBareReference, later_traversal, indices_tree, parts_tree, spread_over, label_answers, tuple_answer, entry_holds, expression_holds, all_hold_in_turn, guards_hold};
+ghost use Rattle.gms_eval.specs.Leaders.{before_others, without_lags, never_fails, none_fails, MayLead, OneMayLead, LastMayLead, leading_labels, is_plain_index, is_told, free_after, reach};
 ghost use Rattle.gms_eval.specs.InnerContracts.{those_of, IsCounted};
 ghost use Rattle.gms_eval.specs.Value.{label_answer};
 
 use crate::binding::Binding;
 use crate::elements::{Elements, MOST_ELEMENTS, count};
-use crate::traversals::{Walk, are_simple, gathered, listed};
+use crate::traversals::{Traversal, are_simple, gathered, listed};
 use gms_ast::{Expr, Index, Suffix};
 use gms_store::Store;
 use gms_tuple::{MOST_LABELS, Tuple};
@@ -28,7 +28,7 @@ use std::alloc::{AllocError, Global};
 fn constant<F: ExactField>(index: &Index<F>, b: &Binding) -> Option<u32>
     ensures label { IfSome result (λ label. (state : State) (more : Pairs) →
         label_answer F.value F.limit state (b.now ++ more) index.now ≡ Ok (Some label)) }
-    ensures front { (rest : Indices F) → front_of b.now (index_tree index.now rest) ≡ before_others result (front_of b.now rest) }
+    ensures beginning { (rest : Indices F) → leading_labels b.now (index_tree index.now rest) ≡ before_others result (leading_labels b.now rest) }
 {
     match index {
         Index::Label(label) => Some(*label),
@@ -48,7 +48,7 @@ fn prefix<F: ExactField>(
 ) -> Result<Tuple, AllocError>
     ensures begins { IfOk result (λ prefix. (state : State) (more : Pairs) (tuple : List ℕ) →
         tuple_answer F.value F.limit state indices.now (b.now ++ more) ≡ Ok (Some tuple) → begins_with tuple prefix ≡ true) }
-    ensures front { IfOk result (λ prefix. length indices.now ≤ 10 → prefix ≡ front_of b.now (indices_tree indices.now)) }
+    ensures beginning { IfOk result (λ prefix. length indices.now ≤ 10 → prefix ≡ leading_labels b.now (indices_tree indices.now)) }
 {
     let mut prefix = Tuple::new(alloc);
     for index in indices {
@@ -136,7 +136,7 @@ fn covered<F: ExactField>(
     ensures spreads { IfOk result (λ cover. (state : State) (element tuple : List ℕ) → has (elements state sets.now) element ≡ true →
         tuple_answer F.value F.limit state indices.now (controlled b.now sets.now element) ≡ Ok (Some tuple) →
         has (spread_over state cover.free.items cover.places.items tuple) element ≡ true) }
-    ensures free { IfOk result (λ cover. cover.free.items ≡ free_behind b.now (indices_tree indices.now) [] sets.now) }
+    ensures free { IfOk result (λ cover. cover.free.items ≡ free_after b.now (indices_tree indices.now) [] sets.now) }
 {
     let mut places = Vec::new(alloc);
     let mut free = Vec::new(alloc);
@@ -178,7 +178,7 @@ fn are_plain<F: ExactField>(indices: &[Index<F>]) -> bool
 }
 
 /// The traversal of the tuples of a reference, if it visits fewer than `bound` elements.
-fn walk_by<F: ExactField>(
+fn traversal_by<F: ExactField>(
     alloc: Global,
     store: &Store<F>,
     sets: &[u32],
@@ -186,14 +186,14 @@ fn walk_by<F: ExactField>(
     name: u32,
     indices: &[Index<F>],
     b: &Binding,
-) -> Result<Option<Walk>, AllocError>
+) -> Result<Option<Traversal>, AllocError>
     requires { (binding : Pairs) → IsOk (tuple_answer F.value F.limit store.now indices.now binding) }
-    ensures leads { IfOk result (λ walk. IfSome walk (λ walk.
-        Leads store.now b.now sets.now (entry_holds F.value F.limit store.now name indices.now) walk)) }
-    ensures reach { IfOk result (λ walk. bound ≤ length (elements store.now sets.now) →
+    ensures leads { IfOk result (λ traversal. IfSome traversal (λ traversal.
+        Leads store.now b.now sets.now (entry_holds F.value F.limit store.now name indices.now) traversal)) }
+    ensures reach { IfOk result (λ traversal. bound ≤ length (elements store.now sets.now) →
         length (elements store.now sets.now) ≤ most_elements → length indices.now ≤ 10 →
-        IsReaching bound (reach store.now b.now sets.now name (indices_tree indices.now)) walk) }
-    ensures shorter { IfOk result (λ walk. IfSome walk (λ walk. (walk.upto - walk.from) * walk.spread < bound)) }
+        IsReaching bound (reach store.now b.now sets.now name (indices_tree indices.now)) traversal) }
+    ensures shorter { IfOk result (λ traversal. IfSome traversal (λ traversal. (traversal.upto - traversal.from) * traversal.spread < bound)) }
 {
     if indices.len() > MOST_LABELS || sets.len() > MOST_LABELS {
         return Ok(None);
@@ -208,7 +208,7 @@ fn walk_by<F: ExactField>(
     if spread > MOST_ELEMENTS || (upto - from).saturating_mul(spread as usize) >= bound {
         return Ok(None);
     }
-    Ok(Some(Walk {
+    Ok(Some(Traversal {
         name,
         from,
         upto,
@@ -226,7 +226,7 @@ pub(crate) struct Scan {
     /// How many elements another traversal visits at most to be shorter than this one.
     pub bound: usize,
     /// The traversal that leads, if any.
-    pub walk: Option<Walk>,
+    pub traversal: Option<Traversal>,
 }
 
 impl Scan {
@@ -238,19 +238,19 @@ impl Scan {
             IsScan state binding sets (λ b. both (one b) (other b)) result }
         ensures safe { result.safe ≡ second.safe }
         ensures bound { result.bound ≡ second.bound }
-        ensures walk { result.walk ≡ later_walk self.walk second.walk }
+        ensures traversal { result.traversal ≡ later_traversal self.traversal second.traversal }
     {
-        let Scan { safe, bound, walk } = second;
-        match walk {
-            Some(walk) => Scan {
+        let Scan { safe, bound, traversal } = second;
+        match traversal {
+            Some(traversal) => Scan {
                 safe,
                 bound,
-                walk: Some(walk),
+                traversal: Some(traversal),
             },
             None => Scan {
                 safe,
                 bound,
-                walk: self.walk,
+                traversal: self.traversal,
             },
         }
     }
@@ -277,19 +277,19 @@ fn scan_reference<F: ExactField>(
         return Ok(Scan {
             safe: false,
             bound,
-            walk: None,
+            traversal: None,
         });
     }
-    match walk_by(alloc, store, sets, bound, name, indices, b)? {
-        Some(walk) => Ok(Scan {
+    match traversal_by(alloc, store, sets, bound, name, indices, b)? {
+        Some(traversal) => Ok(Scan {
             safe: true,
-            bound: (walk.upto - walk.from).saturating_mul(walk.spread),
-            walk: Some(walk),
+            bound: (traversal.upto - traversal.from).saturating_mul(traversal.spread),
+            traversal: Some(traversal),
         }),
         None => Ok(Scan {
             safe: true,
             bound,
-            walk: None,
+            traversal: None,
         }),
     }
 }
@@ -315,7 +315,7 @@ fn scan_condition<F: ExactField>(
         Expr::Number(_) => Ok(Scan {
             safe: true,
             bound,
-            walk: None,
+            traversal: None,
         }),
         Expr::Ref {
             name,
@@ -327,7 +327,7 @@ fn scan_condition<F: ExactField>(
             _ => Ok(Scan {
                 safe: false,
                 bound,
-                walk: None,
+                traversal: None,
             }),
         },
         Expr::And(parts) => scan_parts(alloc, store, sets, bound, parts, b),
@@ -342,7 +342,7 @@ fn scan_condition<F: ExactField>(
         _ => Ok(Scan {
             safe: false,
             bound,
-            walk: None,
+            traversal: None,
         }),
     }
 }
@@ -368,7 +368,7 @@ fn scan_parts<F: ExactField>(
     let mut known = Scan {
         safe: true,
         bound,
-        walk: None,
+        traversal: None,
     };
     for part in parts {
         if !known.safe {
@@ -401,7 +401,7 @@ fn scan_guards<F: ExactField>(
     let mut first = Scan {
         safe: true,
         bound,
-        walk: None,
+        traversal: None,
     };
     for place in (0..guards.len()).rev() {
         if !first.safe {
@@ -439,9 +439,9 @@ pub(crate) fn candidates<F: ExactField>(
         return Ok(Elements::Every(size));
     }
     let scan = scan_condition(alloc, store, sets, size, condition, b)?;
-    let Some(walk) = &scan.walk else {
+    let Some(traversal) = &scan.traversal else {
         return Ok(Elements::Every(size));
     };
-    let found = gathered(alloc, store, sets, walk)?;
+    let found = gathered(alloc, store, sets, traversal)?;
     Ok(Elements::Those(listed(alloc, &found)?))
 }

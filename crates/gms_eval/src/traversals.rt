@@ -4,7 +4,7 @@ ghost use Rattle.gms_tuple.specs.TupleOrder.{IsOrdered};
 ghost use Rattle.gms_tuple.specs.TupleSet.{has};
 ghost use Rattle.gms_store.specs.State.{given_of, symbol_of};
 ghost use Rattle.gms_eval.specs.Domain.{elements, IsSimple};
-ghost use Rattle.gms_eval.specs.InnerLeading.{picked, spread_over, walked};
+ghost use Rattle.gms_eval.specs.InnerLeading.{picked, spread_over, traversed};
 
 use crate::elements::element;
 use gms_store::Store;
@@ -18,7 +18,7 @@ use std::alloc::{AllocError, Global};
 /// In `sum((i,j,k)$s(j,i), w(i,k))` it goes over the tuples of `s`; the labels of `i` and `j` are
 /// at the places 1 and 0 of each, and that of `k` is at place 2, after them.
 #[derive(Drop)]
-pub(crate) struct Walk {
+pub(crate) struct Traversal {
     /// The name.
     pub name: u32,
     /// The place of the first of its tuples.
@@ -126,22 +126,22 @@ fn spread<F: ExactField>(
     alloc: Global,
     store: &Store<F>,
     sets: &[u32],
-    walk: &Walk,
+    traversal: &Traversal,
     tuple: &Tuple,
     found: TupleSet,
 ) -> Result<TupleSet, AllocError>
     requires simple { All (IsSimple store.now) sets.now }
-    requires few { length walk.now.places.items ≤ MOST_LABELS }
-    requires counted { walk.now.spread ≡ length (elements store.now walk.now.free.items) }
+    requires few { length traversal.now.places.items ≤ MOST_LABELS }
+    requires counted { traversal.now.spread ≡ length (elements store.now traversal.now.free.items) }
     requires ordered { IsOrdered found }
     ensures members { IfOk result (λ more. (t : List ℕ) → has more t ≡
-        (has found t || (has (spread_over store.now walk.now.free.items walk.now.places.items tuple.now) t && has (elements store.now sets.now) t))) }
+        (has found t || (has (spread_over store.now traversal.now.free.items traversal.now.places.items tuple.now) t && has (elements store.now sets.now) t))) }
     ensures ordered { IfOk result IsOrdered }
 {
     let mut more = found;
-    for number in 0..walk.spread {
-        let rest = element(alloc, store, walk.free.as_slice(), walk.spread, number)?;
-        let element = picked(alloc, tuple, &rest, walk.places.as_slice())?;
+    for number in 0..traversal.spread {
+        let rest = element(alloc, store, traversal.free.as_slice(), traversal.spread, number)?;
+        let element = picked(alloc, tuple, &rest, traversal.places.as_slice())?;
         if !is_element(alloc, store, sets, &element)? {
             continue;
         }
@@ -155,21 +155,21 @@ pub(crate) fn gathered<F: ExactField>(
     alloc: Global,
     store: &Store<F>,
     sets: &[u32],
-    walk: &Walk,
+    traversal: &Traversal,
 ) -> Result<TupleSet, AllocError>
     requires simple { All (IsSimple store.now) sets.now }
-    requires few { length walk.now.places.items ≤ MOST_LABELS }
-    requires range { walk.now.from ≤ walk.now.upto }
-    requires within { walk.now.upto ≤ length (given_of store.now walk.now.name) }
-    requires counted { walk.now.spread ≡ length (elements store.now walk.now.free.items) }
+    requires few { length traversal.now.places.items ≤ MOST_LABELS }
+    requires range { traversal.now.from ≤ traversal.now.upto }
+    requires within { traversal.now.upto ≤ length (given_of store.now traversal.now.name) }
+    requires counted { traversal.now.spread ≡ length (elements store.now traversal.now.free.items) }
     ensures members { IfOk result (λ found.
-        (t : List ℕ) → has found t ≡ (has (walked store.now walk.now) t && has (elements store.now sets.now) t)) }
+        (t : List ℕ) → has found t ≡ (has (traversed store.now traversal.now) t && has (elements store.now sets.now) t)) }
     ensures ordered { IfOk result IsOrdered }
 {
     let mut found = TupleSet::new(alloc);
-    let given = store.given(walk.name);
-    for place in walk.from..walk.upto {
-        found = spread(alloc, store, sets, walk, given.get(place), found)?;
+    let given = store.given(traversal.name);
+    for place in traversal.from..traversal.upto {
+        found = spread(alloc, store, sets, traversal, given.get(place), found)?;
     }
     Ok(found)
 }

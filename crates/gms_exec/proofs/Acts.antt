@@ -26,7 +26,7 @@ use Rattle.gms_exec.specs.Dimensions.{AreOneDimensional}
 use Rattle.gms_exec.specs.Options.{after_options}
 use Rattle.gms_exec.specs.Run.{Course, World, labels_in, in_state, with_evaluated, display, abort_where, solve, of_statement}
 use Rattle.gms_exec.specs.InnerContracts.{Assigns, IsOnce, AsksNoSolver}
-use Rattle.gms_exec.specs.Stepping.{RunView, come_to, Runs, AreValidSettings, UnlessMemory}
+use Rattle.gms_exec.specs.Stepping.{RunView, course_from_view, Runs, AreValidSettings, UnlessMemory}
 use Rattle.gms_exec.proofs.ActSteps.{on-Assign, on-Display, on-Options, on-Abort, on-Solve, on-Declare, on-Alias, on-Define, on-Model}
 use Rattle.gms_exec.proofs.Arms.{runs-alike, runs-assigned, runs-nothing, runs-state, unless-both}
 use Rattle.gms_exec.proofs.Keeping.{Keeps, run-keeps}
@@ -43,7 +43,7 @@ module _ {F : Type 0} (value : F → Number) (limit : ℕ) (world : World F) (s 
   ran-Assign result target condition own right_at (Value e) old new events answers is same assigns =
       runs-assigned value result does old new events answers (after_assignment value limit old s.at binding (target_of target) (option_map tree_of own) right_at (tree_of e))
       (λ left.
-      let course = come_to value (record { state = old; events = events; answers = answers }) left in
+      let course = course_from_view value (record { state = old; events = events; answers = answers }) left in
       on-Assign value limit world s binding course target condition right_at e is
       ∙ ap (λ (c : Option (Expr F)). with_evaluated (after_assignment value limit old s.at binding (target_of target) (option_map tree_of c) right_at (tree_of e)) (in_state course) course) (sym same))
       (assigns e refl)
@@ -52,7 +52,7 @@ module _ {F : Type 0} (value : F → Number) (limit : ℕ) (world : World F) (s 
   ran-Display result items shown labels old new is same counted runs =
       runs-alike value result does (display value limit labels shown s.at binding) old new
       (λ left.
-      let course = come_to value old left in
+      let course = course_from_view value old left in
       on-Display value limit world s binding course items is
       ∙ ap (λ (n : ℕ). display value limit n items s.at binding course) (sym counted)
       ∙ ap (λ (xs : List Show). display value limit labels xs s.at binding course) (sym same))
@@ -62,7 +62,7 @@ module _ {F : Type 0} (value : F → Number) (limit : ℕ) (world : World F) (s 
   ran-Options x settings options old new events answers is same put =
       runs-state value x does old new events answers
       (λ left.
-      let course = come_to value (record { state = old; events = events; answers = answers }) left in
+      let course = course_from_view value (record { state = old; events = events; answers = answers }) left in
       on-Options value limit world s binding course settings is
       ∙ ap (λ (xs : List (Word × Setting F)). in_state course (with_settings old (after_options value world.solvers old.settings xs))) (sym same)
       ∙ ap (in_state course) (sym put))
@@ -71,7 +71,7 @@ module _ {F : Type 0} (value : F → Number) (limit : ℕ) (world : World F) (s 
   ran-Abort result condition own items shown labels old new is same_condition same counted runs =
       runs-alike value result does (abort_where value limit labels (option_map tree_of own) shown s.at binding) old new
       (λ left.
-      let course = come_to value old left in
+      let course = course_from_view value old left in
       on-Abort value limit world s binding course condition items is
       ∙ ap (λ (n : ℕ). abort_where value limit n (option_map tree_of condition) items s.at binding course) (sym counted)
       ∙ ap (λ (c : Option (Expr F)). abort_where value limit labels (option_map tree_of c) items s.at binding course) (sym same_condition)
@@ -80,7 +80,7 @@ module _ {F : Type 0} (value : F → Number) (limit : ℕ) (world : World F) (s 
 
   pub ran-Solve : {A : Type 0} (result : Result A (ExecStopOrMemory F)) (model : Named) (method : Word) (objective : Named) (maximize : Bool) (old new : RunView F) → s.act ≡ Solve model method objective maximize → Runs value result (solve value limit world.solvers world.program.statements.items model.name objective.name maximize s.at binding) old new → Runs value result does old new
   ran-Solve result model method objective maximize old new is runs =
-      runs-alike value result does (solve value limit world.solvers world.program.statements.items model.name objective.name maximize s.at binding) old new (λ left. on-Solve value limit world s binding (come_to value old left) model method objective maximize is) runs
+      runs-alike value result does (solve value limit world.solvers world.program.statements.items model.name objective.name maximize s.at binding) old new (λ left. on-Solve value limit world s binding (course_from_view value old left) model method objective maximize is) runs
 
   -- ---- other acts do nothing
 
@@ -99,7 +99,7 @@ module _ {F : Type 0} (value : F → Number) (limit : ℕ) (world : World F) (s 
     other-act course (Act-F.Abort condition items) e = absurd (no_abort condition items (e ∙ rolls-Abort condition items))
 
     pub ran-nothing : {A : Type 0} (x : A) (seen : RunView F) → Runs value {A = A} (Ok x) does seen seen
-    ran-nothing x seen = runs-nothing value x does seen (λ left. other-act (come_to value seen left) (out-Act F s.act) (sym (roll-out-Act F s.act)))
+    ran-nothing x seen = runs-nothing value x does seen (λ left. other-act (course_from_view value seen left) (out-Act F s.act) (sym (roll-out-Act F s.act)))
 
 -- ---- solvers that were lent
 

@@ -1,5 +1,5 @@
 -- What a solve leaves: its elements have their levels and marginals, and all else stays.
-use Rattle.gms_exec.proofs.Joining.{get-front}
+use Rattle.gms_exec.proofs.Joining.{get-prefix}
 use Rattle.std.proofs.Common.{◌≡◌, ◌⊎◌, ℕ, zero, suc, ◌+◌, ◌<◌, Bool, true, false, not, ◌==◌, List, [], ◌∷◌, ◌++◌, length, map, set, slice_get, refl, sym, ap, ◌∙◌, cond, subst, Option, Some, None, unwrap_or, option_map, pos, arith, inl, inr}
 use Rattle.std.specs.List.{fold}
 use Rattle.std.proofs.lemmas.List.{length-set, map-append}
@@ -12,10 +12,10 @@ use Rattle.lp_core.specs.declared.program.Lp.{Lp}
 use Rattle.lp_core.specs.declared.answer.End.{End}
 use Rattle.lp_core.specs.declared.answer.End.TheVariants.{Optimal, Infeasible, Unbounded, Interrupted, Refused}
 use Rattle.lp_form.specs.declared.key.Key.{Key}
-use Rattle.gms_exec.specs.Solved.{first_or_zero, behind_first, Point, points, with_point, keys_of_columns, row_keys, points_of, statuses_of, after_end}
+use Rattle.gms_exec.specs.Solved.{first_or_zero, after_first, Point, points, with_point, keys_of_columns, row_keys, points_of, statuses_of, after_end}
 use Rattle.gms_exec.specs.Elements.{IsElement, IsNot, AreElements, program_elements, feasible_levels, has_no_point}
 use Rattle.gms_exec.proofs.Symbols.{base-after, symbol-elsewhere}
-use Rattle.gms_exec.proofs.Levels.{behind-fitted, fits-either}
+use Rattle.gms_exec.proofs.Levels.{following-fitted, fits-either}
 
 -- ---- places of lists
 
@@ -33,9 +33,9 @@ first-at : (xs : List Number) (x : Number) → slice_get xs zero ≡ Some x → 
 first-at [] x at = absurd cc
 first-at (y ∷ ys) x at = some-same y x at
 
-behind-at : (xs : List Number) (i : ℕ) (x : Number) → slice_get xs (suc i) ≡ Some x → slice_get (behind_first xs) i ≡ Some x
-behind-at [] i x at = absurd cc
-behind-at (y ∷ ys) i x at = at
+following-at : (xs : List Number) (i : ℕ) (x : Number) → slice_get xs (suc i) ≡ Some x → slice_get (after_first xs) i ≡ Some x
+following-at [] i x at = absurd cc
+following-at (y ∷ ys) i x at = at
 
 -- the marginal at a place; 0 if there are no marginals
 abbrev IsMarginal : List Number → ℕ → Number → Type 0
@@ -46,10 +46,10 @@ first-marginal : (xs : List Number) (x : Number) → IsMarginal xs zero x → fi
 first-marginal [] x at = at
 first-marginal (y ∷ ys) x at = some-same y x at
 
-behind-marginal : (xs : List Number) (i : ℕ) (x : Number) → IsMarginal xs (suc i) x → IsMarginal (behind_first xs) i x
-behind-marginal [] i x at = at
-behind-marginal (y ∷ []) i x at = absurd cc
-behind-marginal (y ∷ z ∷ ys) i x at = at
+following-marginal : (xs : List Number) (i : ℕ) (x : Number) → IsMarginal xs (suc i) x → IsMarginal (after_first xs) i x
+following-marginal [] i x at = at
+following-marginal (y ∷ []) i x at = absurd cc
+following-marginal (y ∷ z ∷ ys) i x at = at
 
 get-marginal : (xs : List Number) (i : ℕ) (x : Number) → slice_get xs i ≡ Some x → IsMarginal xs i x
 get-marginal [] i x at = absurd cc
@@ -63,7 +63,7 @@ point-at (k ∷ keys) levels marginals zero key x d at at_level at_marginal =
     ∙ ap (λ y. Some (record { key = key; level = y; marginal = first_or_zero marginals })) (first-at levels x at_level)
     ∙ ap (λ y. Some (record { key = key; level = x; marginal = y })) (first-marginal marginals d at_marginal)
 point-at (k ∷ keys) levels marginals (suc i) key x d at at_level at_marginal =
-    point-at keys (behind_first levels) (behind_first marginals) i key x d at (behind-at levels i x at_level) (behind-marginal marginals i d at_marginal)
+    point-at keys (after_first levels) (after_first marginals) i key x d at (following-at levels i x at_level) (following-marginal marginals i d at_marginal)
 
 abbrev key_of : Point → Key
 key_of point = point.key
@@ -71,11 +71,11 @@ key_of point = point.key
 -- points have their keys in order
 points-keys : (keys : List Key) (levels marginals : List Number) → map key_of (points keys levels marginals) ≡ keys
 points-keys [] levels marginals = refl
-points-keys (key ∷ keys) levels marginals = ap (λ ks. key ∷ ks) (points-keys keys (behind_first levels) (behind_first marginals))
+points-keys (key ∷ keys) levels marginals = ap (λ ks. key ∷ ks) (points-keys keys (after_first levels) (after_first marginals))
 
 points-length : (keys : List Key) (levels marginals : List Number) → length (points keys levels marginals) ≡ length keys
 points-length [] levels marginals = refl
-points-length (key ∷ keys) levels marginals = ap suc (points-length keys (behind_first levels) (behind_first marginals))
+points-length (key ∷ keys) levels marginals = ap suc (points-length keys (after_first levels) (after_first marginals))
 
 -- ---- one point
 
@@ -90,7 +90,7 @@ module _ (state : State) (p : Point) where
   new = if_fits symbol p.key.tuple (with_attributes symbol.content p.key.tuple put)
 
   alike : (n : ℕ) → alias_target n new.content ≡ alias_target n symbol.content
-  alike n = behind-fitted symbol p.key.tuple put n
+  alike n = following-fitted symbol p.key.tuple put n
 
   base-point : (other : ℕ) → base_of (with_point state p) other ≡ base_of state other
   base-point other = base-after state p.key.symbol new alike other
@@ -176,14 +176,14 @@ settings-all (p ∷ ps) state = settings-all ps (with_point state p)
 
 -- ---- the statuses
 
-behind-statuses : (c : Content) (model solver n : ℕ) → alias_target n (with_statuses c model solver) ≡ alias_target n c
-behind-statuses undeclared model solver n = refl
-behind-statuses (alias_of base) model solver n = refl
-behind-statuses (set_of members) model solver n = refl
-behind-statuses (parameter_of entries) model solver n = refl
-behind-statuses (variable_of type entries) model solver n = refl
-behind-statuses (equation_of entries) model solver n = refl
-behind-statuses (model_with m s) model solver n = refl
+following-statuses : (c : Content) (model solver n : ℕ) → alias_target n (with_statuses c model solver) ≡ alias_target n c
+following-statuses undeclared model solver n = refl
+following-statuses (alias_of base) model solver n = refl
+following-statuses (set_of members) model solver n = refl
+following-statuses (parameter_of entries) model solver n = refl
+following-statuses (variable_of type entries) model solver n = refl
+following-statuses (equation_of entries) model solver n = refl
+following-statuses (model_with m s) model solver n = refl
 
 attributes-statuses : (c : Content) (model solver : ℕ) (t : List ℕ) → attributes_in (with_statuses c model solver) t ≡ attributes_in c t
 attributes-statuses undeclared model solver t = refl
@@ -220,7 +220,7 @@ module _ (state : State) (model m s : ℕ) where
   changed = with_content (symbol_of state model) (with_statuses (symbol_of state model).content m s)
 
   alike-statuses : (n : ℕ) → alias_target n changed.content ≡ alias_target n (symbol_of state model).content
-  alike-statuses n = behind-statuses (symbol_of state model).content m s n
+  alike-statuses n = following-statuses (symbol_of state model).content m s n
 
   base-begun : (other : ℕ) → base_of begun other ≡ base_of state other
   base-begun other = base-after state model changed alike-statuses other
@@ -287,7 +287,7 @@ module _ (lp : Lp Number) where
 
       column-put : (j : ℕ) (key : Key) (x d : Number) → slice_get (keys_of_columns lp) j ≡ Some key → slice_get levels j ≡ Some x → IsMarginal marginals j d → attributes_of (fold with_point (after_statuses state model m s) all) key.symbol key.tuple ≡ with_marginal (with_level (attributes_of state key.symbol key.tuple) x) d
       column-put j key x d at at_level at_marginal =
-          element-put state model m s all (program_elements lp) (both-keys levels marginals row_levels row_marginals) are j (record { key = key; level = x; marginal = d }) (get-front (points (keys_of_columns lp) levels marginals) (points (row_keys lp) row_levels row_marginals) j (record { key = key; level = x; marginal = d }) (point-at (keys_of_columns lp) levels marginals j key x d at at_level at_marginal))
+          element-put state model m s all (program_elements lp) (both-keys levels marginals row_levels row_marginals) are j (record { key = key; level = x; marginal = d }) (get-prefix (points (keys_of_columns lp) levels marginals) (points (row_keys lp) row_levels row_marginals) j (record { key = key; level = x; marginal = d }) (point-at (keys_of_columns lp) levels marginals j key x d at at_level at_marginal))
 
       row-put : (i : ℕ) (key : Key) (x d : Number) → slice_get (row_keys lp) i ≡ Some key → slice_get row_levels i ≡ Some x → IsMarginal row_marginals i d → attributes_of (fold with_point (after_statuses state model m s) all) key.symbol key.tuple ≡ with_marginal (with_level (attributes_of state key.symbol key.tuple) x) d
       row-put i key x d at at_level at_marginal =

@@ -57,14 +57,14 @@ absent-not_given absent a e = sym (attributes-same a absent (not-false (same_att
 -- ---- contents
 
 -- elements that are given something leave what a name stands for
-pub behind-given : (kind : Suffix) (all : AllGiven) (content : Content) (n : ℕ) → alias_target n (with_given kind all content) ≡ alias_target n content
-behind-given kind all undeclared n = refl
-behind-given kind all (alias_of base) n = refl
-behind-given kind all (set_of members) n = refl
-behind-given kind all (parameter_of entries) n = refl
-behind-given kind all (variable_of type entries) n = refl
-behind-given kind all (equation_of entries) n = refl
-behind-given kind all (model_with model solver) n = refl
+pub following-given : (kind : Suffix) (all : AllGiven) (content : Content) (n : ℕ) → alias_target n (with_given kind all content) ≡ alias_target n content
+following-given kind all undeclared n = refl
+following-given kind all (alias_of base) n = refl
+following-given kind all (set_of members) n = refl
+following-given kind all (parameter_of entries) n = refl
+following-given kind all (variable_of type entries) n = refl
+following-given kind all (equation_of entries) n = refl
+following-given kind all (model_with model solver) n = refl
 
 either-attributes : (kind : Suffix) (a : Attributes) (o : Option extended.Extended) → unwrap_or (option_map (with_attribute kind a) o) a ≡ attributes_with kind a o
 either-attributes kind a None = refl
@@ -102,12 +102,12 @@ module _ (state : State) (name : ℕ) (kind : Suffix) (all : AllGiven) where
   -- the changed name
   pub symbol-given : base_of state name < length state.symbols → symbol_of (after_given kind name all state) name ≡ with_content (symbol_of state name) (with_given kind (fitting (symbol_of state name) all) (symbol_of state name).content)
   symbol-given within =
-      symbol-here state name (with_content (symbol_of state name) (with_given kind (fitting (symbol_of state name) all) (symbol_of state name).content)) (behind-given kind (fitting (symbol_of state name) all) (symbol_of state name).content) within
+      symbol-here state name (with_content (symbol_of state name) (with_given kind (fitting (symbol_of state name) all) (symbol_of state name).content)) (following-given kind (fitting (symbol_of state name) all) (symbol_of state name).content) within
 
   -- every other name
   pub symbol-not_given : (other : ℕ) → (base_of state other ≡ base_of state name → ⊥) → symbol_of (after_given kind name all state) other ≡ symbol_of state other
   symbol-not_given other apart =
-      symbol-elsewhere state name (with_content (symbol_of state name) (with_given kind (fitting (symbol_of state name) all) (symbol_of state name).content)) (behind-given kind (fitting (symbol_of state name) all) (symbol_of state name).content) other apart
+      symbol-elsewhere state name (with_content (symbol_of state name) (with_given kind (fitting (symbol_of state name) all) (symbol_of state name).content)) (following-given kind (fitting (symbol_of state name) all) (symbol_of state name).content) other apart
 
   module _ (within : base_of state name < length state.symbols) (fit : All (λ given. length given.0 ≡ length (symbol_of state name).domain) all) where
     -- the content of the changed name

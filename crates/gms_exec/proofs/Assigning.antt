@@ -29,7 +29,7 @@ use Rattle.gms_eval.proofs.TreeValues.{labels-indices_of}
 use Rattle.gms_exec.specs.Given.{Given, member, value_is, AllGiven}
 use Rattle.gms_exec.specs.Membership.{membership}
 use Rattle.gms_exec.specs.Assignment.{newly_controlled, takes_value, where_taken, target_of, given_under, element_under, given_elements, given_by}
-use Rattle.gms_exec.specs.InnerContracts.{behind_others, found_at, Assigns}
+use Rattle.gms_exec.specs.InnerContracts.{after_others, found_at, Assigns}
 
 -- ---- kinds
 
@@ -54,12 +54,12 @@ kind-other (model_with model solver) k e other = refl
 
 -- ---- sets
 
-pub behind-there : (done slice : List ℕ) (n : ℕ) (there : Bool) → slice ≡ done → there ≡ list_any (λ one. one == n) slice → there ≡ true → done ≡ behind_others done n
-behind-there done slice n there same is so =
+pub following-there : (done slice : List ℕ) (n : ℕ) (there : Bool) → slice ≡ done → there ≡ list_any (λ one. one == n) slice → there ≡ true → done ≡ after_others done n
+following-there done slice n there same is so =
     sym (ap (λ b. cond b done (done ++ n ∷ [])) (ap (list_any (λ one. one == n)) (sym same) ∙ sym is ∙ so))
 
-pub behind-new : (done slice next : List ℕ) (n : ℕ) (there : Bool) → slice ≡ done → there ≡ list_any (λ one. one == n) slice → there ≡ false → next ≡ done ++ n ∷ [] → next ≡ behind_others done n
-behind-new done slice next n there same is so put =
+pub following-new : (done slice next : List ℕ) (n : ℕ) (there : Bool) → slice ≡ done → there ≡ list_any (λ one. one == n) slice → there ≡ false → next ≡ done ++ n ∷ [] → next ≡ after_others done n
+following-new done slice next n there same is so put =
     put ∙ sym (ap (λ b. cond b done (done ++ n ∷ [])) (ap (list_any (λ one. one == n)) (sym same) ∙ sym is ∙ so))
 
 -- ---- what the right side gives

@@ -26,33 +26,33 @@ use Rattle.gms_exec.specs.Assignment.{target_of, after_assignment}
 use Rattle.gms_exec.specs.Showing.{all_shown}
 use Rattle.gms_exec.specs.Solved.{after_end}
 use Rattle.lp_core.specs.declared.answer.Answer.{Answer}
-use Rattle.gms_exec.specs.Run.{Course, Halt, World, OfAct, OfStatement, in_state, with_event, stopped_by, while_it_runs, with_evaluated, one_after_another, for_each, display, abort, abort_where, over_elements, answered, solve, act_step, statement_step, of_statement, labels_in}
+use Rattle.gms_exec.specs.Run.{Course, Halt, World, OfAct, OfStatement, in_state, with_event, stopped_by, while_it_runs, with_evaluated, in_sequence, for_each, display, abort, abort_where, over_elements, answered, solve, act_step, statement_step, of_statement, labels_in}
 
 -- the run that showed these events before all others
-abbrev pub behind : List Event → Course → Course
-behind front c = record { state = c.state; events = front ++ c.events; left = c.left; taken = c.taken; halted = c.halted }
+abbrev pub following : List Event → Course → Course
+following prefix c = record { state = c.state; events = prefix ++ c.events; left = c.left; taken = c.taken; halted = c.halted }
 
 -- a statement, or an act, does the same after events that were shown before
 abbrev pub IsBehind : OfStatement → Type 0
-IsBehind s = (front : List Event) (binding : Pairs) (c : Course) → s binding (behind front c) ≡ behind front (s binding c)
+IsBehind s = (prefix : List Event) (binding : Pairs) (c : Course) → s binding (following prefix c) ≡ following prefix (s binding c)
 
 abbrev IsBehindAct : OfAct → Type 0
-IsBehindAct act = (front : List Event) (at : Place) (binding : Pairs) (c : Course) → act at binding (behind front c) ≡ behind front (act at binding c)
+IsBehindAct act = (prefix : List Event) (at : Place) (binding : Pairs) (c : Course) → act at binding (following prefix c) ≡ following prefix (act at binding c)
 
 -- one event is shown
-behind_event : (front : List Event) (c : Course) (e : Event) → with_event (behind front c) e ≡ behind front (with_event c e)
-behind_event front c e = ap (λ (es : List Event). record { state = c.state; events = es; left = c.left; taken = c.taken; halted = c.halted }) (append_assoc front c.events (e ∷ []))
+behind_event : (prefix : List Event) (c : Course) (e : Event) → with_event (following prefix c) e ≡ following prefix (with_event c e)
+behind_event prefix c e = ap (λ (es : List Event). record { state = c.state; events = es; left = c.left; taken = c.taken; halted = c.halted }) (append_assoc prefix c.events (e ∷ []))
 
 -- a step with a value, or a stop by a fault
-behind_value : {A : Type 0} (front : List Event) (r : Evaluated A) (next other : A → Course) (c : Course) → ((x : A) → other x ≡ behind front (next x)) → with_evaluated r other (behind front c) ≡ behind front (with_evaluated r next c)
-behind_value front (Ok x) next other c same = same x
-behind_value front (Err fault) next other c same = refl
+behind_value : {A : Type 0} (prefix : List Event) (r : Evaluated A) (next other : A → Course) (c : Course) → ((x : A) → other x ≡ following prefix (next x)) → with_evaluated r other (following prefix c) ≡ following prefix (with_evaluated r next c)
+behind_value prefix (Ok x) next other c same = same x
+behind_value prefix (Err fault) next other c same = refl
 
 -- a step that is taken only where nothing halts the run
-behind_runs : (front : List Event) (next : Course → Course) (c : Course) → next (behind front c) ≡ behind front (next c) → while_it_runs next (behind front c) ≡ behind front (while_it_runs next c)
-behind_runs front next c same = by_halt c.halted
+behind_runs : (prefix : List Event) (next : Course → Course) (c : Course) → next (following prefix c) ≡ following prefix (next c) → while_it_runs next (following prefix c) ≡ following prefix (while_it_runs next c)
+behind_runs prefix next c same = by_halt c.halted
   where
-    by_halt : (h : Option Halt) → elim h [ None ↦ next (behind front c) | Some halt ↦ behind front c ] ≡ behind front (elim h [ None ↦ next c | Some halt ↦ c ])
+    by_halt : (h : Option Halt) → elim h [ None ↦ next (following prefix c) | Some halt ↦ following prefix c ] ≡ following prefix (elim h [ None ↦ next c | Some halt ↦ c ])
     by_halt None = same
     by_halt (Some halt) = refl
 
@@ -62,53 +62,53 @@ AreBehind [] = Unit {0}
 AreBehind (s ∷ ss) = IsBehind s × AreBehind ss
 
 -- statements in sequence
-pub behind_all : (ss : List OfStatement) → AreBehind ss → IsBehind (one_after_another ss)
-behind_all [] are front binding c = refl
-behind_all (s ∷ ss) are front binding c =
-    ap (one_after_another ss binding) (behind_runs front (s binding) c (are.0 front binding c)) ∙ behind_all ss are.1 front binding (while_it_runs (s binding) c)
+pub behind_all : (ss : List OfStatement) → AreBehind ss → IsBehind (in_sequence ss)
+behind_all [] are prefix binding c = refl
+behind_all (s ∷ ss) are prefix binding c =
+    ap (in_sequence ss binding) (behind_runs prefix (s binding) c (are.0 prefix binding c)) ∙ behind_all ss are.1 prefix binding (while_it_runs (s binding) c)
 
 -- the body of a loop, for each element
 behind_each : (sets : List ℕ) (body : List OfStatement) (elements : List (List ℕ)) → AreBehind body → IsBehind (for_each sets body elements)
-behind_each sets body [] are front binding c = refl
-behind_each sets body (element ∷ elements) are front binding c =
-    ap (for_each sets body elements binding) (behind_all body are front (controlled binding sets element) c) ∙ behind_each sets body elements are front binding (one_after_another body (controlled binding sets element) c)
+behind_each sets body [] are prefix binding c = refl
+behind_each sets body (element ∷ elements) are prefix binding c =
+    ap (for_each sets body elements binding) (behind_all body are prefix (controlled binding sets element) c) ∙ behind_each sets body elements are prefix binding (in_sequence body (controlled binding sets element) c)
 
 module _ {F : Type 0} (number_of : F → Number) (limit : ℕ) (world : World F) where
   behind_display : (labels : ℕ) (items : List Show) → IsBehindAct (display number_of limit labels items)
-  behind_display labels items front at binding c =
-      behind_value front (all_shown labels c.state binding items) (λ shown. with_event c (displays at.line shown)) (λ shown. with_event (behind front c) (displays at.line shown)) c (λ shown. behind_event front c (displays at.line shown))
+  behind_display labels items prefix at binding c =
+      behind_value prefix (all_shown labels c.state binding items) (λ shown. with_event c (displays at.line shown)) (λ shown. with_event (following prefix c) (displays at.line shown)) c (λ shown. behind_event prefix c (displays at.line shown))
 
   behind_abort : (labels : ℕ) (items : List Show) → IsBehindAct (abort number_of limit labels items)
-  behind_abort labels items front at binding c =
-      behind_value front (all_shown labels c.state binding items) (λ shown. stopped_by (with_event c (aborts at.line shown)) (faulted Aborted at binding nothing nothing)) (λ shown. stopped_by (with_event (behind front c) (aborts at.line shown)) (faulted Aborted at binding nothing nothing)) c
-      (λ shown. ap (λ d. stopped_by d (faulted Aborted at binding nothing nothing)) (behind_event front c (aborts at.line shown)))
+  behind_abort labels items prefix at binding c =
+      behind_value prefix (all_shown labels c.state binding items) (λ shown. stopped_by (with_event c (aborts at.line shown)) (faulted Aborted at binding nothing nothing)) (λ shown. stopped_by (with_event (following prefix c) (aborts at.line shown)) (faulted Aborted at binding nothing nothing)) c
+      (λ shown. ap (λ d. stopped_by d (faulted Aborted at binding nothing nothing)) (behind_event prefix c (aborts at.line shown)))
 
   behind_abort_where : (labels : ℕ) (condition : Option (tree.Tree F)) (items : List Show) → IsBehindAct (abort_where number_of limit labels condition items)
-  behind_abort_where labels None items front at binding c = behind_abort labels items front at binding c
-  behind_abort_where labels (Some condition) items front at binding c =
-      behind_value front (holds number_of limit c.state binding condition) (λ so. if so then abort number_of limit labels items at binding c else c) (λ so. if so then abort number_of limit labels items at binding (behind front c) else behind front c) c by_truth
+  behind_abort_where labels None items prefix at binding c = behind_abort labels items prefix at binding c
+  behind_abort_where labels (Some condition) items prefix at binding c =
+      behind_value prefix (holds number_of limit c.state binding condition) (λ so. if so then abort number_of limit labels items at binding c else c) (λ so. if so then abort number_of limit labels items at binding (following prefix c) else following prefix c) c by_truth
     where
-      by_truth : (so : Bool) → (if so then abort number_of limit labels items at binding (behind front c) else behind front c) ≡ behind front (if so then abort number_of limit labels items at binding c else c)
-      by_truth true = behind_abort labels items front at binding c
+      by_truth : (so : Bool) → (if so then abort number_of limit labels items at binding (following prefix c) else following prefix c) ≡ following prefix (if so then abort number_of limit labels items at binding c else c)
+      by_truth true = behind_abort labels items prefix at binding c
       by_truth false = refl
 
-  behind_answered : (front : List Event) (solvers : List (List ℕ)) (model : ℕ) (equations : List ℕ) (objective : ℕ) (at : Place) (c : Course) (lp : Lp Number) → answered number_of limit solvers model equations objective at (behind front c) lp ≡ behind front (answered number_of limit solvers model equations objective at c lp)
-  behind_answered front solvers model equations objective at c lp = by_left c.left refl
+  behind_answered : (prefix : List Event) (solvers : List (List ℕ)) (model : ℕ) (equations : List ℕ) (objective : ℕ) (at : Place) (c : Course) (lp : Lp Number) → answered number_of limit solvers model equations objective at (following prefix c) lp ≡ following prefix (answered number_of limit solvers model equations objective at c lp)
+  behind_answered prefix solvers model equations objective at c lp = by_left c.left refl
     where
-      by_left : (left : List (Answer Number)) → c.left ≡ left → answered number_of limit solvers model equations objective at (behind front c) lp ≡ behind front (answered number_of limit solvers model equations objective at c lp)
+      by_left : (left : List (Answer Number)) → c.left ≡ left → answered number_of limit solvers model equations objective at (following prefix c) lp ≡ following prefix (answered number_of limit solvers model equations objective at c lp)
       by_left [] e = rw e refl
-      by_left (answer ∷ left) e = rw e (ap (λ (es : List Event). record { state = after_end c.state model lp answer.end; events = es; left = left; taken = c.taken + 1; halted = c.halted }) (append_assoc front c.events _))
+      by_left (answer ∷ left) e = rw e (ap (λ (es : List Event). record { state = after_end c.state model lp answer.end; events = es; left = left; taken = c.taken + 1; halted = c.halted }) (append_assoc prefix c.events _))
 
   behind_solve : (solvers : List (List ℕ)) (statements : List (Stmt F)) (model objective : ℕ) (maximize : Bool) → IsBehindAct (solve number_of limit solvers statements model objective maximize)
-  behind_solve [] statements model objective maximize front at binding c = refl
-  behind_solve (solver ∷ solvers) statements model objective maximize front at binding c =
-      behind_value front (program_lp number_of limit c.state statements model objective maximize at) (answered number_of limit (solver ∷ solvers) model (equations_of statements model) objective at c) (answered number_of limit (solver ∷ solvers) model (equations_of statements model) objective at (behind front c)) c
-      (λ lp. behind_answered front (solver ∷ solvers) model (equations_of statements model) objective at c lp)
+  behind_solve [] statements model objective maximize prefix at binding c = refl
+  behind_solve (solver ∷ solvers) statements model objective maximize prefix at binding c =
+      behind_value prefix (program_lp number_of limit c.state statements model objective maximize at) (answered number_of limit (solver ∷ solvers) model (equations_of statements model) objective at c) (answered number_of limit (solver ∷ solvers) model (equations_of statements model) objective at (following prefix c)) c
+      (λ lp. behind_answered prefix (solver ∷ solvers) model (equations_of statements model) objective at c lp)
 
   behind_loop : (control : tree.Control F) (body : List OfStatement) → AreBehind body → IsBehindAct (over_elements number_of limit control body)
-  behind_loop control body are front at binding c =
-      behind_value front (domain number_of limit c.state binding at control) (λ elements. for_each (sets_of control) body elements binding c) (λ elements. for_each (sets_of control) body elements binding (behind front c)) c
-      (λ elements. behind_each (sets_of control) body elements are front binding c)
+  behind_loop control body are prefix at binding c =
+      behind_value prefix (domain number_of limit c.state binding at control) (λ elements. for_each (sets_of control) body elements binding c) (λ elements. for_each (sets_of control) body elements binding (following prefix c)) c
+      (λ elements. behind_each (sets_of control) body elements are prefix binding c)
 
   -- an act, and a statement, of the program
   abbrev of_act : Act F → OfAct
@@ -128,11 +128,11 @@ module _ {F : Type 0} (number_of : F → Number) (limit : ℕ) (world : World F)
 
   -- an act that does nothing
   behind_nothing : IsBehindAct (λ at binding c. c)
-  behind_nothing front at binding c = refl
+  behind_nothing prefix at binding c = refl
 
   behind_assign : (target : Target F) (condition : Option (Expr F)) (right_at : Place) (right : Expr F) → IsBehindAct (λ at binding c. with_evaluated (after_assignment number_of limit c.state at binding (target_of target) (option_map tree_of condition) right_at (tree_of right)) (in_state c) c)
-  behind_assign target condition right_at right front at binding c =
-      behind_value front (after_assignment number_of limit c.state at binding (target_of target) (option_map tree_of condition) right_at (tree_of right)) (in_state c) (in_state (behind front c)) c (λ state. refl)
+  behind_assign target condition right_at right prefix at binding c =
+      behind_value prefix (after_assignment number_of limit c.state at binding (target_of target) (option_map tree_of condition) right_at (tree_of right)) (in_state c) (in_state (following prefix c)) c (λ state. refl)
 
   -- an act does, if the statements of its loop do
   by_layer : (y : Act-F F ((a : Act F) × IsBehindAct (of_act a)) ((s : Stmt F) × Q s)) → IsBehindAct (of_act (roll-Act F (map-Act F ((a : Act F) × IsBehindAct (of_act a)) ((s : Stmt F) × Q s) (Act F) (Stmt F) (λ e. e.0) (λ e. e.0) y)))
@@ -142,7 +142,7 @@ module _ {F : Type 0} (number_of : F → Number) (limit : ℕ) (world : World F)
   by_layer (Act-F.Define equation indices condition left_at left side right_at right) = rolled (Act-F.Define equation indices condition left_at left side right_at right) _ (fold-roll-Act F OfAct OfStatement (act_step number_of limit world) (statement_step number_of limit) (Act-F.Define equation indices condition left_at left side right_at right)) behind_nothing
   by_layer (Act-F.Assign target condition right_at (Value right)) = rolled (Act-F.Assign target condition right_at (Value right)) _ (fold-roll-Act F OfAct OfStatement (act_step number_of limit world) (statement_step number_of limit) (Act-F.Assign target condition right_at (Value right))) (behind_assign target condition right_at right)
   by_layer (Act-F.Display items) = rolled (Act-F.Display items) _ (fold-roll-Act F OfAct OfStatement (act_step number_of limit world) (statement_step number_of limit) (Act-F.Display items)) (behind_display (labels_in world) items)
-  by_layer (Act-F.Options settings) = rolled (Act-F.Options settings) _ (fold-roll-Act F OfAct OfStatement (act_step number_of limit world) (statement_step number_of limit) (Act-F.Options settings)) (λ front at binding c. refl)
+  by_layer (Act-F.Options settings) = rolled (Act-F.Options settings) _ (fold-roll-Act F OfAct OfStatement (act_step number_of limit world) (statement_step number_of limit) (Act-F.Options settings)) (λ prefix at binding c. refl)
   by_layer (Act-F.Abort condition items) = rolled (Act-F.Abort condition items) _ (fold-roll-Act F OfAct OfStatement (act_step number_of limit world) (statement_step number_of limit) (Act-F.Abort condition items)) (behind_abort_where (labels_in world) (option_map tree_of condition) items)
   by_layer (Act-F.Solve model word objective maximize) = rolled (Act-F.Solve model word objective maximize) _ (fold-roll-Act F OfAct OfStatement (act_step number_of limit world) (statement_step number_of limit) (Act-F.Solve model word objective maximize)) (behind_solve world.solvers world.program.statements.items model.name objective.name maximize)
   by_layer (Act-F.Loop control body) = rolled (map-Act F ((a : Act F) × IsBehindAct (of_act a)) ((s : Stmt F) × Q s) (Act F) (Stmt F) (λ e. e.0) (λ e. e.0) (Act-F.Loop control body)) _ (fold-roll-Act F OfAct OfStatement (act_step number_of limit world) (statement_step number_of limit) (map-Act F ((a : Act F) × IsBehindAct (of_act a)) ((s : Stmt F) × Q s) (Act F) (Stmt F) (λ e. e.0) (λ e. e.0) (Act-F.Loop control body))) (behind_loop (control_tree control) _ (body_behind body.items))
@@ -151,7 +151,7 @@ module _ {F : Type 0} (number_of : F → Number) (limit : ℕ) (world : World F)
   by_statement : (y : Stmt-F F ((a : Act F) × IsBehindAct (of_act a)) ((s : Stmt F) × Q s)) → Q (roll-Stmt F (map-Stmt F ((a : Act F) × IsBehindAct (of_act a)) ((s : Stmt F) × Q s) (Act F) (Stmt F) (λ e. e.0) (λ e. e.0) y))
   by_statement y =
       let z = map-Stmt F ((a : Act F) × IsBehindAct (of_act a)) ((s : Stmt F) × Q s) (Act F) (Stmt F) (λ e. e.0) (λ e. e.0) y in
-      subst IsBehind (sym (fold-roll-Stmt F OfAct OfStatement (act_step number_of limit world) (statement_step number_of limit) z)) (λ front binding c. y.act.1 front y.at binding c)
+      subst IsBehind (sym (fold-roll-Stmt F OfAct OfStatement (act_step number_of limit world) (statement_step number_of limit) z)) (λ prefix binding c. y.act.1 prefix y.at binding c)
 
   -- Each statement does the same after what was shown before.
   pub behind_statement : (s : Stmt F) → Q s

@@ -18,9 +18,9 @@ pub left-out : (done : List (List ℕ × Extended)) (e : List ℕ × Extended) (
 left-out done e true out is so = absurd cc
 left-out done e false out is so = sym (append-nil done)
 
-pub put-behind : (done next : List (List ℕ × Extended)) (e : List ℕ × Extended) (keep out : Bool) → out ≡ not keep → out ≡ false → next ≡ done ++ e ∷ [] → next ≡ done ++ cond keep (e ∷ []) []
-put-behind done next e true out is so put = put
-put-behind done next e false out is so put = absurd cc
+pub put-following : (done next : List (List ℕ × Extended)) (e : List ℕ × Extended) (keep out : Bool) → out ≡ not keep → out ≡ false → next ≡ done ++ e ∷ [] → next ≡ done ++ cond keep (e ∷ []) []
+put-following done next e true out is so put = put
+put-following done next e false out is so put = absurd cc
 
 module _ (state : State) (name : ℕ) (s : Suffix) where
   -- whether an entry is shown

@@ -1,6 +1,6 @@
 -- The state in which elements have what they are given: as one write after another.
 use Rattle.gms_store.proofs.Maps.{same_map}
-use Rattle.gms_exec.proofs.Assigned.{behind-given}
+use Rattle.gms_exec.proofs.Assigned.{following-given}
 use Rattle.std.proofs.Common.{◌≡◌, ℕ, Bool, true, false, not, ◌&&◌, ◌==◌, List, [], ◌∷◌, ◌++◌, length, refl, sym, ap, ◌∙◌, cond, Option, Some, None, unwrap_or, pos}
 use Rattle.std.specs.declared.cmp.Ordering.{Ordering}
 use Rattle.std.specs.declared.cmp.Ordering.TheVariants.{Less, Equal, Greater}
@@ -119,7 +119,7 @@ given_to s all symbol = with_content symbol (with_given s (fitting symbol all) s
 pub after_given-append : (s : Suffix) (name : ℕ) (one other : AllGiven) (state : State) → after_given s name other (after_given s name one state) ≡ after_given s name (one ++ other) state
 after_given-append s name one other state =
     let symbol : Symbol = symbol_of state name in
-    changed-twice (given_to s one) (λ symbol n. behind-given s (fitting symbol one) symbol.content n) name state (given_to s other)
+    changed-twice (given_to s one) (λ symbol n. following-given s (fitting symbol one) symbol.content n) name state (given_to s other)
     ∙ ap (λ content. state_words.with_symbol state name (with_content symbol content)) (with_given-append s (fitting symbol one) (fitting symbol other) symbol.content ∙ ap (λ all. with_given s all symbol.content) (sym (filter-append _ one other)))
 
 -- ---- one alone
@@ -324,24 +324,24 @@ attributes-twice f g t (equation_of entries) =
     ∙ ap equation_of (write-twice (differs a) (differs (g a)) entries t a (g a))
 attributes-twice f g t (model_with model solver) = refl
 
-behind-attributes : (f : Attributes → Attributes) (t : List ℕ) (content : Content) (n : ℕ) → alias_target n (attributes_by f t content) ≡ alias_target n content
-behind-attributes f t undeclared n = refl
-behind-attributes f t (alias_of base) n = refl
-behind-attributes f t (set_of members) n = refl
-behind-attributes f t (parameter_of entries) n = refl
-behind-attributes f t (variable_of type entries) n = refl
-behind-attributes f t (equation_of entries) n = refl
-behind-attributes f t (model_with model solver) n = refl
+following-attributes : (f : Attributes → Attributes) (t : List ℕ) (content : Content) (n : ℕ) → alias_target n (attributes_by f t content) ≡ alias_target n content
+following-attributes f t undeclared n = refl
+following-attributes f t (alias_of base) n = refl
+following-attributes f t (set_of members) n = refl
+following-attributes f t (parameter_of entries) n = refl
+following-attributes f t (variable_of type entries) n = refl
+following-attributes f t (equation_of entries) n = refl
+following-attributes f t (model_with model solver) n = refl
 
 -- a name whose attributes are changed at a tuple that fits
 abbrev symbol_by : (Attributes → Attributes) → List ℕ → Symbol → Symbol
 symbol_by f t symbol = if_fits symbol t (attributes_by f t symbol.content)
 
-behind-symbol_by : (f : Attributes → Attributes) (t : List ℕ) (symbol : Symbol) (n : ℕ) → alias_target n (symbol_by f t symbol).content ≡ alias_target n symbol.content
-behind-symbol_by f t symbol n = by (length t == length symbol.domain)
+following-symbol_by : (f : Attributes → Attributes) (t : List ℕ) (symbol : Symbol) (n : ℕ) → alias_target n (symbol_by f t symbol).content ≡ alias_target n symbol.content
+following-symbol_by f t symbol n = by (length t == length symbol.domain)
   where
     by : (b : Bool) → alias_target n (cond b (with_content symbol (attributes_by f t symbol.content)) symbol).content ≡ alias_target n symbol.content
-    by true = behind-attributes f t symbol.content n
+    by true = following-attributes f t symbol.content n
     by false = refl
 
 symbol-twice : (f g : Attributes → Attributes) (t : List ℕ) (symbol : Symbol) → symbol_by g t (symbol_by f t symbol) ≡ symbol_by (λ a. g (f a)) t symbol
@@ -355,7 +355,7 @@ symbol-twice f g t symbol = by (length t == length symbol.domain) refl
 
 state-twice : (f g : Attributes → Attributes) (t : List ℕ) (name : ℕ) (state : State) → state_by g t name (state_by f t name state) ≡ state_by (λ a. g (f a)) t name state
 state-twice f g t name state =
-    changed-twice (symbol_by f t) (behind-symbol_by f t) name state (symbol_by g t) ∙ changed-as (λ symbol. symbol_by g t (symbol_by f t symbol)) (symbol_by (λ a. g (f a)) t) name state (symbol-twice f g t (symbol_of state name))
+    changed-twice (symbol_by f t) (following-symbol_by f t) name state (symbol_by g t) ∙ changed-as (λ symbol. symbol_by g t (symbol_by f t symbol)) (symbol_by (λ a. g (f a)) t) name state (symbol-twice f g t (symbol_of state name))
 
 -- both bounds and the level, one after the other
 pub fixed-given : (name : ℕ) (t : List ℕ) (x : extended.Extended) (n : Number) (state lower upper level : State) → IsTidy (symbol_of state name).content → n ≡ number_of_value x → lower ≡ after_attributes state name t (state_words.with_lower (attributes_of state name t) (Some n)) → upper ≡ after_attributes lower name t (state_words.with_upper (attributes_of lower name t) (Some n)) → level ≡ after_attributes upper name t (state_words.with_level (attributes_of upper name t) n) → level ≡ after_given suffix.Fx name ((t, value_is x) ∷ []) state

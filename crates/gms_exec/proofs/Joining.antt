@@ -15,18 +15,18 @@ use Rattle.lp_core.specs.declared.answer.Pivot.{Pivot}
 use Rattle.lp_slot.specs.declared.solver.SolverRule.{SolverRule}
 use Rattle.lp_core.specs.Numbers.{answer_numbers}
 use Rattle.gms_exec.specs.Answering.{IsAnswered, AreAnswered}
-use Rattle.gms_exec.specs.Run.{Course, Halt, stopped, stopped_by, while_it_runs, OfStatement, one_after_another, for_each}
-use Rattle.gms_exec.specs.Stepping.{RunView, come_to, Runs, Answered, paths_taken}
+use Rattle.gms_exec.specs.Run.{Course, Halt, stopped, stopped_by, while_it_runs, OfStatement, in_sequence, for_each}
+use Rattle.gms_exec.specs.Stepping.{RunView, course_from_view, Runs, Answered, paths_taken}
 
 -- ---- a run that is halted stays
 
 pub while-halted : (next : Course → Course) (course : Course) (halt : Halt) → course.halted ≡ Some halt → while_it_runs next course ≡ course
 while-halted next course halt e = ap (λ (o : Option Halt). elim o [ None ↦ next course | Some h ↦ course ]) e
 
-pub statements-halted : (body : List OfStatement) (binding : List (ℕ × ℕ)) (course : Course) (halt : Halt) → course.halted ≡ Some halt → one_after_another body binding course ≡ course
+pub statements-halted : (body : List OfStatement) (binding : List (ℕ × ℕ)) (course : Course) (halt : Halt) → course.halted ≡ Some halt → in_sequence body binding course ≡ course
 statements-halted [] binding course halt e = refl
 statements-halted (s ∷ body) binding course halt e =
-    ap (one_after_another body binding) (while-halted (s binding) course halt e) ∙ statements-halted body binding course halt e
+    ap (in_sequence body binding) (while-halted (s binding) course halt e) ∙ statements-halted body binding course halt e
 
 pub each-halted : (sets : List ℕ) (body : List OfStatement) (elements : List (List ℕ)) (binding : List (ℕ × ℕ)) (course : Course) (halt : Halt) → course.halted ≡ Some halt → for_each sets body elements binding course ≡ course
 each-halted sets body [] binding course halt e = refl
@@ -38,8 +38,8 @@ abbrev pub LeavesHalted : (Course → Course) → Type 0
 LeavesHalted rest = (course : Course) (halt : Halt) → course.halted ≡ Some halt → rest course ≡ course
 
 -- two lists appended to another, the second after the first
-pub behind-both : {A : Type 0} (old mid new first second : List A) → mid ≡ old ++ first → new ≡ mid ++ second → new ≡ old ++ (first ++ second)
-behind-both old mid new first second a b = b ∙ ap (λ xs. xs ++ second) a ∙ append_assoc old first second
+pub following-both : {A : Type 0} (old mid new first second : List A) → mid ≡ old ++ first → new ≡ mid ++ second → new ≡ old ++ (first ++ second)
+following-both old mid new first second a b = b ∙ ap (λ xs. xs ++ second) a ∙ append_assoc old first second
 
 -- ---- runs
 
@@ -51,11 +51,11 @@ module _ {F : Type 0} (value : F → Number) where
     pub events : new.events ≡ old.events ++ shown
     pub fresh : List (Answer F)
     pub answers : new.answers ≡ old.answers ++ fresh
-    pub comes : (more : List (Answer Number)) → does (come_to value old (map (answer_numbers value) fresh ++ more)) ≡ rest (come_to value new more)
+    pub comes : (more : List (Answer Number)) → does (course_from_view value old (map (answer_numbers value) fresh ++ more)) ≡ rest (course_from_view value new more)
 
   -- what remains is the next step, followed by what remains after it
   abbrev pub GoesOn : (Course → Course) → (Course → Course) → (Course → Course) → Type 0
-  GoesOn rest first then = (seen : RunView F) (left : List (Answer Number)) → rest (come_to value seen left) ≡ then (first (come_to value seen left))
+  GoesOn rest first then = (seen : RunView F) (left : List (Answer Number)) → rest (course_from_view value seen left) ≡ then (first (course_from_view value seen left))
 
   pub reaches-start : (does : Course → Course) (old : RunView F) → Reaches does does old old
   reaches-start does old =
@@ -63,9 +63,9 @@ module _ {F : Type 0} (value : F → Number) where
 
   module _ (does rest first then : Course → Course) (old mid new : RunView F) (reached : Reaches does rest old mid) (goes : GoesOn rest first then) where
     -- the next step, with its answers after those that were taken
-    next-comes : (fresh : List (Answer F)) (more : List (Answer Number)) → does (come_to value old (map (answer_numbers value) (reached.fresh ++ fresh) ++ more)) ≡ then (first (come_to value mid (map (answer_numbers value) fresh ++ more)))
+    next-comes : (fresh : List (Answer F)) (more : List (Answer Number)) → does (course_from_view value old (map (answer_numbers value) (reached.fresh ++ fresh) ++ more)) ≡ then (first (course_from_view value mid (map (answer_numbers value) fresh ++ more)))
     next-comes fresh more =
-        ap (λ left. does (come_to value old left)) (ap (λ xs. xs ++ more) (map-append (answer_numbers value) reached.fresh fresh) ∙ append_assoc (map (answer_numbers value) reached.fresh) (map (answer_numbers value) fresh) more)
+        ap (λ left. does (course_from_view value old left)) (ap (λ xs. xs ++ more) (map-append (answer_numbers value) reached.fresh fresh) ∙ append_assoc (map (answer_numbers value) reached.fresh) (map (answer_numbers value) fresh) more)
         ∙ reached.comes (map (answer_numbers value) fresh ++ more)
         ∙ goes mid (map (answer_numbers value) fresh ++ more)
 
@@ -74,9 +74,9 @@ module _ {F : Type 0} (value : F → Number) where
     reaches-more x runs =
         record {
           shown = reached.shown ++ runs.shown;
-          events = behind-both old.events mid.events new.events reached.shown runs.shown reached.events runs.events;
+          events = following-both old.events mid.events new.events reached.shown runs.shown reached.events runs.events;
           fresh = reached.fresh ++ runs.fresh;
-          answers = behind-both old.answers mid.answers new.answers reached.fresh runs.fresh reached.answers runs.answers;
+          answers = following-both old.answers mid.answers new.answers reached.fresh runs.fresh reached.answers runs.answers;
           comes = λ more. next-comes runs.fresh more ∙ ap then (runs.comes more);
         }
 
@@ -85,22 +85,22 @@ module _ {F : Type 0} (value : F → Number) where
     reaches-stop Memory leaves runs =
         record {
           shown = reached.shown ++ runs.shown;
-          events = behind-both old.events mid.events new.events reached.shown runs.shown reached.events runs.events;
+          events = following-both old.events mid.events new.events reached.shown runs.shown reached.events runs.events;
           fresh = reached.fresh ++ runs.fresh;
-          answers = behind-both old.answers mid.answers new.answers reached.fresh runs.fresh reached.answers runs.answers;
+          answers = following-both old.answers mid.answers new.answers reached.fresh runs.fresh reached.answers runs.answers;
           comes = λ more. tt;
         }
     reaches-stop (Stop stop) leaves runs =
         record {
           shown = reached.shown ++ runs.shown;
-          events = behind-both old.events mid.events new.events reached.shown runs.shown reached.events runs.events;
+          events = following-both old.events mid.events new.events reached.shown runs.shown reached.events runs.events;
           fresh = reached.fresh ++ runs.fresh;
-          answers = behind-both old.answers mid.answers new.answers reached.fresh runs.fresh reached.answers runs.answers;
-          comes = λ more. next-comes runs.fresh more ∙ ap then (runs.comes more) ∙ leaves (stopped_by (come_to value new more) (fault_of value stop)) (stopped (fault_of value stop)) refl;
+          answers = following-both old.answers mid.answers new.answers reached.fresh runs.fresh reached.answers runs.answers;
+          comes = λ more. next-comes runs.fresh more ∙ ap then (runs.comes more) ∙ leaves (stopped_by (course_from_view value new more) (fault_of value stop)) (stopped (fault_of value stop)) refl;
         }
 
   -- a run with nothing left to do
-  pub reaches-end : {A : Type 0} (x : A) (does rest : Course → Course) (old new : RunView F) → Reaches does rest old new → ((left : List (Answer Number)) → rest (come_to value new left) ≡ come_to value new left) → Runs value {A = A} (Ok x) does old new
+  pub reaches-end : {A : Type 0} (x : A) (does rest : Course → Course) (old new : RunView F) → Reaches does rest old new → ((left : List (Answer Number)) → rest (course_from_view value new left) ≡ course_from_view value new left) → Runs value {A = A} (Ok x) does old new
   reaches-end x does rest old new reached done =
       record { shown = reached.shown; events = reached.events; fresh = reached.fresh; answers = reached.answers; comes = λ more. reached.comes more ∙ done more }
 
@@ -110,16 +110,16 @@ module _ {F : Type 0} (value : F → Number) where
       subst (λ failed. Runs value {A = A} (Err failed) does old new) (sym memory) (record { shown = reached.shown; events = reached.events; fresh = reached.fresh; answers = reached.answers; comes = λ more. tt })
 
   -- a run that a stop ends where it is
-  pub reaches-fault : {A : Type 0} (stop : _) (does rest : Course → Course) (old new : RunView F) → Reaches does rest old new → ((left : List (Answer Number)) → rest (come_to value new left) ≡ stopped_by (come_to value new left) (fault_of value stop)) → Runs value {A = A} (Err (Stop stop)) does old new
+  pub reaches-fault : {A : Type 0} (stop : _) (does rest : Course → Course) (old new : RunView F) → Reaches does rest old new → ((left : List (Answer Number)) → rest (course_from_view value new left) ≡ stopped_by (course_from_view value new left) (fault_of value stop)) → Runs value {A = A} (Err (Stop stop)) does old new
   reaches-fault stop does rest old new reached done =
       record { shown = reached.shown; events = reached.events; fresh = reached.fresh; answers = reached.answers; comes = λ more. reached.comes more ∙ done more }
 
 -- ---- answers
 
-pub get-front : {A : Type 0} (xs ys : List A) (k : ℕ) (x : A) → slice_get xs k ≡ Some x → slice_get (xs ++ ys) k ≡ Some x
-get-front [] ys k x e = absurd cc
-get-front (y ∷ xs) ys zero x e = e
-get-front (y ∷ xs) ys (suc k) x e = get-front xs ys k x e
+pub get-prefix : {A : Type 0} (xs ys : List A) (k : ℕ) (x : A) → slice_get xs k ≡ Some x → slice_get (xs ++ ys) k ≡ Some x
+get-prefix [] ys k x e = absurd cc
+get-prefix (y ∷ xs) ys zero x e = e
+get-prefix (y ∷ xs) ys (suc k) x e = get-prefix xs ys k x e
 
 -- paths taken over two lists of events
 paths-both : {F : Type 0} (k : ℕ) (answers : List (Answer F)) (first second : List (Event F)) → paths_taken k answers (first ++ second) ≡ paths_taken k answers first ++ paths_taken k answers second
@@ -136,7 +136,7 @@ module _ {F : Type 0} (value : F → Number) (limit : ℕ) (rules : List SolverR
   still-answered : (e : means.Event) → IsAnswered value limit rules answers e → IsAnswered value limit rules (answers ++ fresh) e
   still-answered (means.displays line items) is = tt
   still-answered (means.solves solved) is =
-      record { lp = is.lp; shows = is.shows; answer = is.answer; stands = get-front answers fresh solved.answer is.answer is.stands; rule = is.rule; chosen = is.chosen; is_answer = is.is_answer }
+      record { lp = is.lp; shows = is.shows; answer = is.answer; stands = get-prefix answers fresh solved.answer is.answer is.stands; rule = is.rule; chosen = is.chosen; is_answer = is.is_answer }
   still-answered (means.aborts line items) is = tt
   still-answered (means.stops fault) is = tt
 
@@ -146,24 +146,24 @@ module _ {F : Type 0} (value : F → Number) (limit : ℕ) (rules : List SolverR
   paths-stay k (event.Display line items ∷ shown) are = paths-stay k shown (All-tail (IsAnswered value limit rules answers) (event_in value (event.Display line items)) (events_in value shown) are)
   paths-stay k (event.Solve line model equations lp answer solver settings level ∷ shown) are =
       let is = All-head (IsAnswered value limit rules answers) (event_in value (event.Solve line model equations lp answer solver settings level)) (events_in value shown) are in
-      ap (λ o. cond (settings.solver == k) (option_to_list (option_map (λ (a : Answer F). a.pivots) o)) [] ++ paths_taken k (answers ++ fresh) shown) (get-front answers fresh answer is.answer is.stands ∙ sym is.stands)
+      ap (λ o. cond (settings.solver == k) (option_to_list (option_map (λ (a : Answer F). a.pivots) o)) [] ++ paths_taken k (answers ++ fresh) shown) (get-prefix answers fresh answer is.answer is.stands ∙ sym is.stands)
       ∙ ap (λ paths. cond (settings.solver == k) (option_to_list (option_map (λ (a : Answer F). a.pivots) (slice_get answers answer))) [] ++ paths) (paths-stay k shown (All-tail (IsAnswered value limit rules answers) (event_in value (event.Solve line model equations lp answer solver settings level)) (events_in value shown) are))
   paths-stay k (event.Abort line items ∷ shown) are = paths-stay k shown (All-tail (IsAnswered value limit rules answers) (event_in value (event.Abort line items)) (events_in value shown) are)
   paths-stay k (event.Fault stop ∷ shown) are = paths-stay k shown (All-tail (IsAnswered value limit rules answers) (event_in value (event.Fault stop)) (events_in value shown) are)
 
-pub grown-nothing : (paths : Option (List (List Pivot))) → paths ≡ option_map (λ before. before ++ []) paths
-grown-nothing None = refl
-grown-nothing (Some before) = ap Some (sym (append-nil before))
+pub extended-nothing : (paths : Option (List (List Pivot))) → paths ≡ option_map (λ before. before ++ []) paths
+extended-nothing None = refl
+extended-nothing (Some before) = ap Some (sym (append-nil before))
 
-grown-both : (paths : Option (List (List Pivot))) (first second : List (List Pivot)) → option_map (λ before. before ++ second) (option_map (λ before. before ++ first) paths) ≡ option_map (λ before. before ++ (first ++ second)) paths
-grown-both None first second = refl
-grown-both (Some before) first second = ap Some (append_assoc before first second)
+extended-both : (paths : Option (List (List Pivot))) (first second : List (List Pivot)) → option_map (λ before. before ++ second) (option_map (λ before. before ++ first) paths) ≡ option_map (λ before. before ++ (first ++ second)) paths
+extended-both None first second = refl
+extended-both (Some before) first second = ap Some (append_assoc before first second)
 
 module _ {S F : Type 0} (value : F → Number) (limit : ℕ) (name : S → List ℕ) (rule : S → SolverRule) (paths : S → List (List Pivot)) where
   -- a call that shows nothing and asks no solver
   pub answered-nothing : (solvers : List S) (seen : RunView F) → Answered value limit name rule paths solvers solvers seen seen
   answered-nothing solvers seen =
-      record { names = refl; rules = refl; shown = []; events = sym (append-nil seen.events); answered = λ k d within. absurd (omega arith); grown = λ k. grown-nothing (slice_get (map paths solvers) k) }
+      record { names = refl; rules = refl; shown = []; events = sym (append-nil seen.events); answered = λ k d within. absurd (omega arith); extended = λ k. extended-nothing (slice_get (map paths solvers) k) }
 
   -- a call after another, with further answers
   pub answered-both : (old mid new : List S) (before between after : RunView F) (fresh : List (Answer F)) → after.answers ≡ between.answers ++ fresh → Answered value limit name rule paths old mid before between → Answered value limit name rule paths mid new between after → Answered value limit name rule paths old new before after
@@ -172,15 +172,15 @@ module _ {S F : Type 0} (value : F → Number) (limit : ℕ) (name : S → List 
         names = second.names ∙ first.names;
         rules = second.rules ∙ first.rules;
         shown = first.shown ++ second.shown;
-        events = behind-both before.events between.events after.events first.shown second.shown first.events second.events;
+        events = following-both before.events between.events after.events first.shown second.shown first.events second.events;
         answered =
             subst (AreAnswered value limit (map rule old) after.answers) (sym (map-append (event_in value) first.shown second.shown))
             (All-append (IsAnswered value limit (map rule old) after.answers) (events_in value first.shown) (events_in value second.shown)
             (subst (λ answers. AreAnswered value limit (map rule old) answers (events_in value first.shown)) (sym are) (All-weaker (IsAnswered value limit (map rule old) between.answers) (IsAnswered value limit (map rule old) (between.answers ++ fresh)) (still-answered value limit (map rule old) between.answers fresh) (events_in value first.shown) first.answered))
             (subst (λ rules. AreAnswered value limit rules after.answers (events_in value second.shown)) first.rules second.answered));
-        grown = λ k.
-            second.grown k
-            ∙ ap (option_map (λ those. those ++ paths_taken k after.answers second.shown)) (first.grown k ∙ ap (λ taken. option_map (λ those. those ++ taken) (slice_get (map paths old) k)) (sym (ap (λ answers. paths_taken k answers first.shown) are ∙ paths-stay value limit (map rule old) between.answers fresh k first.shown first.answered)))
-            ∙ grown-both (slice_get (map paths old) k) (paths_taken k after.answers first.shown) (paths_taken k after.answers second.shown)
+        extended = λ k.
+            second.extended k
+            ∙ ap (option_map (λ those. those ++ paths_taken k after.answers second.shown)) (first.extended k ∙ ap (λ taken. option_map (λ those. those ++ taken) (slice_get (map paths old) k)) (sym (ap (λ answers. paths_taken k answers first.shown) are ∙ paths-stay value limit (map rule old) between.answers fresh k first.shown first.answered)))
+            ∙ extended-both (slice_get (map paths old) k) (paths_taken k after.answers first.shown) (paths_taken k after.answers second.shown)
             ∙ ap (λ taken. option_map (λ those. those ++ taken) (slice_get (map paths old) k)) (sym (paths-both k after.answers first.shown second.shown));
       }

@@ -32,7 +32,7 @@ use Rattle.gms_exec.specs.Options.{after_options}
 use Rattle.gms_exec.specs.Showing.{all_shown}
 use Rattle.gms_exec.specs.Run.{Course, World, with_evaluated, in_state, abort, abort_where, answered, solve, of_statement, labels_in}
 use Rattle.gms_exec.specs.InnerContracts.{IsOnce}
-use Rattle.gms_exec.specs.Stepping.{RunView, come_to, Runs, AreValidSettings, UnlessMemory}
+use Rattle.gms_exec.specs.Stepping.{RunView, course_from_view, Runs, AreValidSettings, UnlessMemory}
 use Rattle.gms_exec.proofs.ActSteps.{on-Assign, on-Display, on-Options, on-Abort, on-Solve, on-Declare, on-Alias, on-Define, on-Model}
 use Rattle.gms_exec.proofs.KeptSettings.{kept-options}
 use Rattle.gms_exec.proofs.Staying.{Stays, follows-of, stays-itself, stays-given, stays-end}
@@ -135,7 +135,7 @@ module _ {F : Type 0} (value : F → Number) (limit : ℕ) (world : World F) whe
   -- what a call that did what a statement does has kept, unless memory ran out
   pub run-keeps : {A : Type 0} (result : Result A (ExecStopOrMemory F)) (s : Stmt F) (binding : Pairs) (old new : RunView F) → IsOnce s.act → Runs value result (of_statement value limit world s binding) old new → Kept old.state → UnlessMemory result (Kept new.state)
   run-keeps (Ok x) s binding old new once runs kept =
-      subst (λ (c : Course). Kept c.state) (runs.comes []) (keeps-act s binding (come_to value old _) kept (out-Act F s.act) (sym (roll-out-Act F s.act)) once)
+      subst (λ (c : Course). Kept c.state) (runs.comes []) (keeps-act s binding (course_from_view value old _) kept (out-Act F s.act) (sym (roll-out-Act F s.act)) once)
   run-keeps (Err Memory) s binding old new once runs kept = tt
   run-keeps (Err (Stop stop)) s binding old new once runs kept =
-      subst (λ (c : Course). Kept c.state) (runs.comes []) (keeps-act s binding (come_to value old _) kept (out-Act F s.act) (sym (roll-out-Act F s.act)) once)
+      subst (λ (c : Course). Kept c.state) (runs.comes []) (keeps-act s binding (course_from_view value old _) kept (out-Act F s.act) (sym (roll-out-Act F s.act)) once)

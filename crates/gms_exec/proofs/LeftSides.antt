@@ -24,10 +24,10 @@ use Rattle.gms_eval.specs.Bindings.{Pairs, label_of}
 use Rattle.gms_eval.specs.Faults.{Answer, Fault, ◌and_then◌}
 use Rattle.gms_eval.specs.Gives.{fault_of, ShowsStop}
 use Rattle.gms_eval.proofs.Answering.{and_then_assoc}
-use Rattle.gms_rows.specs.Rows.{sets_among, each_once}
+use Rattle.gms_rows.specs.Rows.{sets_among, distinct_numbers}
 use Rattle.gms_exec.specs.Assignment.{newly_controlled, given_elements}
 use Rattle.gms_exec.specs.Given.{Given, AllGiven}
-use Rattle.gms_exec.specs.InnerContracts.{first_set, behind_others, noted, with_found}
+use Rattle.gms_exec.specs.InnerContracts.{first_set, after_others, noted, with_found}
 
 -- ---- the sets of indices
 
@@ -74,18 +74,18 @@ is_new b done n = is_none (label_of b n) && not (list_any (λ one. one == n) don
 
 -- the sets that are noted, and those that will be
 abbrev pub noting : Pairs → List ℕ → List ℕ → List ℕ
-noting b done sets = done ++ filter (is_new b done) (each_once sets)
+noting b done sets = done ++ filter (is_new b done) (distinct_numbers sets)
 
 pub noting-start : {N : Type 0} (b : Pairs) (indices : tree.Indices N) → newly_controlled b indices ≡ noting b [] (sets_among indices)
-noting-start b indices = filter_agree (λ n. is_none (label_of b n)) (is_new b []) (λ n. and-true (is_none (label_of b n))) (each_once (sets_among indices))
+noting-start b indices = filter_agree (λ n. is_none (label_of b n)) (is_new b []) (λ n. and-true (is_none (label_of b n))) (distinct_numbers (sets_among indices))
   where
     and-true : (b : Bool) → b ≡ (b && true)
     and-true true = refl
     and-true false = refl
 
 -- a set that is new, also after one that was noted
-new-behind : (b : Pairs) (done : List ℕ) (n m : ℕ) → (not (m == n) && is_new b done m) ≡ is_new b (done ++ n ∷ []) m
-new-behind b done n m =
+new-following : (b : Pairs) (done : List ℕ) (n m : ℕ) → (not (m == n) && is_new b done m) ≡ is_new b (done ++ n ∷ []) m
+new-following b done n m =
     by (is_none (label_of b m)) (m == n) (n == m) (list_any (λ one. one == m) done) (same n m) ∙ sym (ap (λ c. is_none (label_of b m) && not c) (list_any-append (λ one. one == m) done (n ∷ [])))
   where
     same : (n m : ℕ) → (m == n) ≡ (n == m)
@@ -128,12 +128,12 @@ noted-new b done n = by (is_none (label_of b n)) (list_any (λ one. one == n) do
 noting-set : (b : Pairs) (done : List ℕ) (n : ℕ) (sets : List ℕ) → noting b done (n ∷ sets) ≡ noting b (noted b done (Some n)) sets
 noting-set b done n sets = by (is_new b done n) refl ∙ ap (λ done. noting b done sets) (sym (noted-new b done n))
   where
-    by : (c : Bool) → is_new b done n ≡ c → done ++ cond c (n ∷ filter (is_new b done) (filter (λ m. not (m == n)) (each_once sets))) (filter (is_new b done) (filter (λ m. not (m == n)) (each_once sets))) ≡ noting b (cond c (done ++ n ∷ []) done) sets
+    by : (c : Bool) → is_new b done n ≡ c → done ++ cond c (n ∷ filter (is_new b done) (filter (λ m. not (m == n)) (distinct_numbers sets))) (filter (is_new b done) (filter (λ m. not (m == n)) (distinct_numbers sets))) ≡ noting b (cond c (done ++ n ∷ []) done) sets
     by true e =
-        ap (λ xs. done ++ n ∷ xs) (filter-filter (is_new b done) (λ m. not (m == n)) (each_once sets) ∙ filter_agree (λ m. not (m == n) && is_new b done m) (is_new b (done ++ n ∷ [])) (new-behind b done n) (each_once sets))
-        ∙ sym (append_assoc done (n ∷ []) (filter (is_new b (done ++ n ∷ [])) (each_once sets)))
+        ap (λ xs. done ++ n ∷ xs) (filter-filter (is_new b done) (λ m. not (m == n)) (distinct_numbers sets) ∙ filter_agree (λ m. not (m == n) && is_new b done m) (is_new b (done ++ n ∷ [])) (new-following b done n) (distinct_numbers sets))
+        ∙ sym (append_assoc done (n ∷ []) (filter (is_new b (done ++ n ∷ [])) (distinct_numbers sets)))
     by false e =
-        ap (λ xs. done ++ xs) (filter-filter (is_new b done) (λ m. not (m == n)) (each_once sets) ∙ filter_agree (λ m. not (m == n) && is_new b done m) (is_new b done) (λ m. old-left b done n m e) (each_once sets))
+        ap (λ xs. done ++ xs) (filter-filter (is_new b done) (λ m. not (m == n)) (distinct_numbers sets) ∙ filter_agree (λ m. not (m == n) && is_new b done m) (is_new b done) (λ m. old-left b done n m e) (distinct_numbers sets))
 
 noting-others : (b : Pairs) (done : List ℕ) (set : Option ℕ) (sets : List ℕ) → noting b done (before_others set sets) ≡ noting b (noted b done set) sets
 noting-others b done None sets = refl
@@ -161,10 +161,10 @@ module _ {F : Type 0} (b : Pairs) (indices : List (Index F)) where
 
 -- what is noted of a set that is controlled, and of one that is not
 pub noted-controlled : (b : Pairs) (done : List ℕ) (n label : ℕ) → Some label ≡ label_of b n → done ≡ noted b done (Some n)
-noted-controlled b done n label e = ap (λ o. cond (is_none o) (behind_others done n) done) e
+noted-controlled b done n label e = ap (λ o. cond (is_none o) (after_others done n) done) e
 
-pub noted-free : (b : Pairs) (done next : List ℕ) (n : ℕ) → None ≡ label_of b n → next ≡ behind_others done n → next ≡ noted b done (Some n)
-noted-free b done next n e put = put ∙ ap (λ o. cond (is_none o) (behind_others done n) done) e
+pub noted-free : (b : Pairs) (done next : List ℕ) (n : ℕ) → None ≡ label_of b n → next ≡ after_others done n → next ≡ noted b done (Some n)
+noted-free b done next n e put = put ∙ ap (λ o. cond (is_none o) (after_others done n) done) e
 
 -- ---- one of some sets
 

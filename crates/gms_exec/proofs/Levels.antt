@@ -1,5 +1,5 @@
 -- Levels and marginals that are written in sequence.
-use Rattle.gms_store.proofs.Writes.{behind-attributes}
+use Rattle.gms_store.proofs.Writes.{following-attributes}
 use Rattle.std.proofs.Common.{◌≡◌, ℕ, zero, suc, ◌+◌, ◌<◌, ◌≤◌, Bool, true, false, not, ◌==◌, List, [], ◌∷◌, length, map, set, drop, get_or, refl, sym, ap, ◌∙◌, cond, Some, None, unwrap_or, pos, inl, inr, add-one}
 use Rattle.std.specs.Ordering.{eq_by_cmp}
 use Rattle.std.specs.List.{fold}
@@ -17,7 +17,7 @@ use Rattle.lp_core.specs.declared.program.Column.{Column}
 use Rattle.lp_core.specs.declared.program.Row.{Row}
 use Rattle.lp_core.specs.declared.program.Lp.{Lp}
 use Rattle.lp_core.specs.Numbers.{lp_numbers, column_numbers, row_numbers}
-use Rattle.gms_exec.specs.Solved.{first_or_zero, behind_first, Point, points, with_point, keys_of_columns, row_keys}
+use Rattle.gms_exec.specs.Solved.{first_or_zero, after_first, Point, points, with_point, keys_of_columns, row_keys}
 use Rattle.gms_exec.proofs.Symbols.{symbol-here, base-after}
 use Rattle.gms_exec.proofs.Newest.{tie-same}
 use Rattle.gms_exec.proofs.Assigned.{absent-not_given}
@@ -88,8 +88,8 @@ fits-either P s t new old changed = by (length t == length s.domain)
     by true = changed
     by false = old
 
-pub behind-fitted : (s : Symbol) (t : List ℕ) (a : Attributes) (n : ℕ) → alias_target n (if_fits s t (with_attributes s.content t a)).content ≡ alias_target n s.content
-behind-fitted s t a n = fits-either (λ c. alias_target n c ≡ alias_target n s.content) s t (with_attributes s.content t a) refl (behind-attributes s.content t a n)
+pub following-fitted : (s : Symbol) (t : List ℕ) (a : Attributes) (n : ℕ) → alias_target n (if_fits s t (with_attributes s.content t a)).content ≡ alias_target n s.content
+following-fitted s t a n = fits-either (λ c. alias_target n c ≡ alias_target n s.content) s t (with_attributes s.content t a) refl (following-attributes s.content t a n)
 
 -- the state with other symbols
 abbrev with_symbols : State → List Symbol → State
@@ -108,7 +108,7 @@ module _ (t : List ℕ) (a : Attributes) (f : Attributes → Attributes) (state 
   next s = if_fits s t (with_attributes s.content t (f (attributes_in s.content t)))
 
   alike : (n : ℕ) → alias_target n new.content ≡ alias_target n (symbol_of state name).content
-  alike n = behind-fitted (symbol_of state name) t a n
+  alike n = following-fitted (symbol_of state name) t a n
 
   put-twice_within : base_of state name < length state.symbols → after_attributes (after_attributes state name t a) name t (f (attributes_of (after_attributes state name t a) name t)) ≡ after_attributes state name t (f a)
   put-twice_within within =
@@ -139,11 +139,11 @@ first-drop [] (suc i) = refl
 first-drop (x ∷ xs) zero = refl
 first-drop (x ∷ xs) (suc i) = first-drop xs i
 
-behind-drop : (xs : List Number) (i : ℕ) → behind_first (drop i xs) ≡ drop (suc i) xs
-behind-drop [] zero = refl
-behind-drop [] (suc i) = refl
-behind-drop (x ∷ xs) zero = refl
-behind-drop (x ∷ xs) (suc i) = behind-drop xs i
+following-drop : (xs : List Number) (i : ℕ) → after_first (drop i xs) ≡ drop (suc i) xs
+following-drop [] zero = refl
+following-drop [] (suc i) = refl
+following-drop (x ∷ xs) zero = refl
+following-drop (x ∷ xs) (suc i) = following-drop xs i
 
 module _ (keys : List Key) (levels marginals : List Number) where
   -- the remaining points from a place on
@@ -154,10 +154,10 @@ module _ (keys : List Key) (levels marginals : List Number) where
   left-more i key within is =
       at_drop_more (λ ks. points ks (drop i levels) (drop i marginals)) keys i key within
       ∙ ap (λ k. points (k ∷ drop (i + 1) keys) (drop i levels) (drop i marginals)) (sym is)
-      ∙ ap (λ x. record { key = key; level = x; marginal = first_or_zero (drop i marginals) } ∷ points (drop (i + 1) keys) (behind_first (drop i levels)) (behind_first (drop i marginals))) (first-drop levels i)
-      ∙ ap (λ x. record { key = key; level = get_or levels i (whole (pos 0)); marginal = x } ∷ points (drop (i + 1) keys) (behind_first (drop i levels)) (behind_first (drop i marginals))) (first-drop marginals i)
-      ∙ ap (λ xs. record { key = key; level = get_or levels i (whole (pos 0)); marginal = get_or marginals i (whole (pos 0)) } ∷ points (drop (i + 1) keys) xs (behind_first (drop i marginals))) (behind-drop levels i ∙ ap (λ n. drop n levels) (sym (add-one i)))
-      ∙ ap (λ xs. record { key = key; level = get_or levels i (whole (pos 0)); marginal = get_or marginals i (whole (pos 0)) } ∷ points (drop (i + 1) keys) (drop (i + 1) levels) xs) (behind-drop marginals i ∙ ap (λ n. drop n marginals) (sym (add-one i)))
+      ∙ ap (λ x. record { key = key; level = x; marginal = first_or_zero (drop i marginals) } ∷ points (drop (i + 1) keys) (after_first (drop i levels)) (after_first (drop i marginals))) (first-drop levels i)
+      ∙ ap (λ x. record { key = key; level = get_or levels i (whole (pos 0)); marginal = x } ∷ points (drop (i + 1) keys) (after_first (drop i levels)) (after_first (drop i marginals))) (first-drop marginals i)
+      ∙ ap (λ xs. record { key = key; level = get_or levels i (whole (pos 0)); marginal = get_or marginals i (whole (pos 0)) } ∷ points (drop (i + 1) keys) xs (after_first (drop i marginals))) (following-drop levels i ∙ ap (λ n. drop n levels) (sym (add-one i)))
+      ∙ ap (λ xs. record { key = key; level = get_or levels i (whole (pos 0)); marginal = get_or marginals i (whole (pos 0)) } ∷ points (drop (i + 1) keys) (drop (i + 1) levels) xs) (following-drop marginals i ∙ ap (λ n. drop n marginals) (sym (add-one i)))
 
   -- one more point is written, and those after it remain
   pub put-more : (goes now next : State) (i : ℕ) (key : Key) (level marginal : Number) → i < length keys → key ≡ get_or keys i key → level ≡ get_or levels i (whole (pos 0)) → marginal ≡ get_or marginals i (whole (pos 0)) → next ≡ with_point now (record { key = key; level = level; marginal = marginal }) → fold with_point now (left_at i) ≡ goes → fold with_point next (left_at (i + 1)) ≡ goes

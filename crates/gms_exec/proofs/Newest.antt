@@ -37,10 +37,10 @@ find-first {A} t (e ∷ es) =
     ∙ elim (same_tuple e.0 t) as (λ b. cond b (Some e.1) (option_map (λ (p : List ℕ × A). p.1) (find (at_tuple t) es)) ≡ option_map (λ (p : List ℕ × A). p.1) (cond b (Some e) (find (at_tuple t) es))) [ true ↦ refl | false ↦ refl ]
 
 -- what is found in one list, or otherwise in another after it
-find-behind : {A : Type 0} (t : List ℕ) (es fs : List (List ℕ × A)) → finite.find tuple_cmp t (es ++ fs) ≡ option_or (finite.find tuple_cmp t es) (finite.find tuple_cmp t fs)
-find-behind t [] fs = refl
-find-behind {A} t (e ∷ es) fs =
-    ap (cond (eq_by_cmp tuple_cmp t e.0) (Some e.1)) (find-behind t es fs)
+find-following : {A : Type 0} (t : List ℕ) (es fs : List (List ℕ × A)) → finite.find tuple_cmp t (es ++ fs) ≡ option_or (finite.find tuple_cmp t es) (finite.find tuple_cmp t fs)
+find-following t [] fs = refl
+find-following {A} t (e ∷ es) fs =
+    ap (cond (eq_by_cmp tuple_cmp t e.0) (Some e.1)) (find-following t es fs)
     ∙ elim (eq_by_cmp tuple_cmp t e.0) as (λ b. cond b (Some e.1) (option_or (finite.find tuple_cmp t es) (finite.find tuple_cmp t fs)) ≡ option_or (cond b (Some e.1) (finite.find tuple_cmp t es)) (finite.find tuple_cmp t fs)) [ true ↦ refl | false ↦ refl ]
 
 -- a map made from entries in reverse order has at a tuple the last of them there
@@ -72,7 +72,7 @@ module _ {X : Type 0} (differs : X → Bool) (absent : X) (agree : (x : X) → d
       let all : Entries X = finite.from_entries {R = tuple_cmp} (reverse new ++ finite.entries entries) in
       ap (λ o. unwrap_or o absent) (finite.get-retain_keys all (λ u. unwrap_or (option_map differs (finite.get all u)) false) t (tied (λ u. unwrap_or (option_map differs (finite.get all u)) false) t))
       ∙ kept (finite.get all t)
-      ∙ ap (λ o. unwrap_or o absent) (finite.get-from_entries tuple_cmp-total (reverse new ++ finite.entries entries) t ∙ find-behind t (reverse new) (finite.entries entries))
+      ∙ ap (λ o. unwrap_or o absent) (finite.get-from_entries tuple_cmp-total (reverse new ++ finite.entries entries) t ∙ find-following t (reverse new) (finite.entries entries))
       ∙ either (finite.find tuple_cmp t (reverse new)) (finite.find tuple_cmp t (finite.entries entries))
       ∙ ap (λ o. unwrap_or o (unwrap_or (finite.find tuple_cmp t (finite.entries entries)) absent)) (find-first t (reverse new))
       ∙ ap (λ o. unwrap_or (last_at new t) (unwrap_or o absent)) (sym (finite.get-entries entries t))

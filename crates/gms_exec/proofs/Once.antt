@@ -36,7 +36,7 @@ use Rattle.gms_eval.specs.declared.stop.StopKind.TheVariants.{LagNotWhole}
 use Rattle.gms_eval.proofs.Entries.{there, tuple-labels, label-inside}
 use Rattle.gms_eval.proofs.Places.{place-below}
 use Rattle.gms_eval.proofs.Simple.{elements-ordered, element-length}
-use Rattle.gms_rows.specs.Rows.{sets_among, each_once}
+use Rattle.gms_rows.specs.Rows.{sets_among, distinct_numbers}
 use Rattle.gms_exec.specs.Assignment.{newly_controlled, given_under, element_under, given_elements, given_by}
 use Rattle.gms_exec.specs.Given.{Given, AllGiven}
 use Rattle.gms_exec.specs.Once.{is_constant_lag, AreLeft, IsOnce}
@@ -55,8 +55,8 @@ has-at (y ∷ ys) (suc i) x at = by (same_tuple y x) (has-at ys i x at)
     by false there = there
 
 -- a tuple does not occur again after itself in an ordered list
-not-behind : (x : List ℕ) (xs : List (List ℕ)) → IsOrdered (x ∷ xs) → has xs x ≡ false
-not-behind x xs ordered = by (has xs x) refl
+not-following : (x : List ℕ) (xs : List (List ℕ)) → IsOrdered (x ∷ xs) → has xs x ≡ false
+not-following x xs ordered = by (has xs x) refl
   where
     by : (b : Bool) → has xs x ≡ b → b ≡ false
     by true there =
@@ -70,10 +70,10 @@ one-place [] i j x ordered at other = absurd cc
 one-place (y ∷ ys) zero zero x ordered at other = refl
 one-place (y ∷ ys) zero (suc j) x ordered at other =
     let e : y ≡ x = cc in
-    absurd (let f : true ≡ false = sym (has-at ys j x other) ∙ ap (has ys) (sym e) ∙ not-behind y ys ordered in cc)
+    absurd (let f : true ≡ false = sym (has-at ys j x other) ∙ ap (has ys) (sym e) ∙ not-following y ys ordered in cc)
 one-place (y ∷ ys) (suc i) zero x ordered at other =
     let e : y ≡ x = cc in
-    absurd (let f : true ≡ false = sym (has-at ys i x at) ∙ ap (has ys) (sym e) ∙ not-behind y ys ordered in cc)
+    absurd (let f : true ≡ false = sym (has-at ys i x at) ∙ ap (has ys) (sym e) ∙ not-following y ys ordered in cc)
 one-place (y ∷ ys) (suc i) (suc j) x ordered at other = ap suc (one-place ys i j x (rest-ordered y ys ordered) at other)
 
 -- the member at a place is the tuple that has it
@@ -303,23 +303,23 @@ kept-apart p (n ∷ ns) apart = by (p n) (kept-apart p ns apart.1)
     by true rest = (kept-none p ns n apart.0, rest)
     by false rest = rest
 
-once-apart : (ns : List ℕ) → AreApart (each_once ns)
+once-apart : (ns : List ℕ) → AreApart (distinct_numbers ns)
 once-apart [] = tt
-once-apart (n ∷ ns) = (by (list_any (λ m. m == n) (filter (λ m. not (m == n)) (each_once ns))) refl, kept-apart (λ m. not (m == n)) (each_once ns) (once-apart ns))
+once-apart (n ∷ ns) = (by (list_any (λ m. m == n) (filter (λ m. not (m == n)) (distinct_numbers ns))) refl, kept-apart (λ m. not (m == n)) (distinct_numbers ns) (once-apart ns))
   where
-    by : (b : Bool) → list_any (λ m. m == n) (filter (λ m. not (m == n)) (each_once ns)) ≡ b → b ≡ false
+    by : (b : Bool) → list_any (λ m. m == n) (filter (λ m. not (m == n)) (distinct_numbers ns)) ≡ b → b ≡ false
     by true there =
-        let f : not true ≡ true = sym (ap not (eq-eqb n n refl)) ∙ (kept-among (λ m. not (m == n)) (each_once ns) n there).1 in
+        let f : not true ≡ true = sym (ap not (eq-eqb n n refl)) ∙ (kept-among (λ m. not (m == n)) (distinct_numbers ns) n there).1 in
         sym f
     by false e = refl
 
-once-among : (ns : List ℕ) (r : ℕ) → list_any (λ m. m == r) (each_once ns) ≡ true → list_any (λ m. m == r) ns ≡ true
+once-among : (ns : List ℕ) (r : ℕ) → list_any (λ m. m == r) (distinct_numbers ns) ≡ true → list_any (λ m. m == r) ns ≡ true
 once-among [] r e = e
 once-among (n ∷ ns) r e = by (n == r) (once-among ns r) e
   where
-    by : (b : Bool) → (list_any (λ m. m == r) (each_once ns) ≡ true → list_any (λ m. m == r) ns ≡ true) → (b || list_any (λ m. m == r) (filter (λ m. not (m == n)) (each_once ns))) ≡ true → (b || list_any (λ m. m == r) ns) ≡ true
+    by : (b : Bool) → (list_any (λ m. m == r) (distinct_numbers ns) ≡ true → list_any (λ m. m == r) ns ≡ true) → (b || list_any (λ m. m == r) (filter (λ m. not (m == n)) (distinct_numbers ns))) ≡ true → (b || list_any (λ m. m == r) ns) ≡ true
     by true rest e = refl
-    by false rest e = rest (kept-among (λ m. not (m == n)) (each_once ns) r e).0
+    by false rest e = rest (kept-among (λ m. not (m == n)) (distinct_numbers ns) r e).0
 
 -- elements whose labels are the same at each set are the same
 element-same : (sets one other : List ℕ) → length one ≡ length sets → length other ≡ length sets → AreApart sets → ((set : ℕ) → list_any (λ m. m == set) sets ≡ true → label_of (paired sets one) set ≡ label_of (paired sets other) set) → one ≡ other
@@ -354,7 +354,7 @@ StandOnce (t ∷ ts) = (has ts t ≡ false) × StandOnce ts
 
 ordered-once : (ts : List (List ℕ)) → IsOrdered ts → StandOnce ts
 ordered-once [] ordered = tt
-ordered-once (t ∷ ts) ordered = (not-behind t ts ordered, ordered-once ts (rest-ordered t ts ordered))
+ordered-once (t ∷ ts) ordered = (not-following t ts ordered, ordered-once ts (rest-ordered t ts ordered))
 
 -- Some of these tuples, without repetition.
 record AreSome (all es : List (List ℕ)) : Type 0 where
@@ -494,7 +494,7 @@ module _ {F : Type 0} (v : F → Number) (limit : ℕ) (state : State) (binding 
     -- a set that is newly controlled is one of the left side, and stands for nothing before
     newly : (set : ℕ) → list_any (λ m. m == set) sets ≡ true → (list_any (λ m. m == set) (sets_among target.indices) ≡ true) × (label_of binding set ≡ None)
     newly set among =
-        let kept = kept-among (λ set. is_none (label_of binding set)) (each_once (sets_among target.indices)) set among in
+        let kept = kept-among (λ set. is_none (label_of binding set)) (distinct_numbers (sets_among target.indices)) set among in
         (once-among (sets_among target.indices) set kept.0, by (label_of binding set) kept.1)
       where
         by : (o : Option ℕ) → is_none o ≡ true → o ≡ None
@@ -502,7 +502,7 @@ module _ {F : Type 0} (v : F → Number) (limit : ℕ) (state : State) (binding 
         by (Some n) e = absurd cc
 
     sets-apart : AreApart sets
-    sets-apart = kept-apart (λ set. is_none (label_of binding set)) (each_once (sets_among target.indices)) (once-apart (sets_among target.indices))
+    sets-apart = kept-apart (λ set. is_none (label_of binding set)) (distinct_numbers (sets_among target.indices)) (once-apart (sets_among target.indices))
 
     injective : (d e : List ℕ) (a b : List ℕ × Given) → length d ≡ length sets → length e ≡ length sets → element_under v limit state target right_at right (controlled binding sets d) ≡ Ok (Some a) → element_under v limit state target right_at right (controlled binding sets e) ≡ Ok (Some b) → a.0 ≡ b.0 → d ≡ e
     injective d e a b long same one other tuples =

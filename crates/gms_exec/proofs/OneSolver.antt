@@ -23,9 +23,9 @@ module _ {S P : Type 0} (f : S → List P) where
   same-path (Some before) = ap Some (sym (append-nil before))
 
   path-here : (xs : List S) (i : ℕ) (new old : S) (p : P) → old ≡ get_or xs i old → f new ≡ f old ++ p ∷ [] → slice_get (map f (set xs i new)) i ≡ option_map (λ before. before ++ p ∷ []) (slice_get (map f xs) i)
-  path-here [] i new old p is grown = refl
-  path-here (x ∷ xs) zero new old p is grown = ap Some (grown ∙ ap (λ s. f s ++ p ∷ []) is)
-  path-here (x ∷ xs) (suc i) new old p is grown = path-here xs i new old p is grown
+  path-here [] i new old p is extended = refl
+  path-here (x ∷ xs) zero new old p is extended = ap Some (extended ∙ ap (λ s. f s ++ p ∷ []) is)
+  path-here (x ∷ xs) (suc i) new old p is extended = path-here xs i new old p is extended
 
   path-elsewhere : (xs : List S) (i k : ℕ) (new : S) → (i ≡ k → ⊥) → slice_get (map f (set xs i new)) k ≡ option_map (λ before. before ++ []) (slice_get (map f xs) k)
   path-elsewhere [] i k new apart = refl
@@ -36,9 +36,9 @@ module _ {S P : Type 0} (f : S → List P) where
 
 -- the paths of solvers of which the one at a place has one more
 pub paths-set : {S : Type 0} (f : S → List (List Pivot)) (xs : List S) (i : ℕ) (new old : S) (p : List Pivot) → old ≡ get_or xs i old → f new ≡ f old ++ p ∷ [] → (k : ℕ) → slice_get (map f (set xs i new)) k ≡ option_map (λ before. before ++ path_at i p k) (slice_get (map f xs) k)
-paths-set f xs i new old p is grown k = by (i == k) refl
+paths-set f xs i new old p is extended k = by (i == k) refl
   where
     by : (b : Bool) → (i == k) ≡ b → slice_get (map f (set xs i new)) k ≡ option_map (λ before. before ++ cond b (p ∷ []) []) (slice_get (map f xs) k)
     by true e =
-        ap (λ n. slice_get (map f (set xs i new)) n) (sym (eqb-true i k e)) ∙ path-here f xs i new old p is grown ∙ ap (λ n. option_map (λ before. before ++ p ∷ []) (slice_get (map f xs) n)) (eqb-true i k e)
+        ap (λ n. slice_get (map f (set xs i new)) n) (sym (eqb-true i k e)) ∙ path-here f xs i new old p is extended ∙ ap (λ n. option_map (λ before. before ++ p ∷ []) (slice_get (map f xs) n)) (eqb-true i k e)
     by false e = path-elsewhere f xs i k new (λ same. both_ways (i == k) e (eq-eqb i k same))

@@ -27,7 +27,7 @@ use Rattle.gms_rows.specs.ProgramLp.{program_lp}
 use Rattle.gms_rows.specs.Rows.{equations_of}
 use Rattle.gms_exec.specs.Assignment.{target_of, after_assignment}
 use Rattle.gms_exec.specs.Showing.{all_shown}
-use Rattle.gms_exec.specs.Run.{Course, Halt, World, OfAct, OfStatement, in_state, with_event, stopped_by, while_it_runs, with_evaluated, one_after_another, for_each, display, abort, abort_where, over_elements, answered, solve, act_step, statement_step, of_statement, labels_in}
+use Rattle.gms_exec.specs.Run.{Course, Halt, World, OfAct, OfStatement, in_state, with_event, stopped_by, while_it_runs, with_evaluated, in_sequence, for_each, display, abort, abort_where, over_elements, answered, solve, act_step, statement_step, of_statement, labels_in}
 
 -- an event that is no solve
 abbrev pub IsNoSolve : Event → Type 0
@@ -89,7 +89,7 @@ AreQuiet [] = Unit {0}
 AreQuiet (s ∷ ss) = IsQuiet s × AreQuiet ss
 
 -- statements in sequence
-pub quiet_all : (ss : List OfStatement) → AreQuiet ss → IsQuiet (one_after_another ss)
+pub quiet_all : (ss : List OfStatement) → AreQuiet ss → IsQuiet (in_sequence ss)
 quiet_all [] qs binding c left = quiet_none c c left refl
 quiet_all (s ∷ ss) qs binding c left =
     let first = quiet_runs (s binding) c left (qs.0 binding c left) in
@@ -100,7 +100,7 @@ quiet_each : (sets : List ℕ) (body : List OfStatement) (elements : List (List 
 quiet_each sets body [] qs binding c left = quiet_none c c left refl
 quiet_each sets body (element ∷ elements) qs binding c left =
     let first = quiet_all body qs (controlled binding sets element) c left in
-    quiet_more first (quiet_each sets body elements qs binding (one_after_another body (controlled binding sets element) c) first.left)
+    quiet_more first (quiet_each sets body elements qs binding (in_sequence body (controlled binding sets element) c) first.left)
 
 module _ {F : Type 0} (number_of : F → Number) (limit : ℕ) (world : World F) where
   quiet_display : (labels : ℕ) (items : List Show) → IsQuietAct (display number_of limit labels items)

@@ -31,9 +31,9 @@ use Rattle.lp_core.specs.WellFormed.{IsWellFormed}
 use Rattle.gms_exec.specs.Answering.{IsAnswered}
 use Rattle.gms_exec.specs.Run.{Course, stopped_by, with_evaluated, answered, solve}
 use Rattle.gms_exec.specs.Solved.{after_end}
-use Rattle.gms_exec.specs.InnerSolving.{Grown, ShowsSolve, Solves, AnswersAt, path_at}
-use Rattle.gms_exec.specs.ValidEvents.{IsStanding, ShowsStanding}
-use Rattle.gms_exec.specs.Stepping.{RunView, come_to, Runs, Answered, paths_taken}
+use Rattle.gms_exec.specs.InnerSolving.{IsExtended, ShowsSolve, Solves, AnswersAt, path_at}
+use Rattle.gms_exec.specs.ValidEvents.{IsValidEvent, ShowsValidEvents}
+use Rattle.gms_exec.specs.Stepping.{RunView, course_from_view, Runs, Answered, paths_taken}
 
 get-last : {A : Type 0} (xs : List A) (x : A) → slice_get (xs ++ x ∷ []) (length xs) ≡ Some x
 get-last [] x = refl
@@ -52,11 +52,11 @@ counted n v e = let counts = v.ok.0 in omega arith
 
 -- ---- what the pieces of the code did is a solve
 
-pub grown-same : {A : Type 0} (old new : List A) → new ≡ old → Grown old new
-grown-same old new e = record { fresh = []; is = e ∙ sym (append-nil old) }
+pub extended-same : {A : Type 0} (old new : List A) → new ≡ old → IsExtended old new
+extended-same old new e = record { fresh = []; is = e ∙ sym (append-nil old) }
 
-pub grown-one : {A : Type 0} (old new : List A) (x : A) → new ≡ old ++ x ∷ [] → Grown old new
-grown-one old new x e = record { fresh = x ∷ []; is = e }
+pub extended-one : {A : Type 0} (old new : List A) (x : A) → new ≡ old ++ x ∷ [] → IsExtended old new
+extended-one old new x e = record { fresh = x ∷ []; is = e }
 
 module _ {F : Type 0} (value : F → Number) (limit : ℕ) where
   -- what was read of the settings before is what a solve says of them
@@ -98,14 +98,14 @@ module _ {F : Type 0} (value : F → Number) (limit : ℕ) where
     course_with state events taken left = record { state = state; events = events; left = left; taken = taken; halted = None }
 
     -- with its answer the run reaches the point that the call has reached
-    solves-comes : (more : List (Answer Number)) → answered value limit names model equations objective at (come_to value old (answer_numbers value is.answer ∷ more)) (lp_numbers value lp) ≡ come_to value new more
+    solves-comes : (more : List (Answer Number)) → answered value limit names model equations objective at (course_from_view value old (answer_numbers value is.answer ∷ more)) (lp_numbers value lp) ≡ course_from_view value new more
     solves-comes more =
         ap (λ (state : State). course_with state (events_in value old.events ++ event_with (attributes_of state objective []).level ∷ []) (length old.answers + 1) more) (sym is.after)
         ∙ ap (λ (level : Number). course_with new.state (events_in value old.events ++ event_with level ∷ []) (length old.answers + 1) more) (sym is.shows.is_level)
         ∙ ap (λ (events : List means.Event). course_with new.state events (length old.answers + 1) more) (sym (map-append (event_in value) old.events (shown_event ∷ [])) ∙ ap (events_in value) (sym is.shows.events))
         ∙ ap (λ (taken : ℕ). course_with new.state (events_in value new.events) taken more) (length-more old.answers is.answer ∙ ap length (sym is.shows.answers))
 
-    pub solves-runs : {A : Type 0} (x : A) (does : Course → Course) → ((left : List (Answer Number)) → does (come_to value old left) ≡ answered value limit names model equations objective at (come_to value old left) (lp_numbers value lp)) → Runs value {A = A} (Ok x) does old new
+    pub solves-runs : {A : Type 0} (x : A) (does : Course → Course) → ((left : List (Answer Number)) → does (course_from_view value old left) ≡ answered value limit names model equations objective at (course_from_view value old left) (lp_numbers value lp)) → Runs value {A = A} (Ok x) does old new
     solves-runs x does same =
         record {
           shown = shown_event ∷ [];
@@ -115,14 +115,14 @@ module _ {F : Type 0} (value : F → Number) (limit : ℕ) where
           comes = λ more. same (answer_numbers value is.answer ∷ more) ∙ solves-comes more;
         }
 
-    pub solves-standing : IsWellFormed value lp → ShowsStanding value limit rules new.answers old.events new.events
-    solves-standing formed =
+    pub solves-valid : IsWellFormed value lp → ShowsValidEvents value limit rules new.answers old.events new.events
+    solves-valid formed =
         record {
           shown = shown_event ∷ [];
           events = is.shows.events;
-          standing =
-              All-cons (IsStanding value limit rules new.answers) shown_event [] (record { formed = formed; given = is.answer; stands = answer-stands; rule = is.is_answer.rule; chosen = is.is_answer.chosen; is_answer = is.is_answer.is_answer })
-              (All-nil (IsStanding value limit rules new.answers));
+          valid =
+              All-cons (IsValidEvent value limit rules new.answers) shown_event [] (record { formed = formed; given = is.answer; stands = answer-stands; rule = is.is_answer.rule; chosen = is.is_answer.chosen; is_answer = is.is_answer.is_answer })
+              (All-nil (IsValidEvent value limit rules new.answers));
         }
 
     path-taken : (k : ℕ) → path_at old.state.settings.solver is.answer.pivots k ≡ paths_taken k new.answers (shown_event ∷ [])
@@ -141,7 +141,7 @@ module _ {F : Type 0} (value : F → Number) (limit : ℕ) where
             answered =
                 All-cons (IsAnswered value limit (map rule old_solvers) new.answers) (event_in value shown_event) [] (record { lp = lp; shows = refl; answer = is.answer; stands = answer-stands; rule = is.is_answer.rule; chosen = ap (λ rs. slice_get rs old.state.settings.solver) (sym are) ∙ is.is_answer.chosen; is_answer = is.is_answer.is_answer })
                 (All-nil (IsAnswered value limit (map rule old_solvers) new.answers));
-            grown = λ k.
+            extended = λ k.
                 ap (λ ps. slice_get ps k) (sym new_are)
                 ∙ is.paths k
                 ∙ ap (λ taken. option_map (λ before. before ++ taken) (slice_get old_paths k)) (path-taken k)
@@ -162,7 +162,7 @@ module _ {F : Type 0} (value : F → Number) (limit : ℕ) where
 
 module _ {F : Type 0} (value : F → Number) where
   -- a call that failed with a fault, and changed nothing
-  pub runs-fault : {A : Type 0} (failed : ExecStopOrMemory F) (fault : Fault) (does : Course → Course) (seen : RunView F) → Shows value failed fault → ((left : List (Answer Number)) → does (come_to value seen left) ≡ stopped_by (come_to value seen left) fault) → Runs value {A = A} (Err failed) does seen seen
+  pub runs-fault : {A : Type 0} (failed : ExecStopOrMemory F) (fault : Fault) (does : Course → Course) (seen : RunView F) → Shows value failed fault → ((left : List (Answer Number)) → does (course_from_view value seen left) ≡ stopped_by (course_from_view value seen left) fault) → Runs value {A = A} (Err failed) does seen seen
   runs-fault Memory fault does seen shows goes =
       record { shown = []; events = sym (append-nil seen.events); fresh = []; answers = sym (append-nil seen.answers); comes = λ more. tt }
   runs-fault (Stop stop) fault does seen shows goes =
@@ -171,12 +171,12 @@ module _ {F : Type 0} (value : F → Number) where
         events = sym (append-nil seen.events);
         fresh = [];
         answers = sym (append-nil seen.answers);
-        comes = λ more. goes more ∙ ap (λ fault. stopped_by (come_to value seen more) fault) shows;
+        comes = λ more. goes more ∙ ap (λ fault. stopped_by (course_from_view value seen more) fault) shows;
       }
 
   -- a call that ran out of memory, after it had shown events and taken answers
-  pub runs-grown : {A : Type 0} (failed : ExecStopOrMemory F) (does : Course → Course) (old new : RunView F) → failed ≡ Memory → Grown old.events new.events → Grown old.answers new.answers → Runs value {A = A} (Err failed) does old new
-  runs-grown {A} failed does old new memory events answers =
+  pub runs-extended : {A : Type 0} (failed : ExecStopOrMemory F) (does : Course → Course) (old new : RunView F) → failed ≡ Memory → IsExtended old.events new.events → IsExtended old.answers new.answers → Runs value {A = A} (Err failed) does old new
+  runs-extended {A} failed does old new memory events answers =
       subst (λ failed. Runs value {A = A} (Err failed) does old new) (sym memory) (record { shown = events.fresh; events = events.is; fresh = answers.fresh; answers = answers.is; comes = λ more. tt })
 
 -- ---- whether there is a solver

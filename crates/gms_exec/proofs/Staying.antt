@@ -19,8 +19,8 @@ use Rattle.gms_exec.specs.Reads.{last_at}
 use Rattle.gms_exec.specs.Solved.{Point, with_point, statuses_of, points_of, after_end}
 use Rattle.gms_exec.proofs.Symbols.{at-after}
 use Rattle.gms_exec.proofs.Newest.{has-with_members, last-there}
-use Rattle.gms_exec.proofs.Assigned.{behind-given}
-use Rattle.gms_exec.proofs.Levels.{behind-fitted, fits-either}
+use Rattle.gms_exec.proofs.Assigned.{following-given}
+use Rattle.gms_exec.proofs.Levels.{following-fitted, fits-either}
 
 -- each tuple has one label
 abbrev pub AreSingles : List (List ℕ) → Type 0
@@ -91,19 +91,19 @@ stays-put state name t a =
     let s : Symbol = symbol_of state name in
     stays-changed state name (if_fits s t (with_attributes s.content t a)) (record {
       domain = domain-fitted s t (with_attributes s.content t a);
-      alike = λ n. behind-fitted s t a n;
+      alike = λ n. following-fitted s t a n;
       singles = λ one are. fits-either (λ c. AreSingles (members_in c)) s t (with_attributes s.content t a) are (subst AreSingles (sym (members-put s.content t a)) are);
       ordered = λ up. fits-either (λ c. IsOrdered (members_in c)) s t (with_attributes s.content t a) up (subst IsOrdered (sym (members-put s.content t a)) up);
     })
 
-behind-statuses : (content : Content) (model solver n : ℕ) → alias_target n (with_statuses content model solver) ≡ alias_target n content
-behind-statuses undeclared model solver n = refl
-behind-statuses (alias_of base) model solver n = refl
-behind-statuses (set_of members) model solver n = refl
-behind-statuses (parameter_of entries) model solver n = refl
-behind-statuses (variable_of type entries) model solver n = refl
-behind-statuses (equation_of entries) model solver n = refl
-behind-statuses (model_with m s) model solver n = refl
+following-statuses : (content : Content) (model solver n : ℕ) → alias_target n (with_statuses content model solver) ≡ alias_target n content
+following-statuses undeclared model solver n = refl
+following-statuses (alias_of base) model solver n = refl
+following-statuses (set_of members) model solver n = refl
+following-statuses (parameter_of entries) model solver n = refl
+following-statuses (variable_of type entries) model solver n = refl
+following-statuses (equation_of entries) model solver n = refl
+following-statuses (model_with m s) model solver n = refl
 
 pub members-statuses : (content : Content) (model solver : ℕ) → members_in (with_statuses content model solver) ≡ members_in content
 members-statuses undeclared model solver = refl
@@ -119,7 +119,7 @@ stays-statuses state name model solver =
     let s : Symbol = symbol_of state name in
     stays-changed state name (with_content s (with_statuses s.content model solver)) (record {
       domain = refl;
-      alike = λ n. behind-statuses s.content model solver n;
+      alike = λ n. following-statuses s.content model solver n;
       singles = λ one are. subst AreSingles (sym (members-statuses s.content model solver)) are;
       ordered = λ up. subst IsOrdered (sym (members-statuses s.content model solver)) up;
     })
@@ -213,7 +213,7 @@ stays-given kind name all state =
     let s : Symbol = symbol_of state name in
     stays-changed state name (with_content s (with_given kind (fitting s all) s.content)) (record {
       domain = refl;
-      alike = λ n. behind-given kind (fitting s all) s.content n;
+      alike = λ n. following-given kind (fitting s all) s.content n;
       singles = λ one are. singles-given s kind all one s.content are;
       ordered = λ up. ordered-given kind (fitting s all) s.content up;
     })

@@ -9,11 +9,11 @@ use Rattle.gms_event.specs.EventView.{event_in, events_in}
 use Rattle.lp_core.specs.declared.answer.Answer.{Answer}
 use Rattle.lp_slot.specs.declared.solver.SolverRule.{SolverRule}
 use Rattle.gms_exec.specs.Answering.{AreAnswered, IsAnswered}
-use Rattle.gms_exec.specs.ValidEvents.{IsStanding}
+use Rattle.gms_exec.specs.ValidEvents.{IsValidEvent}
 
 module _ {F : Type 0} (value : F → Number) (limit : ℕ) (rules : List SolverRule) (answers : List (Answer F)) where
   -- a valid event is answered
-  one_answered : (e : Event F) → IsStanding value limit rules answers e → IsAnswered value limit rules answers (event_in value e)
+  one_answered : (e : Event F) → IsValidEvent value limit rules answers e → IsAnswered value limit rules answers (event_in value e)
   one_answered (event.Display line items) is = tt
   one_answered (event.Abort line items) is = tt
   one_answered (event.Fault stop) is = tt
@@ -21,8 +21,8 @@ module _ {F : Type 0} (value : F → Number) (limit : ℕ) (rules : List SolverR
       record { lp = lp; shows = refl; answer = is.given; stands = is.stands; rule = is.rule; chosen = is.chosen; is_answer = is.is_answer }
 
   -- Each valid event is answered.
-  pub answered_by_standing : (shown : List (Event F)) → All (IsStanding value limit rules answers) shown → AreAnswered value limit rules answers (events_in value shown)
+  pub answered_by_standing : (shown : List (Event F)) → All (IsValidEvent value limit rules answers) shown → AreAnswered value limit rules answers (events_in value shown)
   answered_by_standing [] is = All-nil (IsAnswered value limit rules answers)
   answered_by_standing (e ∷ shown) is =
-      All-cons (IsAnswered value limit rules answers) (event_in value e) (events_in value shown) (one_answered e (All-head (IsStanding value limit rules answers) e shown is))
-      (answered_by_standing shown (All-tail (IsStanding value limit rules answers) e shown is))
+      All-cons (IsAnswered value limit rules answers) (event_in value e) (events_in value shown) (one_answered e (All-head (IsValidEvent value limit rules answers) e shown is))
+      (answered_by_standing shown (All-tail (IsValidEvent value limit rules answers) e shown is))

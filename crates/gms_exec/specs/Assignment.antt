@@ -19,7 +19,7 @@ use Rattle.gms_eval.specs.Faults.{Answer, nothing, faulted, ◌and_then◌}
 use Rattle.gms_eval.specs.References.{tuple_of}
 use Rattle.gms_eval.specs.Value.{value, labels, domain, control_over}
 use Rattle.gms_eval.specs.declared.stop.StopKind.TheVariants.{Undefined}
-use Rattle.gms_rows.specs.Rows.{sets_among, each_once}
+use Rattle.gms_rows.specs.Rows.{sets_among, distinct_numbers}
 use Rattle.gms_exec.specs.Given.{Given, member, value_is, AllGiven, after_given}
 use Rattle.gms_exec.specs.Membership.{membership}
 use Rattle.gms_store.specs.Declarations.{is_set}
@@ -28,7 +28,7 @@ use Rattle.gms_store.specs.Declarations.{is_set}
 
 -- the sets of a left side that no loop controls
 abbrev pub newly_controlled : {N : Type 0} → Pairs → tree.Indices N → List ℕ
-newly_controlled binding indices = filter (λ set. is_none (label_of binding set)) (each_once (sets_among indices))
+newly_controlled binding indices = filter (λ set. is_none (label_of binding set)) (distinct_numbers (sets_among indices))
 
 -- ---- what an element is given
 

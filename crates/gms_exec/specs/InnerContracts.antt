@@ -78,13 +78,13 @@ first_set (tree.lagged set op at amount rest) = Some set
 first_set indices = None
 
 -- sets, and one more if it is not among them
-abbrev pub behind_others : List ℕ → ℕ → List ℕ
-behind_others done set = if list_any (λ one. one == set) done then done else done ++ set ∷ []
+abbrev pub after_others : List ℕ → ℕ → List ℕ
+after_others done set = if list_any (λ one. one == set) done then done else done ++ set ∷ []
 
 -- sets, and one more, if it is not among them and no loop controls it
 abbrev pub noted : Pairs → List ℕ → Option ℕ → List ℕ
 noted binding done None = done
-noted binding done (Some set) = if is_none (label_of binding set) then behind_others done set else done
+noted binding done (Some set) = if is_none (label_of binding set) then after_others done set else done
 
 -- elements with what they are given, and one more if there is one
 abbrev pub with_found : AllGiven → Option (List ℕ × Given) → AllGiven

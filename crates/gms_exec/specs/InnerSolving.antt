@@ -15,7 +15,7 @@ use Rattle.gms_exec.specs.Solved.{after_end}
 use Rattle.gms_exec.specs.Stepping.{RunView}
 
 -- A list that was extended at its end.
-pub record Grown {A : Type 0} (old new : List A) : Type 0 where
+pub record IsExtended {A : Type 0} (old new : List A) : Type 0 where
   pub fresh : List A
   pub is : new ≡ old ++ fresh
 

@@ -88,14 +88,14 @@ abbrev pub OfAct : Type 0
 OfAct = Place → Pairs → Course → Course
 
 -- statements in sequence, while nothing stops the run
-abbrev pub one_after_another : List OfStatement → OfStatement
-one_after_another statements binding course =
+abbrev pub in_sequence : List OfStatement → OfStatement
+in_sequence statements binding course =
     fold (λ course statement. while_it_runs (statement binding) course) course statements
 
 -- the body of a loop, once for each element, while nothing stops the run
 abbrev pub for_each : List ℕ → List OfStatement → List (List ℕ) → OfStatement
 for_each sets body elements binding course =
-    fold (λ course element. one_after_another body (controlled binding sets element) course) course elements
+    fold (λ course element. in_sequence body (controlled binding sets element) course) course elements
 
 module _ {F : Type 0} (number_of : F → Number) (limit : ℕ) where
   -- a display shows its items as they are at that point
@@ -177,7 +177,7 @@ module _ {F : Type 0} (number_of : F → Number) (limit : ℕ) where
   -- the run of statements from a state on, with these answers to its solves
   abbrev pub run_from : World F → State → List (Answer Number) → List (Stmt F) → Course
   run_from world state answers statements =
-      one_after_another (map (of_statement world) statements) [] (record { state = state; events = []; left = answers; taken = 0; halted = None })
+      in_sequence (map (of_statement world) statements) [] (record { state = state; events = []; left = answers; taken = 0; halted = None })
 
 -- the event that a halted run shows last: the fault that stopped it
 abbrev pub last_event : Option Halt → List Event

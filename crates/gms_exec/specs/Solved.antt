@@ -24,9 +24,9 @@ first_or_zero [] = whole (pos 0)
 first_or_zero (x ∷ xs) = x
 
 -- the numbers after the first
-abbrev pub behind_first : List Number → List Number
-behind_first [] = []
-behind_first (x ∷ xs) = xs
+abbrev pub after_first : List Number → List Number
+after_first [] = []
+after_first (x ∷ xs) = xs
 
 -- An element with its level and its marginal.
 pub record Point : Type 0 where
@@ -38,7 +38,7 @@ pub record Point : Type 0 where
 abbrev pub points : List Key → List Number → List Number → List Point
 points [] levels marginals = []
 points (key ∷ keys) levels marginals =
-    record { key = key; level = first_or_zero levels; marginal = first_or_zero marginals } ∷ points keys (behind_first levels) (behind_first marginals)
+    record { key = key; level = first_or_zero levels; marginal = first_or_zero marginals } ∷ points keys (after_first levels) (after_first marginals)
 
 -- the elements of the columns
 abbrev pub keys_of_columns : Lp Number → List Key

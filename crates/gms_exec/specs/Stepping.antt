@@ -34,8 +34,8 @@ UnlessMemory (Err (Stop stop)) P = P
 
 module _ {F : Type 0} (value : F → Number) where
   -- the view of a run as a course, with these answers remaining
-  abbrev pub come_to : RunView F → List (Answer Number) → Course
-  come_to seen left =
+  abbrev pub course_from_view : RunView F → List (Answer Number) → Course
+  course_from_view seen left =
       record { state = seen.state; events = events_in value seen.events; left = left; taken = length seen.answers; halted = None }
 
   -- A run has reached this point; or a stop has stopped it there. Out of memory makes no claim.
@@ -51,7 +51,7 @@ module _ {F : Type 0} (value : F → Number) where
     pub events : new.events ≡ old.events ++ shown
     pub fresh : List (Answer F)
     pub answers : new.answers ≡ old.answers ++ fresh
-    pub comes : (more : List (Answer Number)) → Comes result (does (come_to old (map (answer_numbers value) fresh ++ more))) (come_to new more)
+    pub comes : (more : List (Answer Number)) → Comes result (does (course_from_view old (map (answer_numbers value) fresh ++ more))) (course_from_view new more)
 
 -- ---- the solvers
 
@@ -70,7 +70,7 @@ pub record Answered {S F : Type 0} (value : F → Number) (limit : ℕ) (name : 
   pub shown : List (Event F)
   pub events : after.events ≡ before.events ++ shown
   pub answered : AreAnswered value limit (map rule old) after.answers (events_in value shown)
-  pub grown : (k : ℕ) → slice_get (map paths new) k ≡ option_map (λ taken. taken ++ paths_taken k after.answers shown) (slice_get (map paths old) k)
+  pub extended : (k : ℕ) → slice_get (map paths new) k ≡ option_map (λ taken. taken ++ paths_taken k after.answers shown) (slice_get (map paths old) k)
 
 -- ---- what stays
 

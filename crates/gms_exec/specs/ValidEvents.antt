@@ -15,7 +15,7 @@ use Rattle.lp_core.specs.WellFormed.{IsWellFormed}
 module _ {F : Type 0} (value : F → Number) (limit : ℕ) (rules : List SolverRule) (answers : List (Answer F)) where
   -- A solve that was shown has a well-formed program, and the answer at its place is one of it, by
   -- the rule of the solver that its settings choose.
-  pub record IsStandingSolve (lp : Lp F) (place : ℕ) (settings : Settings) : Type 0 where
+  pub record IsValidSolve (lp : Lp F) (place : ℕ) (settings : Settings) : Type 0 where
     pub formed : IsWellFormed value lp
     pub given : Answer F
     pub stands : slice_get answers place ≡ Some given
@@ -24,14 +24,14 @@ module _ {F : Type 0} (value : F → Number) (limit : ℕ) (rules : List SolverR
     pub is_answer : IsAnswerUnder value limit lp settings.iterlim rule given
 
   -- An item that was shown has at most 8 decimals, and a solve that was shown is answered.
-  abbrev pub IsStanding : Event F → Type 0
-  IsStanding (event.Display line items) = All (λ (item : Shown F). item.decimals ≤ 8) items
-  IsStanding (event.Abort line items) = All (λ (item : Shown F). item.decimals ≤ 8) items
-  IsStanding (event.Fault stop) = Unit {0}
-  IsStanding (event.Solve line model equations lp answer solver settings level) = IsStandingSolve lp answer settings
+  abbrev pub IsValidEvent : Event F → Type 0
+  IsValidEvent (event.Display line items) = All (λ (item : Shown F). item.decimals ≤ 8) items
+  IsValidEvent (event.Abort line items) = All (λ (item : Shown F). item.decimals ≤ 8) items
+  IsValidEvent (event.Fault stop) = Unit {0}
+  IsValidEvent (event.Solve line model equations lp answer solver settings level) = IsValidSolve lp answer settings
 
   -- The events that were appended to others are valid.
-  pub record ShowsStanding (old new : List (Event F)) : Type 0 where
+  pub record ShowsValidEvents (old new : List (Event F)) : Type 0 where
     pub shown : List (Event F)
     pub events : new ≡ old ++ shown
-    pub standing : All IsStanding shown
+    pub valid : All IsValidEvent shown

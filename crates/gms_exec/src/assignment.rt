@@ -11,7 +11,7 @@ ghost use Rattle.gms_eval.specs.Bindings.{controlled};
 ghost use Rattle.gms_eval.specs.Faults.{nothing, ◌and_then◌};
 ghost use Rattle.gms_eval.specs.Gives.{Gives};
 ghost use Rattle.gms_exec.specs.Assignment.{newly_controlled, takes_value, where_taken, target_of, given_under, element_under, given_elements, given_by, after_assignment};
-ghost use Rattle.gms_exec.specs.InnerContracts.{given_in, all_given_in, Assigns, first_set, behind_others, noted, with_found, found_in, found_at};
+ghost use Rattle.gms_exec.specs.InnerContracts.{given_in, all_given_in, Assigns, first_set, after_others, noted, with_found, found_in, found_at};
 ghost use Rattle.gms_store.specs.Declarations.{is_set};
 
 use crate::given::{Given, put_all};
@@ -48,8 +48,8 @@ fn is_one_of(sets: &[u32], set: u32) -> bool
 }
 
 /// Appends a set to others, if it is not among them.
-fn put_behind(sets: &mut Vec<u32>, set: u32) -> Result<(), AllocError>
-    ensures { OnOk result (sets.new.items ≡ behind_others sets.old.items set) }
+fn push_absent(sets: &mut Vec<u32>, set: u32) -> Result<(), AllocError>
+    ensures { OnOk result (sets.new.items ≡ after_others sets.old.items set) }
 {
     if is_one_of(sets.as_slice(), set) {
         return Ok(());
@@ -64,7 +64,7 @@ fn note(sets: &mut Vec<u32>, set: u32, b: &Binding) -> Result<(), AllocError>
 {
     match b.label(set) {
         Some(_) => Ok(()),
-        None => put_behind(sets, set),
+        None => push_absent(sets, set),
     }
 }
 

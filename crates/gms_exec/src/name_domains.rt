@@ -32,20 +32,20 @@ fn label_numbered(labels: u32, number: usize) -> u32
 /// The domain of a name: the set of each position, or none where any label of the program may
 /// occur.
 #[derive(Clone, Copy)]
-pub(crate) struct Walk<'s, F: ExactField> {
+pub(crate) struct NameDomain<'s, F: ExactField> {
     store: &'s Store<F>,
     labels: u32,
     positions: &'s [Option<u32>],
 }
 
-impl<'s, F: ExactField> Walk<'s, F> {
+impl<'s, F: ExactField> NameDomain<'s, F> {
     /// The domain of a name of a program that has `labels` labels.
-    pub(crate) fn new(store: &'s Store<F>, labels: u32, name: u32) -> Walk<'s, F>
+    pub(crate) fn new(store: &'s Store<F>, labels: u32, name: u32) -> NameDomain<'s, F>
         ensures store { result.store.now ≡ store.now }
         ensures labels { result.labels ≡ labels }
         ensures positions { result.positions.now ≡ (symbol_of store.now name).domain }
     {
-        Walk {
+        NameDomain {
             store,
             labels,
             positions: store.domain_of(name),

@@ -11,7 +11,7 @@ ghost use Rattle.gms_event.specs.EventView.{shown_in};
 ghost use Rattle.gms_exec.specs.Showing.{status_shown, value_shown, elements_at, is_bound, is_indexed, entries_shown, tuples_looked_at, shown_of, all_shown};
 ghost use Rattle.gms_exec.specs.InnerContracts.{entries_in, is_kept, with_entries, tuples_given, text_shown, symbol_shown};
 
-use crate::name_domains::Walk;
+use crate::name_domains::NameDomain;
 use gms_ast::{Named, Sequence, Show, Suffix, Word};
 use gms_eval::{Binding, ExecStopOrMemory};
 use gms_event::Shown;
@@ -164,17 +164,17 @@ fn add<F: ExactField>(
 fn over_all<F: ExactField>(
     alloc: Global,
     store: &Store<F>,
-    walk: &Walk<F>,
+    name_domain: &NameDomain<F>,
     size: usize,
     name: u32,
     suffix: Suffix,
 ) -> Result<Entries<F>, AllocError>
-    requires { size ≡ length (elements_at walk.now.labels walk.now.store.now walk.now.positions.now) }
-    ensures { IfOk result (λ entries. entries_in F.value entries.items ≡ entries_shown store.now name suffix (elements_at walk.now.labels walk.now.store.now walk.now.positions.now)) }
+    requires { size ≡ length (elements_at name_domain.now.labels name_domain.now.store.now name_domain.now.positions.now) }
+    ensures { IfOk result (λ entries. entries_in F.value entries.items ≡ entries_shown store.now name suffix (elements_at name_domain.now.labels name_domain.now.store.now name_domain.now.positions.now)) }
 {
     let mut entries = Vec::new(alloc);
     for number in 0..size {
-        let t = walk.element(alloc, size, number)?;
+        let t = name_domain.element(alloc, size, number)?;
         add(&mut entries, store, name, suffix, t)?;
     }
     Ok(entries)
@@ -193,12 +193,12 @@ fn bounds<F: ExactField>(
     ensures { Gives F.value (λ entries. entries_in F.value entries.items) result
         (sized named.at b.now (elements_at labels store.now (symbol_of store.now named.name).domain) and_then λ tuples. Ok (entries_shown store.now named.name suffix tuples)) }
 {
-    let walk = Walk::new(store, labels, named.name);
-    let size = walk.count();
+    let name_domain = NameDomain::new(store, labels, named.name);
+    let size = name_domain.count();
     if size > MOST_ELEMENTS {
         return Err(ExecStopOrMemory::too_large(alloc, named.at, size, b));
     }
-    let entries = over_all(alloc, store, &walk, size as usize, named.name, suffix)?;
+    let entries = over_all(alloc, store, &name_domain, size as usize, named.name, suffix)?;
     Ok(entries)
 }
 

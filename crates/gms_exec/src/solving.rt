@@ -11,8 +11,8 @@ ghost use Rattle.gms_rows.specs.Plain.{HasPlainDefinitions};
 ghost use Rattle.gms_rows.specs.Rows.{equations_of};
 ghost use Rattle.gms_exec.specs.Run.{solve};
 ghost use Rattle.gms_exec.specs.Solved.{statuses_of, with_point, points, keys_of_columns, row_keys, after_end};
-ghost use Rattle.gms_exec.specs.InnerSolving.{Grown, ShowsSolve, Solves, AnswersAt, path_at};
-ghost use Rattle.gms_exec.specs.ValidEvents.{ShowsStanding};
+ghost use Rattle.gms_exec.specs.InnerSolving.{IsExtended, ShowsSolve, Solves, AnswersAt, path_at};
+ghost use Rattle.gms_exec.specs.ValidEvents.{ShowsValidEvents};
 ghost use Rattle.gms_exec.specs.Stepping.{Runs, Answered, UnlessMemory};
 
 use crate::statement::stopped;
@@ -216,8 +216,8 @@ fn show_solve<F: ExactField>(
       solver = name.items;
       settings = settings;
     }) store.now answers.old.items answers.new.items events.old.items events.new.items) }
-    ensures answers { Grown answers.old.items answers.new.items }
-    ensures events { Grown events.old.items events.new.items }
+    ensures answers { IsExtended answers.old.items answers.new.items }
+    ensures events { IsExtended events.old.items events.new.items }
 {
     let objective_level = store.level(s.objective, &Tuple::new(alloc));
     let equations = equations_of(alloc, program, s.model)?;
@@ -256,8 +256,8 @@ fn solve_program(
         (record { state = store.new; events = events.new.items; answers = answers.new.items })) }
     ensures names { map name solvers.new.items ≡ map name solvers.old.items }
     ensures rules { map rule solvers.new.items ≡ map rule solvers.old.items }
-    ensures answers { Grown answers.old.items answers.new.items }
-    ensures events { Grown events.old.items events.new.items }
+    ensures answers { IsExtended answers.old.items answers.new.items }
+    ensures events { IsExtended events.old.items events.new.items }
 {
     let settings = store.settings();
     let place = settings.solver as usize;
@@ -291,7 +291,7 @@ pub(crate) fn solve_model(
     ensures solvers { UnlessMemory result (Answered frac_value (2 ^ 127 - 1) name rule paths solvers.old.items solvers.new.items
         (record { state = store.old; events = events.old.items; answers = answers.old.items })
         (record { state = store.new; events = events.new.items; answers = answers.new.items })) }
-    ensures standing { UnlessMemory result (ShowsStanding frac_value (2 ^ 127 - 1) (map rule solvers.old.items) answers.new.items events.old.items events.new.items) }
+    ensures valid { UnlessMemory result (ShowsValidEvents frac_value (2 ^ 127 - 1) (map rule solvers.old.items) answers.new.items events.old.items events.new.items) }
 {
     if solvers.is_empty() {
         return Err(stopped(alloc, StopKind::NoSolver, s.at, b));

@@ -13,7 +13,7 @@ ghost use Rattle.gms_exec.specs.Options.{after_options};
 ghost use Rattle.lp_core.specs.declared.answer.Answer.{Answer};
 ghost use Rattle.gms_exec.specs.Run.{of_statement, display, abort, abort_where};
 ghost use Rattle.lp_slot.specs.declared.solver.SolverRule.{SolverRule};
-ghost use Rattle.gms_exec.specs.ValidEvents.{ShowsStanding};
+ghost use Rattle.gms_exec.specs.ValidEvents.{ShowsValidEvents};
 ghost use Rattle.gms_exec.specs.InnerContracts.{Assigns, IsOnce, AsksNoSolver, ShowsNoSolve};
 ghost use Rattle.gms_exec.specs.Stepping.{Runs, Answered, AreValidSettings, UnlessMemory};
 
@@ -63,7 +63,7 @@ pub fn step(
     ensures solvers { UnlessMemory result (Answered frac_value (2 ^ 127 - 1) name rule paths solvers.old.items solvers.new.items
         (record { state = store.old; events = events.old.items; answers = answers.old.items })
         (record { state = store.new; events = events.new.items; answers = answers.new.items })) }
-    ensures standing { UnlessMemory result (ShowsStanding frac_value (2 ^ 127 - 1) (map rule solvers.old.items) answers.new.items events.old.items events.new.items) }
+    ensures valid { UnlessMemory result (ShowsValidEvents frac_value (2 ^ 127 - 1) (map rule solvers.old.items) answers.new.items events.old.items events.new.items) }
     ensures settings { UnlessMemory result (AreValidSettings (length solvers.old.items) store.new.settings) }
     ensures plain { UnlessMemory result (AreOneDimensional store.new program.now.statements.items) }
 {
@@ -105,7 +105,7 @@ fn once(
     ensures solvers { UnlessMemory result (Answered frac_value (2 ^ 127 - 1) name rule paths solvers.old.items solvers.new.items
         (record { state = store.old; events = events.old.items; answers = answers.old.items })
         (record { state = store.new; events = events.new.items; answers = answers.new.items })) }
-    ensures standing { UnlessMemory result (ShowsStanding frac_value (2 ^ 127 - 1) (map rule solvers.old.items) answers.new.items events.old.items events.new.items) }
+    ensures valid { UnlessMemory result (ShowsValidEvents frac_value (2 ^ 127 - 1) (map rule solvers.old.items) answers.new.items events.old.items events.new.items) }
     ensures settings { UnlessMemory result (AreValidSettings (length solvers.old.items) store.new.settings) }
     ensures plain { UnlessMemory result (AreOneDimensional store.new program.now.statements.items) }
 {
@@ -145,7 +145,7 @@ fn without_solving<F: ExactField>(
         (record { state = store.old; events = events.old.items; answers = answers })
         (record { state = store.new; events = events.new.items; answers = answers }) }
     ensures quiet { ShowsNoSolve events.old.items events.new.items }
-    ensures standing { (rules : List SolverRule) (answers : List (Answer F)) → ShowsStanding F.value F.limit rules answers events.old.items events.new.items }
+    ensures valid { (rules : List SolverRule) (answers : List (Answer F)) → ShowsValidEvents F.value F.limit rules answers events.old.items events.new.items }
 {
     let labels = program.labels.len();
     match &s.act {
@@ -223,7 +223,7 @@ fn show<F: ExactField>(
         (record { state = store.now; events = events.old.items; answers = answers })
         (record { state = store.now; events = events.new.items; answers = answers }) }
     ensures quiet { ShowsNoSolve events.old.items events.new.items }
-    ensures standing { (rules : List SolverRule) (answers : List (Answer F)) → ShowsStanding F.value F.limit rules answers events.old.items events.new.items }
+    ensures valid { (rules : List SolverRule) (answers : List (Answer F)) → ShowsValidEvents F.value F.limit rules answers events.old.items events.new.items }
 {
     let items = all_shown(alloc, store, labels, items, b)?;
     events.push(Event::Display {
@@ -248,7 +248,7 @@ fn abort<F: ExactField>(
         (record { state = store.now; events = events.old.items; answers = answers })
         (record { state = store.now; events = events.new.items; answers = answers }) }
     ensures quiet { ShowsNoSolve events.old.items events.new.items }
-    ensures standing { (rules : List SolverRule) (answers : List (Answer F)) → ShowsStanding F.value F.limit rules answers events.old.items events.new.items }
+    ensures valid { (rules : List SolverRule) (answers : List (Answer F)) → ShowsValidEvents F.value F.limit rules answers events.old.items events.new.items }
 {
     let items = all_shown(alloc, store, labels, items, b)?;
     events.push(Event::Abort {
@@ -274,7 +274,7 @@ fn abort_where<F: ExactField>(
         (record { state = store.now; events = events.old.items; answers = answers })
         (record { state = store.now; events = events.new.items; answers = answers }) }
     ensures quiet { ShowsNoSolve events.old.items events.new.items }
-    ensures standing { (rules : List SolverRule) (answers : List (Answer F)) → ShowsStanding F.value F.limit rules answers events.old.items events.new.items }
+    ensures valid { (rules : List SolverRule) (answers : List (Answer F)) → ShowsValidEvents F.value F.limit rules answers events.old.items events.new.items }
 {
     let Some(condition) = condition else {
         return abort(alloc, store, labels, items, at, b, events);

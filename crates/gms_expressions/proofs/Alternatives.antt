@@ -53,7 +53,7 @@ module _ {F : Type 0} (value : F → Number) {limit : ℕ} {reader : Reader} {at
   control_alone got unled is = got_by (gives_the Control (gives_both got.gives (gives_none (leads_condition (seen_from reader next) ∙ unled)))) (λ sense s. ap (control_in_numbers value) is ∙ ap over (got.means sense s)) got.further
 
   -- sets with a condition
-  pub control_got : {new : Tables} {behind : ℕ} {e : Expr F} → IsGot limit (AreSets reader.source.now) (name ∣ bracketed (the NameList)) reader at old middle sets next → leads productions look_ahead (token Dollar) (seen_from reader next) ≡ true →
-      IsGot limit (IsMeant value reader.source.now condition_in_tree) (the Condition) reader next middle new e behind → control_in_numbers value (control_tree control) ≡ over_where sets.items (view value e) → IsGot limit (IsControl value reader.source.now) (the Control) reader at old new control behind
+  pub control_got : {new : Tables} {following : ℕ} {e : Expr F} → IsGot limit (AreSets reader.source.now) (name ∣ bracketed (the NameList)) reader at old middle sets next → leads productions look_ahead (token Dollar) (seen_from reader next) ≡ true →
+      IsGot limit (IsMeant value reader.source.now condition_in_tree) (the Condition) reader next middle new e following → control_in_numbers value (control_tree control) ≡ over_where sets.items (view value e) → IsGot limit (IsControl value reader.source.now) (the Control) reader at old new control following
   control_got got led cond is = got_by (gives_the Control (gives_both got.gives (gives_some (leads_condition (seen_from reader next) ∙ led) cond.gives)))
       (λ sense s. is ∙ ap₂ over_where (got.means sense (earlier cond.gives s)) (cond.means sense s).is) (let f = got.further in let g = cond.further in omega arith)

@@ -22,7 +22,7 @@ use Rattle.gms_expressions.specs.declared.reader.Tables.{Tables}
 use Rattle.gms_expressions.specs.ExpressionTrees.{or_alone, first_place, place_in}
 use Rattle.gms_expressions.specs.Outcomes.{next_place}
 use Rattle.gms_expressions.specs.InnerNodes.{view}
-use Rattle.gms_expressions.specs.InnerReadings.{Seen, Derivation, GamsPart, Meaning, Gives, Refuses, Sense, IsGot, IsMeant, IsNext, seen_from, walk_of}
+use Rattle.gms_expressions.specs.InnerReadings.{Seen, Derivation, GamsPart, Meaning, Gives, Refuses, Sense, IsGot, IsMeant, IsNext, seen_from, read_state_of}
 use Rattle.gms_expressions.proofs.TokenKinds.{is_plain, implies}
 use Rattle.gms_expressions.proofs.Steps.{Within, within_the, within_second, within_then, gives_both, refuses_second}
 use Rattle.gms_expressions.proofs.Nexts.{gives_next, leads_next, unled_next}
@@ -97,7 +97,7 @@ module _ {F : Type 0} {value : F → Number} {limit : ℕ} {whole : Meaning (Syn
   chain_first n {p} {q} mark is got shape = record {
     looping = record {
       context = λ b. node (pair got.tree b);
-      within = within_then (within_the n) (subst (λ (x : GamsPart). Within limit reader.source.now x (walk_of reader.unclosed old) (seen_from reader start) (many q) (walk_of reader.unclosed new) (seen_from reader at) (λ b. pair got.tree b)) (sym is) (within_second got.gives));
+      within = within_then (within_the n) (subst (λ (x : GamsPart). Within limit reader.source.now x (read_state_of reader.unclosed old) (seen_from reader start) (many q) (read_state_of reader.unclosed new) (seen_from reader at) (λ b. pair got.tree b)) (sym is) (within_second got.gives));
       means = λ sense s b. shape sense b ∙ ap (λ x. or_alone x (λ r. make (part mark x r)) (in_sense reader.source.now others sense b)) (sym (got.means sense s).is);
       further = got.further;
     };
@@ -111,8 +111,8 @@ module _ {F : Type 0} {value : F → Number} {limit : ℕ} {whole : Meaning (Syn
 
   module _ {P : GamsPart} {test : Terminal → Bool} {sub : GamsPart} {views : List (Mark × Syntax Number)} where
     -- an operator and another part were read
-    pub chain_on : Chain limit P (one test · sub) whole others make views reader start old new at → {newer : Tables} {behind after : ℕ} {token : Token} {inner : Meaning (Syntax Number)} {e : Expr F} (n : IsNext test reader at token behind) → implies test is_plain ≡ true →
-        (got : IsGot limit (IsMeant value reader.source.now inner) sub reader behind new newer e after) (m : Mark) →
+    pub chain_on : Chain limit P (one test · sub) whole others make views reader start old new at → {newer : Tables} {following after : ℕ} {token : Token} {inner : Meaning (Syntax Number)} {e : Expr F} (n : IsNext test reader at token following) → implies test is_plain ≡ true →
+        (got : IsGot limit (IsMeant value reader.source.now inner) sub reader following new newer e after) (m : Mark) →
         ((sense : Sense) (b : Derivation) → in_sense reader.source.now others sense (more (pair (leaf (n.kind, token)) got.tree) b) ≡ part m (in_sense reader.source.now inner sense got.tree) (in_sense reader.source.now others sense b)) →
         (now : List (Mark × Syntax Number)) → now ≡ views ++ (m, view value e) ∷ [] → Chain limit P (one test · sub) whole others make now reader start old newer after
     chain_on l {e = e} n plain got m shape now pushed = record {
@@ -141,6 +141,6 @@ module _ {F : Type 0} {value : F → Number} {limit : ℕ} {whole : Meaning (Syn
 
 -- the part after an operator is refused
 pub chain_refuses : {limit : ℕ} {whole : Meaning (Syntax Number)} {others : Meaning (Parts Number)} {make : Parts Number → Syntax Number} {reader : Reader} {start : ℕ} {old new : Tables} {at : ℕ} {P : GamsPart} {test : Terminal → Bool} {sub : GamsPart} {views : List (Mark × Syntax Number)} →
-    Chain limit P (one test · sub) whole others make views reader start old new at → {behind : ℕ} {token : Token} {last : Tables} {e : SyntaxFaultOrMemory} (n : IsNext test reader at token behind) → implies test is_plain ≡ true →
-    Refuses limit reader.source.now sub last (walk_of reader.unclosed new) (seen_from reader behind) e → Refuses limit reader.source.now P last (walk_of reader.unclosed old) (seen_from reader start) e
+    Chain limit P (one test · sub) whole others make views reader start old new at → {following : ℕ} {token : Token} {last : Tables} {e : SyntaxFaultOrMemory} (n : IsNext test reader at token following) → implies test is_plain ≡ true →
+    Refuses limit reader.source.now sub last (read_state_of reader.unclosed new) (seen_from reader following) e → Refuses limit reader.source.now P last (read_state_of reader.unclosed old) (seen_from reader start) e
 chain_refuses {new = new} {sub = sub} l n plain r = loop_refuses l.looping (leads_next sub n) (refuses_second (gives_next new n plain) r)

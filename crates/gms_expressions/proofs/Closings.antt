@@ -19,7 +19,7 @@ use Rattle.gms_expressions.specs.declared.reader.Reader.{Reader}
 use Rattle.gms_expressions.specs.declared.reader.Tables.{Tables}
 use Rattle.gms_expressions.specs.ExpressionTrees.{arguments}
 use Rattle.gms_expressions.specs.InnerNodes.{plain_views}
-use Rattle.gms_expressions.specs.InnerReadings.{Seen, Derivation, GamsPart, Refuses, Sense, IsGot, IsAnswer, IsNext, IsLacking, IsBefore, IsOpened, inside, seen_from, walk_of}
+use Rattle.gms_expressions.specs.InnerReadings.{Seen, Derivation, GamsPart, Refuses, Sense, IsGot, IsAnswer, IsNext, IsLacking, IsBefore, IsOpened, inside, seen_from, read_state_of}
 use Rattle.gms_expressions.proofs.Steps.{got_by, refuses_second}
 use Rattle.gms_expressions.proofs.Nexts.{gives_bracketed, refuses_unclosed, gives_next, leads_next, unled_next}
 use Rattle.gms_expressions.proofs.Loops.{loop_got, loop_refuses}
@@ -27,7 +27,7 @@ use Rattle.gms_expressions.proofs.Lists.{Arguments}
 use Rattle.gms_expressions.proofs.Chains.{in_sense, parts_before_all}
 
 -- a token is as well next inside parentheses
-pub next_inside : {test : Terminal → Bool} {reader : Reader} {at behind : ℕ} {t : Token} (unclosed : ℕ) → IsNext test reader at t behind → IsNext test (inside reader unclosed) at t behind
+pub next_inside : {test : Terminal → Bool} {reader : Reader} {at following : ℕ} {t : Token} (unclosed : ℕ) → IsNext test reader at t following → IsNext test (inside reader unclosed) at t following
 next_inside unclosed n = record { kind = n.kind; passes = n.passes; kind_is = n.kind_is; is = n.is; placed = n.placed; within = n.within; further = n.further }
 
 -- a part in parentheses was read, or its end is refused
@@ -45,6 +45,6 @@ module _ {F : Type 0} (value : F → Number) {limit : ℕ} {reader : Reader} {st
       IsGot limit (λ sense tree (args : Vec (Expr F) Global). parts_of (plain_views value args.items) ≡ in_sense reader.source.now arguments sense tree) (the ExpressionList) reader start old new v at
   arguments_got v l unled = loop_got l.looping (unled_next (is Comma) (the Expression) (seen_from reader at) unled) _ v (λ sense tree h. sym (h ∙ parts_before_all (plain_views value v.items)))
 
-pub arguments_refuses : {limit : ℕ} {views : List (Mark × Syntax Number)} {reader : Reader} {start : ℕ} {old new : Tables} {at : ℕ} → Arguments limit views reader start old new at → {behind : ℕ} {t : Token} {last : Tables} {e : SyntaxFaultOrMemory} → IsNext (is Comma) reader at t behind →
-    Refuses limit reader.source.now (the Expression) last (walk_of reader.unclosed new) (seen_from reader behind) e → Refuses limit reader.source.now (the ExpressionList) last (walk_of reader.unclosed old) (seen_from reader start) e
+pub arguments_refuses : {limit : ℕ} {views : List (Mark × Syntax Number)} {reader : Reader} {start : ℕ} {old new : Tables} {at : ℕ} → Arguments limit views reader start old new at → {following : ℕ} {t : Token} {last : Tables} {e : SyntaxFaultOrMemory} → IsNext (is Comma) reader at t following →
+    Refuses limit reader.source.now (the Expression) last (read_state_of reader.unclosed new) (seen_from reader following) e → Refuses limit reader.source.now (the ExpressionList) last (read_state_of reader.unclosed old) (seen_from reader start) e
 arguments_refuses {new = new} l next r = loop_refuses l.looping (leads_next (the Expression) next) (refuses_second (gives_next new next refl) r)

@@ -21,7 +21,7 @@ use Rattle.gms_expressions.specs.declared.reader.Reader.{Reader}
 use Rattle.gms_expressions.specs.declared.reader.Tables.{Tables}
 use Rattle.gms_expressions.specs.InnerNodes.{view}
 use Rattle.gms_expressions.specs.ExpressionTrees.{constant_in, constant_of, is_word}
-use Rattle.gms_expressions.specs.InnerReadings.{Refuses, IsGot, IsNext, IsMeant, IsValue, IsOutOfRange, kind_of, seen_from, walk_of}
+use Rattle.gms_expressions.specs.InnerReadings.{Refuses, IsGot, IsNext, IsMeant, IsValue, IsOutOfRange, kind_of, seen_from, read_state_of}
 use Rattle.gms_expressions.proofs.TokenKinds.{is_plain}
 use Rattle.gms_expressions.proofs.ReadStates.{plain_after, plain_sound}
 use Rattle.gms_expressions.proofs.Steps.{got_by, gives_one}
@@ -56,16 +56,16 @@ module _ {F : Type 0} where
   pub tree_of-No : tree_of {F = F} No ≡ no
   tree_of-No = ap (tree_of {F = F}) (sym rolls-No) ∙ fold-roll-Expr F (Tree F) (Indices F → Indices F) (Control F) tree_step index_step control_step Expr-F.No
 
-module _ {reader : Reader} {at behind : ℕ} {token : Token} (tables : Tables) (kind : Terminal) (next : kind ≡ kind_of (seen_from reader at)) (n : IsNext (is_terminal_among constants) reader at token behind) where
+module _ {reader : Reader} {at following : ℕ} {token : Token} (tables : Tables) (kind : Terminal) (next : kind ≡ kind_of (seen_from reader at)) (n : IsNext (is_terminal_among constants) reader at token following) where
   there : n.kind ≡ kind
   there = sym (kind_next n) ∙ sym next
 
   -- a constant that is no number
   pub constant_got : {limit : ℕ} {F : Type 0} {value : F → Rational} (other : Terminal) → kind ≡ other → is_plain other ≡ true → (e : Expr F) → ((x : Rational) → view value e ≡ constant_of other (token_text reader.source.now token) x) →
-      IsGot limit (IsMeant value reader.source.now constant_in) (any_of constants) reader at tables tables e behind
+      IsGot limit (IsMeant value reader.source.now constant_in) (any_of constants) reader at tables tables e following
   constant_got {limit = limit} other is plain e shows =
       let k : is_plain n.kind ≡ true = ap is_plain (there ∙ is) ∙ plain in
-      got_by (gives_one n.is n.passes (plain_sound limit reader.source.now (walk_of reader.unclosed tables) n.kind token k) (sym (plain_after reader.source.now reader.unclosed tables n.kind token k)))
+      got_by (gives_one n.is n.passes (plain_sound limit reader.source.now (read_state_of reader.unclosed tables) n.kind token k) (sym (plain_after reader.source.now reader.unclosed tables n.kind token k)))
       (λ sense s. record { is = shows (number_meant (token_text reader.source.now token)) ∙ ap (λ t. constant_of t (token_text reader.source.now token) (number_meant (token_text reader.source.now token))) (sym (there ∙ is)) })
       (let g = n.further in omega arith)
 
@@ -73,15 +73,15 @@ module _ {reader : Reader} {at behind : ℕ} {token : Token} (tables : Tables) (
     is_number : n.kind ≡ Number
     is_number = there ∙ number_left kind (ap (is_terminal_among constants) (sym there) ∙ n.passes) not_infinity not_na not_yes
 
-    number_there : seen_from reader at ≡ (Number, token) ∷ seen_from reader behind
-    number_there = n.is ∙ ap (λ t. (t, token) ∷ seen_from reader behind) is_number
+    number_there : seen_from reader at ≡ (Number, token) ∷ seen_from reader following
+    number_there = n.is ∙ ap (λ t. (t, token) ∷ seen_from reader following) is_number
 
     -- a number among the constants
     pub constant_number : {limit : ℕ} {F : Type 0} {value : F → Rational} (v : F) → IsValue limit value (token_text reader.source.now token) v → (e : Expr F) → view value e ≡ number_node (value v) →
-        IsGot limit (IsMeant value reader.source.now constant_in) (any_of constants) reader at tables tables e behind
-    constant_number {value = value} v within e is = got_by (number_gives reader at behind tables (value v) number_there refl within.0 within.1)
+        IsGot limit (IsMeant value reader.source.now constant_in) (any_of constants) reader at tables tables e following
+    constant_number {value = value} v within e is = got_by (number_gives reader at following tables (value v) number_there refl within.0 within.1)
         (λ sense s. record { is = is ∙ ap number_node (sym (number_in_is (token_text reader.source.now token) (value v) within.0)) }) (let g = n.further in omega arith)
 
     -- which is out of range
-    pub constant_refused : {limit : ℕ} {e : SyntaxFaultOrMemory} → IsOutOfRange limit reader.source.now token e → Refuses limit reader.source.now (any_of constants) tables (walk_of reader.unclosed tables) (seen_from reader at) e
-    constant_refused o = number_refused reader at behind tables number_there refl o
+    pub constant_refused : {limit : ℕ} {e : SyntaxFaultOrMemory} → IsOutOfRange limit reader.source.now token e → Refuses limit reader.source.now (any_of constants) tables (read_state_of reader.unclosed tables) (seen_from reader at) e
+    constant_refused o = number_refused reader at following tables number_there refl o

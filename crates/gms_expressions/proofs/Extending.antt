@@ -11,7 +11,7 @@ use Rattle.gms_grammar.proofs.Rules.{all_keep}
 use Rattle.gms_expressions.specs.declared.reader.Tables.{Tables}
 use Rattle.gms_expressions.specs.Calls.{IsTablePrefix}
 use Rattle.gms_expressions.specs.Outcomes.{ExpressionState, state_after_token, is_name_token}
-use Rattle.gms_expressions.specs.InnerReadings.{Seen, Derivation, GamsPart, Gives, Went, kind_of, walk_of}
+use Rattle.gms_expressions.specs.InnerReadings.{Seen, Derivation, GamsPart, Gives, Went, kind_of, read_state_of}
 
 pub goes_refl : (texts : List (List ℕ)) → IsTablePrefix texts texts
 goes_refl texts = ([], sym (append-nil texts))
@@ -38,12 +38,12 @@ went_then {source = source} {w = w} {rest = rest} {a = a} {tables = tables} g we
     (subst (λ (x : ExpressionState). Went x tables) g.leaves went)
 
 -- the tables are as they were
-pub went_same : (tables : Tables) → Went (walk_of 0 tables) tables
+pub went_same : (tables : Tables) → Went (read_state_of 0 tables) tables
 went_same tables = (goes_refl tables.names, goes_refl tables.labels)
 
-pub went_are : (old new : Tables) → new.names ≡ old.names → new.labels ≡ old.labels → Went (walk_of 0 old) new
+pub went_are : (old new : Tables) → new.names ≡ old.names → new.labels ≡ old.labels → Went (read_state_of 0 old) new
 went_are old new e f = (subst (λ ns. IsTablePrefix old.names ns) (sym e) (goes_refl old.names), subst (λ ls. IsTablePrefix old.labels ls) (sym f) (goes_refl old.labels))
 
 -- a part was read
-pub went_by : {limit : ℕ} {source : List ℕ} {p : GamsPart} {w : ExpressionState} {unclosed : ℕ} {ts rest : List Seen} {a : Derivation} {tables : Tables} → Gives limit source p w ts a (walk_of unclosed tables) rest → Went w tables
+pub went_by : {limit : ℕ} {source : List ℕ} {p : GamsPart} {w : ExpressionState} {unclosed : ℕ} {ts rest : List Seen} {a : Derivation} {tables : Tables} → Gives limit source p w ts a (read_state_of unclosed tables) rest → Went w tables
 went_by {tables = tables} g = went_then g (went_same tables)

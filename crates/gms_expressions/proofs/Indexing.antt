@@ -24,7 +24,7 @@ use Rattle.gms_expressions.specs.declared.reader.Reader.{Reader}
 use Rattle.gms_expressions.specs.declared.reader.Tables.{Tables}
 use Rattle.gms_expressions.specs.ExpressionTrees.{index as index_in, indices as indices_in, more_indices, lag as lag_in_tree}
 use Rattle.gms_ast.specs.Numbers.{indices_in_numbers}
-use Rattle.gms_expressions.specs.InnerReadings.{Seen, Derivation, GamsPart, Refuses, Sense, IsSense, IsGot, IsAnswer, IsNext, IsName, IsLabel, IsLag, IsIndex, AreIndices, seen_from, walk_of, kind_of}
+use Rattle.gms_expressions.specs.InnerReadings.{Seen, Derivation, GamsPart, Refuses, Sense, IsSense, IsGot, IsAnswer, IsNext, IsName, IsLabel, IsLag, IsIndex, AreIndices, seen_from, read_state_of, kind_of}
 use Rattle.gms_expressions.proofs.TokenKinds.{leads_by_kind, same_test}
 use Rattle.gms_expressions.proofs.Steps.{got_by, Within, within_the, within_second, within_then, within_again, gives_both, gives_the, gives_left, gives_right, gives_none, gives_some, gives_no_more, refuses_the, refuses_right, refuses_second, refuses_some, refuses_again}
 use Rattle.gms_expressions.proofs.Nexts.{gives_next, leads_next, unled_next, earlier}
@@ -61,8 +61,8 @@ module _ {F : Type 0} (value : F → Number) {limit : ℕ} {reader : Reader} {at
         (λ sense s rest. ap (indices_in_numbers value) (index_tree-alone n rest) ∙ ap (λ m. set m (indices_in_numbers value rest)) (got.means sense s).0) got.further
 
     -- a set, with a lag
-    pub lagged_got : {new : Tables} {behind : ℕ} {lag : LagOp × Place × Box (Expr F) Global} → leads productions look_ahead (token Text) (seen_from reader at) ≡ false → IsGot limit (IsName reader.source.now) name reader at old middle (n, place) next →
-        leads productions look_ahead (any_of (Sign ∷ Circular ∷ [])) (seen_from reader next) ≡ true → IsGot limit (IsLag value reader.source.now) (the Lag) reader next middle new lag behind → IsGot limit (IsIndex value reader.source.now) (the Index) reader at old new (Set n (Some lag)) behind
+    pub lagged_got : {new : Tables} {following : ℕ} {lag : LagOp × Place × Box (Expr F) Global} → leads productions look_ahead (token Text) (seen_from reader at) ≡ false → IsGot limit (IsName reader.source.now) name reader at old middle (n, place) next →
+        leads productions look_ahead (any_of (Sign ∷ Circular ∷ [])) (seen_from reader next) ≡ true → IsGot limit (IsLag value reader.source.now) (the Lag) reader next middle new lag following → IsGot limit (IsIndex value reader.source.now) (the Index) reader at old new (Set n (Some lag)) following
     lagged_got {lag = lag} other got led lags = got_by
         (gives_the Index (gives_right other (some_led (is_terminal_among (Name ∷ Suffix ∷ [])) (opt (the Lag)) (seen_from reader at) (sym (led_given got.gives)) refl) (gives_both got.gives (gives_some (leads_lag (seen_from reader next) ∙ led) lags.gives))))
         (λ sense s rest. ap (indices_in_numbers value) (index_tree-lagged n lag rest) ∙ lags.means sense s n (indices_in_numbers value rest)
@@ -71,7 +71,7 @@ module _ {F : Type 0} (value : F → Number) {limit : ℕ} {reader : Reader} {at
 
     -- the lag of a set is refused
     pub lag_refuses : {last : Tables} {e : SyntaxFaultOrMemory} → leads productions look_ahead (token Text) (seen_from reader at) ≡ false → IsGot limit (IsName reader.source.now) name reader at old middle (n, place) next → leads productions look_ahead (any_of (Sign ∷ Circular ∷ [])) (seen_from reader next) ≡ true →
-        Refuses limit reader.source.now (the Lag) last (walk_of reader.unclosed middle) (seen_from reader next) e → Refuses limit reader.source.now (the Index) last (walk_of reader.unclosed old) (seen_from reader at) e
+        Refuses limit reader.source.now (the Lag) last (read_state_of reader.unclosed middle) (seen_from reader next) e → Refuses limit reader.source.now (the Index) last (read_state_of reader.unclosed old) (seen_from reader at) e
     lag_refuses other got led r = refuses_the Index (refuses_right other (some_led (is_terminal_among (Name ∷ Suffix ∷ [])) (opt (the Lag)) (seen_from reader at) (sym (led_given got.gives)) refl) (refuses_second got.gives (refuses_some (leads_lag (seen_from reader next) ∙ led) r)))
 
 -- indices put before others
@@ -90,7 +90,7 @@ put_before_all (x ∷ xs) = ap (index_tree x) (put_before_all xs)
 -- some indices of a list were read
 pub record SomeIndices {F : Type 0} (value : F → Number) (limit : ℕ) (items : List (IndexNode F)) (reader : Reader) (start : ℕ) (old new : Tables) (at : ℕ) : Type 0 where
   pub context : Derivation → Derivation
-  pub within : Within limit reader.source.now (the IndexList) (walk_of reader.unclosed old) (seen_from reader start) (many (token Comma · the Index)) (walk_of reader.unclosed new) (seen_from reader at) context
+  pub within : Within limit reader.source.now (the IndexList) (read_state_of reader.unclosed old) (seen_from reader start) (many (token Comma · the Index)) (read_state_of reader.unclosed new) (seen_from reader at) context
   pub means : (sense : Sense) → IsSense new sense → (b : Derivation) (rest : Indices F) → in_sense reader.source.now more_indices sense b ≡ indices_in_numbers value rest →
       in_sense reader.source.now indices_in sense (context b) ≡ indices_in_numbers value (put_before items rest)
   pub further : start ≤ at
@@ -108,8 +108,8 @@ module _ {F : Type 0} {value : F → Number} {limit : ℕ} {reader : Reader} {st
     further = got.further;
   }
 
-  pub indices_on : {items : List (IndexNode F)} → SomeIndices value limit items reader start old new at → {newer : Tables} {behind after : ℕ} {t : Token} {i : IndexNode F} (next : IsNext (is Comma) reader at t behind) →
-      IsGot limit (IsIndex value reader.source.now) (the Index) reader behind new newer i after → (now : List (IndexNode F)) → now ≡ items ++ i ∷ [] → SomeIndices value limit now reader start old newer after
+  pub indices_on : {items : List (IndexNode F)} → SomeIndices value limit items reader start old new at → {newer : Tables} {following after : ℕ} {t : Token} {i : IndexNode F} (next : IsNext (is Comma) reader at t following) →
+      IsGot limit (IsIndex value reader.source.now) (the Index) reader following new newer i after → (now : List (IndexNode F)) → now ≡ items ++ i ∷ [] → SomeIndices value limit now reader start old newer after
   indices_on {items = items} l {i = i} next got now is = record {
     context = λ b. l.context (more (pair (leaf (next.kind, _)) got.tree) b);
     within = within_then l.within (within_again (leads_next (the Index) next) (gives_both (gives_next new next refl) got.gives));
@@ -123,8 +123,8 @@ module _ {F : Type 0} {value : F → Number} {limit : ℕ} {reader : Reader} {st
   indices_got v l unled = got_by (l.within.gives none _ _ (gives_no_more (unled_next (is Comma) (the Index) (seen_from reader at) unled)))
       (λ sense s. ap (indices_in_numbers value) (sym (put_before_all v.items)) ∙ sym (l.means sense s none no_index refl)) l.further
 
-  pub indices_refuses : {items : List (IndexNode F)} → SomeIndices value limit items reader start old new at → {behind : ℕ} {t : Token} {last : Tables} {e : SyntaxFaultOrMemory} → IsNext (is Comma) reader at t behind →
-      Refuses limit reader.source.now (the Index) last (walk_of reader.unclosed new) (seen_from reader behind) e → Refuses limit reader.source.now (the IndexList) last (walk_of reader.unclosed old) (seen_from reader start) e
+  pub indices_refuses : {items : List (IndexNode F)} → SomeIndices value limit items reader start old new at → {following : ℕ} {t : Token} {last : Tables} {e : SyntaxFaultOrMemory} → IsNext (is Comma) reader at t following →
+      Refuses limit reader.source.now (the Index) last (read_state_of reader.unclosed new) (seen_from reader following) e → Refuses limit reader.source.now (the IndexList) last (read_state_of reader.unclosed old) (seen_from reader start) e
   indices_refuses l next r = l.within.refuses _ _ (refuses_again (leads_next (the Index) next) (refuses_second (gives_next new next refl) r))
 
 -- what was read or refused as a part that is there

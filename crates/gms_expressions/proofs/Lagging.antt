@@ -20,8 +20,8 @@ use Rattle.gms_expressions.proofs.Steps.{got_by, gives_both, gives_the}
 use Rattle.gms_expressions.proofs.Nexts.{gives_next}
 
 -- a lag
-pub lag_got : {F : Type 0} (value : F → Number) {limit : ℕ} {reader : Reader} {at behind next : ℕ} {old new : Tables} {operator : Token} {e : Expr F} (op : LagOp) (place : Place) (amount : Box (Expr F) Global) (n : IsNext (is_terminal_among (Sign ∷ Circular ∷ [])) reader at operator behind)
-    (got : IsGot limit (IsMeant value reader.source.now lag_amount) (the LagAmount) reader behind old new e next) → op ≡ lag_op_of operator.kind → place ≡ place_in got.tree → amount.value ≡ e →
+pub lag_got : {F : Type 0} (value : F → Number) {limit : ℕ} {reader : Reader} {at following next : ℕ} {old new : Tables} {operator : Token} {e : Expr F} (op : LagOp) (place : Place) (amount : Box (Expr F) Global) (n : IsNext (is_terminal_among (Sign ∷ Circular ∷ [])) reader at operator following)
+    (got : IsGot limit (IsMeant value reader.source.now lag_amount) (the LagAmount) reader following old new e next) → op ≡ lag_op_of operator.kind → place ≡ place_in got.tree → amount.value ≡ e →
     IsGot limit (IsLag value reader.source.now) (the Lag) reader at old new (op, place, amount) next
 lag_got value {reader = reader} {old = old} {operator = operator} {e = e} op place amount n got op_is place_is same = got_by (gives_the Lag (gives_both (gives_next old n refl) got.gives))
     (λ sense s name rest. ap₂ (λ f p. lagged name f p (view value amount.value) rest) op_is place_is

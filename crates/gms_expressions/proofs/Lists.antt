@@ -16,9 +16,9 @@ use Rattle.gms_grammar.specs.GamsLookAhead.{look_ahead}
 use Rattle.gms_expressions.specs.declared.fault.SyntaxFaultOrMemory.{SyntaxFaultOrMemory}
 use Rattle.gms_expressions.specs.declared.reader.Reader.{Reader}
 use Rattle.gms_expressions.specs.declared.reader.Tables.{Tables}
-use Rattle.gms_expressions.specs.ExpressionTrees.{names_in, names_behind, arguments, more_arguments, expression}
+use Rattle.gms_expressions.specs.ExpressionTrees.{names_in, following_names, arguments, more_arguments, expression}
 use Rattle.gms_expressions.specs.InnerNodes.{view}
-use Rattle.gms_expressions.specs.InnerReadings.{Derivation, Refuses, Sense, IsGot, IsMeant, IsName, AreNames, IsNext, seen_from, walk_of}
+use Rattle.gms_expressions.specs.InnerReadings.{Derivation, Refuses, Sense, IsGot, IsMeant, IsName, AreNames, IsNext, seen_from, read_state_of}
 use Rattle.gms_expressions.proofs.Steps.{within_the, within_second, within_then, gives_both, refuses_second}
 use Rattle.gms_expressions.proofs.Nexts.{gives_next, leads_next, unled_next}
 use Rattle.gms_expressions.proofs.Loops.{Looping, loop_on, loop_got, loop_refuses}
@@ -29,7 +29,7 @@ abbrev pub names_whole : List ℕ → Sense → Derivation → List ℕ
 names_whole source sense tree = names_in source sense.names sense.labels tree
 
 abbrev pub names_others : List ℕ → Sense → Derivation → List ℕ
-names_others source sense tree = names_behind source sense.names sense.labels tree
+names_others source sense tree = following_names source sense.names sense.labels tree
 
 -- some names of a list were read
 pub record Names (limit : ℕ) (items : List ℕ) (reader : Reader) (start : ℕ) (old new : Tables) (at : ℕ) : Type 0 where
@@ -46,7 +46,7 @@ module _ {limit : ℕ} {reader : Reader} {start : ℕ} {old new : Tables} {at : 
     };
   }
 
-  pub names_on : {items : List ℕ} → Names limit items reader start old new at → {newer : Tables} {behind after : ℕ} {t : Token} {n : ℕ} {place : Place} (next : IsNext (is Comma) reader at t behind) → IsGot limit (IsName reader.source.now) name reader behind new newer (n, place) after →
+  pub names_on : {items : List ℕ} → Names limit items reader start old new at → {newer : Tables} {following after : ℕ} {t : Token} {n : ℕ} {place : Place} (next : IsNext (is Comma) reader at t following) → IsGot limit (IsName reader.source.now) name reader following new newer (n, place) after →
       (now : List ℕ) → now ≡ items ++ n ∷ [] → Names limit now reader start old newer after
   names_on {items = items} l {n = n} next got now is = record {
     looping =
@@ -59,8 +59,8 @@ module _ {limit : ℕ} {reader : Reader} {start : ℕ} {old new : Tables} {at : 
   pub names_got : (v : Vec ℕ Global) → Names limit v.items reader start old new at → leads productions look_ahead (token Comma) (seen_from reader at) ≡ false → IsGot limit (AreNames reader.source.now) (the NameList) reader start old new v at
   names_got v l unled = loop_got l.looping (unled_next (is Comma) name (seen_from reader at) unled) (AreNames reader.source.now) v (λ sense tree h. sym (h ∙ append-nil v.items))
 
-  pub names_refuses : {items : List ℕ} → Names limit items reader start old new at → {behind : ℕ} {t : Token} {last : Tables} {e : SyntaxFaultOrMemory} → IsNext (is Comma) reader at t behind → Refuses limit reader.source.now name last (walk_of reader.unclosed new) (seen_from reader behind) e →
-      Refuses limit reader.source.now (the NameList) last (walk_of reader.unclosed old) (seen_from reader start) e
+  pub names_refuses : {items : List ℕ} → Names limit items reader start old new at → {following : ℕ} {t : Token} {last : Tables} {e : SyntaxFaultOrMemory} → IsNext (is Comma) reader at t following → Refuses limit reader.source.now name last (read_state_of reader.unclosed new) (seen_from reader following) e →
+      Refuses limit reader.source.now (the NameList) last (read_state_of reader.unclosed old) (seen_from reader start) e
   names_refuses l next r = loop_refuses l.looping (leads_next name next) (refuses_second (gives_next new next refl) r)
 
 -- some arguments were read
@@ -78,8 +78,8 @@ module _ {F : Type 0} {value : F → Number} {limit : ℕ} {reader : Reader} {st
     };
   }
 
-  pub arguments_on : {views : List (Mark × Syntax Number)} → Arguments limit views reader start old new at → {newer : Tables} {behind after : ℕ} {t : Token} {e : Expr F} (next : IsNext (is Comma) reader at t behind) →
-      IsGot limit (IsMeant value reader.source.now expression) (the Expression) reader behind new newer e after → (now : List (Mark × Syntax Number)) → now ≡ views ++ (plain, view value e) ∷ [] → Arguments limit now reader start old newer after
+  pub arguments_on : {views : List (Mark × Syntax Number)} → Arguments limit views reader start old new at → {newer : Tables} {following after : ℕ} {t : Token} {e : Expr F} (next : IsNext (is Comma) reader at t following) →
+      IsGot limit (IsMeant value reader.source.now expression) (the Expression) reader following new newer e after → (now : List (Mark × Syntax Number)) → now ≡ views ++ (plain, view value e) ∷ [] → Arguments limit now reader start old newer after
   arguments_on {views = views} l {e = e} next got now is = record {
     looping =
         loop_on l.looping (leads_next (the Expression) next) (gives_both (gives_next new next refl) got.gives) (let f = got.further in let g = next.further in omega arith) (λ z. part plain (view value e) z)

@@ -8,7 +8,7 @@ use Rattle.gms_expressions.specs.declared.fault.SyntaxFaultOrMemory.{SyntaxFault
 use Rattle.gms_expressions.specs.declared.fault.SyntaxFaultOrMemory.TheVariants.{Memory}
 use Rattle.gms_expressions.specs.declared.reader.Reader.{Reader}
 use Rattle.gms_expressions.specs.declared.reader.Tables.{Tables}
-use Rattle.gms_expressions.specs.InnerReadings.{Seen, Derivation, GamsPart, Gives, Refuses, Sense, IsSense, IsGot, seen_from, walk_of}
+use Rattle.gms_expressions.specs.InnerReadings.{Seen, Derivation, GamsPart, Gives, Refuses, Sense, IsSense, IsGot, seen_from, read_state_of}
 use Rattle.gms_expressions.proofs.Steps.{got_by, Within, within_then, within_again, gives_no_more, refuses_again, refuses_memory}
 use Rattle.gms_expressions.proofs.Extending.{went_by}
 use Rattle.gms_expressions.proofs.Nexts.{earlier}
@@ -16,14 +16,14 @@ use Rattle.gms_expressions.proofs.Nexts.{earlier}
 -- A part ends with a repetition, of which so much was read. The whole is what is made of the rest.
 pub record Looping {Y Z : Type 0} (limit : ℕ) (part q : GamsPart) (whole : Sense → Derivation → Y) (others : Sense → Derivation → Z) (made : Z → Y) (reader : Reader) (start : ℕ) (old new : Tables) (at : ℕ) : Type 0 where
   pub context : Derivation → Derivation
-  pub within : Within limit reader.source.now part (walk_of reader.unclosed old) (seen_from reader start) (many q) (walk_of reader.unclosed new) (seen_from reader at) context
+  pub within : Within limit reader.source.now part (read_state_of reader.unclosed old) (seen_from reader start) (many q) (read_state_of reader.unclosed new) (seen_from reader at) context
   pub means : (sense : Sense) → IsSense new sense → (b : Derivation) → whole sense (context b) ≡ made (others sense b)
   pub further : start ≤ at
 
 module _ {Y Z : Type 0} {limit : ℕ} {part q : GamsPart} {whole : Sense → Derivation → Y} {others : Sense → Derivation → Z} {made : Z → Y} {reader : Reader} {start : ℕ} {old new : Tables} {at : ℕ} where
   -- one more was read
   pub loop_on : Looping limit part q whole others made reader start old new at → {newer : Tables} {after : ℕ} {tree : Derivation} → leads productions look_ahead q (seen_from reader at) ≡ true →
-      Gives limit reader.source.now q (walk_of reader.unclosed new) (seen_from reader at) tree (walk_of reader.unclosed newer) (seen_from reader after) → at ≤ after →
+      Gives limit reader.source.now q (read_state_of reader.unclosed new) (seen_from reader at) tree (read_state_of reader.unclosed newer) (seen_from reader after) → at ≤ after →
       (put : Z → Z) → ((sense : Sense) → IsSense newer sense → (b : Derivation) → others sense (more tree b) ≡ put (others sense b)) → (made' : Z → Y) → ((z : Z) → made (put z) ≡ made' z) →
       Looping limit part q whole others made' reader start old newer after
   loop_on l {tree = tree} led g far put one_more made' same = record {
@@ -40,10 +40,10 @@ module _ {Y Z : Type 0} {limit : ℕ} {part q : GamsPart} {whole : Sense → Der
 
   -- the next is refused
   pub loop_refuses : Looping limit part q whole others made reader start old new at → {last : Tables} {e : SyntaxFaultOrMemory} → leads productions look_ahead q (seen_from reader at) ≡ true →
-      Refuses limit reader.source.now q last (walk_of reader.unclosed new) (seen_from reader at) e → Refuses limit reader.source.now part last (walk_of reader.unclosed old) (seen_from reader start) e
+      Refuses limit reader.source.now q last (read_state_of reader.unclosed new) (seen_from reader at) e → Refuses limit reader.source.now part last (read_state_of reader.unclosed old) (seen_from reader start) e
   loop_refuses l led r = l.within.refuses _ _ (refuses_again led r)
 
   -- out of memory after another part
   pub loop_memory : Looping limit part q whole others made reader start old new at → {p : GamsPart} {last : Tables} {ts rest : List Seen} {tree : Derivation} {e : SyntaxFaultOrMemory} →
-      Gives limit reader.source.now p (walk_of reader.unclosed new) ts tree (walk_of reader.unclosed last) rest → e ≡ Memory → Refuses limit reader.source.now part last (walk_of reader.unclosed old) (seen_from reader start) e
+      Gives limit reader.source.now p (read_state_of reader.unclosed new) ts tree (read_state_of reader.unclosed last) rest → e ≡ Memory → Refuses limit reader.source.now part last (read_state_of reader.unclosed old) (seen_from reader start) e
   loop_memory l g is = l.within.refuses _ _ (refuses_memory (went_by g) is)

@@ -27,17 +27,17 @@ module _ {F M : Type 0} {limit : ℕ} {value : F → Number} {reader : Reader} {
   module _ {at start : ℕ} {inner : Reader} where
     -- inside the parenthesis that opens
     pub here_inside : CanRead limit value reader pre post → IsOpened reader at inner start → CanReadHere limit value inner pre post
-    here_inside c o = let room = o.room in subst (λ (r : Reader). CanReadHere limit value r pre post) (sym o.inner_is) (deeper_from (reader.unclosed + 1) (reader.unclosed + 1) (omega arith) (omega arith) c)
+    here_inside c o = let within_bound = o.within_bound in subst (λ (r : Reader). CanReadHere limit value r pre post) (sym o.inner_is) (deeper_from (reader.unclosed + 1) (reader.unclosed + 1) (omega arith) (omega arith) c)
 
     pub deeper_inside : CanRead limit value reader pre post → IsOpened reader at inner start → CanRead limit value inner pre post
-    deeper_inside c o = let room = o.room in subst (λ (r : Reader). CanRead limit value r pre post) (sym o.inner_is) (deeper_from (reader.unclosed + 1 + 1) (reader.unclosed + 1) (omega arith) (omega arith) c)
+    deeper_inside c o = let within_bound = o.within_bound in subst (λ (r : Reader). CanRead limit value r pre post) (sym o.inner_is) (deeper_from (reader.unclosed + 1 + 1) (reader.unclosed + 1) (omega arith) (omega arith) c)
 
     pub ready_opened : CanRead limit value reader pre post → IsOpened reader at inner start → IsReady inner
     ready_opened c o = (deeper_inside c o).ready
 
     pub callable_inside : CanRead limit value reader pre post → IsOpened reader at inner start → (tables : MutBor Tables) (from : ℕ) (what : Inner) (field : M) → pre inner tables from what field
-    callable_inside c o tables from what field = let room = o.room in subst (λ (r : Reader). pre r tables from what field) (sym o.inner_is) (c.callable (reader.unclosed + 1) tables from what field (omega arith) (omega arith))
+    callable_inside c o tables from what field = let within_bound = o.within_bound in subst (λ (r : Reader). pre r tables from what field) (sym o.inner_is) (c.callable (reader.unclosed + 1) tables from what field (omega arith) (omega arith))
 
     pub reads_inside : CanRead limit value reader pre post → IsOpened reader at inner start → {old new : MutBor Tables} {from : ℕ} {what : Inner} {field : M} {result : Result (Expr F × ℕ) SyntaxFaultOrMemory} → post inner old from what field result new →
         IsExpression limit value (meaning_of what) (the (nonterminal_of what)) (inside reader (reader.unclosed + 1)) from old.now new.now result
-    reads_inside c o {old} {new} {from} {what} {field} {result} p = let room = o.room in c.reads (reader.unclosed + 1) old new from what field result (omega arith) (omega arith) (subst (λ (r : Reader). post r old from what field result new) o.inner_is p)
+    reads_inside c o {old} {new} {from} {what} {field} {result} p = let within_bound = o.within_bound in c.reads (reader.unclosed + 1) old new from what field result (omega arith) (omega arith) (subst (λ (r : Reader). post r old from what field result new) o.inner_is p)

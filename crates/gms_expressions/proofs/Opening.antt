@@ -9,8 +9,8 @@ use Rattle.gms_grammar.specs.GamsGrammar.{Nonterminal}
 use Rattle.gms_expressions.specs.declared.fault.SyntaxFaultOrMemory.{SyntaxFaultOrMemory}
 use Rattle.gms_expressions.specs.declared.reader.Reader.{Reader}
 use Rattle.gms_expressions.specs.declared.reader.Tables.{Tables}
-use Rattle.gms_expressions.specs.Calls.{IsRead, IsSyntaxRefusal, IsTablePrefix, walk_from, tokens_from}
-use Rattle.gms_expressions.specs.InnerReadings.{Derivation, GamsPart, Sense, IsAnswer, Went, walk_of}
+use Rattle.gms_expressions.specs.Calls.{IsRead, IsSyntaxRefusal, IsTablePrefix, expression_state, tokens_from}
+use Rattle.gms_expressions.specs.InnerReadings.{Derivation, GamsPart, Sense, IsAnswer, Went, read_state_of}
 use Rattle.gms_expressions.proofs.Extending.{went_by}
 use Rattle.gms_expressions.proofs.ReaderResults.{read_of, refusal_of}
 
@@ -33,8 +33,8 @@ ends_at source tokens other h =
 abbrev IsSaid : {T : Type 0} → ℕ → Nonterminal → (List ℕ → List (List ℕ) → List (List ℕ) → Derivation → T → Type 0) → ℕ → Result (T × ℕ) SyntaxFaultOrMemory → List ℕ → List Token → ℕ → List (List ℕ) → List (List ℕ) → List (List ℕ) → List (List ℕ) → Type 0
 IsSaid limit n Says at result source tokens unclosed old_names old_labels new_names new_labels =
     MatchResult result
-    (λ r. IsRead limit source n (Says source) (walk_from unclosed old_names old_labels) (walk_from unclosed new_names new_labels) (tokens_from source tokens at) (tokens_from source tokens r.1) r.0)
-    (λ e. IsSyntaxRefusal limit source n (walk_from unclosed old_names old_labels) (tokens_from source tokens at) e)
+    (λ r. IsRead limit source n (Says source) (expression_state unclosed old_names old_labels) (expression_state unclosed new_names new_labels) (tokens_from source tokens at) (tokens_from source tokens r.1) r.0)
+    (λ e. IsSyntaxRefusal limit source n (expression_state unclosed old_names old_labels) (tokens_from source tokens at) e)
 
 module _ {T : Type 0} (limit : ℕ) (Means : List ℕ → Sense → Derivation → T → Type 0) (n : Nonterminal) (Says : List ℕ → List (List ℕ) → List (List ℕ) → Derivation → T → Type 0)
     (says : (source : List ℕ) (names labels : List (List ℕ)) (tree : Derivation) (x : T) → Means source (record { names = names; labels = labels }) tree x → Says source names labels tree x) where
@@ -59,7 +59,7 @@ module _ {T : Type 0} (limit : ℕ) (Means : List ℕ → Sense → Derivation �
       (said reader at old new result answer)))))))
 
 -- whatever a reader of the tokens of a source answers, it extends its tables
-went : {T : Type 0} (limit : ℕ) (Means : Sense → Derivation → T → Type 0) (part : GamsPart) (reader : Reader) (at : ℕ) (old new : Tables) (result : Result (T × ℕ) SyntaxFaultOrMemory) → IsAnswer limit Means part reader at old new result → Went (walk_of reader.unclosed old) new
+went : {T : Type 0} (limit : ℕ) (Means : Sense → Derivation → T → Type 0) (part : GamsPart) (reader : Reader) (at : ℕ) (old new : Tables) (result : Result (T × ℕ) SyntaxFaultOrMemory) → IsAnswer limit Means part reader at old new result → Went (read_state_of reader.unclosed old) new
 went limit Means part reader at old new (Ok r) got = went_by got.gives
 went limit Means part reader at old new (Err e) refused = refused.went
 

@@ -26,7 +26,7 @@ use Rattle.gms_expressions.specs.declared.reader.Tables.{Tables}
 use Rattle.gms_expressions.specs.ExpressionTrees.{is_word, token_of, name_in, function_of, fold_op_of, function_call, set_call, fold_of, scalar, target as target_in_tree, expression}
 use Rattle.gms_ast.specs.Numbers.{in_numbers, indices_in_numbers, control_in_numbers}
 use Rattle.gms_expressions.specs.InnerNodes.{view}
-use Rattle.gms_expressions.specs.InnerReadings.{Derivation, GamsPart, Refuses, Sense, IsGot, IsMeant, IsNext, IsBefore, IsOpened, IsName, IsSuffix, AreSets, AreArguments, AreIndices, IsControl, IsTarget, inside, seen_from, walk_of}
+use Rattle.gms_expressions.specs.InnerReadings.{Derivation, GamsPart, Refuses, Sense, IsGot, IsMeant, IsNext, IsBefore, IsOpened, IsName, IsSuffix, AreSets, AreArguments, AreIndices, IsControl, IsTarget, inside, seen_from, read_state_of}
 use Rattle.gms_expressions.proofs.Made.{numbers_in_parts}
 use Rattle.gms_expressions.proofs.Steps.{got_by, gives_both, gives_the, gives_left}
 use Rattle.gms_expressions.proofs.Nexts.{gives_next, gives_bracketed, earlier}
@@ -39,9 +39,9 @@ pub at_inside : {T : Type 0} {limit : ℕ} (Means : Reader → Sense → Derivat
 at_inside {limit = limit} Means {p} {from = from} {old = old} {new} {x} {next} o got = subst (λ (r : Reader). IsGot limit (Means r) p r from old new x next) o.inner_is got
 
 -- what the reader inside a parenthesis refused
-pub refused_inside : {limit : ℕ} {p : GamsPart} {reader : Reader} {at start : ℕ} {inner : Reader} {old last : Tables} {e : SyntaxFaultOrMemory} (o : IsOpened reader at inner start) (from : ℕ) → Refuses limit inner.source.now p last (walk_of inner.unclosed old) (seen_from inner from) e →
-    Refuses limit reader.source.now p last (walk_of (reader.unclosed + 1) old) (seen_from reader from) e
-refused_inside {limit = limit} {p} {old = old} {last} {e} o from refuses = subst (λ (r : Reader). Refuses limit r.source.now p last (walk_of r.unclosed old) (seen_from r from) e) o.inner_is refuses
+pub refused_inside : {limit : ℕ} {p : GamsPart} {reader : Reader} {at start : ℕ} {inner : Reader} {old last : Tables} {e : SyntaxFaultOrMemory} (o : IsOpened reader at inner start) (from : ℕ) → Refuses limit inner.source.now p last (read_state_of inner.unclosed old) (seen_from inner from) e →
+    Refuses limit reader.source.now p last (read_state_of (reader.unclosed + 1) old) (seen_from reader from) e
+refused_inside {limit = limit} {p} {old = old} {last} {e} o from refuses = subst (λ (r : Reader). Refuses limit r.source.now p last (read_state_of r.unclosed old) (seen_from r from) e) o.inner_is refuses
 
 module _ {F : Type 0} {value : F → Number} {limit : ℕ} {reader : Reader} {at : ℕ} {old new : Tables} where
   -- a call of a function
@@ -54,9 +54,9 @@ module _ {F : Type 0} {value : F → Number} {limit : ℕ} {reader : Reader} {at
       (let f = got.further in let g = n.further in omega arith)
 
   -- `ord` or `card` of a set
-  pub set_call_got : {opening start next behind n : ℕ} {word close : Token} {inner : Reader} {place : Place} {e : Expr F} (w : IsNext (is OrdCard) reader at word opening) (o : IsOpened reader opening inner start) →
-      IsGot limit (IsName reader.source.now) name (inside reader (reader.unclosed + 1)) start old new (n, place) next → IsNext (is RightParen) reader next close behind →
-      view value e ≡ (if is_word (token_text reader.source.now word) (codes "ord") then place_in_set word.at n else size_of_set word.at n) → IsGot limit (IsMeant value reader.source.now set_call) (token OrdCard · bracketed name) reader at old new e behind
+  pub set_call_got : {opening start next following n : ℕ} {word close : Token} {inner : Reader} {place : Place} {e : Expr F} (w : IsNext (is OrdCard) reader at word opening) (o : IsOpened reader opening inner start) →
+      IsGot limit (IsName reader.source.now) name (inside reader (reader.unclosed + 1)) start old new (n, place) next → IsNext (is RightParen) reader next close following →
+      view value e ≡ (if is_word (token_text reader.source.now word) (codes "ord") then place_in_set word.at n else size_of_set word.at n) → IsGot limit (IsMeant value reader.source.now set_call) (token OrdCard · bracketed name) reader at old new e following
   set_call_got {word = word} {close = close} w o got closed is = got_by (gives_both (gives_next old w refl) (gives_bracketed o got.gives closed))
       (λ sense s. record {
         is = is ∙ ap (λ k. if is_word (token_text reader.source.now word) (codes "ord") then place_in_set word.at k else size_of_set word.at k) (got.means sense s).0;
@@ -96,10 +96,10 @@ module _ {F : Type 0} {value : F → Number} {limit : ℕ} {reader : Reader} {at
       got.further
 
   -- a fold
-  pub fold_got : {opening start comma start' next behind : ℕ} {middle : Tables} {word : Token} {inner : Reader} {control control' : ControlNode F} {body body' e : Expr F} (op : FoldNode) (n : IsNext (is FoldOp) reader at word opening) (o : IsOpened reader opening inner start) →
+  pub fold_got : {opening start comma start' next following : ℕ} {middle : Tables} {word : Token} {inner : Reader} {control control' : ControlNode F} {body body' e : Expr F} (op : FoldNode) (n : IsNext (is FoldOp) reader at word opening) (o : IsOpened reader opening inner start) →
       IsGot limit (IsControl value reader.source.now) (the Control) (inside reader (reader.unclosed + 1)) start old middle control comma → IsBefore Comma reader comma control control' start' →
-      IsGot limit (IsMeant value reader.source.now expression) (the Expression) (inside reader (reader.unclosed + 1)) start' middle new body next → IsBefore RightParen reader next body body' behind →
-      op ≡ fold_op_of (token_text reader.source.now word) → view value e ≡ fold_over word.at op (control_in_numbers value (control_tree control')) (view value body') → IsGot limit (IsMeant value reader.source.now fold_of) (the Fold) reader at old new e behind
+      IsGot limit (IsMeant value reader.source.now expression) (the Expression) (inside reader (reader.unclosed + 1)) start' middle new body next → IsBefore RightParen reader next body body' following →
+      op ≡ fold_op_of (token_text reader.source.now word) → view value e ≡ fold_over word.at op (control_in_numbers value (control_tree control')) (view value body') → IsGot limit (IsMeant value reader.source.now fold_of) (the Fold) reader at old new e following
   fold_got {middle = middle} {word = word} {control = control} {body' = body'} op n o sets comma got close op_is is = got_by
       (gives_the Fold (gives_both (gives_next old n refl) (gives_bracketed o (gives_both sets.gives (gives_both (gives_next middle (next_inside (reader.unclosed + 1) comma.next) refl) got.gives)) close.next)))
       (λ sense s.

@@ -12,11 +12,11 @@ use Rattle.gms_grammar.proofs.Rules.{all_keep}
 use Rattle.gms_expressions.specs.declared.fault.SyntaxFault.{SyntaxFault}
 use Rattle.gms_expressions.specs.declared.reader.Tables.{Tables}
 use Rattle.gms_expressions.specs.Outcomes.{ExpressionState, state_after_token, state_after_tokens, is_name_token, IsFaultyInExpression, deep, out_of_range, many_names, many_labels}
-use Rattle.gms_expressions.specs.InnerReadings.{Seen, walk_of}
+use Rattle.gms_expressions.specs.InnerReadings.{Seen, read_state_of}
 use Rattle.gms_expressions.proofs.TokenKinds.{is_plain, also}
 
 -- a plain token leaves all as it was
-pub plain_after : (source : List ℕ) (unclosed : ℕ) (tables : Tables) (kind : Terminal) (token : Token) → is_plain kind ≡ true → state_after_token source (walk_of unclosed tables) (kind, token) ≡ walk_of unclosed tables
+pub plain_after : (source : List ℕ) (unclosed : ℕ) (tables : Tables) (kind : Terminal) (token : Token) → is_plain kind ≡ true → state_after_token source (read_state_of unclosed tables) (kind, token) ≡ read_state_of unclosed tables
 plain_after source unclosed tables LeftParen token h = cc
 plain_after source unclosed tables RightParen token h = cc
 plain_after source unclosed tables Name token h = cc

@@ -11,18 +11,18 @@ use Rattle.gms_expressions.specs.declared.reader.Tables.{Tables}
 use Rattle.gms_expressions.specs.ExpressionTrees.{no_token}
 use Rattle.gms_expressions.specs.Outcomes.{ExpressionState}
 use Rattle.gms_expressions.specs.Calls.{IsRead, IsSyntaxRefusal}
-use Rattle.gms_expressions.specs.InnerReadings.{Seen, Derivation, Refuses, Sense, IsGot, seen_from, walk_of}
+use Rattle.gms_expressions.specs.InnerReadings.{Seen, Derivation, Refuses, Sense, IsGot, seen_from, read_state_of}
 
 -- what was refused
 pub refusal_of : {limit : ℕ} {source : List ℕ} {n : Nonterminal} {w : ExpressionState} {ts : List Seen} {tables : Tables} (e : SyntaxFaultOrMemory) → Refuses limit source (the n) tables w ts e → IsSyntaxRefusal limit source n w ts e
 refusal_of Memory r = tt
 refusal_of {n = n} (Fault fault) r =
-    elim (r.why.why fault refl) [ inl s ↦ stuck_refused no_token (λ front rest. Derives productions (the n) front → ⊥) s (λ h. h) | inr s ↦ wrong_refused no_token (λ front rest. Derives productions (the n) front → ⊥) s ]
+    elim (r.why.why fault refl) [ inl s ↦ stuck_refused no_token (λ prefix rest. Derives productions (the n) prefix → ⊥) s (λ h. h) | inr s ↦ wrong_refused no_token (λ prefix rest. Derives productions (the n) prefix → ⊥) s ]
 
 -- what was read
-pub read_of : {T : Type 0} {limit : ℕ} {Means : Sense → Derivation → T → Type 0} {n : Nonterminal} {reader : Reader} {at : ℕ} {old new : Tables} {x : T} {behind : ℕ} → IsGot limit Means (the n) reader at old new x behind →
+pub read_of : {T : Type 0} {limit : ℕ} {Means : Sense → Derivation → T → Type 0} {n : Nonterminal} {reader : Reader} {at : ℕ} {old new : Tables} {x : T} {following : ℕ} → IsGot limit Means (the n) reader at old new x following →
     (Says : List (List ℕ) → List (List ℕ) → Derivation → T → Type 0) → ((names labels : List (List ℕ)) (tree : Derivation) → Means (record { names = names; labels = labels }) tree x → Says names labels tree x) →
-    IsRead limit reader.source.now n Says (walk_of reader.unclosed old) (walk_of reader.unclosed new) (seen_from reader at) (seen_from reader behind) x
+    IsRead limit reader.source.now n Says (read_state_of reader.unclosed old) (read_state_of reader.unclosed new) (seen_from reader at) (seen_from reader following) x
 read_of {n = n} {new = new} got Says says = record {
   tree = got.tree;
   is_part = record {

@@ -25,14 +25,14 @@ use Rattle.gms_expressions.specs.declared.reader.Reader.{Reader}
 use Rattle.gms_expressions.specs.declared.reader.Tables.{Tables}
 use Rattle.gms_expressions.specs.ExpressionTrees.{is_minus, suffix_of}
 use Rattle.gms_expressions.specs.Outcomes.{ExpressionState, IsFaultyInExpression, deep, out_of_range, many_names, many_labels}
-use Rattle.gms_expressions.specs.InnerReadings.{Seen, Gives, Refuses, IsGot, IsNext, IsLacking, IsUnopened, IsSigned, IsNegated, IsSuffix, seen_from, walk_of, kind_of}
+use Rattle.gms_expressions.specs.InnerReadings.{Seen, Gives, Refuses, IsGot, IsNext, IsLacking, IsUnopened, IsSigned, IsNegated, IsSuffix, seen_from, read_state_of, kind_of}
 use Rattle.gms_expressions.proofs.TokenKinds.{leads_by_kind, same_test}
 use Rattle.gms_expressions.proofs.Steps.{got_by, gives_one, gives_the, gives_both, gives_none, gives_some, refuses_the, refuses_second, refuses_some, refuses_token, takes_next}
 use Rattle.gms_expressions.proofs.Nexts.{gives_next, led_next, exact, lacking_behind, refuses_lacking}
 use Rattle.gms_expressions.proofs.Extending.{went_same}
 
 -- a sign, and none
-pub sign_read : {reader : Reader} {at behind : ℕ} {t : Token} (minus : Bool) → IsNext (is Sign) reader at t behind → minus ≡ is_minus t.kind → IsSigned reader at minus behind
+pub sign_read : {reader : Reader} {at following : ℕ} {t : Token} (minus : Bool) → IsNext (is Sign) reader at t following → minus ≡ is_minus t.kind → IsSigned reader at minus following
 sign_read {t = t} minus n is = record {
   tree = some (leaf (n.kind, t));
   gives = λ limit tables. gives_some (led_next n) (gives_next tables n refl);
@@ -44,7 +44,7 @@ pub sign_none : (reader : Reader) (at : ℕ) → leads productions look_ahead (t
 sign_none reader at unled = record { tree = none; gives = λ limit tables. gives_none unled; means = λ operand. refl; further = omega arith }
 
 -- `not`, and none
-pub not_read : {reader : Reader} {at behind : ℕ} {t : Token} → IsNext (is Not) reader at t behind → IsNegated reader at true behind
+pub not_read : {reader : Reader} {at following : ℕ} {t : Token} → IsNext (is Not) reader at t following → IsNegated reader at true following
 not_read {t = t} n = record {
   tree = some (leaf (n.kind, t));
   gives = λ limit tables. gives_some (led_next n) (gives_next tables n refl);
@@ -59,26 +59,26 @@ not_none reader at unled = record { tree = none; gives = λ limit tables. gives_
 pub unopened_lacking : {reader : Reader} {at : ℕ} {e : SyntaxFaultOrMemory} → IsLacking (is LeftParen) reader at e → IsUnopened reader at e
 unopened_lacking l = record { refuses = λ limit tables. refuses_lacking l }
 
-pub unopened_deep : {reader : Reader} {at behind : ℕ} {t : Token} {e : SyntaxFaultOrMemory} → IsNext (is LeftParen) reader at t behind → 100 ≤ reader.unclosed → e ≡ Fault (record { error = Depth; at = t.at }) → IsUnopened reader at e
+pub unopened_deep : {reader : Reader} {at following : ℕ} {t : Token} {e : SyntaxFaultOrMemory} → IsNext (is LeftParen) reader at t following → 100 ≤ reader.unclosed → e ≡ Fault (record { error = Depth; at = t.at }) → IsUnopened reader at e
 unopened_deep n many is = record { refuses = λ limit tables. refuses_token (went_same tables) (takes_next (exact n) refl) (deep refl many) is }
 
 -- the state after a dot
 dotted : ℕ → Tables → ExpressionState
 dotted unclosed tables = record { open_count = unclosed; names = tables.names; labels = tables.labels; dotted = true }
 
-gives_dot : {limit : ℕ} {reader : Reader} {at behind : ℕ} {t : Token} (tables : Tables) → IsNext (is Dot) reader at t behind →
-    Gives limit reader.source.now (token Dot) (walk_of reader.unclosed tables) (seen_from reader at) (leaf (Dot, t)) (dotted reader.unclosed tables) (seen_from reader behind)
+gives_dot : {limit : ℕ} {reader : Reader} {at following : ℕ} {t : Token} (tables : Tables) → IsNext (is Dot) reader at t following →
+    Gives limit reader.source.now (token Dot) (read_state_of reader.unclosed tables) (seen_from reader at) (leaf (Dot, t)) (dotted reader.unclosed tables) (seen_from reader following)
 unfolding dotted
 gives_dot {limit = limit} {reader = reader} {t = t} tables n = gives_one (exact n) refl sound refl
   where
-    sound : (fault : SyntaxFault) → IsFaultyInExpression limit reader.source.now (walk_of reader.unclosed tables) (Dot, t) fault → ⊥
+    sound : (fault : SyntaxFault) → IsFaultyInExpression limit reader.source.now (read_state_of reader.unclosed tables) (Dot, t) fault → ⊥
     sound fault (deep e d) = cc
     sound fault (out_of_range e d) = cc
     sound fault (many_names n d) = cc
     sound fault (many_labels e d) = cc
 
-gives_suffix : {limit : ℕ} {reader : Reader} {at behind : ℕ} {t : Token} (tables : Tables) → IsNext (is Suffix) reader at t behind →
-    Gives limit reader.source.now (token Suffix) (dotted reader.unclosed tables) (seen_from reader at) (leaf (Suffix, t)) (walk_of reader.unclosed tables) (seen_from reader behind)
+gives_suffix : {limit : ℕ} {reader : Reader} {at following : ℕ} {t : Token} (tables : Tables) → IsNext (is Suffix) reader at t following →
+    Gives limit reader.source.now (token Suffix) (dotted reader.unclosed tables) (seen_from reader at) (leaf (Suffix, t)) (read_state_of reader.unclosed tables) (seen_from reader following)
 unfolding dotted
 gives_suffix {limit = limit} {reader = reader} {t = t} tables n = gives_one (exact n) refl sound refl
   where
@@ -96,14 +96,14 @@ pub suffix_none : (limit : ℕ) (tables : Tables) (reader : Reader) (at : ℕ) �
 suffix_none limit tables reader at unled = got_by (gives_none (leads_attribute (seen_from reader at) ∙ unled)) (λ sense s. refl) (omega arith)
 
 -- a suffix
-pub suffix_got : (limit : ℕ) (tables : Tables) {reader : Reader} {at middle behind : ℕ} {dot word : Token} (found : SuffixNode) → IsNext (is Dot) reader at dot middle → IsNext (is Suffix) reader middle word behind → found ≡ suffix_of (token_text reader.source.now word) →
-    IsGot limit (IsSuffix reader.source.now) (opt (the Attribute)) reader at tables tables found behind
+pub suffix_got : (limit : ℕ) (tables : Tables) {reader : Reader} {at middle following : ℕ} {dot word : Token} (found : SuffixNode) → IsNext (is Dot) reader at dot middle → IsNext (is Suffix) reader middle word following → found ≡ suffix_of (token_text reader.source.now word) →
+    IsGot limit (IsSuffix reader.source.now) (opt (the Attribute)) reader at tables tables found following
 suffix_got limit tables {reader = reader} {at = at} {dot = dot} {word = word} found n m is = got_by (gives_some (leads_attribute (seen_from reader at) ∙ led_next n) (gives_the Attribute (gives_both (gives_dot tables n) (gives_suffix tables m))))
     (λ sense s. is) (let g = n.further in let h = m.further in omega arith)
 
 -- no suffix after a dot
 pub suffix_refused : (limit : ℕ) (tables : Tables) {reader : Reader} {at middle : ℕ} {dot : Token} {e : SyntaxFaultOrMemory} → IsNext (is Dot) reader at dot middle → IsLacking (is Suffix) reader middle e →
-    Refuses limit reader.source.now (opt (the Attribute)) tables (walk_of reader.unclosed tables) (seen_from reader at) e
+    Refuses limit reader.source.now (opt (the Attribute)) tables (read_state_of reader.unclosed tables) (seen_from reader at) e
 unfolding dotted
 suffix_refused limit tables {reader = reader} {at = at} n l = refuses_some (leads_attribute (seen_from reader at) ∙ led_next n) (refuses_the Attribute (refuses_second (gives_dot tables n) (lacking_behind (went_same tables) l)))
 

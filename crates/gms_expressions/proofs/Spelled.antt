@@ -49,11 +49,11 @@ text_spelled (kind.Symbol symbol) text h s = absurd (symbol_text symbol h)
 text_spelled _ text h s = cc
 
 -- a name is of ASCII and has at most 63 bytes
-pub name_spelled : {reader : Reader} {at behind : ℕ} {t : Token} → IsNext is_named reader at t behind → IsAscii (token_text reader.source.now t) × (length (token_text reader.source.now t) ≤ 63)
+pub name_spelled : {reader : Reader} {at following : ℕ} {t : Token} → IsNext is_named reader at t following → IsAscii (token_text reader.source.now t) × (length (token_text reader.source.now t) ≤ 63)
 name_spelled {reader = reader} {t = t} n = named_spelled t.kind (token_text reader.source.now t) (ap is_named (sym n.kind_is) ∙ n.passes) n.placed.spelled
 
 -- a label is of ASCII and has at most 63 bytes, its marks not counted
-pub label_spelled : {reader : Reader} {at behind : ℕ} {t : Token} → IsNext (is Text) reader at t behind → IsAscii (unquoted (token_text reader.source.now t)) × (length (unquoted (token_text reader.source.now t)) ≤ 63)
+pub label_spelled : {reader : Reader} {at following : ℕ} {t : Token} → IsNext (is Text) reader at t following → IsAscii (unquoted (token_text reader.source.now t)) × (length (unquoted (token_text reader.source.now t)) ≤ 63)
 label_spelled {reader = reader} {t = t} n =
     let text = token_text reader.source.now t in
     let k : Text ≡ n.kind = same_number Text n.kind (eqb-true (terminal_number Text) (terminal_number n.kind) n.passes) in

@@ -15,7 +15,7 @@ use Rattle.gms_expressions.specs.declared.fault.SyntaxFaultOrMemory.TheVariants.
 use Rattle.gms_expressions.specs.Outcomes.{ExpressionState, syntax_rule, state_after_token, IsFaultyInExpression, unexpected_token}
 use Rattle.gms_expressions.specs.declared.reader.Reader.{Reader}
 use Rattle.gms_expressions.specs.declared.reader.Tables.{Tables}
-use Rattle.gms_expressions.specs.InnerReadings.{Seen, Derivation, GamsPart, Gives, Went, Refuses, Sense, IsSense, IsGot, seen_from, walk_of}
+use Rattle.gms_expressions.specs.InnerReadings.{Seen, Derivation, GamsPart, Gives, Went, Refuses, Sense, IsSense, IsGot, seen_from, read_state_of}
 use Rattle.gms_expressions.proofs.Extending.{went_then}
 
 -- where a part is to be read within a larger one, and the tree around its tree
@@ -91,6 +91,6 @@ module _ {limit : ℕ} {source : List ℕ} where
   within_then {d = d} h k = record { gives = λ a y last g. h.gives (d a) y last (k.gives a y last g); refuses = λ tables e r. h.refuses tables e (k.refuses tables e r) }
 
 -- A part was read at a place: what its tokens give, its meaning, and the place after it.
-pub got_by : {T : Type 0} {limit : ℕ} {Means : Sense → Derivation → T → Type 0} {part : GamsPart} {reader : Reader} {at : ℕ} {old new : Tables} {x : T} {behind : ℕ} {tree : Derivation} →
-    Gives limit reader.source.now part (walk_of reader.unclosed old) (seen_from reader at) tree (walk_of reader.unclosed new) (seen_from reader behind) → ((sense : Sense) → IsSense new sense → Means sense tree x) → at ≤ behind → IsGot limit Means part reader at old new x behind
+pub got_by : {T : Type 0} {limit : ℕ} {Means : Sense → Derivation → T → Type 0} {part : GamsPart} {reader : Reader} {at : ℕ} {old new : Tables} {x : T} {following : ℕ} {tree : Derivation} →
+    Gives limit reader.source.now part (read_state_of reader.unclosed old) (seen_from reader at) tree (read_state_of reader.unclosed new) (seen_from reader following) → ((sense : Sense) → IsSense new sense → Means sense tree x) → at ≤ following → IsGot limit Means part reader at old new x following
 got_by {tree = tree} gives means further = record { tree = tree; gives = gives; means = means; further = further }

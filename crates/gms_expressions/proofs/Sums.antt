@@ -17,7 +17,7 @@ use Rattle.gms_expressions.specs.declared.fault.SyntaxFaultOrMemory.{SyntaxFault
 use Rattle.gms_expressions.specs.ExpressionTrees.{or_alone, with_sign, place_in, sum_tree, terms, product_tree, guarded_of, guards, primary, condition}
 use Rattle.gms_expressions.specs.Outcomes.{next_place}
 use Rattle.gms_expressions.specs.InnerNodes.{view}
-use Rattle.gms_expressions.specs.InnerReadings.{Seen, IsGot, IsMeant, IsSigned, Refuses, seen_from, walk_of, kind_of}
+use Rattle.gms_expressions.specs.InnerReadings.{Seen, IsGot, IsMeant, IsSigned, Refuses, seen_from, read_state_of, kind_of}
 use Rattle.gms_expressions.proofs.TokenKinds.{leads_by_kind, same_test}
 use Rattle.gms_expressions.proofs.Steps.{within_the, within_second, within_then, gives_both}
 use Rattle.gms_expressions.proofs.Loops.{Looping, loop_on, loop_got, loop_refuses}
@@ -90,5 +90,5 @@ module _ {F : Type 0} {value : F → Number} {limit : ℕ} {reader : Reader} {st
 
 -- the next condition is refused
 pub guards_refuses : {limit : ℕ} {operand : Syntax Number} {views : List (Mark × Syntax Number)} {reader : Reader} {start : ℕ} {old new last : Tables} {at : ℕ} {e : SyntaxFaultOrMemory} → Guards limit operand views reader start old new at → leads productions look_ahead (token Dollar) (seen_from reader at) ≡ true →
-    Refuses limit reader.source.now (the Condition) last (walk_of reader.unclosed new) (seen_from reader at) e → Refuses limit reader.source.now (the Guarded) last (walk_of reader.unclosed old) (seen_from reader start) e
+    Refuses limit reader.source.now (the Condition) last (read_state_of reader.unclosed new) (seen_from reader at) e → Refuses limit reader.source.now (the Guarded) last (read_state_of reader.unclosed old) (seen_from reader start) e
 guards_refuses {reader = reader} {at = at} l led r = loop_refuses l.looping (leads_condition (seen_from reader at) ∙ led) r

@@ -10,8 +10,8 @@ use Rattle.gms_expressions.specs.declared.fault.SyntaxFaultOrMemory.TheVariants.
 use Rattle.gms_expressions.specs.Outcomes.{ExpressionState, kinded_tokens, IsPart, IsRefusedPart}
 
 -- the state before a part: `unclosed` parentheses are open, and these are the names and the labels
-abbrev pub walk_from : ℕ → List (List ℕ) → List (List ℕ) → ExpressionState
-walk_from unclosed names labels = record { open_count = unclosed; names = names; labels = labels; dotted = false }
+abbrev pub expression_state : ℕ → List (List ℕ) → List (List ℕ) → ExpressionState
+expression_state unclosed names labels = record { open_count = unclosed; names = names; labels = labels; dotted = false }
 
 -- the tokens of a source from a place on, as the grammar views them
 abbrev pub tokens_from : List ℕ → List Token → ℕ → List (Terminal × Token)

@@ -164,13 +164,13 @@ module _ (source : List ℕ) (names labels : List (List ℕ)) where
   suffix_in _ = suffix.None
 
   -- the names after the first one in a list
-  abbrev pub names_behind : DerivationTree (Terminal × Token) → List ℕ
-  names_behind (more (pair _ name) others) = name_in name ∷ names_behind others
-  names_behind _ = []
+  abbrev pub following_names : DerivationTree (Terminal × Token) → List ℕ
+  following_names (more (pair _ name) others) = name_in name ∷ following_names others
+  following_names _ = []
 
   -- the names of a list
   abbrev pub names_in : DerivationTree (Terminal × Token) → List ℕ
-  names_in (node (pair first others)) = name_in first ∷ names_behind others
+  names_in (node (pair first others)) = name_in first ∷ following_names others
   names_in _ = []
 
   -- the sets of a control: one, or those in parentheses

@@ -57,16 +57,16 @@ GamsPart = Part Terminal Nonterminal
 
 -- a part was read: its tree, and the state after its tokens
 abbrev pub Gives : ℕ → List ℕ → GamsPart → ExpressionState → List Seen → Derivation → ExpressionState → List Seen → Type 0
-Gives limit source part walk tokens tree behind rest = rules.IsPartRead syntax_rule (limit, source) part walk tokens tree behind rest
+Gives limit source part read_state tokens tree following rest = rules.IsPartRead syntax_rule (limit, source) part read_state tokens tree following rest
 
 -- the tables extend the names and labels of a state
 abbrev pub Went : ExpressionState → Tables → Type 0
-Went walk tables = IsTablePrefix walk.names tables.names × IsTablePrefix walk.labels tables.labels
+Went read_state tables = IsTablePrefix read_state.names tables.names × IsTablePrefix read_state.labels tables.labels
 
 -- Why a part was not read, and the tables then; out of memory has no cause in it.
-pub record Refuses (limit : ℕ) (source : List ℕ) (part : GamsPart) (tables : Tables) (walk : ExpressionState) (tokens : List Seen) (refusal : SyntaxFaultOrMemory) : Type 0 where
-  pub why : rules.Refuses syntax_rule (limit, source) part walk tokens refusal
-  pub went : Went walk tables
+pub record Refuses (limit : ℕ) (source : List ℕ) (part : GamsPart) (tables : Tables) (read_state : ExpressionState) (tokens : List Seen) (refusal : SyntaxFaultOrMemory) : Type 0 where
+  pub why : rules.Refuses syntax_rule (limit, source) part read_state tokens refusal
+  pub went : Went read_state tables
 
 -- the names and the labels of the whole program
 pub record Sense : Type 0 where
@@ -83,21 +83,21 @@ abbrev pub seen_from : Reader → ℕ → List Seen
 seen_from reader at = kinded_tokens reader.source.now (drop at reader.tokens.now)
 
 -- the state in which `unclosed` parentheses are open, and these are the tables
-abbrev pub walk_of : ℕ → Tables → ExpressionState
-walk_of unclosed tables = record { open_count = unclosed; names = tables.names; labels = tables.labels; dotted = false }
+abbrev pub read_state_of : ℕ → Tables → ExpressionState
+read_state_of unclosed tables = record { open_count = unclosed; names = tables.names; labels = tables.labels; dotted = false }
 
 -- a part was read at a place, and the result is what its derivation means
-pub record IsGot {T : Type 0} (limit : ℕ) (Means : Sense → Derivation → T → Type 0) (part : GamsPart) (reader : Reader) (at : ℕ) (old new : Tables) (x : T) (behind : ℕ) : Type 0 where
+pub record IsGot {T : Type 0} (limit : ℕ) (Means : Sense → Derivation → T → Type 0) (part : GamsPart) (reader : Reader) (at : ℕ) (old new : Tables) (x : T) (following : ℕ) : Type 0 where
   pub tree : Derivation
-  pub gives : Gives limit reader.source.now part (walk_of reader.unclosed old) (seen_from reader at) tree (walk_of reader.unclosed new) (seen_from reader behind)
+  pub gives : Gives limit reader.source.now part (read_state_of reader.unclosed old) (seen_from reader at) tree (read_state_of reader.unclosed new) (seen_from reader following)
   pub means : (sense : Sense) → IsSense new sense → Means sense tree x
-  pub further : at ≤ behind
+  pub further : at ≤ following
 
 -- a part was read at a place, or was refused
 abbrev pub IsAnswer : {T : Type 0} → ℕ → (Sense → Derivation → T → Type 0) → GamsPart → Reader → ℕ → Tables → Tables → Result (T × ℕ) SyntaxFaultOrMemory → Type 0
 IsAnswer limit Means part reader at old new result =
     MatchResult result (λ r. IsGot limit Means part reader at old new r.0 r.1)
-    (λ e. Refuses limit reader.source.now part new (walk_of reader.unclosed old) (seen_from reader at) e)
+    (λ e. Refuses limit reader.source.now part new (read_state_of reader.unclosed old) (seen_from reader at) e)
 
 -- what a derivation means in a source, by its names and its labels
 abbrev pub Meaning : Type 0 → Type 0
@@ -117,15 +117,15 @@ pub record IsAt (reader : Reader) (at : ℕ) (token : Token) : Type 0 where
   pub placed : IsPlaced reader.source.now token
   pub within : at < length reader.tokens.now
 
--- the next token passes a test, and `behind` is the place after it
-pub record IsNext (test : Terminal → Bool) (reader : Reader) (at : ℕ) (token : Token) (behind : ℕ) : Type 0 where
+-- the next token passes a test, and `following` is the place after it
+pub record IsNext (test : Terminal → Bool) (reader : Reader) (at : ℕ) (token : Token) (following : ℕ) : Type 0 where
   pub kind : Terminal
   pub passes : test kind ≡ true
   pub kind_is : kind ≡ terminal_of token.kind (token_text reader.source.now token)
-  pub is : seen_from reader at ≡ (kind, token) ∷ seen_from reader behind
+  pub is : seen_from reader at ≡ (kind, token) ∷ seen_from reader following
   pub placed : IsPlaced reader.source.now token
   pub within : at < length reader.tokens.now
-  pub further : at < behind
+  pub further : at < following
 
 -- the refusal of an unexpected token
 abbrev pub unexpected_at : Reader → ℕ → SyntaxFaultOrMemory
@@ -137,9 +137,9 @@ pub record IsLacking (test : Terminal → Bool) (reader : Reader) (at : ℕ) (re
   pub is : refusal ≡ unexpected_at reader at
 
 -- a token of this kind follows a part
-pub record IsBefore {T : Type 0} (kind : Terminal) (reader : Reader) (at : ℕ) (part : T) (same : T) (behind : ℕ) : Type 0 where
+pub record IsBefore {T : Type 0} (kind : Terminal) (reader : Reader) (at : ℕ) (part : T) (same : T) (following : ℕ) : Type 0 where
   pub token : Token
-  pub next : IsNext (is kind) reader at token behind
+  pub next : IsNext (is kind) reader at token following
   pub is : same ≡ part
 
 -- a reader of the tokens of its source
@@ -153,31 +153,31 @@ abbrev pub inside : Reader → ℕ → Reader
 inside reader unclosed = record reader { unclosed = unclosed }
 
 -- a parenthesis opens, and this reader continues inside it from here
-pub record IsOpened (reader : Reader) (at : ℕ) (inner : Reader) (behind : ℕ) : Type 0 where
+pub record IsOpened (reader : Reader) (at : ℕ) (inner : Reader) (following : ℕ) : Type 0 where
   pub token : Token
-  pub next : IsNext (is LeftParen) reader at token behind
-  pub room : reader.unclosed < 100
+  pub next : IsNext (is LeftParen) reader at token following
+  pub within_bound : reader.unclosed < 100
   pub inner_is : inner ≡ inside reader (reader.unclosed + 1)
 
 -- no parenthesis opens, or one too many does
 pub record IsUnopened (reader : Reader) (at : ℕ) (refusal : SyntaxFaultOrMemory) : Type 0 where
-  pub refuses : (limit : ℕ) (tables : Tables) → Refuses limit reader.source.now (token LeftParen) tables (walk_of reader.unclosed tables) (seen_from reader at) refusal
+  pub refuses : (limit : ℕ) (tables : Tables) → Refuses limit reader.source.now (token LeftParen) tables (read_state_of reader.unclosed tables) (seen_from reader at) refusal
 
 -- an optional sign was read
-pub record IsSigned (reader : Reader) (at : ℕ) (minus : Bool) (behind : ℕ) : Type 0 where
+pub record IsSigned (reader : Reader) (at : ℕ) (minus : Bool) (following : ℕ) : Type 0 where
   pub tree : Derivation
   pub gives : (limit : ℕ) (tables : Tables) →
-      Gives limit reader.source.now (opt (token Sign)) (walk_of reader.unclosed tables) (seen_from reader at) tree (walk_of reader.unclosed tables) (seen_from reader behind)
+      Gives limit reader.source.now (opt (token Sign)) (read_state_of reader.unclosed tables) (seen_from reader at) tree (read_state_of reader.unclosed tables) (seen_from reader following)
   pub means : (operand : Syntax Number) → with_sign tree operand ≡ (if minus then negated operand else operand)
-  pub further : at ≤ behind
+  pub further : at ≤ following
 
 -- an optional `not` was read
-pub record IsNegated (reader : Reader) (at : ℕ) (not : Bool) (behind : ℕ) : Type 0 where
+pub record IsNegated (reader : Reader) (at : ℕ) (not : Bool) (following : ℕ) : Type 0 where
   pub tree : Derivation
   pub gives : (limit : ℕ) (tables : Tables) →
-      Gives limit reader.source.now (opt (token Not)) (walk_of reader.unclosed tables) (seen_from reader at) tree (walk_of reader.unclosed tables) (seen_from reader behind)
+      Gives limit reader.source.now (opt (token Not)) (read_state_of reader.unclosed tables) (seen_from reader at) tree (read_state_of reader.unclosed tables) (seen_from reader following)
   pub means : (operand : Syntax Number) → negated_by tree operand ≡ (if not then not_so operand else operand)
-  pub further : at ≤ behind
+  pub further : at ≤ following
 
 -- a suffix, if any
 abbrev pub IsSuffix : List ℕ → Sense → Derivation → Suffix → Type 0

@@ -37,7 +37,7 @@ pub record ExpressionState : Type 0 where
 
 -- a token is a name: no suffix after a dot
 abbrev pub is_name_token : ExpressionState → Terminal → Bool
-is_name_token walk kind = is_terminal_among (terminal.Name ∷ terminal.Suffix ∷ []) kind && not walk.dotted
+is_name_token read_state kind = is_terminal_among (terminal.Name ∷ terminal.Suffix ∷ []) kind && not read_state.dotted
 
 -- how many parentheses are open after a token
 abbrev pub open_after : ℕ → Terminal → ℕ
@@ -47,17 +47,17 @@ open_after n _ = n
 
 -- the state after a token of a source: a new name or label is entered
 abbrev pub state_after_token : List ℕ → ExpressionState → Terminal × Token → ExpressionState
-state_after_token source walk token =
+state_after_token source read_state token =
     record {
-      open_count = open_after walk.open_count token.0;
-      names = if is_name_token walk token.0 then entered walk.names (token_text source token.1) else walk.names;
-      labels = if is terminal.Text token.0 then entered walk.labels (unquoted (token_text source token.1)) else walk.labels;
+      open_count = open_after read_state.open_count token.0;
+      names = if is_name_token read_state token.0 then entered read_state.names (token_text source token.1) else read_state.names;
+      labels = if is terminal.Text token.0 then entered read_state.labels (unquoted (token_text source token.1)) else read_state.labels;
       dotted = is terminal.Dot token.0;
     }
 
 -- the state after tokens; in expressions it does not depend on the token that follows them
 abbrev pub state_after_tokens : List ℕ → ExpressionState → List (Terminal × Token) → Terminal → ExpressionState
-state_after_tokens source walk tokens ahead = left_by (λ walk token ahead. state_after_token source walk token) walk tokens ahead
+state_after_tokens source read_state tokens ahead = left_by (λ read_state token ahead. state_after_token source read_state token) read_state tokens ahead
 
 -- the place of the next token, or the end of the source
 abbrev pub next_place : List ℕ → List (Terminal × Token) → Place
@@ -75,20 +75,20 @@ unexpected_token source rest = record { error = unexpected_error rest; at = next
 
 -- A token that the grammar expects has a fault: it opens a 101st parenthesis, it is a number out of
 -- range, or it is a new name or label for which the table is full.
-pub data IsFaultyInExpression (limit : ℕ) (source : List ℕ) (walk : ExpressionState) (token : Terminal × Token) : SyntaxFault → Type 0 where
-  deep : token.0 ≡ terminal.LeftParen → 100 ≤ walk.open_count → IsFaultyInExpression limit source walk token (record { error = Depth; at = token.1.at })
+pub data IsFaultyInExpression (limit : ℕ) (source : List ℕ) (read_state : ExpressionState) (token : Terminal × Token) : SyntaxFault → Type 0 where
+  deep : token.0 ≡ terminal.LeftParen → 100 ≤ read_state.open_count → IsFaultyInExpression limit source read_state token (record { error = Depth; at = token.1.at })
   out_of_range : token.0 ≡ terminal.Number → ((x : Number) → MeansNumber (token_text source token.1) x → FitsLiteral limit x → ⊥) →
-      IsFaultyInExpression limit source walk token (record { error = OutOfRange; at = token.1.at })
-  many_names : is_name_token walk token.0 ≡ true → IsFullFor walk.names (token_text source token.1) →
-      IsFaultyInExpression limit source walk token (record { error = TooManyLabels; at = token.1.at })
-  many_labels : token.0 ≡ terminal.Text → IsFullFor walk.labels (unquoted (token_text source token.1)) →
-      IsFaultyInExpression limit source walk token (record { error = TooManyLabels; at = token.1.at })
+      IsFaultyInExpression limit source read_state token (record { error = OutOfRange; at = token.1.at })
+  many_names : is_name_token read_state token.0 ≡ true → IsFullFor read_state.names (token_text source token.1) →
+      IsFaultyInExpression limit source read_state token (record { error = TooManyLabels; at = token.1.at })
+  many_labels : token.0 ≡ terminal.Text → IsFullFor read_state.labels (unquoted (token_text source token.1)) →
+      IsFaultyInExpression limit source read_state token (record { error = TooManyLabels; at = token.1.at })
 
 -- the rule of faults in the expressions of a source, by the limit of its numbers
 abbrev pub syntax_rule : ℕ × List ℕ → Rule Token ExpressionState SyntaxFault SyntaxFaultOrMemory
 syntax_rule key = record {
-  after = λ walk token ahead. state_after_token key.1 walk token;
-  Faulty = λ walk token ahead fault. IsFaultyInExpression key.0 key.1 walk token fault;
+  after = λ read_state token ahead. state_after_token key.1 read_state token;
+  Faulty = λ read_state token ahead fault. IsFaultyInExpression key.0 key.1 read_state token fault;
   unexpected = unexpected_token key.1;
   told = Fault;
 }
@@ -96,13 +96,13 @@ syntax_rule key = record {
 module _ (limit : ℕ) (source : List ℕ) where
   -- The longest part that begins the tokens, complete and without faulty tokens, and what follows
   -- it.
-  pub record IsPart (n : Nonterminal) (walk behind : ExpressionState) (tokens rest : List (Terminal × Token)) (tree : DerivationTree (Terminal × Token)) : Type 0 where
+  pub record IsPart (n : Nonterminal) (read_state following : ExpressionState) (tokens rest : List (Terminal × Token)) (tree : DerivationTree (Terminal × Token)) : Type 0 where
     pub is_tree : IsTree productions (the n) tree
     pub stops : Stops productions (the n) tokens (yield tree) rest
-    pub are_sound : AreFaultless (syntax_rule (limit, source)) walk (yield tree) (kind_of rest)
-    pub leaves : behind ≡ state_after_tokens source walk (yield tree) (kind_of rest)
+    pub are_sound : AreFaultless (syntax_rule (limit, source)) read_state (yield tree) (kind_of rest)
+    pub leaves : following ≡ state_after_tokens source read_state (yield tree) (kind_of rest)
 
   -- The tokens begin no part, or a faulty one: this is the first fault. If the longest prefix that
   -- begins a part is not complete, the token after it is unexpected.
   abbrev pub IsRefusedPart : Nonterminal → ExpressionState → List (Terminal × Token) → SyntaxFault → Type 0
-  IsRefusedPart n walk tokens fault = rules.IsRefusedByRule syntax_rule (limit, source) (λ front rest. Derives productions (the n) front → ⊥) n walk tokens fault
+  IsRefusedPart n read_state tokens fault = rules.IsRefusedByRule syntax_rule (limit, source) (λ prefix rest. Derives productions (the n) prefix → ⊥) n read_state tokens fault

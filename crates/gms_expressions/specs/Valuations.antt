@@ -11,22 +11,22 @@ abbrev pub IsValuation : (List ℕ → Number) → Type 0
 IsValuation value = (text : List ℕ) (x : Number) → MeansNumber text x → value text ≡ x
 
 -- the digits that a text begins with
-abbrev pub front_digits : List ℕ → List ℕ
-front_digits text = take (prefix_len is_ascii_digit text) text
+abbrev pub leading_digits : List ℕ → List ℕ
+leading_digits text = take (prefix_len is_ascii_digit text) text
 
 -- what follows them
-abbrev pub behind_digits : List ℕ → List ℕ
-behind_digits text = drop (prefix_len is_ascii_digit text) text
+abbrev pub after_digits : List ℕ → List ℕ
+after_digits text = drop (prefix_len is_ascii_digit text) text
 
 -- the digits after a point, if a text begins with one
 abbrev pub point_digits : List ℕ → List ℕ
 point_digits [] = []
-point_digits (b ∷ text) = if b == 46 then front_digits text else []
+point_digits (b ∷ text) = if b == 46 then leading_digits text else []
 
 -- what follows the point and its digits, if there is a point
-abbrev pub behind_point : List ℕ → List ℕ
-behind_point [] = []
-behind_point (b ∷ text) = if b == 46 then behind_digits text else b ∷ text
+abbrev pub after_point : List ℕ → List ℕ
+after_point [] = []
+after_point (b ∷ text) = if b == 46 then after_digits text else b ∷ text
 
 -- the whole number of digits, with an optional sign before them
 abbrev pub signed_digits : List ℕ → ℤ
@@ -42,7 +42,7 @@ exponent_in (mark ∷ text) = signed_digits text
 unfoldable pub number_meant : List ℕ → Number
 number_meant text =
     number_of (record {
-      before = front_digits text;
-      behind = point_digits (behind_digits text);
-      exponent = exponent_in (behind_point (behind_digits text));
+      before = leading_digits text;
+      following = point_digits (after_digits text);
+      exponent = exponent_in (after_point (after_digits text));
     })

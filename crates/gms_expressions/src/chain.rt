@@ -30,8 +30,8 @@ impl<
         }
         let mut parts = Vec::new(self.reader.alloc);
         parts.push((false, first))?;
-        while let Some((word, behind)) = self.reader.take_if(Terminal::Or, next) {
-            let (part, after) = self.conjunction(tables, behind)?;
+        while let Some((word, following)) = self.reader.take_if(Terminal::Or, next) {
+            let (part, after) = self.conjunction(tables, following)?;
             parts.push((is_xor(self.reader.text(word)), part))?;
             next = after;
         }
@@ -49,8 +49,8 @@ impl<
         }
         let mut parts = Vec::new(self.reader.alloc);
         parts.push(first)?;
-        while let Some((_, behind)) = self.reader.take_if(Terminal::And, next) {
-            let (part, after) = self.negation(tables, behind)?;
+        while let Some((_, following)) = self.reader.take_if(Terminal::And, next) {
+            let (part, after) = self.negation(tables, following)?;
             parts.push(part)?;
             next = after;
         }
@@ -81,11 +81,11 @@ impl<
         }
         let mut parts = Vec::new(self.reader.alloc);
         parts.push((RelOp::Eq, first))?;
-        while let Some((word, behind)) = self.reader.take_any_if(
+        while let Some((word, following)) = self.reader.take_any_if(
             &[Terminal::Relation, Terminal::RelationWord, Terminal::Equals],
             next,
         ) {
-            let (part, after) = self.sum(tables, behind)?;
+            let (part, after) = self.sum(tables, following)?;
             parts.push((relation_of(word.kind, self.reader.text(word)), part))?;
             next = after;
         }
@@ -105,9 +105,9 @@ impl<
         }
         let mut parts = Vec::new(self.reader.alloc);
         parts.push((self.reader.place(at), false, first))?;
-        while let Some((sign, behind)) = self.reader.take_if(Terminal::Sign, next) {
-            let (part, after) = self.product(tables, behind)?;
-            parts.push((self.reader.place(behind), is_minus(sign.kind), part))?;
+        while let Some((sign, following)) = self.reader.take_if(Terminal::Sign, next) {
+            let (part, after) = self.product(tables, following)?;
+            parts.push((self.reader.place(following), is_minus(sign.kind), part))?;
             next = after;
         }
         Ok((Expr::Plus(parts), next))
@@ -127,12 +127,12 @@ impl<
         }
         let mut parts = Vec::new(self.reader.alloc);
         parts.push((self.reader.place(at), false, first))?;
-        while let Some((operator, behind)) = self
+        while let Some((operator, following)) = self
             .reader
             .take_any_if(&[Terminal::Star, Terminal::Slash], next)
         {
-            let (part, after) = self.signed_power(tables, behind)?;
-            parts.push((self.reader.place(behind), is_slash(operator.kind), part))?;
+            let (part, after) = self.signed_power(tables, following)?;
+            parts.push((self.reader.place(following), is_slash(operator.kind), part))?;
             next = after;
         }
         Ok((Expr::Times(parts), next))
@@ -159,9 +159,9 @@ impl<
         }
         let mut parts = Vec::new(self.reader.alloc);
         parts.push((self.reader.place(at), first))?;
-        while let Some((_, behind)) = self.reader.take_if(Terminal::Power, next) {
-            let (part, after) = self.signed_guarded(tables, behind)?;
-            parts.push((self.reader.place(behind), part))?;
+        while let Some((_, following)) = self.reader.take_if(Terminal::Power, next) {
+            let (part, after) = self.signed_guarded(tables, following)?;
+            parts.push((self.reader.place(following), part))?;
             next = after;
         }
         Ok((Expr::Power(parts), next))
@@ -188,8 +188,8 @@ impl<
         }
         let operand = Box::new(self.reader.alloc, first)?;
         let mut guards = Vec::new(self.reader.alloc);
-        while let Some((_, behind)) = self.reader.take_if(Terminal::Dollar, next) {
-            let (guard, after) = self.guard(tables, behind)?;
+        while let Some((_, following)) = self.reader.take_if(Terminal::Dollar, next) {
+            let (guard, after) = self.guard(tables, following)?;
             guards.push(guard)?;
             next = after;
         }
@@ -201,8 +201,8 @@ impl<
         requires { CanRead F.limit F.value self.now.reader (N.pre self.now.nested) (N.post self.now.nested) }
         ensures { IsExpression F.limit F.value trees.condition (the Condition) self.now.reader at tables.old tables.new result }
     {
-        let (_, behind) = self.reader.take(Terminal::Dollar, at)?;
-        self.guard(tables, behind)
+        let (_, following) = self.reader.take(Terminal::Dollar, at)?;
+        self.guard(tables, following)
     }
 
     /// Reads what follows a `$`: an operand, perhaps after `not`.

@@ -35,9 +35,9 @@ impl<'s> Reader<'s> {
         requires { IsReady self.now }
         ensures { (tables : Tables) → IsExpression F.limit F.value number_tree (token Number) self.now at tables tables result }
     {
-        let (token, behind) = self.take(Terminal::Number, at)?;
+        let (token, following) = self.take(Terminal::Number, at)?;
         let value = self.value(token)?;
-        Ok((Expr::Number(value), behind))
+        Ok((Expr::Number(value), following))
     }
 
     /// Reads a constant.
@@ -45,7 +45,7 @@ impl<'s> Reader<'s> {
         requires { IsReady self.now }
         ensures { (tables : Tables) → IsExpression F.limit F.value constant_in (any_of (Number ∷ Infinity ∷ NotAvailable ∷ YesNo ∷ [])) self.now at tables tables result }
     {
-        let (token, behind) = self.take_any(
+        let (token, following) = self.take_any(
             &[
                 Terminal::Number,
                 Terminal::Infinity,
@@ -61,6 +61,6 @@ impl<'s> Reader<'s> {
             Terminal::YesNo => Expr::No,
             _ => Expr::Number(self.value(token)?),
         };
-        Ok((constant, behind))
+        Ok((constant, following))
     }
 }

@@ -17,12 +17,12 @@ impl<'s> Reader<'s> {
         requires { IsReady self.now }
         ensures { (limit : ℕ) → IsAnswer limit (IsName self.now.source.now) name self.now at tables.old tables.new result }
     {
-        let (token, behind) = self.take_any(&[Terminal::Name, Terminal::Suffix], at)?;
+        let (token, following) = self.take_any(&[Terminal::Name, Terminal::Suffix], at)?;
         let Ok(text) = str::from_utf8(self.text(token)) else {
             return Err(self.unexpected(at));
         };
         match tables.names.enter(self.alloc, text) {
-            Ok(number) => Ok(((number, token.at), behind)),
+            Ok(number) => Ok(((number, token.at), following)),
             Err(fault) => Err(SyntaxFaultOrMemory::not_entered(fault, token.at)),
         }
     }
@@ -32,12 +32,12 @@ impl<'s> Reader<'s> {
         requires { IsReady self.now }
         ensures { (limit : ℕ) → IsAnswer limit (IsLabel self.now.source.now) (token Text) self.now at tables.old tables.new result }
     {
-        let (token, behind) = self.take(Terminal::Text, at)?;
+        let (token, following) = self.take(Terminal::Text, at)?;
         let Ok(text) = str::from_utf8(unquoted(self.text(token))) else {
             return Err(self.unexpected(at));
         };
         match tables.labels.enter(self.alloc, text) {
-            Ok(number) => Ok((number, behind)),
+            Ok(number) => Ok((number, following)),
             Err(fault) => Err(SyntaxFaultOrMemory::not_entered(fault, token.at)),
         }
     }
@@ -50,8 +50,8 @@ impl<'s> Reader<'s> {
         let mut names = Vec::new(self.alloc);
         let ((first, _), mut next) = self.name(tables, at)?;
         names.push(first)?;
-        while let Some((_, behind)) = self.take_if(Terminal::Comma, next) {
-            let ((name, _), after) = self.name(tables, behind)?;
+        while let Some((_, following)) = self.take_if(Terminal::Comma, next) {
+            let ((name, _), after) = self.name(tables, following)?;
             names.push(name)?;
             next = after;
         }
@@ -64,10 +64,10 @@ impl<'s> Reader<'s> {
         ensures { (limit : ℕ) → IsAnswer limit (AreSets self.now.source.now) (name ∣ bracketed (the NameList)) self.now at tables.old tables.new result }
     {
         if !self.is_next(Terminal::LeftParen, at) {
-            let ((set, _), behind) = self.name(tables, at)?;
+            let ((set, _), following) = self.name(tables, at)?;
             let mut sets = Vec::new(self.alloc);
             sets.push(set)?;
-            return Ok((sets, behind));
+            return Ok((sets, following));
         }
         let (inner, start) = self.enter(at)?;
         let (sets, next) = inner.names(tables, start)?;

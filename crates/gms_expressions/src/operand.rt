@@ -95,11 +95,11 @@ impl<
             PhantomData,
         )?;
         args.push(first)?;
-        while let Some((_, behind)) = self.reader.take_if(Terminal::Comma, next) {
+        while let Some((_, following)) = self.reader.take_if(Terminal::Comma, next) {
             let (argument, after) = (self.nested)(
                 inner,
                 tables,
-                behind,
+                following,
                 Inner::Expression,
                 PhantomData,
             )?;
@@ -117,12 +117,12 @@ impl<
         let (word, opening) = self.reader.take(Terminal::OrdCard, at)?;
         let (inner, start) = self.reader.enter(opening)?;
         let ((set, _), next) = inner.name(tables, start)?;
-        let (_, behind) = self.reader.take(Terminal::RightParen, next)?;
+        let (_, following) = self.reader.take(Terminal::RightParen, next)?;
         let at = word.at;
         if is_ord(self.reader.text(word)) {
-            return Ok((Expr::Ord { at, set }, behind));
+            return Ok((Expr::Ord { at, set }, following));
         }
-        Ok((Expr::Card { at, set }, behind))
+        Ok((Expr::Card { at, set }, following))
     }
 
     /// Reads a fold.
@@ -140,11 +140,11 @@ impl<
         let (control, comma) = inside.control(tables, start)?;
         let (control, start) = self.reader.before(Terminal::Comma, control, comma)?;
         let (body, next) = (self.nested)(inner, tables, start, Inner::Expression, PhantomData)?;
-        let (body, behind) = self.reader.before(Terminal::RightParen, body, next)?;
+        let (body, following) = self.reader.before(Terminal::RightParen, body, next)?;
         let op = fold_op_of(self.reader.text(word));
         Ok((
             node::fold(self.reader.alloc, word.at, op, control, body)?,
-            behind,
+            following,
         ))
     }
 
@@ -165,7 +165,7 @@ impl<
                 next,
             ));
         }
-        let (condition, behind) = (self.nested)(
+        let (condition, following) = (self.nested)(
             self.reader,
             tables,
             next,
@@ -173,6 +173,6 @@ impl<
             PhantomData,
         )?;
         let condition = Some(Box::new(self.reader.alloc, condition)?);
-        Ok((Control { sets, condition }, behind))
+        Ok((Control { sets, condition }, following))
     }
 }

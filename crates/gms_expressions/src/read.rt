@@ -6,7 +6,7 @@ ghost use Rattle.gms_ast.specs.TreeView.{tree_of, control_tree, indices_of, inde
 ghost use Rattle.gms_grammar.specs.GamsGrammar.{Expression, Primary, Control as ControlPart, Target as TargetPart};
 ghost use Rattle.gms_expressions.specs.ExpressionTrees as trees;
 ghost use Rattle.gms_ast.specs.Numbers.{in_numbers, indices_in_numbers, control_in_numbers};
-ghost use Rattle.gms_expressions.specs.Calls.{walk_from, tokens_from, IsRead, IsSyntaxRefusal, IsTablePrefix};
+ghost use Rattle.gms_expressions.specs.Calls.{expression_state, tokens_from, IsRead, IsSyntaxRefusal, IsTablePrefix};
 ghost use Rattle.gms_expressions.specs.InnerReadings.{IsReady};
 
 use crate::fault::SyntaxFaultOrMemory;
@@ -87,10 +87,10 @@ pub fn expression<F: ExactField>(
     ensures read { MatchResult result
         (λ r. IsRead F.limit source.now Expression
         (λ all_names all_labels tree part. in_numbers F.value (tree_of part) ≡ trees.expression source.now all_names all_labels tree)
-        (walk_from unclosed names.old labels.old) (walk_from unclosed names.new labels.new)
+        (expression_state unclosed names.old labels.old) (expression_state unclosed names.new labels.new)
         (tokens_from source.now tokens.now from) (tokens_from source.now tokens.now r.1) r.0)
-        (λ e. IsSyntaxRefusal F.limit source.now Expression (walk_from unclosed names.old labels.old) (tokens_from source.now tokens.now from) e) }
-    ensures goes_on { IsTablePrefix names.old names.new × IsTablePrefix labels.old labels.new }
+        (λ e. IsSyntaxRefusal F.limit source.now Expression (expression_state unclosed names.old labels.old) (tokens_from source.now tokens.now from) e) }
+    ensures extended { IsTablePrefix names.old names.new × IsTablePrefix labels.old labels.new }
 {
     let mut tables = Tables::taken(alloc, names, labels);
     let read = nested(
@@ -121,10 +121,10 @@ pub fn primary<F: ExactField>(
     ensures read { MatchResult result
         (λ r. IsRead F.limit source.now Primary
         (λ all_names all_labels tree part. in_numbers F.value (tree_of part) ≡ trees.primary source.now all_names all_labels tree)
-        (walk_from unclosed names.old labels.old) (walk_from unclosed names.new labels.new)
+        (expression_state unclosed names.old labels.old) (expression_state unclosed names.new labels.new)
         (tokens_from source.now tokens.now from) (tokens_from source.now tokens.now r.1) r.0)
-        (λ e. IsSyntaxRefusal F.limit source.now Primary (walk_from unclosed names.old labels.old) (tokens_from source.now tokens.now from) e) }
-    ensures goes_on { IsTablePrefix names.old names.new × IsTablePrefix labels.old labels.new }
+        (λ e. IsSyntaxRefusal F.limit source.now Primary (expression_state unclosed names.old labels.old) (tokens_from source.now tokens.now from) e) }
+    ensures extended { IsTablePrefix names.old names.new × IsTablePrefix labels.old labels.new }
 {
     let mut tables = Tables::taken(alloc, names, labels);
     let grammar = Grammar {
@@ -154,10 +154,10 @@ pub fn control<F: ExactField>(
     ensures read { MatchResult result
         (λ r. IsRead F.limit source.now ControlPart
         (λ all_names all_labels tree part. control_in_numbers F.value (control_tree part) ≡ trees.control source.now all_names all_labels tree)
-        (walk_from unclosed names.old labels.old) (walk_from unclosed names.new labels.new)
+        (expression_state unclosed names.old labels.old) (expression_state unclosed names.new labels.new)
         (tokens_from source.now tokens.now from) (tokens_from source.now tokens.now r.1) r.0)
-        (λ e. IsSyntaxRefusal F.limit source.now ControlPart (walk_from unclosed names.old labels.old) (tokens_from source.now tokens.now from) e) }
-    ensures goes_on { IsTablePrefix names.old names.new × IsTablePrefix labels.old labels.new }
+        (λ e. IsSyntaxRefusal F.limit source.now ControlPart (expression_state unclosed names.old labels.old) (tokens_from source.now tokens.now from) e) }
+    ensures extended { IsTablePrefix names.old names.new × IsTablePrefix labels.old labels.new }
 {
     let mut tables = Tables::taken(alloc, names, labels);
     let grammar = Grammar {
@@ -187,10 +187,10 @@ pub fn target<F: ExactField>(
     ensures read { MatchResult result
         (λ r. IsRead F.limit source.now TargetPart
         (λ all_names all_labels tree part. reference part.at part.name part.suffix (indices_in_numbers F.value (indices_of (map index_tree part.indices))) ≡ trees.target source.now all_names all_labels tree)
-        (walk_from unclosed names.old labels.old) (walk_from unclosed names.new labels.new)
+        (expression_state unclosed names.old labels.old) (expression_state unclosed names.new labels.new)
         (tokens_from source.now tokens.now from) (tokens_from source.now tokens.now r.1) r.0)
-        (λ e. IsSyntaxRefusal F.limit source.now TargetPart (walk_from unclosed names.old labels.old) (tokens_from source.now tokens.now from) e) }
-    ensures goes_on { IsTablePrefix names.old names.new × IsTablePrefix labels.old labels.new }
+        (λ e. IsSyntaxRefusal F.limit source.now TargetPart (expression_state unclosed names.old labels.old) (tokens_from source.now tokens.now from) e) }
+    ensures extended { IsTablePrefix names.old names.new × IsTablePrefix labels.old labels.new }
 {
     let mut tables = Tables::taken(alloc, names, labels);
     let grammar = Grammar {

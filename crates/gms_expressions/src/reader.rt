@@ -185,7 +185,7 @@ impl<'s> Reader<'s> {
             (λ r. IsOpened self.now at r.0 r.1)
             (λ e. IsUnopened self.now at e) }
     {
-        let (token, behind) = self.take(Terminal::LeftParen, at)?;
+        let (token, following) = self.take(Terminal::LeftParen, at)?;
         if self.unclosed >= MOST_OPEN {
             return Err(SyntaxFaultOrMemory::at(SyntaxError::Depth, token.at));
         }
@@ -193,7 +193,7 @@ impl<'s> Reader<'s> {
             unclosed: self.unclosed + 1,
             ..*self
         };
-        Ok((inner, behind))
+        Ok((inner, following))
     }
 
     /// A part that this token follows, and the place after the token.
@@ -201,8 +201,8 @@ impl<'s> Reader<'s> {
         requires { IsReady self.now }
         ensures { MatchResult result (λ r. IsBefore kind self.now at part r.0 r.1) (λ e. IsLacking (is kind) self.now at e) }
     {
-        let (_, behind) = self.take(kind, at)?;
-        Ok((part, behind))
+        let (_, following) = self.take(kind, at)?;
+        Ok((part, following))
     }
 
     /// Whether the next token is `-`, and the place after a sign, if any.
@@ -211,7 +211,7 @@ impl<'s> Reader<'s> {
         ensures { IsSigned self.now at result.0 result.1 }
     {
         match self.take_if(Terminal::Sign, at) {
-            Some((token, behind)) => (is_minus(token.kind), behind),
+            Some((token, following)) => (is_minus(token.kind), following),
             None => (false, at),
         }
     }
@@ -222,7 +222,7 @@ impl<'s> Reader<'s> {
         ensures { IsNegated self.now at result.0 result.1 }
     {
         match self.take_if(Terminal::Not, at) {
-            Some((_, behind)) => (true, behind),
+            Some((_, following)) => (true, following),
             None => (false, at),
         }
     }
@@ -232,10 +232,10 @@ impl<'s> Reader<'s> {
         requires { IsReady self.now }
         ensures { (limit : ℕ) (tables : Tables) → IsAnswer limit (IsSuffix self.now.source.now) (opt (the Attribute)) self.now at tables tables result }
     {
-        let Some((_, behind)) = self.take_if(Terminal::Dot, at) else {
+        let Some((_, following)) = self.take_if(Terminal::Dot, at) else {
             return Ok((Suffix::None, at));
         };
-        let (word, behind) = self.take(Terminal::Suffix, behind)?;
-        Ok((suffix_of(self.text(word)), behind))
+        let (word, following) = self.take(Terminal::Suffix, following)?;
+        Ok((suffix_of(self.text(word)), following))
     }
 }

@@ -52,8 +52,8 @@ impl<
         };
         let (first, mut next) = inside.index(tables, start)?;
         indices.push(first)?;
-        while let Some((_, behind)) = self.reader.take_if(Terminal::Comma, next) {
-            let (index, after) = inside.index(tables, behind)?;
+        while let Some((_, following)) = self.reader.take_if(Terminal::Comma, next) {
+            let (index, after) = inside.index(tables, following)?;
             indices.push(index)?;
             next = after;
         }
@@ -76,13 +76,13 @@ impl<
         {
             return Ok((Index::Set { name, lag: None }, next));
         }
-        let (lag, behind) = self.lag(tables, next)?;
+        let (lag, following) = self.lag(tables, next)?;
         Ok((
             Index::Set {
                 name,
                 lag: Some(lag),
             },
-            behind,
+            following,
         ))
     }
 
@@ -91,13 +91,13 @@ impl<
         requires { CanRead F.limit F.value self.now.reader (N.pre self.now.nested) (N.post self.now.nested) }
         ensures { IsAnswer F.limit (IsLag F.value self.now.reader.source.now) (the Lag) self.now.reader at tables.old tables.new result }
     {
-        let (operator, behind) = self
+        let (operator, following) = self
             .reader
             .take_any(&[Terminal::Sign, Terminal::Circular], at)?;
-        let (amount, next) = self.lag_amount(tables, behind)?;
+        let (amount, next) = self.lag_amount(tables, following)?;
         let amount = Box::new(self.reader.alloc, amount)?;
         Ok((
-            (lag_op_of(operator.kind), self.reader.place(behind), amount),
+            (lag_op_of(operator.kind), self.reader.place(following), amount),
             next,
         ))
     }

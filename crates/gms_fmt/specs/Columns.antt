@@ -16,7 +16,7 @@ left_in width text = text ++ blanks (width - length text)
 
 -- a text is an old one followed by a prefix of another
 abbrev pub IsExtendedByPrefix : List ℕ → List ℕ → List ℕ → Type 0
-IsExtendedByPrefix old more new = (front rest : List ℕ) × (more ≡ front ++ rest) × (new ≡ old ++ front)
+IsExtendedByPrefix old more new = (prefix rest : List ℕ) × (more ≡ prefix ++ rest) × (new ≡ old ++ prefix)
 
 -- a text was appended; after a failure a prefix of it was
 abbrev pub Appends : {A E : Type 0} → Result A E → List ℕ → List ℕ → List ℕ → Type 0

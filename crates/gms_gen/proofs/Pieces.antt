@@ -11,9 +11,9 @@ sets-written plants markets between =
     ∙ sym (append_assoc (plants ++ end) feed rest ∙ append_assoc plants end (feed ++ rest))
 
 -- a piece after others
-pub behind : (old new piece is : List ℕ) → new ≡ old ++ piece → old ≡ is → new ≡ is ++ piece
-behind old new piece is more was = more ∙ ap (λ t. t ++ piece) was
+pub following : (old new piece is : List ℕ) → new ≡ old ++ piece → old ≡ is → new ≡ is ++ piece
+following old new piece is more was = more ∙ ap (λ t. t ++ piece) was
 
 -- two lines, which are written at once
-pub behind-two : (old new one other is : List ℕ) → new ≡ old ++ (one ++ other) → old ≡ is → new ≡ (is ++ one) ++ other
-behind-two old new one other is more was = more ∙ ap (λ t. t ++ (one ++ other)) was ∙ sym (append_assoc is one other)
+pub following-two : (old new one other is : List ℕ) → new ≡ old ++ (one ++ other) → old ≡ is → new ≡ (is ++ one) ++ other
+following-two old new one other is more was = more ∙ ap (λ t. t ++ (one ++ other)) was ∙ sym (append_assoc is one other)

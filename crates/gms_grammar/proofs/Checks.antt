@@ -4,7 +4,7 @@ use Rattle.std.proofs.Common.{◌≡◌, ℕ, zero, suc, ◌<◌, if◌then◌el
 use Rattle.std.specs.List.{list_any}
 use Rattle.std.proofs.lemmas.Bool.{cases_Bool, false≢true, not-true, or_cases, and_parts}
 use Rattle.gms_grammar.specs.Grammar.{Part, one, the, ◌·◌, ◌∣◌, opt, many}
-use Rattle.gms_grammar.specs.LookAhead.{LookAhead, may_be_empty, may_begin, may_go_on, IsDecided, DecidesEach, ends_below, ranks_below}
+use Rattle.gms_grammar.specs.LookAhead.{LookAhead, may_be_empty, may_begin, may_come_next, IsDecided, DecidesEach, ends_below, ranks_below}
 use Rattle.gms_grammar.proofs.Basics.{and_both, both_ways}
 
 -- each element passes the test
@@ -124,7 +124,7 @@ module _ {C N : Type 0} (kinds : List C) (production : N → Part C N) (ahead : 
     covers_first (opt p) other h c k = covers_first p other h c k
     covers_first (many p) other h c k = covers_first p other h c k
 
-    covers_on : (q : Part C N) (f : C → Bool) (after : List C) → Covers f after → Covers (may_go_on ahead q f) (firsts_of q ++ where_so (may_be_empty ahead q) after)
+    covers_on : (q : Part C N) (f : C → Bool) (after : List C) → Covers f after → Covers (may_come_next ahead q f) (firsts_of q ++ where_so (may_be_empty ahead q) after)
     covers_on q f after of_f =
         covers_either (may_begin ahead q) (λ c. may_be_empty ahead q && f c) (firsts_of q) _ (covers_first q) (covers_where (may_be_empty ahead q) f after of_f)
 
@@ -132,7 +132,7 @@ module _ {C N : Type 0} (kinds : List C) (production : N → Part C N) (ahead : 
     decided_by (one test) f after of_f h = any_at kinds test h
     decided_by (the n) f after of_f h = λ c k. of_f (ahead.follow n) h c k
     decided_by (p · q) f after of_f h =
-        (decided_by p (may_go_on ahead q f) _ (covers_on q f after of_f) ((and_parts _ _ h).0), decided_by q f after of_f (right_and (is_decided p (firsts_of q ++ where_so (may_be_empty ahead q) after)) _ h))
+        (decided_by p (may_come_next ahead q f) _ (covers_on q f after of_f) ((and_parts _ _ h).0), decided_by q f after of_f (right_and (is_decided p (firsts_of q ++ where_so (may_be_empty ahead q) after)) _ h))
     decided_by (p ∣ q) f after of_f h =
         let h1 = right_and (not (may_be_empty ahead p)) _ h in
         let h2 = right_and (not (may_be_empty ahead q)) _ h1 in

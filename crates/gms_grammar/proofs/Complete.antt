@@ -1,7 +1,7 @@
 -- Each tree is what a reader finds in its tokens, and derivations are unique.
 use Rattle.std.proofs.Common.{◌≡◌, Bool, ◌||◌, List, [], ◌++◌, sym, ap, subst, append_assoc}
 use Rattle.gms_grammar.specs.Grammar.{Part, one, the, ◌·◌, ◌∣◌, opt, many, DerivationTree, leaf, pair, left, right, none, some, more, node, yield, IsTree}
-use Rattle.gms_grammar.specs.LookAhead.{LookAhead, may_begin, may_go_on, IsDecided, DecidesEach}
+use Rattle.gms_grammar.specs.LookAhead.{LookAhead, may_begin, may_come_next, IsDecided, DecidesEach}
 use Rattle.gms_grammar.specs.Reading.{read, Reads, taken, entered, both, in_left, in_right, left_out, there, no_more, again}
 use Rattle.gms_grammar.proofs.Basics.{end_nil}
 use Rattle.gms_grammar.proofs.Starts.{Follows, starts, follows_part, follows_more, led, not_led, not_led_behind}
@@ -9,31 +9,31 @@ use Rattle.gms_grammar.proofs.Only.{only}
 
 module _ {C N D : Type 0} (production : N → Part C N) (ahead : LookAhead C N) (ok : DecidesEach ahead production) where
   -- a reader finds the tree before tokens that may follow
-  pub complete : (part : Part C N) (tree : DerivationTree (C × D)) → IsTree production part tree → (after : C → Bool) (behind : List (C × D)) → IsDecided ahead part after → Follows after behind → Reads production ahead part (yield tree ++ behind) (read tree behind)
-  complete (one test) (leaf token) h after behind d f = taken h
-  complete (the n) (node tree) h after behind d f =
-      entered (complete (production n) tree h (ahead.follow n) behind (ok.decided n) (follows_more production ahead ok _ _ _ d f))
-  complete (p · q) (pair a b) h after behind d f =
-      subst (λ w. Reads production ahead (p · q) w (read (pair a b) behind)) (sym (append_assoc (yield a) (yield b) behind))
+  pub complete : (part : Part C N) (tree : DerivationTree (C × D)) → IsTree production part tree → (after : C → Bool) (following : List (C × D)) → IsDecided ahead part after → Follows after following → Reads production ahead part (yield tree ++ following) (read tree following)
+  complete (one test) (leaf token) h after following d f = taken h
+  complete (the n) (node tree) h after following d f =
+      entered (complete (production n) tree h (ahead.follow n) following (ok.decided n) (follows_more production ahead ok _ _ _ d f))
+  complete (p · q) (pair a b) h after following d f =
+      subst (λ w. Reads production ahead (p · q) w (read (pair a b) following)) (sym (append_assoc (yield a) (yield b) following))
       (both
-      (complete p a h.0 (may_go_on ahead q after) (yield b ++ behind) d.0 (follows_part production ahead ok q after (yield b) behind (starts production ahead ok q b h.1) f))
-      (complete q b h.1 after behind d.1 f))
-  complete (p ∣ q) (left tree) h after behind d f =
-      in_left (led production ahead ok p (yield tree) behind (starts production ahead ok p tree h) d.0) (complete p tree h after behind d.3 f)
-  complete (p ∣ q) (right tree) h after behind d f =
+      (complete p a h.0 (may_come_next ahead q after) (yield b ++ following) d.0 (follows_part production ahead ok q after (yield b) following (starts production ahead ok q b h.1) f))
+      (complete q b h.1 after following d.1 f))
+  complete (p ∣ q) (left tree) h after following d f =
+      in_left (led production ahead ok p (yield tree) following (starts production ahead ok p tree h) d.0) (complete p tree h after following d.3 f)
+  complete (p ∣ q) (right tree) h after following d f =
       let first = starts production ahead ok q tree h in
-      in_right (not_led production ahead ok p q (yield tree) behind first d.1 d.2) (led production ahead ok q (yield tree) behind first d.1)
-      (complete q tree h after behind d.4 f)
-  complete (opt p) none h after behind d f = left_out (not_led_behind production ahead ok p after behind f d.1)
-  complete (opt p) (some tree) h after behind d f =
-      there (led production ahead ok p (yield tree) behind (starts production ahead ok p tree h) d.0) (complete p tree h after behind d.2 f)
-  complete (many p) none h after behind d f = no_more (not_led_behind production ahead ok p after behind f d.1)
-  complete (many p) (more a b) h after behind d f =
-      subst (λ w. Reads production ahead (many p) w (read (more a b) behind)) (sym (append_assoc (yield a) (yield b) behind))
-      (again (led production ahead ok p (yield a) (yield b ++ behind) (starts production ahead ok p a h.0) d.0)
-      (complete p a h.0 (λ c. may_begin ahead p c || after c) (yield b ++ behind) d.2 (follows_part production ahead ok (many p) after (yield b) behind (starts production ahead ok (many p) b h.1) f))
-      (complete (many p) b h.1 after behind d f))
-  complete _ _ h after behind d f = absurd h
+      in_right (not_led production ahead ok p q (yield tree) following first d.1 d.2) (led production ahead ok q (yield tree) following first d.1)
+      (complete q tree h after following d.4 f)
+  complete (opt p) none h after following d f = left_out (not_led_behind production ahead ok p after following f d.1)
+  complete (opt p) (some tree) h after following d f =
+      there (led production ahead ok p (yield tree) following (starts production ahead ok p tree h) d.0) (complete p tree h after following d.2 f)
+  complete (many p) none h after following d f = no_more (not_led_behind production ahead ok p after following f d.1)
+  complete (many p) (more a b) h after following d f =
+      subst (λ w. Reads production ahead (many p) w (read (more a b) following)) (sym (append_assoc (yield a) (yield b) following))
+      (again (led production ahead ok p (yield a) (yield b ++ following) (starts production ahead ok p a h.0) d.0)
+      (complete p a h.0 (λ c. may_begin ahead p c || after c) (yield b ++ following) d.2 (follows_part production ahead ok (many p) after (yield b) following (starts production ahead ok (many p) b h.1) f))
+      (complete (many p) b h.1 after following d f))
+  complete _ _ h after following d f = absurd h
 
   -- a reader finds the tree in the tokens of a tree alone
   pub complete_alone : (part : Part C N) (tree : DerivationTree (C × D)) → IsTree production part tree → (after : C → Bool) → IsDecided ahead part after → Reads production ahead part (yield tree) (read tree [])

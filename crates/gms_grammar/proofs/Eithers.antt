@@ -13,13 +13,13 @@ pub unled_next : {D : Type 0} (test : Terminal → Bool) (q : Part Terminal Nont
 unled_next test q [] h = refl
 unled_next test q (t ∷ ts) h = ap (λ b. b || false) h
 
-stuck_left : {D : Type 0} {test : Terminal → Bool} {q : Part Terminal Nonterminal} {ts front rest : List (Terminal × D)} → leads productions look_ahead q ts ≡ false → Reads productions look_ahead (one test) ts (stuck front rest) → Reads productions look_ahead (one test ∣ q) ts (stuck front rest)
+stuck_left : {D : Type 0} {test : Terminal → Bool} {q : Part Terminal Nonterminal} {ts prefix rest : List (Terminal × D)} → leads productions look_ahead q ts ≡ false → Reads productions look_ahead (one test) ts (stuck prefix rest) → Reads productions look_ahead (one test ∣ q) ts (stuck prefix rest)
 stuck_left k (refused h) = in_neither h k
 
-stuck_other : {D : Type 0} {test : Terminal → Bool} {p : Part Terminal Nonterminal} {ts front rest : List (Terminal × D)} → leads productions look_ahead p ts ≡ false → Reads productions look_ahead (one test) ts (stuck front rest) → Reads productions look_ahead (p ∣ one test) ts (stuck front rest)
+stuck_other : {D : Type 0} {test : Terminal → Bool} {p : Part Terminal Nonterminal} {ts prefix rest : List (Terminal × D)} → leads productions look_ahead p ts ≡ false → Reads productions look_ahead (one test) ts (stuck prefix rest) → Reads productions look_ahead (p ∣ one test) ts (stuck prefix rest)
 stuck_other k (refused h) = in_neither k h
 
-stuck_right : {D : Type 0} {test : Terminal → Bool} {p r : Part Terminal Nonterminal} {ts front rest : List (Terminal × D)} → leads productions look_ahead p ts ≡ false → Reads productions look_ahead (one test) ts (stuck front rest) → Reads productions look_ahead (p ∣ one test · r) ts (stuck front rest)
+stuck_right : {D : Type 0} {test : Terminal → Bool} {p r : Part Terminal Nonterminal} {ts prefix rest : List (Terminal × D)} → leads productions look_ahead p ts ≡ false → Reads productions look_ahead (one test) ts (stuck prefix rest) → Reads productions look_ahead (p ∣ one test · r) ts (stuck prefix rest)
 stuck_right {test = test} {r = r} k (refused {tokens = ts} h) = in_neither k (unled_next test r ts h)
 
 -- a token that was read leads

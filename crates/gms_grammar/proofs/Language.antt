@@ -25,16 +25,16 @@ module _ {D : Type 0} where
   gams_read_stops known n tokens rest tree r =
       read_stops productions look_ahead gams_decided known (the n) (look_ahead.follow n) tokens tree rest (λ c w. w) r
 
-  pub gams_stuck_stops : D → (n : Nonterminal) (tokens front rest : List (Terminal × D)) → Reads productions look_ahead (the n) tokens (stuck front rest) → Stops productions (the n) tokens front rest
-  gams_stuck_stops known n tokens front rest r =
-      stuck_stops productions look_ahead gams_decided known (the n) (look_ahead.follow n) tokens front rest (λ c w. w) r
+  pub gams_stuck_stops : D → (n : Nonterminal) (tokens prefix rest : List (Terminal × D)) → Reads productions look_ahead (the n) tokens (stuck prefix rest) → Stops productions (the n) tokens prefix rest
+  gams_stuck_stops known n tokens prefix rest r =
+      stuck_stops productions look_ahead gams_decided known (the n) (look_ahead.follow n) tokens prefix rest (λ c w. w) r
 
-  pub gams_stuck_none : D → (n : Nonterminal) (tokens front rest : List (Terminal × D)) → Reads productions look_ahead (the n) tokens (stuck front rest) → Derives productions (the n) front → ⊥
-  gams_stuck_none known n tokens front rest r =
-      stuck_none productions look_ahead gams_decided known (the n) (look_ahead.follow n) tokens front rest (λ c w. w) r
+  pub gams_stuck_none : D → (n : Nonterminal) (tokens prefix rest : List (Terminal × D)) → Reads productions look_ahead (the n) tokens (stuck prefix rest) → Derives productions (the n) prefix → ⊥
+  gams_stuck_none known n tokens prefix rest r =
+      stuck_none productions look_ahead gams_decided known (the n) (look_ahead.follow n) tokens prefix rest (λ c w. w) r
 
-  pub gams_takes : D → (n : Nonterminal) (tokens front rest : List (Terminal × D)) → Takes productions look_ahead (the n) tokens front rest → (tokens ≡ front ++ rest) × Begins productions (the n) front
-  gams_takes known n tokens front rest r =
+  pub gams_takes : D → (n : Nonterminal) (tokens prefix rest : List (Terminal × D)) → Takes productions look_ahead (the n) tokens prefix rest → (tokens ≡ prefix ++ rest) × Begins productions (the n) prefix
+  gams_takes known n tokens prefix rest r =
       let t = takes_on productions look_ahead gams_decided known r (look_ahead.follow n) (λ c w. w) in
       (t.0, record { further = t.1.further; derives = record { tree = t.1.tree; is_tree = t.1.is_tree; yields = t.1.yields } })
 
@@ -44,9 +44,9 @@ module _ {D : Type 0} where
       (f.found, f.reads)
 
   -- tokens cease to begin anything at some place
-  pub gams_stops : D → (n : Nonterminal) (tokens : List (Terminal × D)) → (front : List (Terminal × D)) × ((rest : List (Terminal × D)) × Stops productions (the n) tokens front rest)
+  pub gams_stops : D → (n : Nonterminal) (tokens : List (Terminal × D)) → (prefix : List (Terminal × D)) × ((rest : List (Terminal × D)) × Stops productions (the n) tokens prefix rest)
   gams_stops known n tokens = let f = gams_finds n tokens in go f.0 f.1
     where
-      go : (found : Found (Terminal × D)) → Reads productions look_ahead (the n) tokens found → (front : List (Terminal × D)) × ((rest : List (Terminal × D)) × Stops productions (the n) tokens front rest)
+      go : (found : Found (Terminal × D)) → Reads productions look_ahead (the n) tokens found → (prefix : List (Terminal × D)) × ((rest : List (Terminal × D)) × Stops productions (the n) tokens prefix rest)
       go (read tree rest) r = (yield tree, (rest, gams_read_stops known n tokens rest tree r))
-      go (stuck front rest) r = (front, (rest, gams_stuck_stops known n tokens front rest r))
+      go (stuck prefix rest) r = (prefix, (rest, gams_stuck_stops known n tokens prefix rest r))

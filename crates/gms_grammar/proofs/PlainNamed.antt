@@ -42,9 +42,9 @@ module _ {D : Type 0} where
   mutual
     -- the indices that begin a statement
     heads : {tokens : List (Terminal × D)} → Gams (the HeadIndices) tokens → Gams either tokens
-    heads (whole (first (both text behind))) = after_index (whole (first text), first text) behind
+    heads (whole (first (both text following))) = after_index (whole (first text), first text) following
     heads (whole (second (both word (whole (first (both lag (whole rest))))))) = first (same productions (both (whole (second (both word (present lag)))) rest) (simp append_assoc))
-    heads (whole (second (both word (whole (second behind))))) = after_index (plain_name word) behind
+    heads (whole (second (both word (whole (second following))))) = after_index (plain_name word) following
 
     after_index : {u v : List (Terminal × D)} → Plain u → Gams (the AfterHeadIndex) v → Gams either (u ++ v)
     after_index index (whole (first (both comma others))) = front_of index comma (heads others)
@@ -71,9 +71,9 @@ module _ {D : Type 0} where
 
   -- an index of an assigned symbol before others, in the form of the table
   assigned : {u v w x : List (Terminal × D)} → Gams (the Index) u → Gams (many (token Comma · the Index)) v → Gams (token RightParen) w → Gams (the AfterTarget) x → Gams (the AfterHeadIndex) (v ++ (w ++ x)) → Gams (the HeadIndices) (u ++ (v ++ (w ++ x)))
-  assigned (whole (first text)) others closing rest behind = whole (first (both text behind))
-  assigned (whole (second (both word absent))) others closing rest behind = same productions (whole (second (both word (whole (second behind))))) (simp end_nil)
-  assigned (whole (second (both word (present lag)))) others closing rest behind =
+  assigned (whole (first text)) others closing rest following = whole (first (both text following))
+  assigned (whole (second (both word absent))) others closing rest following = same productions (whole (second (both word (whole (second following))))) (simp end_nil)
+  assigned (whole (second (both word (present lag)))) others closing rest following =
       same productions (whole (second (both word (whole (first (both lag (whole (both others (both closing rest))))))))) (simp append_assoc)
 
   assigned_behind : {v w x : List (Terminal × D)} → Gams (many (token Comma · the Index)) v → Gams (token RightParen) w → Gams (the AfterTarget) x → Gams (the AfterHeadIndex) (v ++ (w ++ x))
@@ -83,8 +83,8 @@ module _ {D : Type 0} where
 
   -- an index of a defined equation before others
   defined : {u v : List (Terminal × D)} → Gams plain_index u → Gams (the AfterHeadIndex) v → Gams (the HeadIndices) (u ++ v)
-  defined (first text) behind = whole (first (both text behind))
-  defined (second word) behind = whole (second (both word (whole (second behind))))
+  defined (first text) following = whole (first (both text following))
+  defined (second word) following = whole (second (both word (whole (second following))))
 
   defined_behind : {v w x : List (Terminal × D)} → Gams (many (token Comma · plain_index)) v → Gams (token RightParen) w → Gams plain_rest x → Gams (the AfterHeadIndex) (v ++ (w ++ x))
   defined_behind over closing (both condition rest) = whole (second (both closing (whole (both condition (second rest)))))

@@ -28,8 +28,8 @@ module _ {D : Type 0} where
   segmented (present (second keyword)) (both keyworded others) =
       same productions (both (whole (both absent (again keyword keyworded))) others) (simp append_assoc)
 
-  behind_semicolon : {u v : List (Terminal × D)} → Gams (token Semicolon) u → Gams (the Segment · many segment) v → Gams segments (u ++ v)
-  behind_semicolon semicolon (both a others) = same productions (both over (again (both semicolon a) others)) (simp append_assoc)
+  after_semicolon : {u v : List (Terminal × D)} → Gams (token Semicolon) u → Gams (the Segment · many segment) v → Gams segments (u ++ v)
+  after_semicolon semicolon (both a others) = same productions (both over (again (both semicolon a) others)) (simp append_assoc)
 
   with_keyword : {u v : List (Terminal × D)} → Gams (the KeywordStatement) u → Gams segments v → Gams segments (u ++ v)
   with_keyword keyword (both keyworded others) = same productions (both (again keyword keyworded) others) (simp append_assoc)
@@ -38,7 +38,7 @@ module _ {D : Type 0} where
   steps_segments : {tokens : List (Terminal × D)} → Gams (many step) tokens → Gams segments tokens
   steps_segments over = both over over
   steps_segments (again (first (both semicolon t)) others) =
-      same productions (behind_semicolon semicolon (segmented t (steps_segments others))) (simp append_assoc)
+      same productions (after_semicolon semicolon (segmented t (steps_segments others))) (simp append_assoc)
   steps_segments (again (second keyword) others) = with_keyword keyword (steps_segments others)
 
   program_table : {tokens : List (Terminal × D)} → Gams plain_program tokens → Gams (the Program) tokens
@@ -49,18 +49,18 @@ module _ {D : Type 0} where
   keyword_steps (again keyword others) steps = same productions (again (second keyword) (keyword_steps others steps)) (simp append_assoc)
 
   -- the statement at the start of a segment
-  front : {tokens : List (Terminal × D)} → Gams (opt (the NamedStatement)) tokens → Gams (opt statement) tokens
-  front absent = absent
-  front (present named) = present (first named)
+  prefix : {tokens : List (Terminal × D)} → Gams (opt (the NamedStatement)) tokens → Gams (opt statement) tokens
+  prefix absent = absent
+  prefix (present named) = present (first named)
 
   segment_steps : {tokens : List (Terminal × D)} → Gams (many segment) tokens → Gams (many step) tokens
   segment_steps over = over
   segment_steps (again (both semicolon (whole (both named keyworded))) others) =
-      same productions (again (first (both semicolon (front named))) (keyword_steps keyworded (segment_steps others))) (simp append_assoc)
+      same productions (again (first (both semicolon (prefix named))) (keyword_steps keyworded (segment_steps others))) (simp append_assoc)
 
   program_plain : {tokens : List (Terminal × D)} → Gams (the Program) tokens → Gams plain_program tokens
   program_plain (whole (both (whole (both named keyworded)) others)) =
-      same productions (both (front named) (keyword_steps keyworded (segment_steps others))) (simp append_assoc)
+      same productions (both (prefix named) (keyword_steps keyworded (segment_steps others))) (simp append_assoc)
 
   pub program_derives : (tokens : List (Terminal × D)) → Derives productions (the Program) tokens ↔ Derives productions plain_program tokens
   program_derives = derive_alike productions (the Program) plain_program (λ tokens h. program_plain h) (λ tokens h. program_table h)

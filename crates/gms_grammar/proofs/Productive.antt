@@ -3,7 +3,7 @@ use Rattle.std.proofs.Common.{◌≡◌, inl, inr, ℕ, zero, suc, ◌<◌, Bool
 use Rattle.std.specs.Prelude.{⊤}
 use Rattle.std.proofs.lemmas.Bool.{or_cases, and_parts}
 use Rattle.gms_grammar.specs.Grammar.{Part, one, the, ◌·◌, ◌∣◌, opt, many, DerivationTree, leaf, pair, left, right, none, some, more, node, yield, IsTree, Derives, IsUnexpected, Stops}
-use Rattle.gms_grammar.specs.LookAhead.{LookAhead, may_begin, may_go_on, IsDecided, DecidesEach, ends_below}
+use Rattle.gms_grammar.specs.LookAhead.{LookAhead, may_begin, may_come_next, IsDecided, DecidesEach, ends_below}
 use Rattle.gms_grammar.specs.Reading.{Found, read, stuck, Reads, taken, refused, entered, entered_stuck, both, first_stuck, second_stuck, in_left, in_left_stuck, in_right, in_right_stuck, in_neither, left_out, there, there_stuck, no_more, again, again_stuck, later_stuck, Takes, takes_one, takes_the, takes_first, takes_second, takes_left, takes_right, takes_opt, takes_many, takes_later}
 use Rattle.gms_grammar.proofs.Basics.{end_nil, not_longer, regrouped}
 use Rattle.gms_grammar.proofs.Sound.{sound}
@@ -12,48 +12,48 @@ use Rattle.gms_grammar.proofs.Only.{only}
 
 module _ {C N D : Type 0} (production : N → Part C N) (ahead : LookAhead C N) (ok : DecidesEach ahead production) (known : D) where
   -- Some tree of the part begins with these tokens.
-  pub record GoesOn (part : Part C N) (front : List (C × D)) : Type 0 where
+  pub record GoesOn (part : Part C N) (prefix : List (C × D)) : Type 0 where
     pub tree : DerivationTree (C × D)
     pub is_tree : IsTree production part tree
     pub further : List (C × D)
-    pub yields : yield tree ≡ front ++ further
+    pub yields : yield tree ≡ prefix ++ further
 
   -- a tree begins with no tokens
   from : {part : Part C N} (tree : DerivationTree (C × D)) → IsTree production part tree → GoesOn part []
   from tree h = record { tree = tree; is_tree = h; further = yield tree; yields = refl }
 
   -- tokens that begin a part begin a larger one
-  on_node : {n : N} {front : List (C × D)} → GoesOn (production n) front → GoesOn (the n) front
+  on_node : {n : N} {prefix : List (C × D)} → GoesOn (production n) prefix → GoesOn (the n) prefix
   on_node t = record { tree = node t.tree; is_tree = t.is_tree; further = t.further; yields = t.yields }
 
-  on_left : {p q : Part C N} {front : List (C × D)} → GoesOn p front → GoesOn (p ∣ q) front
+  on_left : {p q : Part C N} {prefix : List (C × D)} → GoesOn p prefix → GoesOn (p ∣ q) prefix
   on_left t = record { tree = left t.tree; is_tree = t.is_tree; further = t.further; yields = t.yields }
 
-  on_right : {p q : Part C N} {front : List (C × D)} → GoesOn q front → GoesOn (p ∣ q) front
+  on_right : {p q : Part C N} {prefix : List (C × D)} → GoesOn q prefix → GoesOn (p ∣ q) prefix
   on_right t = record { tree = right t.tree; is_tree = t.is_tree; further = t.further; yields = t.yields }
 
-  on_some : {p : Part C N} {front : List (C × D)} → GoesOn p front → GoesOn (opt p) front
+  on_some : {p : Part C N} {prefix : List (C × D)} → GoesOn p prefix → GoesOn (opt p) prefix
   on_some t = record { tree = some t.tree; is_tree = t.is_tree; further = t.further; yields = t.yields }
 
-  on_more : {p : Part C N} {front : List (C × D)} → GoesOn p front → GoesOn (many p) front
+  on_more : {p : Part C N} {prefix : List (C × D)} → GoesOn p prefix → GoesOn (many p) prefix
   on_more t = record { tree = more t.tree none; is_tree = (t.is_tree, tt); further = t.further; yields = end_nil (yield t.tree) ∙ t.yields }
 
-  on_first : {p q : Part C N} {front : List (C × D)} → GoesOn p front → GoesOn q [] → GoesOn (p · q) front
-  on_first {front = front} t u = record {
+  on_first : {p q : Part C N} {prefix : List (C × D)} → GoesOn p prefix → GoesOn q [] → GoesOn (p · q) prefix
+  on_first {prefix = prefix} t u = record {
     tree = pair t.tree u.tree;
     is_tree = (t.is_tree, u.is_tree);
     further = t.further ++ yield u.tree;
-    yields = ap (λ w. w ++ yield u.tree) t.yields ∙ append_assoc front t.further (yield u.tree);
+    yields = ap (λ w. w ++ yield u.tree) t.yields ∙ append_assoc prefix t.further (yield u.tree);
   }
 
-  behind : (a : DerivationTree (C × D)) (b front further : List (C × D)) → b ≡ front ++ further → yield a ++ b ≡ (yield a ++ front) ++ further
-  behind a b front further e = ap (λ w. yield a ++ w) e ∙ sym (append_assoc (yield a) front further)
+  following : (a : DerivationTree (C × D)) (b prefix further : List (C × D)) → b ≡ prefix ++ further → yield a ++ b ≡ (yield a ++ prefix) ++ further
+  following a b prefix further e = ap (λ w. yield a ++ w) e ∙ sym (append_assoc (yield a) prefix further)
 
-  on_second : {p q : Part C N} (a : DerivationTree (C × D)) {front : List (C × D)} → IsTree production p a → GoesOn q front → GoesOn (p · q) (yield a ++ front)
-  on_second a h u = record { tree = pair a u.tree; is_tree = (h, u.is_tree); further = u.further; yields = behind a _ _ _ u.yields }
+  on_second : {p q : Part C N} (a : DerivationTree (C × D)) {prefix : List (C × D)} → IsTree production p a → GoesOn q prefix → GoesOn (p · q) (yield a ++ prefix)
+  on_second a h u = record { tree = pair a u.tree; is_tree = (h, u.is_tree); further = u.further; yields = following a _ _ _ u.yields }
 
-  on_later : {p : Part C N} (a : DerivationTree (C × D)) {front : List (C × D)} → IsTree production p a → GoesOn (many p) front → GoesOn (many p) (yield a ++ front)
-  on_later a h u = record { tree = more a u.tree; is_tree = (h, u.is_tree); further = u.further; yields = behind a _ _ _ u.yields }
+  on_later : {p : Part C N} (a : DerivationTree (C × D)) {prefix : List (C × D)} → IsTree production p a → GoesOn (many p) prefix → GoesOn (many p) (yield a ++ prefix)
+  on_later a h u = record { tree = more a u.tree; is_tree = (h, u.is_tree); further = u.further; yields = following a _ _ _ u.yields }
 
   -- a part has a tree where the nonterminals below a bound have one
   tree_within : (bound : ℕ) → ((n : N) → ahead.depth n < bound → GoesOn (the n) []) → (part : Part C N) (after : C → Bool) → IsDecided ahead part after → ends_below ahead bound part ≡ true → GoesOn part []
@@ -84,7 +84,7 @@ module _ {C N D : Type 0} (production : N → Part C N) (ahead : LookAhead C N) 
 
   abbrev Promises : Part C N → Found (C × D) → Type 0
   Promises part (read tree rest) = ⊤
-  Promises part (stuck front rest) = GoesOn part front
+  Promises part (stuck prefix rest) = GoesOn part prefix
 
   promises : {part : Part C N} {tokens : List (C × D)} {found : Found (C × D)} → Reads production ahead part tokens found → (after : C → Bool) → IsDecided ahead part after → Promises part found
   promises (taken h) after d = tt
@@ -92,7 +92,7 @@ module _ {C N D : Type 0} (production : N → Part C N) (ahead : LookAhead C N) 
   promises (entered r) after d = tt
   promises (entered_stuck {n = n} r) after d = on_node (promises r (ahead.follow n) (ok.decided n))
   promises (both r s) after d = tt
-  promises (first_stuck {q = q} r) after d = on_first (promises r (may_go_on ahead q after) d.0) (has_tree q after d.1)
+  promises (first_stuck {q = q} r) after d = on_first (promises r (may_come_next ahead q after) d.0) (has_tree q after d.1)
   promises (second_stuck {a = a} r s) after d = on_second a (sound production ahead r).0 (promises s after d.1)
   promises (in_left h r) after d = tt
   promises (in_left_stuck h r) after d = on_left (promises r after d.3)
@@ -108,10 +108,10 @@ module _ {C N D : Type 0} (production : N → Part C N) (ahead : LookAhead C N) 
   promises (later_stuck {a = a} h r s) after d = on_later a (sound production ahead r).0 (promises s after d)
 
   -- what a reader goes over begins a list that the part derives
-  pub takes_on : {part : Part C N} {tokens front rest : List (C × D)} → Takes production ahead part tokens front rest → (after : C → Bool) → IsDecided ahead part after → (tokens ≡ front ++ rest) × GoesOn part front
+  pub takes_on : {part : Part C N} {tokens prefix rest : List (C × D)} → Takes production ahead part tokens prefix rest → (after : C → Bool) → IsDecided ahead part after → (tokens ≡ prefix ++ rest) × GoesOn part prefix
   takes_on (takes_one {token = token} h) after d = (refl, record { tree = leaf token; is_tree = h; further = []; yields = refl })
   takes_on (takes_the {n = n} r) after d = let t = takes_on r (ahead.follow n) (ok.decided n) in (t.0, on_node t.1)
-  takes_on (takes_first {q = q} r) after d = let t = takes_on r (may_go_on ahead q after) d.0 in (t.0, on_first t.1 (has_tree q after d.1))
+  takes_on (takes_first {q = q} r) after d = let t = takes_on r (may_come_next ahead q after) d.0 in (t.0, on_first t.1 (has_tree q after d.1))
   takes_on (takes_second {a = a} r s) after d =
       let u = takes_on s after d.1 in
       let v = sound production ahead r in
@@ -143,8 +143,8 @@ module _ {C N D : Type 0} (production : N → Part C N) (ahead : LookAhead C N) 
 
   -- where a reader is stuck, the tokens read are the longest that begin a list that the part
   -- derives
-  pub stuck_stops : (part : Part C N) (after : C → Bool) (tokens front rest : List (C × D)) → IsDecided ahead part after → Reads production ahead part tokens (stuck front rest) → Stops production part tokens front rest
-  stuck_stops part after tokens front rest d r =
+  pub stuck_stops : (part : Part C N) (after : C → Bool) (tokens prefix rest : List (C × D)) → IsDecided ahead part after → Reads production ahead part tokens (stuck prefix rest) → Stops production part tokens prefix rest
+  stuck_stops part after tokens prefix rest d r =
       let t = promises r after d in
       record {
         parts = sound production ahead r;
@@ -152,14 +152,14 @@ module _ {C N D : Type 0} (production : N → Part C N) (ahead : LookAhead C N) 
         ends = ends_at rest r;
       }
     where
-      ends_at : (rest : List (C × D)) → Reads production ahead part tokens (stuck front rest) → IsUnexpected production part front rest
+      ends_at : (rest : List (C × D)) → Reads production ahead part tokens (stuck prefix rest) → IsUnexpected production part prefix rest
       ends_at [] r = tt
       ends_at (next ∷ rest) r = λ b.
           only production ahead ok r after d b.derives.tree [] (next ∷ b.further)
-          (record { is_tree = b.derives.is_tree; follows = tt; goes = refl; agrees = end_nil (yield b.derives.tree) ∙ b.derives.yields ∙ append_assoc front (next ∷ []) b.further })
+          (record { is_tree = b.derives.is_tree; follows = tt; goes = refl; agrees = end_nil (yield b.derives.tree) ∙ b.derives.yields ∙ append_assoc prefix (next ∷ []) b.further })
 
   -- where a reader is stuck, the tokens read are no complete part
-  pub stuck_none : (part : Part C N) (after : C → Bool) (tokens front rest : List (C × D)) → IsDecided ahead part after → Reads production ahead part tokens (stuck front rest) → Derives production part front → ⊥
-  stuck_none part after tokens front rest d r b =
+  pub stuck_none : (part : Part C N) (after : C → Bool) (tokens prefix rest : List (C × D)) → IsDecided ahead part after → Reads production ahead part tokens (stuck prefix rest) → Derives production part prefix → ⊥
+  stuck_none part after tokens prefix rest d r b =
       only production ahead ok r after d b.tree [] []
       (record { is_tree = b.is_tree; follows = tt; goes = tt; agrees = ap (λ w. w ++ []) b.yields })

@@ -36,7 +36,7 @@ sound_append {E = E} rule w (t ∷ u) v ahead h k =
     (h.0, sound_append rule (rule.after w t (kind_ahead u (kind_ahead v ahead))) u v ahead h.1 k)
 
 -- the tokens that were gone over, and the rest
-pub takes_parts : {D : Type 0} {p : Part Terminal Nonterminal} {ts front rest : List (Terminal × D)} → Takes productions look_ahead p ts front rest → ts ≡ front ++ rest
+pub takes_parts : {D : Type 0} {p : Part Terminal Nonterminal} {ts prefix rest : List (Terminal × D)} → Takes productions look_ahead p ts prefix rest → ts ≡ prefix ++ rest
 takes_parts (takes_one h) = refl
 takes_parts (takes_the t) = takes_parts t
 takes_parts (takes_first t) = takes_parts t
@@ -123,31 +123,31 @@ module _ {K D W E R : Type 0} {rules : K → Rule D W E R} {key : K} where
   by_cause r f g = record { why = λ fault is. elim (r.why fault is) [ inl s ↦ inl (f fault s) | inr s ↦ inr (g fault s) ] }
 
   -- a token is wrong, or unexpected, within a larger part that goes over the same tokens
-  pub wrong_as : {p q : Part Terminal Nonterminal} {w : W} {ts : List (Terminal × D)} {fault : E} → (s : IsWrong rules key p w ts fault) → Takes productions look_ahead q ts (s.before ++ s.token ∷ []) s.behind → IsWrong rules key q w ts fault
-  wrong_as s t = record { before = s.before; token = s.token; behind = s.behind; takes = t; are_sound = s.are_sound; is_faulty = s.is_faulty }
+  pub wrong_as : {p q : Part Terminal Nonterminal} {w : W} {ts : List (Terminal × D)} {fault : E} → (s : IsWrong rules key p w ts fault) → Takes productions look_ahead q ts (s.before ++ s.token ∷ []) s.following → IsWrong rules key q w ts fault
+  wrong_as s t = record { before = s.before; token = s.token; following = s.following; takes = t; are_sound = s.are_sound; is_faulty = s.is_faulty }
 
-  pub stuck_as : {p q : Part Terminal Nonterminal} {w : W} {ts : List (Terminal × D)} {fault : E} → (s : IsStuck rules key p w ts fault) → Reads productions look_ahead q ts (stuck s.front s.rest) → IsStuck rules key q w ts fault
-  stuck_as s r = record { front = s.front; rest = s.rest; reads = r; are_sound = s.are_sound; is = s.is }
+  pub stuck_as : {p q : Part Terminal Nonterminal} {w : W} {ts : List (Terminal × D)} {fault : E} → (s : IsStuck rules key p w ts fault) → Reads productions look_ahead q ts (stuck s.prefix s.rest) → IsStuck rules key q w ts fault
+  stuck_as s r = record { prefix = s.prefix; rest = s.rest; reads = r; are_sound = s.are_sound; is = s.is }
 
   -- the tokens where one is wrong
-  wrong_parts : {p : Part Terminal Nonterminal} {w : W} {ts : List (Terminal × D)} {fault : E} → (s : IsWrong rules key p w ts fault) → ts ≡ s.before ++ s.token ∷ s.behind
-  wrong_parts s = takes_parts s.takes ∙ append_assoc s.before (s.token ∷ []) s.behind
+  wrong_parts : {p : Part Terminal Nonterminal} {w : W} {ts : List (Terminal × D)} {fault : E} → (s : IsWrong rules key p w ts fault) → ts ≡ s.before ++ s.token ∷ s.following
+  wrong_parts s = takes_parts s.takes ∙ append_assoc s.before (s.token ∷ []) s.following
 
   -- a fault after a part is a fault of the larger part
   pub wrong_behind : {p q r : Part Terminal Nonterminal} {w v : W} {ts between : List (Terminal × D)} {a : DerivationTree (Terminal × D)} {fault : E} → IsPartRead rules key p w ts a v between → (s : IsWrong rules key q v between fault) →
-      Takes productions look_ahead r ts (yield a ++ (s.before ++ s.token ∷ [])) s.behind → IsWrong rules key r w ts fault
+      Takes productions look_ahead r ts (yield a ++ (s.before ++ s.token ∷ [])) s.following → IsWrong rules key r w ts fault
   wrong_behind {r = r} {ts = ts} {a = a} {fault = fault} g s t = record {
     before = yield a ++ s.before;
     token = s.token;
-    behind = s.behind;
-    takes = subst (λ x. Takes productions look_ahead r ts x s.behind) (sym (append_assoc (yield a) s.before (s.token ∷ []))) t;
-    are_sound = onward g s.before (s.token ∷ s.behind) (wrong_parts s) s.are_sound;
-    is_faulty = subst (λ (x : W). (rules key).Faulty x s.token (kind_of s.behind) fault) (walk_on g s.before (s.token ∷ s.behind) (wrong_parts s)) s.is_faulty;
+    following = s.following;
+    takes = subst (λ x. Takes productions look_ahead r ts x s.following) (sym (append_assoc (yield a) s.before (s.token ∷ []))) t;
+    are_sound = onward g s.before (s.token ∷ s.following) (wrong_parts s) s.are_sound;
+    is_faulty = subst (λ (x : W). (rules key).Faulty x s.token (kind_of s.following) fault) (walk_on g s.before (s.token ∷ s.following) (wrong_parts s)) s.is_faulty;
   }
 
   pub stuck_behind : {p q r : Part Terminal Nonterminal} {w v : W} {ts between : List (Terminal × D)} {a : DerivationTree (Terminal × D)} {fault : E} → IsPartRead rules key p w ts a v between → (s : IsStuck rules key q v between fault) →
-      Reads productions look_ahead r ts (stuck (yield a ++ s.front) s.rest) → IsStuck rules key r w ts fault
-  stuck_behind {a = a} g s r = record { front = yield a ++ s.front; rest = s.rest; reads = r; are_sound = onward g s.front s.rest (sound productions look_ahead s.reads) s.are_sound; is = s.is }
+      Reads productions look_ahead r ts (stuck (yield a ++ s.prefix) s.rest) → IsStuck rules key r w ts fault
+  stuck_behind {a = a} g s r = record { prefix = yield a ++ s.prefix; rest = s.rest; reads = r; are_sound = onward g s.prefix s.rest (sound productions look_ahead s.reads) s.are_sound; is = s.is }
 
   pub refuses_first : {p q : Part Terminal Nonterminal} {w : W} {ts : List (Terminal × D)} {e : R} → Refuses rules key p w ts e → Refuses rules key (p · q) w ts e
   refuses_first r = by_cause r (λ fault s. stuck_as s (first_stuck s.reads)) (λ fault s. wrong_as s (takes_first s.takes))
@@ -175,13 +175,13 @@ module _ {K D W E R : Type 0} {rules : K → Rule D W E R} {key : K} where
 
   -- nothing of a part was read, since the next token is unexpected, and this is what is told
   pub refuses_at : {p : Part Terminal Nonterminal} {w : W} {ts : List (Terminal × D)} {e : R} → Reads productions look_ahead p ts (stuck [] ts) → ((fault : E) → e ≡ (rules key).told fault → (rules key).unexpected ts ≡ fault) → Refuses rules key p w ts e
-  refuses_at {ts = ts} r only = record { why = λ fault k. inl (record { front = []; rest = ts; reads = r; are_sound = tt; is = sym (only fault k) }) }
+  refuses_at {ts = ts} r only = record { why = λ fault k. inl (record { prefix = []; rest = ts; reads = r; are_sound = tt; is = sym (only fault k) }) }
 
   -- the first token has a fault, and this is what is told
   pub refuses_token : {p : Part Terminal Nonterminal} {w : W} {ts rest : List (Terminal × D)} {token : Terminal × D} {found : E} {e : R} → Takes productions look_ahead p ts (token ∷ []) rest →
       (rules key).Faulty w token (kind_of rest) found → ((fault : E) → e ≡ (rules key).told fault → found ≡ fault) → Refuses rules key p w ts e
   refuses_token {w = w} {rest = rest} {token = token} t f only = record {
-    why = λ fault k. inr (record { before = []; token = token; behind = rest; takes = t; are_sound = tt; is_faulty = subst (λ (x : E). (rules key).Faulty w token (kind_of rest) x) (only fault k) f });
+    why = λ fault k. inr (record { before = []; token = token; following = rest; takes = t; are_sound = tt; is_faulty = subst (λ (x : E). (rules key).Faulty w token (kind_of rest) x) (only fault k) f });
   }
 
   -- a part that is read within another

@@ -10,7 +10,7 @@ module _ {C N D : Type 0} (production : N → Part C N) (ahead : LookAhead C N) 
   -- the tokens are those of what was found
   abbrev pub IsFound : Part C N → List (C × D) → Found (C × D) → Type 0
   IsFound part tokens (read tree rest) = IsTree production part tree × (tokens ≡ yield tree ++ rest)
-  IsFound part tokens (stuck front rest) = tokens ≡ front ++ rest
+  IsFound part tokens (stuck prefix rest) = tokens ≡ prefix ++ rest
 
   pub sound : {part : Part C N} {tokens : List (C × D)} {found : Found (C × D)} → Reads production ahead part tokens found → IsFound part tokens found
   sound (taken h) = (h, refl)
@@ -54,7 +54,7 @@ module _ {C N D : Type 0} (production : N → Part C N) (ahead : LookAhead C N) 
   -- where nothing is taken, the first token does not lead into the part
   abbrev pub Took : Part C N → List (C × D) → Found (C × D) → Type 0
   Took part tokens (read tree rest) = yield tree ≡ [] → leads production ahead part tokens ≡ false
-  Took part tokens (stuck front rest) = front ≡ [] → (leads production ahead part tokens ≡ false) × (may_be_empty ahead part ≡ false)
+  Took part tokens (stuck prefix rest) = prefix ≡ [] → (leads production ahead part tokens ≡ false) × (may_be_empty ahead part ≡ false)
 
   pub took : {part : Part C N} {tokens : List (C × D)} {found : Found (C × D)} → Reads production ahead part tokens found → (after : C → Bool) → IsDecided ahead part after → Took part tokens found
   took (taken h) after d = λ e. cc

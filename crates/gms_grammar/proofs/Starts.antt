@@ -2,7 +2,7 @@
 use Rattle.std.proofs.Common.{◌≡◌, Bool, true, false, List, [], ◌∷◌, ◌++◌, refl, sym, ap, ◌∙◌}
 use Rattle.std.specs.Prelude.{⊤}
 use Rattle.gms_grammar.specs.Grammar.{Part, one, the, ◌·◌, ◌∣◌, opt, many, DerivationTree, leaf, pair, left, right, none, some, more, node, yield, IsTree}
-use Rattle.gms_grammar.specs.LookAhead.{LookAhead, may_be_empty, may_begin, may_go_on, Apart, DecidesEach}
+use Rattle.gms_grammar.specs.LookAhead.{LookAhead, may_be_empty, may_begin, may_come_next, Apart, DecidesEach}
 use Rattle.gms_grammar.specs.Reading.{leads}
 use Rattle.gms_grammar.proofs.Basics.{or_left, or_right, and_both, not_true, both_ways}
 
@@ -55,65 +55,65 @@ module _ {C N D : Type 0} (production : N → Part C N) (ahead : LookAhead C N) 
   starts _ _ h = absurd h
 
   -- what follows a part that another follows
-  pub follows_part : (q : Part C N) (after : C → Bool) (u behind : List (C × D)) → Starts q u → Follows after behind → Follows (may_go_on ahead q after) (u ++ behind)
+  pub follows_part : (q : Part C N) (after : C → Bool) (u following : List (C × D)) → Starts q u → Follows after following → Follows (may_come_next ahead q after) (u ++ following)
   follows_part q after [] [] h k = tt
-  follows_part q after [] (x ∷ behind) h k = or_right (may_begin ahead q x.0) _ (and_both _ _ h k)
-  follows_part q after (x ∷ u) behind h k = or_left _ _ h
+  follows_part q after [] (x ∷ following) h k = or_right (may_begin ahead q x.0) _ (and_both _ _ h k)
+  follows_part q after (x ∷ u) following h k = or_left _ _ h
 
-  pub follows_more : (after also : C → Bool) (behind : List (C × D)) → ((c : C) → after c ≡ true → also c ≡ true) → Follows after behind → Follows also behind
+  pub follows_more : (after also : C → Bool) (following : List (C × D)) → ((c : C) → after c ≡ true → also c ≡ true) → Follows after following → Follows also following
   follows_more after also [] h k = tt
-  follows_more after also (x ∷ behind) h k = h x.0 k
+  follows_more after also (x ∷ following) h k = h x.0 k
 
   -- the first token leads into a part that is not empty
-  pub led : (p : Part C N) (u behind : List (C × D)) → Starts p u → may_be_empty ahead p ≡ false → leads {D = D} production ahead p (u ++ behind) ≡ true
-  led p [] behind h k = absurd (both_ways _ h k)
-  led p (x ∷ u) behind h k = h
+  pub led : (p : Part C N) (u following : List (C × D)) → Starts p u → may_be_empty ahead p ≡ false → leads {D = D} production ahead p (u ++ following) ≡ true
+  led p [] following h k = absurd (both_ways _ h k)
+  led p (x ∷ u) following h k = h
 
   -- the first token of one part does not lead into another that starts otherwise
-  pub not_led : (p q : Part C N) (u behind : List (C × D)) → Starts q u → may_be_empty ahead q ≡ false → Apart ahead (may_begin ahead p) (may_begin ahead q) → leads {D = D} production ahead p (u ++ behind) ≡ false
-  not_led p q [] behind h k apart = absurd (both_ways _ h k)
-  not_led p q (x ∷ u) behind h k apart = not_true _ (λ w. apart x.0 w h)
+  pub not_led : (p q : Part C N) (u following : List (C × D)) → Starts q u → may_be_empty ahead q ≡ false → Apart ahead (may_begin ahead p) (may_begin ahead q) → leads {D = D} production ahead p (u ++ following) ≡ false
+  not_led p q [] following h k apart = absurd (both_ways _ h k)
+  not_led p q (x ∷ u) following h k apart = not_true _ (λ w. apart x.0 w h)
 
   -- what follows does not lead into a part that starts otherwise
-  pub not_led_behind : (p : Part C N) (after : C → Bool) (behind : List (C × D)) → Follows after behind → Apart ahead (may_begin ahead p) after → leads {D = D} production ahead p behind ≡ false
+  pub not_led_behind : (p : Part C N) (after : C → Bool) (following : List (C × D)) → Follows after following → Apart ahead (may_begin ahead p) after → leads {D = D} production ahead p following ≡ false
   not_led_behind p after [] h apart = refl
-  not_led_behind p after (x ∷ behind) h apart = not_true _ (λ w. apart x.0 w h)
+  not_led_behind p after (x ∷ following) h apart = not_true _ (λ w. apart x.0 w h)
 
   -- a list begins with a token that may begin a part
-  pub record Begun (p : Part C N) (front : List (C × D)) : Type 0 where
+  pub record Begun (p : Part C N) (prefix : List (C × D)) : Type 0 where
     pub first : C × D
     pub others : List (C × D)
-    pub is : front ≡ first ∷ others
+    pub is : prefix ≡ first ∷ others
     pub may : may_begin ahead p first.0 ≡ true
 
-  pub begun : (p : Part C N) (tokens front rest : List (C × D)) → tokens ≡ front ++ rest → leads production ahead p tokens ≡ true → (front ≡ [] → leads production ahead p tokens ≡ false) → Begun p front
+  pub begun : (p : Part C N) (tokens prefix rest : List (C × D)) → tokens ≡ prefix ++ rest → leads production ahead p tokens ≡ true → (prefix ≡ [] → leads production ahead p tokens ≡ false) → Begun p prefix
   begun p tokens [] rest e h took = absurd (both_ways _ h (took refl))
-  begun p tokens (x ∷ front) rest e h took = record { first = x; others = front; is = refl; may = sym (ap (leads production ahead p) e) ∙ h }
+  begun p tokens (x ∷ prefix) rest e h took = record { first = x; others = prefix; is = refl; may = sym (ap (leads production ahead p) e) ∙ h }
 
   -- two parts that start otherwise do not start alike
-  pub clash : (p q : Part C N) (front u behind further : List (C × D)) → Begun p front → Starts q u → may_be_empty ahead q ≡ false → Apart ahead (may_begin ahead p) (may_begin ahead q) → u ++ behind ≡ front ++ further → ⊥
-  clash p q front [] behind further b h k apart e = both_ways _ h k
-  clash p q front (x ∷ u) behind further b h k apart e =
-      let equal : x ∷ (u ++ behind) ≡ b.first ∷ (b.others ++ further) = e ∙ ap (λ w. w ++ further) b.is in
+  pub clash : (p q : Part C N) (prefix u following further : List (C × D)) → Begun p prefix → Starts q u → may_be_empty ahead q ≡ false → Apart ahead (may_begin ahead p) (may_begin ahead q) → u ++ following ≡ prefix ++ further → ⊥
+  clash p q prefix [] following further b h k apart e = both_ways _ h k
+  clash p q prefix (x ∷ u) following further b h k apart e =
+      let equal : x ∷ (u ++ following) ≡ b.first ∷ (b.others ++ further) = e ∙ ap (λ w. w ++ further) b.is in
       let same : x ≡ b.first = cc in
       apart x.0 (ap (λ (w : C × D). may_begin ahead p w.0) same ∙ b.may) h
 
   -- a nonempty part is not at a place where the first token does not lead into it
-  pub unled : (p : Part C N) (tokens u behind further : List (C × D)) → Starts p u → may_be_empty ahead p ≡ false → leads {D = D} production ahead p tokens ≡ false → Goes tokens further → u ++ behind ≡ further → ⊥
-  unled p tokens [] behind further h k l g e = both_ways _ h k
-  unled p [] (x ∷ u) behind [] h k l g e = cc
-  unled p [] (x ∷ u) behind (y ∷ further) h k l g e = g
-  unled p (z ∷ tokens) (x ∷ u) behind [] h k l g e = cc
-  unled p (z ∷ tokens) (x ∷ u) behind (y ∷ further) h k l g e =
+  pub unled : (p : Part C N) (tokens u following further : List (C × D)) → Starts p u → may_be_empty ahead p ≡ false → leads {D = D} production ahead p tokens ≡ false → Goes tokens further → u ++ following ≡ further → ⊥
+  unled p tokens [] following further h k l g e = both_ways _ h k
+  unled p [] (x ∷ u) following [] h k l g e = cc
+  unled p [] (x ∷ u) following (y ∷ further) h k l g e = g
+  unled p (z ∷ tokens) (x ∷ u) following [] h k l g e = cc
+  unled p (z ∷ tokens) (x ∷ u) following (y ∷ further) h k l g e =
       let same : x ≡ z = cc in
       both_ways _ (ap (λ (w : C × D). may_begin ahead p w.0) (sym same) ∙ h) l
 
   -- what follows a part does not start it
-  pub unfollowed : (p : Part C N) (after : C → Bool) (front behind further : List (C × D)) → Begun p front → Follows after behind → Apart ahead (may_begin ahead p) after → behind ≡ front ++ further → ⊥
-  unfollowed p after front [] further b h apart e =
+  pub unfollowed : (p : Part C N) (after : C → Bool) (prefix following further : List (C × D)) → Begun p prefix → Follows after following → Apart ahead (may_begin ahead p) after → following ≡ prefix ++ further → ⊥
+  unfollowed p after prefix [] further b h apart e =
       let wrong : [] ≡ b.first ∷ (b.others ++ further) = e ∙ ap (λ w. w ++ further) b.is in
       cc
-  unfollowed p after front (x ∷ behind) further b h apart e =
-      let equal : x ∷ behind ≡ b.first ∷ (b.others ++ further) = e ∙ ap (λ w. w ++ further) b.is in
+  unfollowed p after prefix (x ∷ following) further b h apart e =
+      let equal : x ∷ following ≡ b.first ∷ (b.others ++ further) = e ∙ ap (λ w. w ++ further) b.is in
       let same : x ≡ b.first = cc in
       apart x.0 (ap (λ (w : C × D). may_begin ahead p w.0) same ∙ b.may) h

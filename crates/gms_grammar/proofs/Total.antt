@@ -42,40 +42,40 @@ module _ {C N : Type 0} (D : Type 0) (production : N → Part C N) (ahead : Look
   by {found = found} r = record { found = found; reads = r }
 
   -- what follows from a tree that is found, and from where a reader is stuck
-  each : {X : Type 0} {p : Part C N} {tokens : List (C × D)} → Finds p tokens → ((tree : DerivationTree (C × D)) (rest : List (C × D)) → Reads production ahead p tokens (read tree rest) → X) → ((front rest : List (C × D)) → Reads production ahead p tokens (stuck front rest) → X) → X
+  each : {X : Type 0} {p : Part C N} {tokens : List (C × D)} → Finds p tokens → ((tree : DerivationTree (C × D)) (rest : List (C × D)) → Reads production ahead p tokens (read tree rest) → X) → ((prefix rest : List (C × D)) → Reads production ahead p tokens (stuck prefix rest) → X) → X
   each {X = X} {p = p} {tokens = tokens} f at_tree at_stuck = go f.found f.reads
     where
       go : (found : Found (C × D)) → Reads production ahead p tokens found → X
       go (read tree rest) r = at_tree tree rest r
-      go (stuck front rest) r = at_stuck front rest r
+      go (stuck prefix rest) r = at_stuck prefix rest r
 
   finds_the : (n : N) (tokens : List (C × D)) → Finds (production n) tokens → Finds (the n) tokens
-  finds_the n tokens f = each f (λ tree rest r. by (entered r)) (λ front rest r. by (entered_stuck r))
+  finds_the n tokens f = each f (λ tree rest r. by (entered r)) (λ prefix rest r. by (entered_stuck r))
 
   finds_pair : (p q : Part C N) (tokens : List (C × D)) → Finds p tokens → ((a : DerivationTree (C × D)) (between : List (C × D)) → Reads production ahead p tokens (read a between) → Finds q between) → Finds (p · q) tokens
   finds_pair p q tokens f then =
-      each f (λ a between r. each (then a between r) (λ b rest s. by (both r s)) (λ front rest s. by (second_stuck r s)))
-      (λ front rest r. by (first_stuck r))
+      each f (λ a between r. each (then a between r) (λ b rest s. by (both r s)) (λ prefix rest s. by (second_stuck r s)))
+      (λ prefix rest r. by (first_stuck r))
 
   finds_either : (p q : Part C N) (tokens : List (C × D)) → Finds p tokens → Finds q tokens → Finds (p ∣ q) tokens
   finds_either p q tokens f g =
       elim (cases_Bool (leads production ahead p tokens)) [
-        | inl h ↦ each f (λ tree rest r. by (in_left h r)) (λ front rest r. by (in_left_stuck h r))
+        | inl h ↦ each f (λ tree rest r. by (in_left h r)) (λ prefix rest r. by (in_left_stuck h r))
         | inr h ↦ elim (cases_Bool (leads production ahead q tokens)) [
-          | inl k ↦ each g (λ tree rest r. by (in_right h k r)) (λ front rest r. by (in_right_stuck h k r))
+          | inl k ↦ each g (λ tree rest r. by (in_right h k r)) (λ prefix rest r. by (in_right_stuck h k r))
           | inr k ↦ by (in_neither h k)
         ]
       ]
 
   finds_opt : (p : Part C N) (tokens : List (C × D)) → Finds p tokens → Finds (opt p) tokens
   finds_opt p tokens f =
-      elim (cases_Bool (leads production ahead p tokens)) [ inl h ↦ each f (λ tree rest r. by (there h r)) (λ front rest r. by (there_stuck h r)) | inr h ↦ by (left_out h) ]
+      elim (cases_Bool (leads production ahead p tokens)) [ inl h ↦ each f (λ tree rest r. by (there h r)) (λ prefix rest r. by (there_stuck h r)) | inr h ↦ by (left_out h) ]
 
   finds_many : (p : Part C N) (tokens : List (C × D)) → Finds p tokens → ((a : DerivationTree (C × D)) (between : List (C × D)) → Reads production ahead p tokens (read a between) → Finds (many p) between) → Finds (many p) tokens
   finds_many p tokens f then =
       elim (cases_Bool (leads production ahead p tokens)) [
-        | inl h ↦ each f (λ a between r. each (then a between r) (λ b rest s. by (again h r s)) (λ front rest s. by (later_stuck h r s)))
-            (λ front rest r. by (again_stuck h r))
+        | inl h ↦ each f (λ a between r. each (then a between r) (λ b rest s. by (again h r s)) (λ prefix rest s. by (later_stuck h r s)))
+            (λ prefix rest r. by (again_stuck h r))
         | inr h ↦ by (no_more h)
       ]
 

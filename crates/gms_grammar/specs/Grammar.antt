@@ -79,12 +79,12 @@ module _ {C N D : Type 0} (production : N → Part C N) where
 
   -- the next of the tokens, if any, is unexpected after those before it: with it they begin nothing
   abbrev pub IsUnexpected : Part C N → List (C × D) → List (C × D) → Type 0
-  IsUnexpected part front [] = ⊤
-  IsUnexpected part front (next ∷ rest) = Begins part (front ++ next ∷ []) → ⊥
+  IsUnexpected part prefix [] = ⊤
+  IsUnexpected part prefix (next ∷ rest) = Begins part (prefix ++ next ∷ []) → ⊥
 
-  -- `front` is the longest prefix of the tokens that begins some list that the part derives, and
+  -- `prefix` is the longest prefix of the tokens that begins some list that the part derives, and
   -- `rest` follows it.
-  pub record Stops (part : Part C N) (tokens front rest : List (C × D)) : Type 0 where
-    pub parts : tokens ≡ front ++ rest
-    pub begins : Begins part front
-    pub ends : IsUnexpected part front rest
+  pub record Stops (part : Part C N) (tokens prefix rest : List (C × D)) : Type 0 where
+    pub parts : tokens ≡ prefix ++ rest
+    pub begins : Begins part prefix
+    pub ends : IsUnexpected part prefix rest

@@ -37,8 +37,8 @@ module _ {C N : Type 0} (ahead : LookAhead C N) where
 
   -- whether a token of a kind may follow a part: `q` comes next and may begin with the token, or
   -- `q` may be empty and the token may follow it
-  abbrev pub may_go_on : Part C N → (C → Bool) → C → Bool
-  may_go_on q after c = may_begin q c || (may_be_empty q && after c)
+  abbrev pub may_come_next : Part C N → (C → Bool) → C → Bool
+  may_come_next q after c = may_begin q c || (may_be_empty q && after c)
 
   -- no kind passes both tests
   abbrev pub Apart : (C → Bool) → (C → Bool) → Type 0
@@ -50,7 +50,7 @@ module _ {C N : Type 0} (ahead : LookAhead C N) where
   abbrev pub IsDecided : Part C N → (C → Bool) → Type 0
   IsDecided (one test) after = (c : C) × (test c ≡ true)
   IsDecided (the n) after = (c : C) → after c ≡ true → ahead.follow n c ≡ true
-  IsDecided (p · q) after = IsDecided p (may_go_on q after) × IsDecided q after
+  IsDecided (p · q) after = IsDecided p (may_come_next q after) × IsDecided q after
   IsDecided (p ∣ q) after =
       (may_be_empty p ≡ false) × (may_be_empty q ≡ false) × Apart (may_begin p) (may_begin q) × IsDecided p after × IsDecided q after
   IsDecided (opt p) after = (may_be_empty p ≡ false) × Apart (may_begin p) after × IsDecided p after

@@ -25,49 +25,49 @@ module _ {C N D : Type 0} (production : N → Part C N) (ahead : LookAhead C N) 
     refused : {test : C → Bool} {tokens : List (C × D)} → leads (one test) tokens ≡ false → Reads (one test) tokens (stuck [] tokens)
     entered : {n : N} {tokens rest : List (C × D)} {tree : DerivationTree (C × D)} →
         Reads (production n) tokens (read tree rest) → Reads (the n) tokens (read (node tree) rest)
-    entered_stuck : {n : N} {tokens front rest : List (C × D)} →
-        Reads (production n) tokens (stuck front rest) → Reads (the n) tokens (stuck front rest)
+    entered_stuck : {n : N} {tokens prefix rest : List (C × D)} →
+        Reads (production n) tokens (stuck prefix rest) → Reads (the n) tokens (stuck prefix rest)
     both : {p q : Part C N} {tokens between rest : List (C × D)} {a b : DerivationTree (C × D)} →
         Reads p tokens (read a between) → Reads q between (read b rest) → Reads (p · q) tokens (read (pair a b) rest)
-    first_stuck : {p q : Part C N} {tokens front rest : List (C × D)} →
-        Reads p tokens (stuck front rest) → Reads (p · q) tokens (stuck front rest)
-    second_stuck : {p q : Part C N} {tokens between front rest : List (C × D)} {a : DerivationTree (C × D)} →
-        Reads p tokens (read a between) → Reads q between (stuck front rest) → Reads (p · q) tokens (stuck (yield a ++ front) rest)
+    first_stuck : {p q : Part C N} {tokens prefix rest : List (C × D)} →
+        Reads p tokens (stuck prefix rest) → Reads (p · q) tokens (stuck prefix rest)
+    second_stuck : {p q : Part C N} {tokens between prefix rest : List (C × D)} {a : DerivationTree (C × D)} →
+        Reads p tokens (read a between) → Reads q between (stuck prefix rest) → Reads (p · q) tokens (stuck (yield a ++ prefix) rest)
     in_left : {p q : Part C N} {tokens rest : List (C × D)} {tree : DerivationTree (C × D)} →
         leads p tokens ≡ true → Reads p tokens (read tree rest) → Reads (p ∣ q) tokens (read (left tree) rest)
-    in_left_stuck : {p q : Part C N} {tokens front rest : List (C × D)} →
-        leads p tokens ≡ true → Reads p tokens (stuck front rest) → Reads (p ∣ q) tokens (stuck front rest)
+    in_left_stuck : {p q : Part C N} {tokens prefix rest : List (C × D)} →
+        leads p tokens ≡ true → Reads p tokens (stuck prefix rest) → Reads (p ∣ q) tokens (stuck prefix rest)
     in_right : {p q : Part C N} {tokens rest : List (C × D)} {tree : DerivationTree (C × D)} →
         leads p tokens ≡ false → leads q tokens ≡ true → Reads q tokens (read tree rest) → Reads (p ∣ q) tokens (read (right tree) rest)
-    in_right_stuck : {p q : Part C N} {tokens front rest : List (C × D)} →
-        leads p tokens ≡ false → leads q tokens ≡ true → Reads q tokens (stuck front rest) → Reads (p ∣ q) tokens (stuck front rest)
+    in_right_stuck : {p q : Part C N} {tokens prefix rest : List (C × D)} →
+        leads p tokens ≡ false → leads q tokens ≡ true → Reads q tokens (stuck prefix rest) → Reads (p ∣ q) tokens (stuck prefix rest)
     in_neither : {p q : Part C N} {tokens : List (C × D)} →
         leads p tokens ≡ false → leads q tokens ≡ false → Reads (p ∣ q) tokens (stuck [] tokens)
     left_out : {p : Part C N} {tokens : List (C × D)} → leads p tokens ≡ false → Reads (opt p) tokens (read none tokens)
     there : {p : Part C N} {tokens rest : List (C × D)} {tree : DerivationTree (C × D)} →
         leads p tokens ≡ true → Reads p tokens (read tree rest) → Reads (opt p) tokens (read (some tree) rest)
-    there_stuck : {p : Part C N} {tokens front rest : List (C × D)} →
-        leads p tokens ≡ true → Reads p tokens (stuck front rest) → Reads (opt p) tokens (stuck front rest)
+    there_stuck : {p : Part C N} {tokens prefix rest : List (C × D)} →
+        leads p tokens ≡ true → Reads p tokens (stuck prefix rest) → Reads (opt p) tokens (stuck prefix rest)
     no_more : {p : Part C N} {tokens : List (C × D)} → leads p tokens ≡ false → Reads (many p) tokens (read none tokens)
     again : {p : Part C N} {tokens between rest : List (C × D)} {a b : DerivationTree (C × D)} →
         leads p tokens ≡ true → Reads p tokens (read a between) → Reads (many p) between (read b rest) → Reads (many p) tokens (read (more a b) rest)
-    again_stuck : {p : Part C N} {tokens front rest : List (C × D)} →
-        leads p tokens ≡ true → Reads p tokens (stuck front rest) → Reads (many p) tokens (stuck front rest)
-    later_stuck : {p : Part C N} {tokens between front rest : List (C × D)} {a : DerivationTree (C × D)} →
+    again_stuck : {p : Part C N} {tokens prefix rest : List (C × D)} →
+        leads p tokens ≡ true → Reads p tokens (stuck prefix rest) → Reads (many p) tokens (stuck prefix rest)
+    later_stuck : {p : Part C N} {tokens between prefix rest : List (C × D)} {a : DerivationTree (C × D)} →
         leads p tokens ≡ true →
-        Reads p tokens (read a between) → Reads (many p) between (stuck front rest) → Reads (many p) tokens (stuck (yield a ++ front) rest)
+        Reads p tokens (read a between) → Reads (many p) between (stuck prefix rest) → Reads (many p) tokens (stuck (yield a ++ prefix) rest)
 
-  -- A reader of a part reads the tokens `front`, at least one, within the part or up to its end.
+  -- A reader of a part reads the tokens `prefix`, at least one, within the part or up to its end.
   pub data Takes : Part C N → List (C × D) → List (C × D) → List (C × D) → Type 0 where
     takes_one : {test : C → Bool} {token : C × D} {rest : List (C × D)} →
         test token.0 ≡ true → Takes (one test) (token ∷ rest) (token ∷ []) rest
-    takes_the : {n : N} {tokens front rest : List (C × D)} → Takes (production n) tokens front rest → Takes (the n) tokens front rest
-    takes_first : {p q : Part C N} {tokens front rest : List (C × D)} → Takes p tokens front rest → Takes (p · q) tokens front rest
-    takes_second : {p q : Part C N} {tokens between front rest : List (C × D)} {a : DerivationTree (C × D)} →
-        Reads p tokens (read a between) → Takes q between front rest → Takes (p · q) tokens (yield a ++ front) rest
-    takes_left : {p q : Part C N} {tokens front rest : List (C × D)} → Takes p tokens front rest → Takes (p ∣ q) tokens front rest
-    takes_right : {p q : Part C N} {tokens front rest : List (C × D)} → Takes q tokens front rest → Takes (p ∣ q) tokens front rest
-    takes_opt : {p : Part C N} {tokens front rest : List (C × D)} → Takes p tokens front rest → Takes (opt p) tokens front rest
-    takes_many : {p : Part C N} {tokens front rest : List (C × D)} → Takes p tokens front rest → Takes (many p) tokens front rest
-    takes_later : {p : Part C N} {tokens between front rest : List (C × D)} {a : DerivationTree (C × D)} →
-        Reads p tokens (read a between) → Takes (many p) between front rest → Takes (many p) tokens (yield a ++ front) rest
+    takes_the : {n : N} {tokens prefix rest : List (C × D)} → Takes (production n) tokens prefix rest → Takes (the n) tokens prefix rest
+    takes_first : {p q : Part C N} {tokens prefix rest : List (C × D)} → Takes p tokens prefix rest → Takes (p · q) tokens prefix rest
+    takes_second : {p q : Part C N} {tokens between prefix rest : List (C × D)} {a : DerivationTree (C × D)} →
+        Reads p tokens (read a between) → Takes q between prefix rest → Takes (p · q) tokens (yield a ++ prefix) rest
+    takes_left : {p q : Part C N} {tokens prefix rest : List (C × D)} → Takes p tokens prefix rest → Takes (p ∣ q) tokens prefix rest
+    takes_right : {p q : Part C N} {tokens prefix rest : List (C × D)} → Takes q tokens prefix rest → Takes (p ∣ q) tokens prefix rest
+    takes_opt : {p : Part C N} {tokens prefix rest : List (C × D)} → Takes p tokens prefix rest → Takes (opt p) tokens prefix rest
+    takes_many : {p : Part C N} {tokens prefix rest : List (C × D)} → Takes p tokens prefix rest → Takes (many p) tokens prefix rest
+    takes_later : {p : Part C N} {tokens between prefix rest : List (C × D)} {a : DerivationTree (C × D)} →
+        Reads p tokens (read a between) → Takes (many p) between prefix rest → Takes (many p) tokens (yield a ++ prefix) rest

@@ -51,20 +51,20 @@ module _ {K D W E R : Type 0} (rules : K → Rule D W E R) (key : K) where
 
   -- within a part the next token is unexpected, and none before it has a fault
   pub record IsStuck (part : Part Terminal Nonterminal) (w : W) (tokens : List (Terminal × D)) (fault : E) : Type 0 where
-    pub front : List (Terminal × D)
+    pub prefix : List (Terminal × D)
     pub rest : List (Terminal × D)
-    pub reads : Reads productions look_ahead part tokens (stuck front rest)
-    pub are_sound : AreFaultless (rules key) w front (kind_of rest)
+    pub reads : Reads productions look_ahead part tokens (stuck prefix rest)
+    pub are_sound : AreFaultless (rules key) w prefix (kind_of rest)
     pub is : fault ≡ (rules key).unexpected rest
 
   -- within a part a token has a fault, and none before it has one
   pub record IsWrong (part : Part Terminal Nonterminal) (w : W) (tokens : List (Terminal × D)) (fault : E) : Type 0 where
     pub before : List (Terminal × D)
     pub token : Terminal × D
-    pub behind : List (Terminal × D)
-    pub takes : Takes productions look_ahead part tokens (before ++ token ∷ []) behind
+    pub following : List (Terminal × D)
+    pub takes : Takes productions look_ahead part tokens (before ++ token ∷ []) following
     pub are_sound : AreFaultless (rules key) w before token.0
-    pub is_faulty : (rules key).Faulty (left_by (rules key).after w before token.0) token (kind_of behind) fault
+    pub is_faulty : (rules key).Faulty (left_by (rules key).after w before token.0) token (kind_of following) fault
 
   -- why a part was not read; out of memory has no cause in it
   pub record Refuses (part : Part Terminal Nonterminal) (w : W) (tokens : List (Terminal × D)) (refusal : R) : Type 0 where
@@ -76,27 +76,27 @@ module _ {K D W E R : Type 0} (rules : K → Rule D W E R) (key : K) where
     pub refuses : (e : R) → Refuses inner v rest e → Refuses part w tokens e
 
   -- The first faulty one of the tokens, if one of kind `ahead` follows them.
-  pub record IsFirstFaulty (w : W) (front : List (Terminal × D)) (ahead : Terminal) (fault : E) : Type 0 where
+  pub record IsFirstFaulty (w : W) (prefix : List (Terminal × D)) (ahead : Terminal) (fault : E) : Type 0 where
     pub before : List (Terminal × D)
     pub token : Terminal × D
-    pub behind : List (Terminal × D)
-    pub parts : front ≡ before ++ token ∷ behind
+    pub following : List (Terminal × D)
+    pub parts : prefix ≡ before ++ token ∷ following
     pub are_sound : AreFaultless (rules key) w before token.0
-    pub is_faulty : (rules key).Faulty (left_by (rules key).after w before token.0) token (kind_ahead behind ahead) fault
+    pub is_faulty : (rules key).Faulty (left_by (rules key).after w before token.0) token (kind_ahead following ahead) fault
 
   -- None of the tokens before is faulty, and the next one is unexpected, since they require more.
-  pub record IsUnexpectedByRule (Wants : Type 0) (w : W) (front rest : List (Terminal × D)) (fault : E) : Type 0 where
-    pub wants : Wants
-    pub are_sound : AreFaultless (rules key) w front (kind_of rest)
+  pub record IsUnexpectedByRule (Wants : Type 0) (w : W) (prefix rest : List (Terminal × D)) (fault : E) : Type 0 where
+    pub needs : Wants
+    pub are_sound : AreFaultless (rules key) w prefix (kind_of rest)
     pub is : fault ≡ (rules key).unexpected rest
 
   -- The first fault of tokens: it is where they cease to begin what is read, if they require more
   -- there, or before that.
   pub record IsRefusedByRule (Wants : List (Terminal × D) → List (Terminal × D) → Type 0) (n : Nonterminal) (w : W) (tokens : List (Terminal × D)) (fault : E) : Type 0 where
-    pub front : List (Terminal × D)
+    pub prefix : List (Terminal × D)
     pub rest : List (Terminal × D)
-    pub stops : Stops productions (the n) tokens front rest
-    pub cause : IsFirstFaulty w front (kind_of rest) fault ⊎ IsUnexpectedByRule (Wants front rest) w front rest fault
+    pub stops : Stops productions (the n) tokens prefix rest
+    pub cause : IsFirstFaulty w prefix (kind_of rest) fault ⊎ IsUnexpectedByRule (Wants prefix rest) w prefix rest fault
 
 -- a token has at most one fault
 abbrev pub FaultsOnce : {D W E R : Type 0} → Rule D W E R → Type 0

@@ -15,9 +15,9 @@ pub fn derivation_laws<D>()
     ensures one_tree { (n : Nonterminal) (one other : DerivationTree (Terminal × D)) →
         IsTree productions (the n) one → IsTree productions (the n) other → yield one ≡ yield other → one ≡ other }
     ensures stops { D → (n : Nonterminal) (tokens : List (Terminal × D)) →
-        (front : List (Terminal × D)) × ((rest : List (Terminal × D)) × Stops productions (the n) tokens front rest) }
-    ensures stops_once { (n : Nonterminal) (tokens front rest other behind : List (Terminal × D)) →
-        Stops productions (the n) tokens front rest → Stops productions (the n) tokens other behind → front ≡ other }
+        (prefix : List (Terminal × D)) × ((rest : List (Terminal × D)) × Stops productions (the n) tokens prefix rest) }
+    ensures stops_once { (n : Nonterminal) (tokens prefix rest other following : List (Terminal × D)) →
+        Stops productions (the n) tokens prefix rest → Stops productions (the n) tokens other following → prefix ≡ other }
 {}
 
 /// What a reader by the table finds, which goes by one token and takes no step back.
@@ -34,14 +34,14 @@ pub fn reading_laws<D>()
         Reads productions look_ahead (the n) tokens (read tree rest) → IsTree productions (the n) tree }
     ensures longest { D → (n : Nonterminal) (tokens rest : List (Terminal × D)) (tree : DerivationTree (Terminal × D)) →
         Reads productions look_ahead (the n) tokens (read tree rest) → Stops productions (the n) tokens (yield tree) rest }
-    ensures unexpected { D → (n : Nonterminal) (tokens front rest : List (Terminal × D)) →
-        Reads productions look_ahead (the n) tokens (stuck front rest) → Stops productions (the n) tokens front rest }
-    ensures unfinished { D → (n : Nonterminal) (tokens front rest : List (Terminal × D)) →
-        Reads productions look_ahead (the n) tokens (stuck front rest) → Derives productions (the n) front → ⊥ }
+    ensures unexpected { D → (n : Nonterminal) (tokens prefix rest : List (Terminal × D)) →
+        Reads productions look_ahead (the n) tokens (stuck prefix rest) → Stops productions (the n) tokens prefix rest }
+    ensures unfinished { D → (n : Nonterminal) (tokens prefix rest : List (Terminal × D)) →
+        Reads productions look_ahead (the n) tokens (stuck prefix rest) → Derives productions (the n) prefix → ⊥ }
     ensures complete { (n : Nonterminal) (tree : DerivationTree (Terminal × D)) →
         IsTree productions (the n) tree → Reads productions look_ahead (the n) (yield tree) (read tree []) }
-    ensures gone_over { D → (n : Nonterminal) (tokens front rest : List (Terminal × D)) →
-        Takes productions look_ahead (the n) tokens front rest → (tokens ≡ front ++ rest) × Begins productions (the n) front }
+    ensures gone_over { D → (n : Nonterminal) (tokens prefix rest : List (Terminal × D)) →
+        Takes productions look_ahead (the n) tokens prefix rest → (tokens ≡ prefix ++ rest) × Begins productions (the n) prefix }
 {}
 
 /// If the table has a production in another form than the one that reads best, so that one token

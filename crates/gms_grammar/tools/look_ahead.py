@@ -237,10 +237,10 @@ for n in names:
     print(f"least_depth {n} = {depth[n]}")
 print("""
 -- a number above those of the nonterminals that may come first in a nonterminal
-abbrev pub front_rank : Nonterminal → ℕ""")
+abbrev pub leading_rank : Nonterminal → ℕ""")
 for n in names:
-    print(f"front_rank {n} = {rank[n]}")
+    print(f"leading_rank {n} = {rank[n]}")
 print("""
 -- what one token tells
 abbrev pub look_ahead : LookAhead Terminal Nonterminal
-look_ahead = record { first = λ n. is_terminal_among (firsts n); follow = λ n. is_terminal_among (follows n); empty = is_empty; depth = least_depth; rank = front_rank }""")
+look_ahead = record { first = λ n. is_terminal_among (firsts n); follow = λ n. is_terminal_among (follows n); empty = is_empty; depth = least_depth; rank = leading_rank }""")

@@ -3,7 +3,7 @@ use Rattle.std.proofs.Common.{◌≡◌, ℕ, ◌-◌, List, [], ◌++◌, lengt
 use Rattle.std.proofs.lemmas.List.{take_all}
 use Rattle.gms_host.specs.Meaning.{Outside}
 use Rattle.gms_host.specs.Rules.{told_with, with_output, with_said}
-use Rattle.gms_host.specs.Spooling.{Passes, Speaks, WritesFront}
+use Rattle.gms_host.specs.Spooling.{Passes, Speaks, WritesPrefix}
 
 -- the part after a place, as a slice
 pub rest_from : {X : Type 0} (xs : List X) (k : ℕ) → take (length xs - k) (drop k xs) ≡ drop k xs
@@ -40,37 +40,37 @@ said-both a b c x y p q =
 -- ---- the output
 
 -- Nothing of the expected text was written.
-pub passes_none : (o : Outside) (due : List ℕ) → Passes o o due due
-passes_none o due = record { bytes = []; written = output-none o; split = refl }
+pub passes_none : (o : Outside) (expected : List ℕ) → Passes o o expected expected
+passes_none o expected = record { bytes = []; written = output-none o; split = refl }
 
 -- All of it went out.
-pub passes_all : {old new : Outside} {due left : List ℕ} → new ≡ with_output old due → left ≡ [] → Passes old new due left
-passes_all {old} {new} {due} w none = record { bytes = due; written = w; split = sym (append-nil due) ∙ ap (λ (r : List ℕ). due ++ r) (sym none) }
+pub passes_all : {old new : Outside} {expected left : List ℕ} → new ≡ with_output old expected → left ≡ [] → Passes old new expected left
+passes_all {old} {new} {expected} w none = record { bytes = expected; written = w; split = sym (append-nil expected) ∙ ap (λ (r : List ℕ). expected ++ r) (sym none) }
 
 -- Of what is pending more went out.
-pub passes_on : (old mid new : Outside) (due pending left : List ℕ) → Passes old mid due pending → Passes mid new pending left → Passes old new due left
-passes_on old mid new due pending left p q =
+pub passes_on : (old mid new : Outside) (expected pending left : List ℕ) → Passes old mid expected pending → Passes mid new pending left → Passes old new expected left
+passes_on old mid new expected pending left p q =
     record { bytes = p.bytes ++ q.bytes; written = output-both old mid new p.bytes q.bytes p.written q.written; split = p.split ∙ ap (λ (r : List ℕ). p.bytes ++ r) q.split ∙ sym (append_assoc p.bytes q.bytes left) }
 
 -- More may be appended to the expected text and to what is pending.
-pub passes_behind : {old new : Outside} {due pending : List ℕ} (more : List ℕ) → Passes old new due pending → Passes old new (due ++ more) (pending ++ more)
-passes_behind {old} {new} {due} {pending} more p = record { bytes = p.bytes; written = p.written; split = ap (λ (r : List ℕ). r ++ more) p.split ∙ append_assoc p.bytes pending more }
+pub passes_behind : {old new : Outside} {expected pending : List ℕ} (more : List ℕ) → Passes old new expected pending → Passes old new (expected ++ more) (pending ++ more)
+passes_behind {old} {new} {expected} {pending} more p = record { bytes = p.bytes; written = p.written; split = ap (λ (r : List ℕ). r ++ more) p.split ∙ append_assoc p.bytes pending more }
 
 -- The first `k` bytes of what is pending were written.
-pub passes_write : (old now next : Outside) (due rest : List ℕ) (k : ℕ) → Passes old now due rest → next ≡ with_output now (take k rest) → Passes old next due (take (length rest - k) (drop k rest))
-passes_write old now next due rest k p w = passes_on old now next due rest _ p (record { bytes = take k rest; written = w; split = split_at rest k })
+pub passes_write : (old now next : Outside) (expected rest : List ℕ) (k : ℕ) → Passes old now expected rest → next ≡ with_output now (take k rest) → Passes old next expected (take (length rest - k) (drop k rest))
+passes_write old now next expected rest k p w = passes_on old now next expected rest _ p (record { bytes = take k rest; written = w; split = split_at rest k })
 
 -- All that was pending was written.
-pub passes_whole : (old mid new : Outside) (due pending : List ℕ) → Passes old mid due pending → new ≡ with_output mid pending → new ≡ with_output old due
-passes_whole old mid new due pending p w = output-both old mid new p.bytes pending p.written w ∙ ap (λ (r : List ℕ). with_output old r) (sym p.split)
+pub passes_whole : (old mid new : Outside) (expected pending : List ℕ) → Passes old mid expected pending → new ≡ with_output mid pending → new ≡ with_output old expected
+passes_whole old mid new expected pending p w = output-both old mid new p.bytes pending p.written w ∙ ap (λ (r : List ℕ). with_output old r) (sym p.split)
 
 -- A prefix of what was pending was written, and so a prefix of the expected text, no shorter than
 -- what was written before.
-pub front_on : (old mid new : Outside) (due pending : List ℕ) → Passes old mid due pending → WritesFront mid new pending → WritesFront old new due
-front_on old mid new due pending p f = (f.0, passes_on old mid new due pending f.0 p f.1)
+pub front_on : (old mid new : Outside) (expected pending : List ℕ) → Passes old mid expected pending → WritesPrefix mid new pending → WritesPrefix old new expected
+front_on old mid new expected pending p f = (f.0, passes_on old mid new expected pending f.0 p f.1)
 
 -- A prefix of a text is one of a longer text.
-pub front_longer : {old new : Outside} {due : List ℕ} (more : List ℕ) → WritesFront old new due → WritesFront old new (due ++ more)
+pub front_longer : {old new : Outside} {expected : List ℕ} (more : List ℕ) → WritesPrefix old new expected → WritesPrefix old new (expected ++ more)
 front_longer more f = (f.0 ++ more, passes_behind more f.1)
 
 -- ---- standard output

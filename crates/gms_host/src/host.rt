@@ -61,7 +61,7 @@ pub trait Host {
     /// is the end of the input.
     fn read(&mut self, into: &mut [u8]) -> Result<usize, Failed>
         requires open { (meaning self.old).outside.reading ≡ true }
-        requires room { 0 < length into.old }
+        requires within_bound { 0 < length into.old }
         ensures count { IfOk result (λ count. count ≤ length into.new) }
         ensures outside { ReadsBytes result (meaning self.old).outside (meaning self.new).outside into.new }
         ensures counts { CountsReading result (Unit {0}) (meaning self.old).counts (meaning self.new).counts }

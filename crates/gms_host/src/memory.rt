@@ -211,7 +211,7 @@ impl Host for MemHost {
     /// It is a fault exactly where the call is to fail, and takes no memory. Then nothing is given.
     fn read(&mut self, into: &mut [u8]) -> Result<usize, Failed>
         requires open { self.old.reading ≡ true }
-        requires room { 0 < length into.old }
+        requires within_bound { 0 < length into.old }
         ensures after { self.new ≡ after_read self.old result }
         ensures count { IfOk result (λ count. count ≡ piece self.old (min (length into.old) (length self.old.input))) }
         ensures end { IfOk result (λ count. count ≡ 0 → self.old.input ≡ []) }

@@ -130,7 +130,7 @@ fn counted(faults: &mut u64, error: &io::Error) -> Failed
 ///
 /// If memory runs out no error is counted, so that the count agrees with the answer.
 fn read_some<F: Read>(file: &mut F, faults: &mut u64, into: &mut [u8]) -> Result<usize, Failed>
-    ensures room { IfOk result (λ count. count ≤ length into.new) }
+    ensures within_bound { IfOk result (λ count. count ≤ length into.new) }
     ensures rose { IsErrOf result Failed.Fault → Rose faults.old faults.new }
     ensures same { IsErrOf result Failed.Memory → faults.new ≡ faults.old }
     ensures no_fall { faults.old ≤ faults.new }

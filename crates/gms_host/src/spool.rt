@@ -70,12 +70,12 @@ impl Spool {
     pub fn put<H: Host>(&mut self, host: &mut H, text: &[u8]) -> Result<(), Failed>
         requires { (H.meaning host.old).outside.writing ≡ true }
         ensures outside { PutsThrough result (H.meaning host.old).outside (H.meaning host.new).outside (self.old ++ text.now) self.new }
-        ensures room { length self.new ≤ 4096 }
+        ensures within_bound { length self.new ≤ 4096 }
         ensures counts { CountsWriting result (H.meaning host.old).counts (H.meaning host.new).counts }
     {
         let mut rest = text;
         while !rest.is_empty() {
-            self.make_room(host)?;
+            self.write_if_full(host)?;
             let count = rest.len().min(ROOM - self.pending.len());
             self.append(&rest[..count]);
             rest = &rest[count..];
@@ -86,10 +86,10 @@ impl Spool {
     }
 
     /// Writes what is pending if the spool is full.
-    fn make_room<H: Host>(&mut self, host: &mut H) -> Result<(), Failed>
+    fn write_if_full<H: Host>(&mut self, host: &mut H) -> Result<(), Failed>
         requires { (H.meaning host.old).outside.writing ≡ true }
         ensures outside { PutsThrough result (H.meaning host.old).outside (H.meaning host.new).outside self.old self.new }
-        ensures room { OnOk result (length self.new < 4096) }
+        ensures within_bound { OnOk result (length self.new < 4096) }
         ensures counts { CountsWriting result (H.meaning host.old).counts (H.meaning host.new).counts }
     {
         if self.pending.len() < ROOM {

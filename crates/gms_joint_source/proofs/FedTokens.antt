@@ -25,13 +25,13 @@ use Rattle.gms_lines.proofs.WithinLemmas.{table_bytes_le}
 use Rattle.gms_lex.specs.declared.keyword.Shape.{Shape}
 use Rattle.gms_lex.specs.declared.keyword.Shape.TheVariants.{Set, Parameter, Scalar, Model}
 use Rattle.gms_lex.specs.declared.mode.Stage.{Stage}
-use Rattle.gms_lex.specs.declared.mode.Stage.TheVariants.{Fresh, Due, After, Spaced}
+use Rattle.gms_lex.specs.declared.mode.Stage.TheVariants.{Fresh, Expected, After, Spaced}
 use Rattle.gms_lex.specs.declared.mode.Mode.{Mode}
 use Rattle.gms_lex.specs.declared.mode.Mode.TheVariants.{Named, Bare, Element, Value, Tail, TableNamed, TableBare, TableLines}
 use Rattle.gms_lex.specs.declared.mode.LineEnds.{LineEnds}
 use Rattle.gms_lex.specs.declared.mode.LineEnds.TheVariants.{Skipped, EndItem, EndElement}
 use Rattle.gms_lex.specs.Keywords.{keyword_of, begins_statement}
-use Rattle.gms_lex.specs.Pieces.{passes, ends_or_begins, space_length, line_ends, line_end, is_item_mark, behind_name, behind_domain, is_element_mark, begins_value_dot, element_tail, behind_label, in_list, token_read, table_piece_of, table_piece, plain_piece, piece_at}
+use Rattle.gms_lex.specs.Pieces.{passes, ends_or_begins, space_length, line_ends, line_end, is_item_mark, piece_after_name, piece_after_domain, is_element_mark, begins_value_dot, element_tail, piece_after_label, in_list, token_read, table_piece_of, table_piece, plain_piece, piece_at}
 use Rattle.gms_lex.proofs.LineTextLemmas.{length-take_all}
 use Rattle.gms_joint_source.proofs.Feeds.{fed, ends_in_return, run_fed, begins_fed, line_end_fed, content_fed, space_fed}
 
@@ -101,18 +101,18 @@ decimal_fed text rest =
 
 number_fed : (text rest : List ℕ) → number_length (fed text rest) ≡ number_length text
 number_fed text rest =
-    let front : ℕ = decimal_length text in
+    let prefix : ℕ = decimal_length text in
     ap (λ n. n + exponent_length (drop n (fed text rest))) (decimal_fed text rest)
-    ∙ ap (λ t. front + exponent_length t) (drop-append-le front text (10 ∷ rest) (decimal_le text))
-    ∙ ap (λ n. front + n) (exponent_fed (drop front text) rest)
+    ∙ ap (λ t. prefix + exponent_length t) (drop-append-le prefix text (10 ∷ rest) (decimal_le text))
+    ∙ ap (λ n. prefix + n) (exponent_fed (drop prefix text) rest)
 
 -- ---- symbols
 
 -- a text begins with these bytes, letter case ignored, byte by byte
 abbrev pub starts : List ℕ → List ℕ → Bool
 starts [] text = true
-starts (c ∷ front) [] = false
-starts (c ∷ front) (b ∷ text) = (to_ascii_lowercase b == to_ascii_lowercase c) && starts front text
+starts (c ∷ prefix) [] = false
+starts (c ∷ prefix) (b ∷ text) = (to_ascii_lowercase b == to_ascii_lowercase c) && starts prefix text
 
 le_both : (m n : ℕ) → nat_le (suc m) (suc n) ≡ nat_le m n
 le_both m n = elim (true_or_false (nat_le m n)) [
@@ -120,28 +120,28 @@ le_both m n = elim (true_or_false (nat_le m n)) [
   | inr f ↦ elim (true_or_false (nat_le (suc m) (suc n))) [ inl u ↦ absurd (grind (arith, nat_tests, u, f)) | inr g ↦ g ∙ sym f ]
 ]
 
-pub starts_is : (front text : List ℕ) → begins_with_word text front ≡ starts front text
+pub starts_is : (prefix text : List ℕ) → begins_with_word text prefix ≡ starts prefix text
 starts_is [] text = grind (arith, nat_tests)
-starts_is (c ∷ front) [] = and-false (nat_le (suc (length front)) 0)
-starts_is (c ∷ front) (b ∷ text) =
+starts_is (c ∷ prefix) [] = and-false (nat_le (suc (length prefix)) 0)
+starts_is (c ∷ prefix) (b ∷ text) =
     let e : Bool = to_ascii_lowercase b == to_ascii_lowercase c in
-    let s : Bool = str_eq_ignore_ascii_case (take (length front) text) front in
-    ap (λ v. v && (e && s)) (le_both (length front) (length text)) ∙ swapped (nat_le (length front) (length text)) e s ∙ ap (λ v. e && v) (starts_is front text)
+    let s : Bool = str_eq_ignore_ascii_case (take (length prefix) text) prefix in
+    ap (λ v. v && (e && s)) (le_both (length prefix) (length text)) ∙ swapped (nat_le (length prefix) (length text)) e s ∙ ap (λ v. e && v) (starts_is prefix text)
 
 -- no byte is a line feed
 abbrev pub no_feed : List ℕ → Bool
 no_feed [] = true
-no_feed (c ∷ front) = not (10 == to_ascii_lowercase c) && no_feed front
+no_feed (c ∷ prefix) = not (10 == to_ascii_lowercase c) && no_feed prefix
 
 pub first_false : (a b c : Bool) → (not a && b) ≡ true → (a && c) ≡ false
 first_false true b c h = cc
 first_false false b c h = refl
 
-pub starts_fed : (front text rest : List ℕ) → no_feed front ≡ true → starts front (fed text rest) ≡ starts front text
+pub starts_fed : (prefix text rest : List ℕ) → no_feed prefix ≡ true → starts prefix (fed text rest) ≡ starts prefix text
 starts_fed [] text rest h = refl
-starts_fed (c ∷ front) [] rest h = first_false (10 == to_ascii_lowercase c) (no_feed front) (starts front rest) h
-starts_fed (c ∷ front) (b ∷ text) rest h =
-    ap (λ v. (to_ascii_lowercase b == to_ascii_lowercase c) && v) (starts_fed front text rest ((and_parts (not (10 == to_ascii_lowercase c)) (no_feed front) h).1))
+starts_fed (c ∷ prefix) [] rest h = first_false (10 == to_ascii_lowercase c) (no_feed prefix) (starts prefix rest) h
+starts_fed (c ∷ prefix) (b ∷ text) rest h =
+    ap (λ v. (to_ascii_lowercase b == to_ascii_lowercase c) && v) (starts_fed prefix text rest ((and_parts (not (10 == to_ascii_lowercase c)) (no_feed prefix) h).1))
 
 no_feed_written : (s : Sym) → no_feed (written_symbol s) ≡ true
 no_feed_written EqE = refl
@@ -200,10 +200,10 @@ remark_fed : (b : ℕ) (text rest : List ℕ) → remark (b ∷ fed text rest) �
 remark_fed b text rest =
     if_alike (is_quote b) _ _ _ _ (quoted_fed Remark b text rest) (λ _. ap remark_of (run_fed is_text_byte (b ∷ text) rest refl))
 
-behind_name_fed : (b : ℕ) (text rest : List ℕ) → behind_name (b ∷ fed text rest) ≡ behind_name (b ∷ text)
+behind_name_fed : (b : ℕ) (text rest : List ℕ) → piece_after_name (b ∷ fed text rest) ≡ piece_after_name (b ∷ text)
 behind_name_fed b text rest = if_alike (b == 40 || is_item_mark b) _ _ _ _ (λ _. symbol_fed (b ∷ text) rest) (λ _. remark_fed b text rest)
 
-behind_domain_fed : (b : ℕ) (text rest : List ℕ) → behind_domain (b ∷ fed text rest) ≡ behind_domain (b ∷ text)
+behind_domain_fed : (b : ℕ) (text rest : List ℕ) → piece_after_domain (b ∷ fed text rest) ≡ piece_after_domain (b ∷ text)
 behind_domain_fed b text rest = if_alike (is_item_mark b) _ _ _ _ (λ _. symbol_fed (b ∷ text) rest) (λ _. remark_fed b text rest)
 
 value_dot_fed : (shape : Shape) (depth : ℕ) (stage : Stage) (b : ℕ) (text rest : List ℕ) → begins_value_dot shape depth stage (b ∷ fed text rest) ≡ begins_value_dot shape depth stage (b ∷ text)
@@ -216,14 +216,14 @@ element_tail_fed Set b text rest = remark_fed b text rest
 element_tail_fed Scalar b text rest = remark_fed b text rest
 element_tail_fed Model b text rest = remark_fed b text rest
 
-behind_label_fed : (shape : Shape) (depth : ℕ) (stage : Stage) (b : ℕ) (text rest : List ℕ) → behind_label shape depth stage (b ∷ fed text rest) ≡ behind_label shape depth stage (b ∷ text)
+behind_label_fed : (shape : Shape) (depth : ℕ) (stage : Stage) (b : ℕ) (text rest : List ℕ) → piece_after_label shape depth stage (b ∷ fed text rest) ≡ piece_after_label shape depth stage (b ∷ text)
 behind_label_fed shape depth stage b text rest =
     if_same _ _ _ _ _ _ (ap (λ v. is_element_mark b && not v) (value_dot_fed shape depth stage b text rest)) (λ _. symbol_fed (b ∷ text) rest)
     (λ _. if_alike (depth == 0) _ _ _ _ (λ _. element_tail_fed shape b text rest) (λ _. label_token_fed b text rest))
 
 in_list_fed : (shape : Shape) (depth : ℕ) (stage : Stage) (b : ℕ) (text rest : List ℕ) → in_list shape depth stage (b ∷ fed text rest) ≡ in_list shape depth stage (b ∷ text)
 in_list_fed shape depth Fresh b text rest = label_token_fed b text rest
-in_list_fed shape depth Due b text rest = label_token_fed b text rest
+in_list_fed shape depth Expected b text rest = label_token_fed b text rest
 in_list_fed shape depth After b text rest = behind_label_fed shape depth After b text rest
 in_list_fed shape depth Spaced b text rest = behind_label_fed shape depth Spaced b text rest
 

@@ -175,7 +175,7 @@ module _ {S : Type 0} (same : S → S → Bool) (same_is : (a b : S) → same a 
           let once : is_claimed p all ≡ true = (and_parts (is_claimed p all) (within (flow p all) all) ok).0 in
           let still : grow (flow p) 3 all ≡ all = grow_closed (flow p) 3 all closed in
           let between = leads_append (yield a) (yield b) s last l in
-          let behind : has all between.0 ≡ true = within_has (flow p all) all between.0 closed (flows p a is_tree.0 all once s between.0 (grow_first (flow p) 3 states s h) between.1) in
+          let following : has all between.0 ≡ true = within_has (flow p all) all between.0 closed (flows p a is_tree.0 all once s between.0 (grow_first (flow p) 3 states s h) between.1) in
           ap (λ (xs : List S). has xs last) (sym still)
-          ∙ flows (many p) b is_tree.1 all (ap (λ (xs : List S). is_claimed p xs && within (flow p xs) xs) still ∙ ok) between.0 last behind between.2
+          ∙ flows (many p) b is_tree.1 all (ap (λ (xs : List S). is_claimed p xs && within (flow p xs) xs) still ∙ ok) between.0 last following between.2
       flows _ _ is_tree states ok s last h l = absurd is_tree

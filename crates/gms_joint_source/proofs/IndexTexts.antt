@@ -255,17 +255,17 @@ module _ (first second : List ℕ) (names labels larger : List (List ℕ)) (whol
 
   -- a reader is after a part of an expression, and `n` parentheses are open
   record Behind (least n : ℕ) (p : GamsPart) (tree : Derivation) (rest : List KindedToken) : Type 0 where
-    walk : ReaderState
-    level : walk.level ≡ least
-    open_count : walk.open_count ≡ n
-    stands : Here walk rest
+    read_state : ReaderState
+    level : read_state.level ≡ least
+    open_count : read_state.open_count ≡ n
+    stands : Here read_state rest
     all : Throughout SameText NoMore p tree
 
   -- parts of an expression in which each text is in parentheses
   within : {p : GamsPart} {tokens rest : List KindedToken} {tree : Derivation} → Reads productions look_ahead p tokens (read tree rest) → (least n : ℕ) (w : ReaderState) → w.level ≡ least → w.open_count ≡ n → AllPass is_inner (yield tree) → TextsAbove least n (yield tree) → Here w tokens →
       Behind least (depth_after n (yield tree)) p tree rest
   within (taken {test = test} {token = t} {rest = rest} h) least n w l o i d e = record {
-    walk = reader_after first w t (kind_of rest);
+    read_state = reader_after first w t (kind_of rest);
     level = ap (λ b. if b then w.open_count else w.level) (not-true (begins t.0) i.0) ∙ l;
     open_count = ap (λ m. open_after m t.0) o;
     stands = stands_on first second names labels whole w t rest e;
@@ -273,26 +273,26 @@ module _ (first second : List ℕ) (names labels larger : List (List ℕ)) (whol
   }
   within (entered_by r) least n w l o i d e =
       let one = within r least n w l o i d e in
-      record { walk = one.walk; level = one.level; open_count = one.open_count; stands = one.stands; all = (one.all, tt) }
+      record { read_state = one.read_state; level = one.level; open_count = one.open_count; stands = one.stands; all = (one.all, tt) }
   within (both {a = a} {b = b} r x) least n w l o i d e =
       let one = within r least n w l o (pass_front is_inner (yield a) (yield b) i) (above_front least n (yield a) (yield b) d) e in
-      let other = within x least (depth_after n (yield a)) one.walk one.level one.open_count (pass_rest is_inner (yield a) (yield b) i) (above_rest least n (yield a) (yield b) d) one.stands in
-      record { walk = other.walk; level = other.level; open_count = other.open_count ∙ sym (depth_append n (yield a) (yield b)); stands = other.stands; all = (one.all, other.all) }
+      let other = within x least (depth_after n (yield a)) one.read_state one.level one.open_count (pass_rest is_inner (yield a) (yield b) i) (above_rest least n (yield a) (yield b) d) one.stands in
+      record { read_state = other.read_state; level = other.level; open_count = other.open_count ∙ sym (depth_append n (yield a) (yield b)); stands = other.stands; all = (one.all, other.all) }
   within (in_left k r) least n w l o i d e =
       let one = within r least n w l o i d e in
-      record { walk = one.walk; level = one.level; open_count = one.open_count; stands = one.stands; all = one.all }
+      record { read_state = one.read_state; level = one.level; open_count = one.open_count; stands = one.stands; all = one.all }
   within (in_right k m r) least n w l o i d e =
       let one = within r least n w l o i d e in
-      record { walk = one.walk; level = one.level; open_count = one.open_count; stands = one.stands; all = one.all }
-  within (left_out k) least n w l o i d e = record { walk = w; level = l; open_count = o; stands = e; all = tt }
+      record { read_state = one.read_state; level = one.level; open_count = one.open_count; stands = one.stands; all = one.all }
+  within (left_out k) least n w l o i d e = record { read_state = w; level = l; open_count = o; stands = e; all = tt }
   within (there k r) least n w l o i d e =
       let one = within r least n w l o i d e in
-      record { walk = one.walk; level = one.level; open_count = one.open_count; stands = one.stands; all = one.all }
-  within (no_more k) least n w l o i d e = record { walk = w; level = l; open_count = o; stands = e; all = tt }
+      record { read_state = one.read_state; level = one.level; open_count = one.open_count; stands = one.stands; all = one.all }
+  within (no_more k) least n w l o i d e = record { read_state = w; level = l; open_count = o; stands = e; all = tt }
   within (again {a = a} {b = b} k r x) least n w l o i d e =
       let one = within r least n w l o (pass_front is_inner (yield a) (yield b) i) (above_front least n (yield a) (yield b) d) e in
-      let other = within x least (depth_after n (yield a)) one.walk one.level one.open_count (pass_rest is_inner (yield a) (yield b) i) (above_rest least n (yield a) (yield b) d) one.stands in
-      record { walk = other.walk; level = other.level; open_count = other.open_count ∙ sym (depth_append n (yield a) (yield b)); stands = other.stands; all = (one.all, other.all) }
+      let other = within x least (depth_after n (yield a)) one.read_state one.level one.open_count (pass_rest is_inner (yield a) (yield b) i) (above_rest least n (yield a) (yield b) d) one.stands in
+      record { read_state = other.read_state; level = other.level; open_count = other.open_count ∙ sym (depth_append n (yield a) (yield b)); stands = other.stands; all = (one.all, other.all) }
 
   -- what remains after a part of an expression
   of_formula : (n : Nonterminal) (tree : Derivation) (depth : Depth) (w : ReaderState) (tokens rest : List KindedToken) → is_formula n ≡ true → entry n depth ≡ true → Has depth w → Here w tokens → Reads productions look_ahead (productions n) tokens (read tree rest) →
@@ -303,9 +303,9 @@ module _ (first second : List ℕ) (names labels larger : List (List ℕ)) (whol
       let one = within r w.level w.open_count w refl refl (all_pass is_formula is_inner formulas_inner (the n) (node tree) k formula) c.above e in
       record {
         state = depth;
-        walk = one.walk;
+        read_state = one.read_state;
         is_ok = same_self (is_formula n) depth (left_in n depth depth) formula;
-        at = counts_same depth w.level w.open_count one.walk.level one.walk.open_count one.level (one.open_count ∙ c.closed) h;
+        at = counts_same depth w.level w.open_count one.read_state.level one.read_state.open_count one.level (one.open_count ∙ c.closed) h;
         stands = one.stands;
         all = one.all;
       }

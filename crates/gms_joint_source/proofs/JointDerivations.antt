@@ -17,7 +17,7 @@ use Rattle.gms_grammar.specs.Terminals.{is as is_kind}
 use Rattle.gms_grammar.specs.Grammar.{DerivationTree, yield}
 use Rattle.gms_expressions.specs.Outcomes.{kinded_tokens}
 use Rattle.gms_expressions.specs.Words.{terminal_of}
-use Rattle.gms_joint_source.specs.JointSources.{joint_source, HaveFront, DerivesSource, BeginsWith}
+use Rattle.gms_joint_source.specs.JointSources.{joint_source, HaveJointPrefix, DerivesSource, BeginsWith}
 use Rattle.gms_joint_source.proofs.Spaces.{in_list_now, StartsFrom}
 use Rattle.gms_joint_source.proofs.JointTokens.{FrontTokens, front_tokens}
 use Rattle.gms_joint_source.proofs.JointTrees.{divided}
@@ -58,75 +58,75 @@ seen_own source tokens own tree are d =
 -- ---- the laws
 
 module _ (saved file : List ℕ) (tokens joint : List Token) (is : IsTokens saved tokens) (are : IsTokens (joint_source saved file) joint) where
-  front : FrontTokens (in_list_now is.has.last ≡ false) saved file tokens joint
-  front = front_tokens saved file tokens joint is are
+  prefix : FrontTokens (in_list_now is.has.last ≡ false) saved file tokens joint
+  prefix = front_tokens saved file tokens joint is are
 
-  pub have_front : HaveFront saved tokens joint
+  pub have_front : HaveJointPrefix saved tokens joint
   have_front = record {
-    own = front.own;
-    tokens_are = front.tokens_are;
-    ends = front.seam.ends;
-    semicolon = front.seam.semicolon;
-    others = front.seam.others ++ end_token (joint_source saved file) ∷ [];
+    own = prefix.own;
+    tokens_are = prefix.tokens_are;
+    ends = prefix.joining.ends;
+    semicolon = prefix.joining.semicolon;
+    others = prefix.joining.others ++ end_token (joint_source saved file) ∷ [];
     joint_are =
-        front.all_are
-        ∙ ap (λ ts. ts ++ end_token (joint_source saved file) ∷ []) (ap (λ ts. front.own ++ ts) front.seam.is ∙ sym (append_assoc front.own front.seam.ends (front.seam.semicolon ∷ front.seam.others)))
-        ∙ append_assoc (front.own ++ front.seam.ends) (front.seam.semicolon ∷ front.seam.others) (end_token (joint_source saved file) ∷ []);
-    are_ends = front.seam.are_ends;
-    is_semicolon = front.seam.is_semicolon;
+        prefix.all_are
+        ∙ ap (λ ts. ts ++ end_token (joint_source saved file) ∷ []) (ap (λ ts. prefix.own ++ ts) prefix.joining.is ∙ sym (append_assoc prefix.own prefix.joining.ends (prefix.joining.semicolon ∷ prefix.joining.others)))
+        ∙ append_assoc (prefix.own ++ prefix.joining.ends) (prefix.joining.semicolon ∷ prefix.joining.others) (end_token (joint_source saved file) ∷ []);
+    are_ends = prefix.joining.are_ends;
+    is_semicolon = prefix.joining.is_semicolon;
     below =
         let three : length saved + 1 + 2 ≡ length saved + 3 = omega arith in
         let end : length saved + 3 ≤ length (joint_source saved file) = omega (arith, length-append saved (10 ∷ 59 ∷ 10 ∷ file)) in
-        subst (λ n. All (λ (token : Token). n ≤ token.start) (front.seam.others ++ end_token (joint_source saved file) ∷ [])) three
-        (All-append (StartsFrom (length saved + 1 + 2)) front.seam.others (end_token (joint_source saved file) ∷ []) (front.seam.later (code_text file) refl)
+        subst (λ n. All (λ (token : Token). n ≤ token.start) (prefix.joining.others ++ end_token (joint_source saved file) ∷ [])) three
+        (All-append (StartsFrom (length saved + 1 + 2)) prefix.joining.others (end_token (joint_source saved file) ∷ []) (prefix.joining.later (code_text file) refl)
         (All-cons (StartsFrom (length saved + 1 + 2)) (end_token (joint_source saved file)) [] (omega (arith, end)) (All-nil (StartsFrom (length saved + 1 + 2)))));
   }
 
   module _ (tree : DerivationTree (Terminal × Token)) (first : DerivesSource saved tokens tree) where
     -- after a program no line end precedes the `;`
-    none : front.seam.ends ≡ []
-    none = front.seam.none (no_list saved tokens is tree first.is_tree (seen_own saved tokens (tokens_of saved 0 is.has.pieces) tree is.has.tokens_are first))
+    none : prefix.joining.ends ≡ []
+    none = prefix.joining.none (no_list saved tokens is tree first.is_tree (seen_own saved tokens (tokens_of saved 0 is.has.pieces) tree is.has.tokens_are first))
 
-    behind : front.behind ≡ front.seam.semicolon ∷ front.seam.others
-    behind = front.seam.is ∙ ap (λ ts. ts ++ front.seam.semicolon ∷ front.seam.others) none
+    following : prefix.following ≡ prefix.joining.semicolon ∷ prefix.joining.others
+    following = prefix.joining.is ∙ ap (λ ts. ts ++ prefix.joining.semicolon ∷ prefix.joining.others) none
 
     apart : (one other : Token) → one ≡ other → one.kind ≡ Break → other.kind ≡ Symbol Semicolon → ⊥
     apart one other e h k = let z : ◌≡◌ {A = Kind} Break (Symbol Semicolon) = sym h ∙ ap (λ (t : Token). t.kind) e ∙ k in cc
 
-    no_more : (ends : List Token) (semicolon : Token) (others rest : List Token) → All (λ (token : Token). token.kind ≡ Break) ends → front.seam.semicolon ∷ rest ≡ ends ++ semicolon ∷ others → ends ≡ []
+    no_more : (ends : List Token) (semicolon : Token) (others rest : List Token) → All (λ (token : Token). token.kind ≡ Break) ends → prefix.joining.semicolon ∷ rest ≡ ends ++ semicolon ∷ others → ends ≡ []
     no_more [] semicolon others rest all e = refl
     no_more (end ∷ ends) semicolon others rest all e =
-        let same : end ≡ front.seam.semicolon = cc in
-        absurd (apart end front.seam.semicolon same (All-head (λ (token : Token). token.kind ≡ Break) end ends all) front.seam.is_semicolon)
+        let same : end ≡ prefix.joining.semicolon = cc in
+        absurd (apart end prefix.joining.semicolon same (All-head (λ (token : Token). token.kind ≡ Break) end ends all) prefix.joining.is_semicolon)
 
     behind_own : (u v w : List Token) → u ++ v ≡ u ++ w → v ≡ w
     behind_own [] v w e = e
     behind_own (x ∷ u) v w e = let h : u ++ v ≡ u ++ w = cc in behind_own u v w h
 
-    pub no_ends : (other : HaveFront saved tokens joint) → other.ends ≡ []
+    pub no_ends : (other : HaveJointPrefix saved tokens joint) → other.ends ≡ []
     no_ends other =
-        let own : front.own ≡ other.own = last_same front.own other.own (end_token saved) (end_token saved) (sym front.tokens_are ∙ other.tokens_are) in
+        let own : prefix.own ≡ other.own = last_same prefix.own other.own (end_token saved) (end_token saved) (sym prefix.tokens_are ∙ other.tokens_are) in
         let last : List Token = end_token (joint_source saved file) ∷ [] in
-        let here : front.own ++ (front.seam.semicolon ∷ front.seam.others ++ last) ≡ joint =
-        sym (front.all_are ∙ ap (λ ts. front.own ++ ts ++ last) behind ∙ append_assoc front.own (front.seam.semicolon ∷ front.seam.others) last) in
-        no_more other.ends other.semicolon other.others (front.seam.others ++ last) other.are_ends
-        (behind_own front.own (front.seam.semicolon ∷ front.seam.others ++ last) (other.ends ++ other.semicolon ∷ other.others)
+        let here : prefix.own ++ (prefix.joining.semicolon ∷ prefix.joining.others ++ last) ≡ joint =
+        sym (prefix.all_are ∙ ap (λ ts. prefix.own ++ ts ++ last) following ∙ append_assoc prefix.own (prefix.joining.semicolon ∷ prefix.joining.others) last) in
+        no_more other.ends other.semicolon other.others (prefix.joining.others ++ last) other.are_ends
+        (behind_own prefix.own (prefix.joining.semicolon ∷ prefix.joining.others ++ last) (other.ends ++ other.semicolon ∷ other.others)
         (here ∙ other.joint_are ∙ append_assoc other.own other.ends (other.semicolon ∷ other.others) ∙ ap (λ ts. ts ++ (other.ends ++ other.semicolon ∷ other.others)) (sym own)))
 
     pub begins_with : (whole : DerivationTree (Terminal × Token)) → DerivesSource (joint_source saved file) joint whole → BeginsWith whole tree
     begins_with whole second =
         let source : List ℕ = joint_source saved file in
         let more : List ℕ = 10 ∷ 59 ∷ 10 ∷ file in
-        let placed : All (IsPlaced saved) (front.own ++ end_token saved ∷ []) = subst (All (IsPlaced saved)) front.tokens_are (tokens_placed saved tokens is) in
-        let semicolon : Terminal × Token = see source front.seam.semicolon in
-        let own : kinded_tokens source front.own ≡ yield tree = own_seen saved more front.own (end_token saved ∷ []) placed ∙ seen_own saved tokens front.own tree front.tokens_are first in
+        let placed : All (IsPlaced saved) (prefix.own ++ end_token saved ∷ []) = subst (All (IsPlaced saved)) prefix.tokens_are (tokens_placed saved tokens is) in
+        let semicolon : Terminal × Token = see source prefix.joining.semicolon in
+        let own : kinded_tokens source prefix.own ≡ yield tree = own_seen saved more prefix.own (end_token saved ∷ []) placed ∙ seen_own saved tokens prefix.own tree prefix.tokens_are first in
         let last : List Token = end_token source ∷ [] in
-        let joined : joint ≡ (front.own ++ (front.seam.semicolon ∷ front.seam.others)) ++ last =
-        front.all_are ∙ ap (λ ts. front.own ++ ts ++ last) behind in
-        let agrees : yield whole ≡ yield tree ++ semicolon ∷ kinded_tokens source front.seam.others =
-        sym (seen_own source joint (front.own ++ (front.seam.semicolon ∷ front.seam.others)) whole joined second)
-        ∙ map-append (see source) front.own (front.seam.semicolon ∷ front.seam.others)
-        ∙ ap (λ ts. ts ++ semicolon ∷ kinded_tokens source front.seam.others) own in
-        let is_semicolon : is_kind terminal.Semicolon semicolon.0 ≡ true = ap (λ (k : Kind). is_kind terminal.Semicolon (terminal_of k (token_text source front.seam.semicolon))) front.seam.is_semicolon in
-        let d = divided front.seam.semicolon tree whole semicolon (kinded_tokens source front.seam.others) first.is_tree second.is_tree is_semicolon agrees in
+        let joined : joint ≡ (prefix.own ++ (prefix.joining.semicolon ∷ prefix.joining.others)) ++ last =
+        prefix.all_are ∙ ap (λ ts. prefix.own ++ ts ++ last) following in
+        let agrees : yield whole ≡ yield tree ++ semicolon ∷ kinded_tokens source prefix.joining.others =
+        sym (seen_own source joint (prefix.own ++ (prefix.joining.semicolon ∷ prefix.joining.others)) whole joined second)
+        ∙ map-append (see source) prefix.own (prefix.joining.semicolon ∷ prefix.joining.others)
+        ∙ ap (λ ts. ts ++ semicolon ∷ kinded_tokens source prefix.joining.others) own in
+        let is_semicolon : is_kind terminal.Semicolon semicolon.0 ≡ true = ap (λ (k : Kind). is_kind terminal.Semicolon (terminal_of k (token_text source prefix.joining.semicolon))) prefix.joining.is_semicolon in
+        let d = divided prefix.joining.semicolon tree whole semicolon (kinded_tokens source prefix.joining.others) first.is_tree second.is_tree is_semicolon agrees in
         record { segment = d.segment; others = d.others; first_is = d.first_is; semicolon = semicolon; next = d.next; last = d.last; whole_is = d.whole_is }

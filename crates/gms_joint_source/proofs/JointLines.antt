@@ -12,7 +12,7 @@ use Rattle.gms_lines.specs.declared.line.Class.TheVariants.{Comment, Control, Co
 use Rattle.gms_lines.specs.declared.fault.LexError.TheVariants.{BadByte, OpenText}
 use Rattle.gms_lines.specs.declared.fault.ByteFault.{ByteFault}
 use Rattle.gms_lines.specs.ControlWords.{block_word, block_end}
-use Rattle.gms_lines.specs.LineFaults.{is_bad, IsLineError, StandsInLines}
+use Rattle.gms_lines.specs.LineFaults.{is_bad, IsLineError, IsInLines}
 use Rattle.gms_lines.specs.Lines.{put_first, lines, is_line_end, before, content, is_blank, class_of, closes, opens, inside_after, blanked, read_as, code_of, code_text}
 use Rattle.gms_lines.proofs.LineLemmas.{true_or_false}
 use Rattle.gms_joint_source.proofs.Feeds.{fed, ends_in_return, content_fed}
@@ -74,7 +74,7 @@ lines_fed (b ∷ text) rest = elim (true_or_false (b == 10)) [
 
 -- lines of which the first begins at this byte have no fault
 abbrev AreGood : ℕ → Bool → List (List ℕ) → Type 0
-AreGood start inside ls = (fault : ByteFault) → StandsInLines start inside ls fault → ⊥
+AreGood start inside ls = (fault : ByteFault) → IsInLines start inside ls fault → ⊥
 
 good_behind : (start : ℕ) (inside : Bool) (line : List ℕ) (others : List (List ℕ)) → AreGood start inside (line ∷ others) → AreGood (start + length line) (inside_after inside line) others
 good_behind start inside line others good fault h = good fault (inr h)
@@ -131,40 +131,40 @@ last_good start inside b line others h good = elim (true_or_false (ends_in_retur
 -- ---- comments
 
 -- whether the line after these lines is inside a block of comment
-abbrev inside_behind : Bool → List (List ℕ) → Bool
-inside_behind inside [] = inside
-inside_behind inside (line ∷ others) = inside_behind (inside_after inside line) others
+abbrev inside_later : Bool → List (List ℕ) → Bool
+inside_later inside [] = inside
+inside_later inside (line ∷ others) = inside_later (inside_after inside line) others
 
-code_append : (inside : Bool) (one other : List (List ℕ)) → code_of inside (one ++ other) ≡ code_of inside one ++ code_of (inside_behind inside one) other
+code_append : (inside : Bool) (one other : List (List ℕ)) → code_of inside (one ++ other) ≡ code_of inside one ++ code_of (inside_later inside one) other
 code_append inside [] other = refl
 code_append inside (line ∷ one) other =
     let read : List ℕ = read_as (class_of inside line) line in
-    ap (λ t. read ++ t) (code_append (inside_after inside line) one other) ∙ sym (append_assoc read (code_of (inside_after inside line) one) (code_of (inside_behind (inside_after inside line) one) other))
+    ap (λ t. read ++ t) (code_append (inside_after inside line) one other) ∙ sym (append_assoc read (code_of (inside_after inside line) one) (code_of (inside_later (inside_after inside line) one) other))
 
-goes_on : (one other : Bool) → (one || other) ≡ true → not one ≡ true → other ≡ true
-goes_on true other h k = cc
-goes_on false other h k = h
+continues : (one other : Bool) → (one || other) ≡ true → not one ≡ true → other ≡ true
+continues true other h k = cc
+continues false other h k = h
 
 still_closed : (start : ℕ) (inside : Bool) (line : List ℕ) (others : List (List ℕ)) → AreGood start inside (line ∷ others) → (inside ≡ true → list_any closes (line ∷ others) ≡ true) → inside_after inside line ≡ true → list_any closes others ≡ true
-still_closed start true line others good closing h = goes_on (closes line) (list_any closes others) (closing refl) h
+still_closed start true line others good closing h = continues (closes line) (list_any closes others) (closing refl) h
 still_closed start false line others good closing h = elim (true_or_false (list_any closes others)) [
   | inl t ↦ t
   | inr f ↦ absurd (good (record { at = start + 0; error = OpenText }) (inl (0, refl, (refl, h, f))))
 ]
 
 -- after the last line no block of comment is open
-ends_outside : (start : ℕ) (inside : Bool) (ls : List (List ℕ)) → AreGood start inside ls → (inside ≡ true → list_any closes ls ≡ true) → inside_behind inside ls ≡ false
+ends_outside : (start : ℕ) (inside : Bool) (ls : List (List ℕ)) → AreGood start inside ls → (inside ≡ true → list_any closes ls ≡ true) → inside_later inside ls ≡ false
 ends_outside start true [] good closing = let e : false ≡ true = closing refl in cc
 ends_outside start false [] good closing = refl
 ends_outside start inside (line ∷ others) good closing =
     ends_outside (start + length line) (inside_after inside line) others (good_behind start inside line others good) (still_closed start inside line others good closing)
 
 -- a text begins with these bytes, or not, whatever follows a line feed
-front_fed : (front text rest : List ℕ) → no_feed front ≡ true → str_eq_ignore_ascii_case (take (length front) (fed text rest)) front ≡ str_eq_ignore_ascii_case (take (length front) text) front
+front_fed : (prefix text rest : List ℕ) → no_feed prefix ≡ true → str_eq_ignore_ascii_case (take (length prefix) (fed text rest)) prefix ≡ str_eq_ignore_ascii_case (take (length prefix) text) prefix
 front_fed [] text rest h = refl
-front_fed (c ∷ front) [] rest h = first_false (10 == to_ascii_lowercase c) (no_feed front) (str_eq_ignore_ascii_case (take (length front) rest) front) h
-front_fed (c ∷ front) (b ∷ text) rest h =
-    ap (λ v. (to_ascii_lowercase b == to_ascii_lowercase c) && v) (front_fed front text rest ((and_parts (not (10 == to_ascii_lowercase c)) (no_feed front) h).1))
+front_fed (c ∷ prefix) [] rest h = first_false (10 == to_ascii_lowercase c) (no_feed prefix) (str_eq_ignore_ascii_case (take (length prefix) rest) prefix) h
+front_fed (c ∷ prefix) (b ∷ text) rest h =
+    ap (λ v. (to_ascii_lowercase b == to_ascii_lowercase c) && v) (front_fed prefix text rest ((and_parts (not (10 == to_ascii_lowercase c)) (no_feed prefix) h).1))
 
 closes_fed : (text : List ℕ) → closes (fed text []) ≡ closes text
 closes_fed text = front_fed block_end text [] refl
@@ -180,7 +180,7 @@ after_feed : (inside : Bool) → inside_after inside (10 ∷ []) ≡ inside
 after_feed true = refl
 after_feed false = refl
 
-inside_closed : (start : ℕ) (inside : Bool) {one other : List (List ℕ)} → AreGood start inside one → IsClosed one other → inside_behind inside other ≡ inside_behind inside one
+inside_closed : (start : ℕ) (inside : Bool) {one other : List (List ℕ)} → AreGood start inside one → IsClosed one other → inside_later inside other ≡ inside_later inside one
 inside_closed start inside good empty = after_feed inside
 inside_closed start inside good (last b line h) = after_fed inside (b ∷ line) (last_good start inside b line [] h good)
 inside_closed start inside good (ended b line {one = one} h k) =
@@ -252,7 +252,7 @@ module _ (source : List ℕ) (good : AreGood 0 false (lines source)) where
   -- the text for tokens, if a line feed and more follow the source
   pub code_text_fed : (rest : List ℕ) → code_text (fed source rest) ≡ fed (code_text source) (code_text rest)
   code_text_fed rest =
-      let outside : inside_behind false (lines (fed source [])) ≡ false = inside_closed 0 false good (closed source) ∙ ends_outside 0 false (lines source) good (λ e. let z : false ≡ true = e in cc) in
+      let outside : inside_later false (lines (fed source [])) ≡ false = inside_closed 0 false good (closed source) ∙ ends_outside 0 false (lines source) good (λ e. let z : false ≡ true = e in cc) in
       ap (code_of false) (lines_fed source rest)
       ∙ code_append false (lines (fed source [])) (lines rest)
       ∙ ap₂ (λ t inside. t ++ code_of inside (lines rest)) (code_closed false (closed source)) outside

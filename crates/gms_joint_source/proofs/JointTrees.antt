@@ -5,7 +5,7 @@ use Rattle.gms_grammar.specs.declared.terminal.Terminal.{Terminal}
 use Rattle.gms_grammar.specs.declared.terminal.Terminal.TheVariants.{Semicolon}
 use Rattle.gms_grammar.specs.Terminals.{is}
 use Rattle.gms_grammar.specs.Grammar.{Part, the, ◌·◌, many, DerivationTree, leaf, pair, none, more, node, yield, IsTree, Stops}
-use Rattle.gms_grammar.specs.LookAhead.{may_begin, may_go_on, IsDecided}
+use Rattle.gms_grammar.specs.LookAhead.{may_begin, may_come_next, IsDecided}
 use Rattle.gms_grammar.specs.Reading.{Found, read, stuck, leads, Reads, entered, entered_stuck, both, second_stuck, again, later_stuck}
 use Rattle.gms_grammar.specs.GamsGrammar.{Nonterminal, Program, Segment, productions, token}
 use Rattle.gms_grammar.specs.GamsLookAhead.{look_ahead}
@@ -29,7 +29,7 @@ Others = many One
 
 -- One token decides how a program continues.
 abbrev AfterSegment : Terminal → Bool
-AfterSegment = may_go_on look_ahead Others (look_ahead.follow Program)
+AfterSegment = may_come_next look_ahead Others (look_ahead.follow Program)
 
 decided_segment : IsDecided look_ahead (the Segment) AfterSegment
 decided_segment = (gams_decided.decided Program).0
@@ -47,7 +47,7 @@ module _ {D : Type 0} where
   -- what is found after semicolons
   abbrev attached : DerivationTree (Terminal × D) → Found (Terminal × D) → Found (Terminal × D)
   attached others (read tree rest) = read (attach others tree) rest
-  attached others (stuck front rest) = stuck (yield others ++ front) rest
+  attached others (stuck prefix rest) = stuck (yield others ++ prefix) rest
 
   -- a semicolon begins what comes first
   follows_one : (extra : Terminal → Bool) (u : List (Terminal × D)) (semicolon : Terminal × D) (rest : List (Terminal × D)) → Starts {D = D} productions look_ahead gams_decided Others u → is Semicolon semicolon.0 ≡ true → Follows (λ c. may_begin look_ahead One c || extra c) (u ++ semicolon ∷ rest)
@@ -57,24 +57,24 @@ module _ {D : Type 0} where
   -- what follows the semicolons of a program is read after these too
   join : (others : DerivationTree (Terminal × D)) → IsTree productions Others others → (semicolon : Terminal × D) (rest : List (Terminal × D)) → is Semicolon semicolon.0 ≡ true → (found : Found (Terminal × D)) → Reads productions look_ahead Others (semicolon ∷ rest) found → Reads productions look_ahead Others (yield others ++ semicolon ∷ rest) (attached others found)
   join none is_others semicolon rest h (read tree last) r = r
-  join none is_others semicolon rest h (stuck front last) r = r
+  join none is_others semicolon rest h (stuck prefix last) r = r
   join (more a b) is_others semicolon rest h found r = by found (join b is_others.1 semicolon rest h found r)
     where
-      behind : List (Terminal × D)
-      behind = yield b ++ semicolon ∷ rest
+      following : List (Terminal × D)
+      following = yield b ++ semicolon ∷ rest
 
-      leads_on : leads productions look_ahead One (yield a ++ behind) ≡ true
-      leads_on = led productions look_ahead gams_decided One (yield a) behind (starts productions look_ahead gams_decided One a is_others.0) refl
+      leads_on : leads productions look_ahead One (yield a ++ following) ≡ true
+      leads_on = led productions look_ahead gams_decided One (yield a) following (starts productions look_ahead gams_decided One a is_others.0) refl
 
-      first : Reads productions look_ahead One (yield a ++ behind) (read a behind)
-      first = complete productions look_ahead gams_decided One a is_others.0 AfterOne behind decided_one (follows_one (look_ahead.follow Program) (yield b) semicolon rest (starts productions look_ahead gams_decided Others b is_others.1) h)
+      first : Reads productions look_ahead One (yield a ++ following) (read a following)
+      first = complete productions look_ahead gams_decided One a is_others.0 AfterOne following decided_one (follows_one (look_ahead.follow Program) (yield b) semicolon rest (starts productions look_ahead gams_decided Others b is_others.1) h)
 
-      by : (found : Found (Terminal × D)) → Reads productions look_ahead Others behind (attached b found) → Reads productions look_ahead Others ((yield a ++ yield b) ++ semicolon ∷ rest) (attached (more a b) found)
+      by : (found : Found (Terminal × D)) → Reads productions look_ahead Others following (attached b found) → Reads productions look_ahead Others ((yield a ++ yield b) ++ semicolon ∷ rest) (attached (more a b) found)
       by (read tree last) s =
           subst (λ w. Reads productions look_ahead Others w (read (more a (attach b tree)) last)) (sym (append_assoc (yield a) (yield b) (semicolon ∷ rest))) (again leads_on first s)
-      by (stuck front last) s =
-          subst (λ w. Reads productions look_ahead Others ((yield a ++ yield b) ++ semicolon ∷ rest) (stuck w last)) (sym (append_assoc (yield a) (yield b) front))
-          (subst (λ w. Reads productions look_ahead Others w (stuck (yield a ++ (yield b ++ front)) last)) (sym (append_assoc (yield a) (yield b) (semicolon ∷ rest))) (later_stuck leads_on first s))
+      by (stuck prefix last) s =
+          subst (λ w. Reads productions look_ahead Others ((yield a ++ yield b) ++ semicolon ∷ rest) (stuck w last)) (sym (append_assoc (yield a) (yield b) prefix))
+          (subst (λ w. Reads productions look_ahead Others w (stuck (yield a ++ (yield b ++ prefix)) last)) (sym (append_assoc (yield a) (yield b) (semicolon ∷ rest))) (later_stuck leads_on first s))
   join _ is_others semicolon rest h found r = absurd is_others
 
   -- The tree of a program is that of another, followed by this token and more.
@@ -103,10 +103,10 @@ module _ {D : Type 0} where
 
     -- the part found after the semicolon is all of the rest
     by_found : (found : Found (Terminal × D)) → Reads productions look_ahead Others (semicolon ∷ rest) found → Reads productions look_ahead Others (yield others ++ semicolon ∷ rest) (attached others found) → IsDivided (node (pair segment others)) whole semicolon
-    by_found (stuck front last) r s =
-        let reads : Reads productions look_ahead (the Program) Whole (stuck (yield segment ++ (yield others ++ front)) last) = subst (λ w. Reads productions look_ahead (the Program) w (stuck (yield segment ++ (yield others ++ front)) last)) regroup (entered_stuck (second_stuck read_segment s)) in
-        let all : yield segment ++ (yield others ++ front) ≡ Whole = stops_once productions (the Program) Whole (yield segment ++ (yield others ++ front)) last Whole [] (gams_stuck_stops known Program Whole (yield segment ++ (yield others ++ front)) last reads) whole_stops in
-        absurd (gams_stuck_none known Program Whole (yield segment ++ (yield others ++ front)) last reads (record { tree = whole; is_tree = is_whole; yields = sym all }))
+    by_found (stuck prefix last) r s =
+        let reads : Reads productions look_ahead (the Program) Whole (stuck (yield segment ++ (yield others ++ prefix)) last) = subst (λ w. Reads productions look_ahead (the Program) w (stuck (yield segment ++ (yield others ++ prefix)) last)) regroup (entered_stuck (second_stuck read_segment s)) in
+        let all : yield segment ++ (yield others ++ prefix) ≡ Whole = stops_once productions (the Program) Whole (yield segment ++ (yield others ++ prefix)) last Whole [] (gams_stuck_stops known Program Whole (yield segment ++ (yield others ++ prefix)) last reads) whole_stops in
+        absurd (gams_stuck_none known Program Whole (yield segment ++ (yield others ++ prefix)) last reads (record { tree = whole; is_tree = is_whole; yields = sym all }))
     by_found (read tree last) r s =
         let joined : DerivationTree (Terminal × D) = node (pair segment (attach others tree)) in
         let reads : Reads productions look_ahead (the Program) Whole (read joined last) = subst (λ w. Reads productions look_ahead (the Program) w (read joined last)) regroup (entered (both read_segment s)) in

@@ -18,7 +18,7 @@ pub use Rattle.gms_parse.specs.InnerReadings.{Derivation, GamsPart}
 use Rattle.gms_expressions.specs.Valuations.{number_meant}
 use Rattle.gms_parse.specs.DataLists.{labels_in_range}
 use Rattle.gms_parse.specs.Tables.{items_given}
-use Rattle.gms_expressions.specs.ExpressionTrees.{is_word, suffix_of, fold_op_of, function_of, relation_of, lag_op_of, is_minus, is_slash, or_0, token_of, terminal_in, negated_by, with_sign, or_alone, place_in, constant_of, text_in, name_in, label_in, suffix_in, names_behind, names_in, sets_in, number_tree, constant_in, expression, choices, conjunction, conjuncts, negation, comparison_tree, relations, sum_tree, terms, product_tree, factors, power_of, exponents, guarded_of, guards, condition, primary, bracketed_expression, call_of, arguments, more_arguments, fold_of, target, optional_indices, indices, more_indices, index, lag, lag_amount, control, second_in, inside}
+use Rattle.gms_expressions.specs.ExpressionTrees.{is_word, suffix_of, fold_op_of, function_of, relation_of, lag_op_of, is_minus, is_slash, or_0, token_of, terminal_in, negated_by, with_sign, or_alone, place_in, constant_of, text_in, name_in, label_in, suffix_in, following_names, names_in, sets_in, number_tree, constant_in, expression, choices, conjunction, conjuncts, negation, comparison_tree, relations, sum_tree, terms, product_tree, factors, power_of, exponents, guarded_of, guards, condition, primary, bracketed_expression, call_of, arguments, more_arguments, fold_of, target, optional_indices, indices, more_indices, index, lag, lag_amount, control, second_in, inside}
 
 pub ap₃ : {A B C D : Type 0} (f : A → B → C → D) {a x : A} {b y : B} {c z : C} → a ≡ x → b ≡ y → c ≡ z → f a b c ≡ f x y z
 ap₃ f {x = x} {y = y} {c = c} p q r = ap₂ (λ u v. f u v c) p q ∙ ap (f x y) r
@@ -94,8 +94,8 @@ module _ (first second : List ℕ) (names wider labels larger : List (List ℕ))
   Same Target tree = target first names labels tree ≡ target second wider larger tree
   Same Attribute tree = suffix_in first names labels (some tree) ≡ suffix_in second wider larger (some tree)
   Same IndexList tree = indices first names labels tree ≡ indices second wider larger tree
-  Same Index tree = (rest behind : Indices Rational) → rest ≡ behind → index first names labels tree rest ≡ index second wider larger tree behind
-  Same Lag tree = (n m : ℕ) → n ≡ m → (rest behind : Indices Rational) → rest ≡ behind → lag first names labels n tree rest ≡ lag second wider larger m tree behind
+  Same Index tree = (rest following : Indices Rational) → rest ≡ following → index first names labels tree rest ≡ index second wider larger tree following
+  Same Lag tree = (n m : ℕ) → n ≡ m → (rest following : Indices Rational) → rest ≡ following → lag first names labels n tree rest ≡ lag second wider larger m tree following
   Same LagAmount tree = lag_amount first names labels tree ≡ lag_amount second wider larger tree
   Same Call tree = call_of first names labels tree ≡ call_of second wider larger tree
   Same ExpressionList tree = arguments first names labels tree ≡ arguments second wider larger tree
@@ -119,7 +119,7 @@ module _ (first second : List ℕ) (names wider labels larger : List (List ℕ))
   constant_kin : {test : Terminal → Bool} {tree : Derivation} → Kin (one test) tree → constant_in first names labels tree ≡ constant_in second wider larger tree
   constant_kin {tree = tree} k = ap (λ t. constant_of (terminal_in tree) t (number_meant t)) (text_kin k)
 
-  pub names_behind_kin : {tree : Derivation} → Kin (many (token Comma · name)) tree → names_behind first names labels tree ≡ names_behind second wider larger tree
+  pub names_behind_kin : {tree : Derivation} → Kin (many (token Comma · name)) tree → following_names first names labels tree ≡ following_names second wider larger tree
   names_behind_kin of_nil = refl
   names_behind_kin (of_more (of_both comma it) others) = ap₂ (λ n ns. n ∷ ns) (name_kin it) (names_behind_kin others)
 
@@ -229,12 +229,12 @@ module _ (first second : List ℕ) (names wider labels larger : List (List ℕ))
   of_indices (of_both (of_node it _) others) w = w.0.1 _ _ (more_indices_kin others w.1)
 
   of_index : {tree : Derivation} (k : Kin (productions Index) tree) → Within Same k → Same Index (node tree)
-  of_index (of_left text) w rest behind e = ap₂ (λ n (is : Indices Rational). label n is) (label_kin text) e
-  of_index (of_right (of_both it of_none)) w rest behind e = ap₂ (λ n (is : Indices Rational). set n is) (name_kin it) e
-  of_index (of_right (of_both it (of_some (of_node k _)))) w rest behind e = w.1.1 _ _ (name_kin it) rest behind e
+  of_index (of_left text) w rest following e = ap₂ (λ n (is : Indices Rational). label n is) (label_kin text) e
+  of_index (of_right (of_both it of_none)) w rest following e = ap₂ (λ n (is : Indices Rational). set n is) (name_kin it) e
+  of_index (of_right (of_both it (of_some (of_node k _)))) w rest following e = w.1.1 _ _ (name_kin it) rest following e
 
   of_lag : {tree : Derivation} (k : Kin (productions Lag) tree) → Within Same k → Same Lag (node tree)
-  of_lag (of_both {a = sign} {b = amount} k (of_node l _)) w n m same rest behind e =
+  of_lag (of_both {a = sign} {b = amount} k (of_node l _)) w n m same rest following e =
       ap₃ (λ p (a : Syntax Rational) (is : Indices Rational). lagged p (lag_op_of (token_of sign).kind) (place_in amount) a is) same w.1.1 e
 
   of_amount : {tree : Derivation} (k : Kin (productions LagAmount) tree) → Within Same k → Same LagAmount (node tree)

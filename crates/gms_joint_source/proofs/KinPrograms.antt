@@ -7,7 +7,7 @@ use Rattle.gms_grammar.specs.declared.terminal.Terminal.TheVariants as terminal
 use Rattle.gms_grammar.specs.Grammar.{the, ◌·◌, ◌∣◌, opt, many, node}
 use Rattle.gms_grammar.specs.GamsGrammar.{Nonterminal, Program, Segment, KeywordStatement, InnerStatement, LoopStatement, LoopBody, DisplayStatement, OptionStatement, SolveStatement, AbortStatement, productions, token}
 use Rattle.gms_expressions.specs.ExpressionTrees.{place_in}
-use Rattle.gms_parse.specs.Programs.{loop_act, loop_body, behind_semicolon, inner_act, display_or_other, keyword_act, keyword_statements, segment, segments, statements_of}
+use Rattle.gms_parse.specs.Programs.{loop_act, loop_body, after_semicolon, inner_act, display_or_other, keyword_act, keyword_statements, segment, segments, statements_of}
 use Rattle.gms_joint_source.proofs.Kin.{Derivation, GamsPart, Kin, of_node, of_both, of_left, of_right, of_none, of_some, of_nil, of_more, Within, Rule, everywhere, Same, all_same}
 use Rattle.gms_joint_source.proofs.KinDeclarations.{SaysDeclared, declared_same}
 use Rattle.gms_joint_source.proofs.KinStatements.{SaysActed, acted_same}
@@ -46,7 +46,7 @@ module _ (first second : List ℕ) (names wider labels larger : List (List ℕ))
   of_loop (of_both sign (of_both opening (of_both (of_both (of_node sets _) (of_both comma (of_node body _))) closing))) e w =
       ap₂ (λ (c : Control Rational) (s : Statements Rational). loops c s) e.1.1.0.0.1 w.1.1.0.1.1.1
 
-  behind_same : {tree : Derivation} (k : K (opt (token terminal.Semicolon · opt (the LoopBody))) tree) → Inside SaysRun k → behind_semicolon first names labels tree ≡ behind_semicolon second wider larger tree
+  behind_same : {tree : Derivation} (k : K (opt (token terminal.Semicolon · opt (the LoopBody))) tree) → Inside SaysRun k → after_semicolon first names labels tree ≡ after_semicolon second wider larger tree
   behind_same of_none w = refl
   behind_same (of_some (of_both sign of_none)) w = refl
   behind_same (of_some (of_both sign (of_some (of_node it _)))) w = w.1.1

@@ -49,8 +49,8 @@ indices_after (trees.set n others) = others
 indices_after (trees.lagged n op at amount others) = others
 
 -- the part after an index of a head: further indices, and an act
-abbrev indices_behind : List ℕ → List (List ℕ) → List (List ℕ) → Derivation → trees.Indices Rational
-indices_behind source names labels tree = indices_after (head_indices source names labels (node (left (pair none tree))))
+abbrev following_indices : List ℕ → List (List ℕ) → List (List ℕ) → Derivation → trees.Indices Rational
+following_indices source names labels tree = indices_after (head_indices source names labels (node (left (pair none tree))))
 
 abbrev act_behind : List ℕ → List (List ℕ) → List (List ℕ) → Aim Rational → Derivation → Act Rational
 act_behind source names labels aim tree = act_of_head source names labels aim (node (left (pair none tree)))
@@ -69,11 +69,11 @@ module _ (first second : List ℕ) (names wider labels larger : List (List ℕ))
   -- ---- claims for statements
 
   -- the part after a target gives the same act
-  abbrev pub BehindTarget : Derivation → Type 0
-  BehindTarget tree = (a b : Aim Rational) → a ≡ b → after_target first names labels a tree ≡ after_target second wider larger b tree
+  abbrev pub FollowingTarget : Derivation → Type 0
+  FollowingTarget tree = (a b : Aim Rational) → a ≡ b → after_target first names labels a tree ≡ after_target second wider larger b tree
 
-  abbrev pub BehindHead : Derivation → Type 0
-  BehindHead tree = (a b : Aim Rational) → a ≡ b → after_head first names labels a tree ≡ after_head second wider larger b tree
+  abbrev pub FollowingHead : Derivation → Type 0
+  FollowingHead tree = (a b : Aim Rational) → a ≡ b → after_head first names labels a tree ≡ after_head second wider larger b tree
 
   -- indices of a head are the same, and the part after them gives the same act
   abbrev pub InHead : Derivation → Type 0
@@ -82,12 +82,12 @@ module _ (first second : List ℕ) (names wider labels larger : List (List ℕ))
 
   abbrev pub BehindIndex : Derivation → Type 0
   BehindIndex tree =
-      (indices_behind first names labels tree ≡ indices_behind second wider larger tree) × ((a b : Aim Rational) → a ≡ b → act_behind first names labels a tree ≡ act_behind second wider larger b tree)
+      (following_indices first names labels tree ≡ following_indices second wider larger tree) × ((a b : Aim Rational) → a ≡ b → act_behind first names labels a tree ≡ act_behind second wider larger b tree)
 
   abbrev pub SaysActed : Nonterminal → Derivation → Type 0
   SaysActed Sides tree = sides_in first names labels tree ≡ sides_in second wider larger tree
-  SaysActed AfterTarget tree = BehindTarget tree
-  SaysActed AfterHead tree = BehindHead tree
+  SaysActed AfterTarget tree = FollowingTarget tree
+  SaysActed AfterHead tree = FollowingHead tree
   SaysActed HeadIndices tree = InHead tree
   SaysActed AfterHeadName tree = (it : Derivation) → name_in first names labels it ≡ name_in second wider larger it → InHead (node (right (pair it tree)))
   SaysActed AfterHeadIndex tree = BehindIndex tree
@@ -141,26 +141,26 @@ module _ (first second : List ℕ) (names wider labels larger : List (List ℕ))
   of_head : {tree : Derivation} (k : K (productions HeadIndices) tree) → Inside SaysActed k → SaysActed HeadIndices (node tree)
   of_head (of_left (of_both text (of_node it _))) w =
       (ap₂ (λ n (is : trees.Indices Rational). trees.label n is) (label_kin first second names wider labels larger text) w.1.1.0, w.1.1.1)
-  of_head (of_right (of_both it (of_node behind _))) w = w.1.1 _ (name_same it)
+  of_head (of_right (of_both it (of_node following _))) w = w.1.1 _ (name_same it)
 
   of_after_name : {tree : Derivation} (k : K (productions AfterHeadName) tree) → Terms k → Inside SaysActed k → SaysActed AfterHeadName (node tree)
-  of_after_name (of_left (of_both (of_node amount _) (of_node (of_both others (of_both closing (of_node behind _))) _))) e w it same =
+  of_after_name (of_left (of_both (of_node amount _) (of_node (of_both others (of_both closing (of_node following _))) _))) e w it same =
       (e.0.1 _ _ same _ _ (more_indices_kin first second names wider labels larger others e.1.0.0), w.1.0.1.1.1)
-  of_after_name (of_right (of_node behind _)) e w it same = (ap₂ (λ n (is : trees.Indices Rational). trees.set n is) same w.1.0, w.1.1)
+  of_after_name (of_right (of_node following _)) e w it same = (ap₂ (λ n (is : trees.Indices Rational). trees.set n is) same w.1.0, w.1.1)
 
   of_after_index : {tree : Derivation} (k : K (productions AfterHeadIndex) tree) → Inside SaysActed k → SaysActed AfterHeadIndex (node tree)
   of_after_index (of_left (of_both comma (of_node it _))) w = w.1.1
   of_after_index (of_right (of_both closing (of_node it _))) w = (refl, w.1.1)
 
   of_named : {tree : Derivation} (k : K (productions NamedStatement) tree) → Terms k → Inside SaysActed k → SaysActed NamedStatement (node tree)
-  of_named (of_both {a = word} it (of_node (of_left (of_both (of_node dotted _) (of_both list (of_node behind _)))) _)) e w =
+  of_named (of_both {a = word} it (of_node (of_left (of_both (of_node dotted _) (of_both list (of_node following _)))) _)) e w =
       w.1.0.1.1.1 _ _ (aim_same word (name_same it) e.1.0.0.1 (optional_indices_kin first second names wider labels larger list e.1.0.1.0))
   of_named (of_both {a = word} it (of_node (of_right (of_left (of_both opening (of_node head _)))) _)) e w = w.1.0.1.1.1 _ _ (aim_same word {s = suffix.None} {t = suffix.None} (name_same it) refl w.1.0.1.1.0)
-  of_named (of_both {a = word} it (of_node (of_right (of_right (of_node behind _))) _)) e w =
+  of_named (of_both {a = word} it (of_node (of_right (of_right (of_node following _))) _)) e w =
       w.1.0.1 _ _ (aim_same word {s = suffix.None} {t = suffix.None} {is = trees.no_index} {js = trees.no_index} (name_same it) refl refl)
 
   of_assignment : {tree : Derivation} (k : K (productions Assignment) tree) → Terms k → Inside SaysActed k → SaysActed Assignment (node tree)
-  of_assignment (of_both (of_node (of_both {a = word} it (of_both dotted list)) _) (of_node behind _)) e w =
+  of_assignment (of_both (of_node (of_both {a = word} it (of_both dotted list)) _) (of_node following _)) e w =
       w.1.1 _ _ (aim_same word (name_same it) (suffix_kin first second names wider labels larger dotted e.0.0.1.0) (optional_indices_kin first second names wider labels larger list e.0.0.1.1))
 
   -- ---- other statements

@@ -20,7 +20,7 @@ use Rattle.gms_lex.specs.declared.mode.LineEnds.{LineEnds}
 use Rattle.gms_lex.specs.declared.mode.LineEnds.TheVariants.{Skipped, EndItem, EndElement}
 use Rattle.gms_lex.specs.declared.token.Token.{Token}
 use Rattle.gms_lex.specs.Modes.{after_token, mode_after}
-use Rattle.gms_lex.specs.Pieces.{passes, ends_or_begins, space_length, line_ends, line_end, is_item_mark, behind_name, behind_domain, token_read, plain_piece, piece_at}
+use Rattle.gms_lex.specs.Pieces.{passes, ends_or_begins, space_length, line_ends, line_end, is_item_mark, piece_after_name, piece_after_domain, token_read, plain_piece, piece_at}
 use Rattle.gms_lex.specs.Places.{place_of_byte}
 use Rattle.gms_lex.specs.Tokens.{IsMadeOf, token_at as token_of, tokens_of}
 use Rattle.gms_lex.proofs.LineTextLemmas.{solid_same, length-code_text}
@@ -66,10 +66,10 @@ remark_free : (test : Piece → Bool) (text : List ℕ) → test piece.Remark �
 remark_free test text h =
     if_free test (begins is_quote text) _ _ (quoted_free test piece.Remark text h) (if_free test (prefix_len is_text_byte text == 0) _ _ tt h)
 
-name_free : (text : List ℕ) → IsFree is_a_word (behind_name text)
+name_free : (text : List ℕ) → IsFree is_a_word (piece_after_name text)
 name_free text = if_free is_a_word (begins (λ b. b == 40 || is_item_mark b) text) _ _ (symbol_free is_a_word text (λ s. refl)) (remark_free is_a_word text refl)
 
-domain_free : (text : List ℕ) → IsFree is_a_word (behind_domain text)
+domain_free : (text : List ℕ) → IsFree is_a_word (piece_after_domain text)
 domain_free text = if_free is_a_word (begins is_item_mark text) _ _ (symbol_free is_a_word text (λ s. refl)) (remark_free is_a_word text refl)
 
 code_free : (text : List ℕ) → IsFree is_label (code_token kind.Text text)
@@ -133,10 +133,10 @@ lead_piece source start current last piece.Remark n spot others le there named s
 lead_piece source start current last (piece.Token k) n spot others le there named stands on =
     let text : List ℕ = take n (drop start (code_text source)) in
     let bytes : List ℕ = take (start + n - start) (drop start source) in
-    let behind : Mode = after_token current k text in
-    let later = on (spot_of behind) (inl refl) in
-    let leads = stands_leads spot current behind (sort_of (terminal_of k bytes)) stands (token_leads current k text bytes (can_stand current k (drop start (code_text source)) n there) (word_same source start k n le named)) in
-    (later.0, (spot_of behind, leads, later.1), later.2)
+    let following : Mode = after_token current k text in
+    let later = on (spot_of following) (inl refl) in
+    let leads = stands_leads spot current following (sort_of (terminal_of k bytes)) stands (token_leads current k text bytes (can_stand current k (drop start (code_text source)) n there) (word_same source start k n le named)) in
+    (later.0, (spot_of following, leads, later.1), later.2)
 
 -- the tokens of pieces lead to the place of the last mode
 pub pieces_lead : (source : List ℕ) (start : ℕ) (current : Mode) (pieces : List Lexeme) (last : Mode) (spot : Spot) → start ≤ length source → IsMadeOf current (drop start (code_text source)) pieces last [] → StandsFor spot current → LeadOn source last spot (tokens_of source start pieces)
@@ -146,7 +146,7 @@ pieces_lead source start current (p ∷ pieces) last spot within made stands =
     let w = lexeme_within current text p made.0 in
     let le : start + p.length ≤ length source = omega (arith, w.1, length-drop start (code_text source), length-code_text source) in
     let named : IsNamed p.piece p.length text = subst (IsNamedRead text) made.0 (piece_named current text) in
-    let behind : Mode = mode_after current p.piece (take p.length text) in
-    let others : IsMadeOf behind (drop (start + p.length) (code_text source)) pieces last [] = subst (λ t. IsMadeOf behind t pieces last []) (drop-drop p.length start (code_text source)) made.1 in
+    let following : Mode = mode_after current p.piece (take p.length text) in
+    let others : IsMadeOf following (drop (start + p.length) (code_text source)) pieces last [] = subst (λ t. IsMadeOf following t pieces last []) (drop-drop p.length start (code_text source)) made.1 in
     lead_piece source start current last p.piece p.length spot (tokens_of source (start + p.length) pieces) le made.0 named stands
-    (λ s h. pieces_lead source (start + p.length) behind pieces last s le others h)
+    (λ s h. pieces_lead source (start + p.length) following pieces last s le others h)

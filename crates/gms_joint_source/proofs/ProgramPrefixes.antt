@@ -64,21 +64,21 @@ module _ (limit : ℕ) (saved file : List ℕ) (first whole : ProgramView) (p : 
   abbrev pub Joint : List ℕ
   Joint = joint_source saved file
 
-  front : FrontSeen saved file (yield p.is.tree) (yield q.is.tree)
-  front =
+  prefix : FrontSeen saved file (yield p.is.tree) (yield q.is.tree)
+  prefix =
       front_seen saved file p.tokens q.tokens (yield p.is.tree) (yield q.is.tree) p.is.end q.is.end p.are_tokens (have_front saved file p.tokens q.tokens p.are_tokens q.are_tokens) p.is.tokens_are q.is.tokens_are
 
   pub names_go_on : IsPrefix first.names whole.names
-  names_go_on = subst (λ (ns : List (List ℕ)). IsPrefix ns whole.names) (sym p.is.names_are) (subst (λ (ns : List (List ℕ)). IsPrefix (reader_after_all saved start (yield p.is.tree) End).names ns) (sym q.is.names_are) (front_names saved file (yield p.is.tree) (yield q.is.tree) front))
+  names_go_on = subst (λ (ns : List (List ℕ)). IsPrefix ns whole.names) (sym p.is.names_are) (subst (λ (ns : List (List ℕ)). IsPrefix (reader_after_all saved start (yield p.is.tree) End).names ns) (sym q.is.names_are) (front_names saved file (yield p.is.tree) (yield q.is.tree) prefix))
 
   pub labels_go_on : IsPrefix first.labels whole.labels
-  labels_go_on = subst (λ (ls : List (List ℕ)). IsPrefix ls whole.labels) (sym p.is.labels_are) (subst (λ (ls : List (List ℕ)). IsPrefix (reader_after_all saved start (yield p.is.tree) End).labels ls) (sym q.is.labels_are) (front_labels saved file (yield p.is.tree) (yield q.is.tree) front))
+  labels_go_on = subst (λ (ls : List (List ℕ)). IsPrefix ls whole.labels) (sym p.is.labels_are) (subst (λ (ls : List (List ℕ)). IsPrefix (reader_after_all saved start (yield p.is.tree) End).labels ls) (sym q.is.labels_are) (front_labels saved file (yield p.is.tree) (yield q.is.tree) prefix))
 
   -- the derivation of the saved program, in both
   pub kin : Kin saved Joint first.names whole.names first.labels whole.labels (the Program) p.is.tree
   kin =
       program_kin limit saved Joint first.names whole.names first.labels whole.labels (place_kept first.names whole.names names_go_on) (place_kept first.labels whole.labels labels_go_on) p.is.tree p.is.is_tree p.is.tables
-      (record { names_are = p.is.names_are; labels_are = p.is.labels_are; parts = refl; alike = front.alike })
+      (record { names_are = p.is.names_are; labels_are = p.is.labels_are; parts = refl; alike = prefix.alike })
 
   begins : BeginsWith q.is.tree p.is.tree
   begins =

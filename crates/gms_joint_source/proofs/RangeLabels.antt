@@ -200,12 +200,12 @@ module _ (first second : List ℕ) (names wider labels larger : List (List ℕ))
       let text : List ℕ = unquoted (token_text first t.1) in
       let new : new_labels first w t (kind_of rest) ≡ text ∷ [] =
       label_enters first w t (kind_of rest) None (same_kind terminal.Label t.0 h) none_before ∙ if_skipped (is terminal.Star (kind_of rest)) [] (text ∷ []) none_behind in
-      let behind : Here (reader_after first w t (kind_of rest)) rest = stands_on first second names labels whole w t rest e in
+      let following : Here (reader_after first w t (kind_of rest)) rest = stands_on first second names labels whole w t rest e in
       let here : IsSome (place_of (reader_after first w t (kind_of rest)).labels text) =
       subst (λ (ts : List (List ℕ)). IsSome (place_of (all_entered w.labels ts) text)) (sym new) (place_of-entered w.labels text) in
       ap (λ (o : Option ℕ). or_0 o ∷ [])
       (kept first second names labels larger whole keep text (unquoted (token_text second t.1)) (ap unquoted e.alike.0) (place_of labels text) refl
-      (stays first second names labels larger whole keep (reader_after first w t (kind_of rest)) rest text (place_of (reader_after first w t (kind_of rest)).labels text) behind refl here))
+      (stays first second names labels larger whole keep (reader_after first w t (kind_of rest)) rest text (place_of (reader_after first w t (kind_of rest)).labels text) following refl here))
 
   -- two labels with a `*` between them
   two_labels : (w : ReaderState) (t star last : KindedToken) (rest : List KindedToken) → is terminal.Label t.0 ≡ true → is terminal.Star star.0 ≡ true → is terminal.Label last.0 ≡ true → Here w (t ∷ star ∷ last ∷ rest) →
@@ -278,15 +278,15 @@ all_lines (no_more l) = All-nil (λ (t : KindedToken). t.0 ≡ terminal.TableLin
 all_lines (again {b = b} l (taken {token = t} h) x) = All-cons (λ (t : KindedToken). t.0 ≡ terminal.TableLine) t (yield b) (sym (same_kind terminal.TableLine t.0 h)) (all_lines x)
 
 -- they come after the parenthesis that closes the domain
-table_of_lines : (whole front : List KindedToken) (closes : KindedToken) {tokens rest : List KindedToken} {lines : Derivation} → whole ≡ ((front ++ closes ∷ []) ++ yield lines) ++ rest → is terminal.RightParen closes.0 ≡ true → yield lines ≢ [] → Reads productions look_ahead Lines tokens (read lines rest) → IsTableOf whole (yield lines)
-table_of_lines whole front closes {rest = rest} parts h not_empty r = record {
-  before = front ++ closes ∷ [];
-  behind = rest;
+table_of_lines : (whole prefix : List KindedToken) (closes : KindedToken) {tokens rest : List KindedToken} {lines : Derivation} → whole ≡ ((prefix ++ closes ∷ []) ++ yield lines) ++ rest → is terminal.RightParen closes.0 ≡ true → yield lines ≢ [] → Reads productions look_ahead Lines tokens (read lines rest) → IsTableOf whole (yield lines)
+table_of_lines whole prefix closes {rest = rest} parts h not_empty r = record {
+  before = prefix ++ closes ∷ [];
+  following = rest;
   parts = parts;
   are_lines = all_lines r;
   some = not_empty;
   none_before = λ others t e k.
-      let last : closes ≡ t = ends_same front others closes t e in
+      let last : closes ≡ t = ends_same prefix others closes t e in
       let wrong : terminal.RightParen ≡ terminal.TableLine = same_kind terminal.RightParen closes.0 h ∙ ap (λ (s : KindedToken). s.0) last ∙ k in
       cc;
   none_behind = none_ahead r;
@@ -303,25 +303,25 @@ module _ (limit : ℕ) (first second : List ℕ) (names wider labels larger : Li
   Bytes test t = SameBytes first second names wider labels larger whole keep test t
 
   -- the lines of a table mean the same items
-  of_lines : (w : ReaderState) (front : List KindedToken) (closes : KindedToken) {tokens rest : List KindedToken} {lines : Derivation} → is terminal.RightParen closes.0 ≡ true → whole ≡ reverse w.before ++ (front ++ closes ∷ tokens) → AreAlike first second tokens → Reads productions look_ahead Lines tokens (read lines rest) →
+  of_lines : (w : ReaderState) (prefix : List KindedToken) (closes : KindedToken) {tokens rest : List KindedToken} {lines : Derivation} → is terminal.RightParen closes.0 ≡ true → whole ≡ reverse w.before ++ (prefix ++ closes ∷ tokens) → AreAlike first second tokens → Reads productions look_ahead Lines tokens (read lines rest) →
       items_given first labels (yield lines) ≡ items_given second larger (yield lines)
-  of_lines w front closes h parts a (no_more l) = refl
-  of_lines w front closes {tokens = tokens} {rest = rest} h parts a (again {b = others} l (taken {token = line} g) x) =
+  of_lines w prefix closes h parts a (no_more l) = refl
+  of_lines w prefix closes {tokens = tokens} {rest = rest} h parts a (again {b = others} l (taken {token = line} g) x) =
       let lines : Derivation = more (leaf line) others in
       let r : Reads productions look_ahead Lines tokens (read lines rest) = again l (taken g) x in
       let split : tokens ≡ yield lines ++ rest = (sound productions look_ahead r).1 in
       let not_empty : yield lines ≢ [] = λ e. let z : line ∷ yield others ≡ [] = e in cc in
       let table : IsTableOf whole (yield lines) =
-      table_of_lines whole (reverse w.before ++ front) closes (parts ∙ ap (λ (ts : List KindedToken). reverse w.before ++ (front ++ closes ∷ ts)) split ∙ regroup (reverse w.before) front closes (yield lines) rest) h not_empty r in
+      table_of_lines whole (reverse w.before ++ prefix) closes (parts ∙ ap (λ (ts : List KindedToken). reverse w.before ++ (prefix ++ closes ∷ ts)) split ∙ regroup (reverse w.before) prefix closes (yield lines) rest) h not_empty r in
       let are = tables (yield lines) table in
       items_same first second names wider labels larger whole keep limit (yield lines) rest (subst (AreAlike first second) split a) are.0 are.1
 
   of_table : (tree : Derivation) (w : ReaderState) {tokens rest : List KindedToken} → Stood w tokens → Reads productions look_ahead (productions TableStatement) tokens (read tree rest) → SameAt TableStatement (node tree)
-  of_table tree w e (both (taken {token = word} h) (both (taken {token = name} k) (both (entered_by (both (taken {token = opens} l) (both {a = list} d (taken {token = closes} {rest = behind} m)))) r))) =
+  of_table tree w e (both (taken {token = word} h) (both (taken {token = name} k) (both (entered_by (both (taken {token = opens} l) (both {a = list} d (taken {token = closes} {rest = following} m)))) r))) =
       let inner = (sound productions look_ahead d).1 in
       of_lines w (word ∷ name ∷ opens ∷ yield list) closes m
       (e.parts ∙ ap (λ (ts : List KindedToken). reverse w.before ++ (word ∷ name ∷ opens ∷ ts)) inner)
-      (alike_behind first second names wider labels larger whole keep (yield list) (closes ∷ behind) (subst (AreAlike first second) inner e.alike.1.1.1)).1 r
+      (alike_behind first second names wider labels larger whole keep (yield list) (closes ∷ following) (subst (AreAlike first second) inner e.alike.1.1.1)).1 r
 
   of_node : (n : Nonterminal) (tree : Derivation) (mark : Mark) (w : ReaderState) (tokens rest : List KindedToken) → entry n mark ≡ true → Has mark w → Stood w tokens → Reads productions look_ahead (the n) tokens (read (node tree) rest) → SameAt n (node tree)
   of_node Range tree mark w tokens rest k h e (entered_by r) = of_range first second names wider labels larger whole keep tree w (none_begun mark w.before k h) e r

@@ -22,7 +22,7 @@ use Rattle.gms_lines.proofs.WithinLemmas.{table_bytes_le}
 use Rattle.gms_lex.specs.declared.keyword.Shape.{Shape}
 use Rattle.gms_lex.specs.declared.keyword.Shape.TheVariants.{Parameter}
 use Rattle.gms_lex.specs.declared.mode.Stage.{Stage}
-use Rattle.gms_lex.specs.declared.mode.Stage.TheVariants.{Fresh, Due, After, Spaced}
+use Rattle.gms_lex.specs.declared.mode.Stage.TheVariants.{Fresh, Expected, After, Spaced}
 use Rattle.gms_lex.specs.declared.mode.Mode.{Mode}
 use Rattle.gms_lex.specs.declared.mode.Mode.TheVariants.{Code, Named, Bare, Rest, Element, Value, Tail, TableLines}
 use Rattle.gms_lex.specs.declared.mode.LineEnds.{LineEnds}
@@ -31,7 +31,7 @@ use Rattle.gms_lex.specs.declared.token.Token.{Token as CodeToken}
 use Rattle.gms_lex.specs.Apart.{IsEnding, break_of}
 use Rattle.gms_lex.specs.Keywords.{begins_statement}
 use Rattle.gms_lex.specs.Modes.{after_gap, after_line, mode_after}
-use Rattle.gms_lex.specs.Pieces.{passes, ends_or_begins, begins_other, space_length, line_end_length, line_ends, line_end, begins_value_dot, element_tail, behind_label, in_list, token_read, table_piece_of, table_piece, plain_piece, piece_at}
+use Rattle.gms_lex.specs.Pieces.{passes, ends_or_begins, begins_other, space_length, line_end_length, line_ends, line_end, begins_value_dot, element_tail, piece_after_label, in_list, token_read, table_piece_of, table_piece, plain_piece, piece_at}
 use Rattle.gms_lex.specs.Places.{place_of_byte}
 use Rattle.gms_lex.specs.Tokens.{IsMadeOf, token_at as token_of, tokens_of}
 use Rattle.gms_lex.proofs.ApartLemmas.{breaks}
@@ -52,7 +52,7 @@ in_list_now current = false
 gap_stays : (current : Mode) → in_list_now (after_gap current) ≡ in_list_now current
 gap_stays (Element shape depth After) = refl
 gap_stays (Element shape depth Fresh) = refl
-gap_stays (Element shape depth Due) = refl
+gap_stays (Element shape depth Expected) = refl
 gap_stays (Element shape depth Spaced) = refl
 gap_stays (Value shape) = refl
 gap_stays _ = refl
@@ -86,13 +86,13 @@ no_value_dot : (shape : Shape) (depth : ℕ) (stage : Stage) (text : List ℕ) �
 no_value_dot Parameter depth Spaced text = and-false (depth == 0)
 no_value_dot shape depth stage text = refl
 
-behind_label_semicolon : (shape : Shape) (depth : ℕ) (stage : Stage) (text : List ℕ) → behind_label shape depth stage (59 ∷ text) ≡ Ok semicolon_piece
+behind_label_semicolon : (shape : Shape) (depth : ℕ) (stage : Stage) (text : List ℕ) → piece_after_label shape depth stage (59 ∷ text) ≡ Ok semicolon_piece
 behind_label_semicolon shape depth stage text =
     ap (λ v. if not v then symbol (59 ∷ text) else (if depth == 0 then element_tail shape (59 ∷ text) else label_token (59 ∷ text))) (no_value_dot shape depth stage text) ∙ symbol_semicolon text
 
 in_list_semicolon : (shape : Shape) (depth : ℕ) (stage : Stage) (text : List ℕ) → in_list shape depth stage (59 ∷ text) ≡ Ok semicolon_piece
 in_list_semicolon shape depth Fresh text = symbol_semicolon text
-in_list_semicolon shape depth Due text = symbol_semicolon text
+in_list_semicolon shape depth Expected text = symbol_semicolon text
 in_list_semicolon shape depth After text = behind_label_semicolon shape depth After text
 in_list_semicolon shape depth Spaced text = behind_label_semicolon shape depth Spaced text
 
@@ -222,13 +222,13 @@ space_drop (suc n) [] all = all
 space_drop (suc n) (b ∷ text) all = space_drop n text (all_space b text all).1
 
 -- a step towards the line end is one over a blank
-step_blank : (b : ℕ) (text behind : List ℕ) → begins_other (b ∷ text) ≡ false → before is_line_end behind ≤ prefix_len is_blank behind → is_line_end (b ∷ behind) ≡ is_line_end (b ∷ text) → before is_line_end (b ∷ behind) ≤ prefix_len is_blank (b ∷ behind)
-step_blank b text behind h le same = elim (true_or_false (is_line_end (b ∷ behind))) [
-  | inl t ↦ let none : before is_line_end (b ∷ behind) ≡ 0 = ap (λ v. if v then 0 else 1 + before is_line_end behind) t in omega (arith, none)
+step_blank : (b : ℕ) (text following : List ℕ) → begins_other (b ∷ text) ≡ false → before is_line_end following ≤ prefix_len is_blank following → is_line_end (b ∷ following) ≡ is_line_end (b ∷ text) → before is_line_end (b ∷ following) ≤ prefix_len is_blank (b ∷ following)
+step_blank b text following h le same = elim (true_or_false (is_line_end (b ∷ following))) [
+  | inl t ↦ let none : before is_line_end (b ∷ following) ≡ 0 = ap (λ v. if v then 0 else 1 + before is_line_end following) t in omega (arith, none)
   | inr f ↦ elim (true_or_false (is_blank b)) [
     | inl t ↦
-        let more : before is_line_end (b ∷ behind) ≡ 1 + before is_line_end behind = ap (λ v. if v then 0 else 1 + before is_line_end behind) f in
-        let run : prefix_len is_blank (b ∷ behind) ≡ 1 + prefix_len is_blank behind = ap (λ v. cond v (1 + prefix_len is_blank behind) 0) t in
+        let more : before is_line_end (b ∷ following) ≡ 1 + before is_line_end following = ap (λ v. if v then 0 else 1 + before is_line_end following) f in
+        let run : prefix_len is_blank (b ∷ following) ≡ 1 + prefix_len is_blank following = ap (λ v. cond v (1 + prefix_len is_blank following) 0) t in
         omega (arith, more, run, le)
     | inr g ↦ absurd (neither (is_blank b) (is_line_end (b ∷ text)) h g (sym same ∙ f))
   ]
@@ -284,8 +284,8 @@ blank_list current text [] last all made = ap in_list_now made.0
 blank_list current [] (p ∷ pieces) last all made = let w = lexeme_within current [] p made.0 in absurd (omega (arith, w.0, w.1))
 blank_list current (b ∷ text) (p ∷ pieces) last all made =
     let is : IsSpaceRead (b ∷ text) (Ok p) = subst (IsSpaceRead (b ∷ text)) made.0 (space_piece current b text (all_space b text all).0 (to_end_blank (b ∷ text) all)) in
-    let behind : Mode = mode_after current p.piece (take p.length (b ∷ text)) in
-    blank_list behind (drop p.length (b ∷ text)) pieces last (space_drop p.length (b ∷ text) all) made.1
+    let following : Mode = mode_after current p.piece (take p.length (b ∷ text)) in
+    blank_list following (drop p.length (b ∷ text)) pieces last (space_drop p.length (b ∷ text) all) made.1
     ∙ keeps_list current p.piece (take p.length (b ∷ text)) is.0 (no_break current b text p all made.0)
 
 -- ---- before a semicolon
@@ -344,9 +344,9 @@ seam_here Clean source start current text (p ∷ pieces) last made =
       is_semicolon = refl;
       none = λ c. refl;
       later = λ more feed.
-          let behind : IsMadeOf Code text pieces last [] = subst (λ (q : Lexeme). IsMadeOf (mode_after current q.piece (take q.length (59 ∷ text))) (drop q.length (59 ∷ text)) pieces last []) same made.1 in
+          let following : IsMadeOf Code text pieces last [] = subst (λ (q : Lexeme). IsMadeOf (mode_after current q.piece (take q.length (59 ∷ text))) (drop q.length (59 ∷ text)) pieces last []) same made.1 in
           let two : start + 1 + 1 ≡ start + 2 = omega arith in
-          subst (λ n. All (StartsFrom n) (tokens_of source (start + 1) pieces)) two (behind_feed source (start + 1) more pieces last (subst (λ t. IsMadeOf Code t pieces last []) feed behind));
+          subst (λ n. All (StartsFrom n) (tokens_of source (start + 1) pieces)) two (behind_feed source (start + 1) more pieces last (subst (λ t. IsMadeOf Code t pieces last []) feed following));
     }
 
 seam_more : (Clean : Type 0) (place : ℕ) (rest : List ℕ) (at : Place) (piece : Piece) (start end : ℕ) (tokens : List CodeToken) → IsSpacePiece piece → (Clean → piece ≡ Token Break → ⊥) → Seam Clean place rest tokens → Seam Clean place rest (token_of at piece start end ++ tokens)
@@ -380,29 +380,29 @@ no_made (b ∷ text) rest e = cc
 no_end : (current : Mode) (text rest : List ℕ) (p : Lexeme) → ends_in_return text ≡ false → space_length text ≡ length text → piece_at current (fed text (59 ∷ rest)) ≡ Ok p → in_list_now current ≡ false → p.piece ≡ Token Break → ⊥
 no_end current text rest p h all there outside e =
     let is : piece_at current (fed text (59 ∷ rest)) ≡ Ok (break_of p.length) = there ∙ ap (λ (k : Piece). (let q : Lexeme = record { piece = k; length = p.length } in Ok q)) e in
-    let behind : drop (space_length (fed text (59 ∷ rest))) (fed text (59 ∷ rest)) ≡ 59 ∷ rest =
+    let following : drop (space_length (fed text (59 ∷ rest))) (fed text (59 ∷ rest)) ≡ 59 ∷ rest =
     ap (λ n. drop n (fed text (59 ∷ rest))) (space_all_fed text (59 ∷ rest) h all) ∙ drop-append-add text (10 ∷ 59 ∷ rest) 1 in
-    not_ending current rest outside (subst (IsEnding (line_ends current)) behind (breaks current (fed text (59 ∷ rest)) p.length is).0.1)
+    not_ending current rest outside (subst (IsEnding (line_ends current)) following (breaks current (fed text (59 ∷ rest)) p.length is).0.1)
 
-pub seam : (Clean : Type 0) (source : List ℕ) (start : ℕ) (current : Mode) (text rest : List ℕ) (pieces : List Lexeme) (last : Mode) → ends_in_return text ≡ false → space_length text ≡ length text → (Clean → in_list_now current ≡ false) → IsMadeOf current (fed text (59 ∷ rest)) pieces last [] → Seam Clean (start + length text + 1) rest (tokens_of source start pieces)
-seam Clean source start current text rest [] last h all clean made = absurd (no_made text (59 ∷ rest) made.1)
-seam Clean source start current text rest (p ∷ pieces) last h all clean made =
+pub joining : (Clean : Type 0) (source : List ℕ) (start : ℕ) (current : Mode) (text rest : List ℕ) (pieces : List Lexeme) (last : Mode) → ends_in_return text ≡ false → space_length text ≡ length text → (Clean → in_list_now current ≡ false) → IsMadeOf current (fed text (59 ∷ rest)) pieces last [] → Seam Clean (start + length text + 1) rest (tokens_of source start pieces)
+joining Clean source start current text rest [] last h all clean made = absurd (no_made text (59 ∷ rest) made.1)
+joining Clean source start current text rest (p ∷ pieces) last h all clean made =
     let is : IsSpaceRead (fed text (59 ∷ rest)) (Ok p) = subst (IsSpaceRead (fed text (59 ∷ rest))) made.0 (seam_piece current text rest h all) in
     let long : space_length (fed text (59 ∷ rest)) ≡ length text + 1 = space_all_fed text (59 ∷ rest) h all in
     let most : p.length ≤ length text + 1 = omega (arith, is.1, long) in
-    let behind : Mode = mode_after current p.piece (take p.length (fed text (59 ∷ rest))) in
+    let following : Mode = mode_after current p.piece (take p.length (fed text (59 ∷ rest))) in
     let quiet : Clean → p.piece ≡ Token Break → ⊥ = λ c. no_end current text rest p h all made.0 (clean c) in
-    let still : Clean → in_list_now behind ≡ false = λ c. keeps_list current p.piece (take p.length (fed text (59 ∷ rest))) is.0 (quiet c) ∙ clean c in
+    let still : Clean → in_list_now following ≡ false = λ c. keeps_list current p.piece (take p.length (fed text (59 ∷ rest))) is.0 (quiet c) ∙ clean c in
     seam_more Clean (start + length text + 1) rest (place_of_byte source start) p.piece start (start + p.length) (tokens_of source (start + p.length) pieces) is.0 quiet
     (elim (below_or (length text) p.length) [
       | inl past ↦
           let exact : p.length ≡ length text + 1 = omega (arith, past, most) in
           let there : drop p.length (fed text (59 ∷ rest)) ≡ 59 ∷ rest = ap (λ k. drop k (fed text (59 ∷ rest))) exact ∙ drop-append-add text (10 ∷ 59 ∷ rest) 1 in
           let here : start + p.length ≡ start + length text + 1 = omega (arith, exact) in
-          subst (λ n. Seam Clean n rest (tokens_of source (start + p.length) pieces)) here (seam_here Clean source (start + p.length) behind rest pieces last (subst (λ t. IsMadeOf behind t pieces last []) there made.1))
+          subst (λ n. Seam Clean n rest (tokens_of source (start + p.length) pieces)) here (seam_here Clean source (start + p.length) following rest pieces last (subst (λ t. IsMadeOf following t pieces last []) there made.1))
       | inr within ↦
           let here : start + p.length + length (drop p.length text) + 1 ≡ start + length text + 1 = omega (arith, within, length-drop p.length text) in
           subst (λ n. Seam Clean n rest (tokens_of source (start + p.length) pieces)) here
-          (seam Clean source (start + p.length) behind (drop p.length text) rest pieces last (no_return_drop p.length text h) (space_drop p.length text all) still
-          (subst (λ t. IsMadeOf behind t pieces last []) (drop-append-le p.length text (10 ∷ 59 ∷ rest) within) made.1))
+          (joining Clean source (start + p.length) following (drop p.length text) rest pieces last (no_return_drop p.length text h) (space_drop p.length text all) still
+          (subst (λ t. IsMadeOf following t pieces last []) (drop-append-le p.length text (10 ∷ 59 ∷ rest) within) made.1))
     ])

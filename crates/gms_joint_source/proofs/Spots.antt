@@ -10,11 +10,11 @@ use Rattle.gms_lex.specs.declared.keyword.Shape.{Shape}
 use Rattle.gms_lex.specs.declared.keyword.Shape.TheVariants as shape
 use Rattle.gms_lex.specs.declared.keyword.Keyword.{Keyword}
 use Rattle.gms_lex.specs.declared.keyword.Keyword.TheVariants as keyword
-use Rattle.gms_lex.specs.declared.mode.Stage.TheVariants.{Fresh, Due, After, Spaced}
+use Rattle.gms_lex.specs.declared.mode.Stage.TheVariants.{Fresh, Expected, After, Spaced}
 use Rattle.gms_lex.specs.declared.mode.Mode.{Mode}
 use Rattle.gms_lex.specs.declared.mode.Mode.TheVariants as mode
 use Rattle.gms_lex.specs.Keywords.{keyword_as, keyword_of}
-use Rattle.gms_lex.specs.Modes.{list_start, begun_by, behind_element, after_word, after_comma, after_stray_paren, after_token, after_gap, after_line, after_remark}
+use Rattle.gms_lex.specs.Modes.{list_start, begun_by, after_element, after_word, after_comma, after_stray_paren, after_token, after_gap, after_line, after_remark}
 use Rattle.gms_grammar.specs.declared.terminal.Terminal.{Terminal}
 use Rattle.gms_grammar.specs.declared.terminal.Terminal.TheVariants as terminal
 use Rattle.gms_grammar.specs.Keywords.{Words, statement_words, kind_among}
@@ -167,11 +167,11 @@ either_in_list : (b : Bool) (x y : Mode) → spot_of x ≡ list → spot_of y �
 either_in_list true x y h k = h
 either_in_list false x y h k = k
 
-element_in_list : (s : Shape) (depth : ℕ) → spot_of (behind_element s depth) ≡ list
+element_in_list : (s : Shape) (depth : ℕ) → spot_of (after_element s depth) ≡ list
 element_in_list s depth = either_in_list (depth == 0) (mode.Tail s) (mode.Element s depth After) refl refl
 
 comma_in_list : (s : Shape) (depth : ℕ) → spot_of (after_comma s depth) ≡ list
-comma_in_list s depth = either_in_list (depth == 0) (list_start s) (mode.Element s depth Due) (start_in_list s) refl
+comma_in_list s depth = either_in_list (depth == 0) (list_start s) (mode.Element s depth Expected) (start_in_list s) refl
 
 stray_in_list : (s : Shape) → spot_of (after_stray_paren s) ≡ list
 stray_in_list shape.Set = refl
@@ -198,8 +198,8 @@ symbol_leads (mode.Rest s) SlashSymbol text = to_list rest slash (list_start s) 
 symbol_leads (mode.Rest s) _ text = refl
 symbol_leads (mode.Element s depth Fresh) CommaSymbol text = to_list list comma (after_comma s depth) refl (comma_in_list s depth)
 symbol_leads (mode.Element s depth Fresh) _ text = refl
-symbol_leads (mode.Element s depth Due) CommaSymbol text = to_list list comma (after_comma s depth) refl (comma_in_list s depth)
-symbol_leads (mode.Element s depth Due) _ text = refl
+symbol_leads (mode.Element s depth Expected) CommaSymbol text = to_list list comma (after_comma s depth) refl (comma_in_list s depth)
+symbol_leads (mode.Element s depth Expected) _ text = refl
 symbol_leads (mode.Element s depth After) CommaSymbol text = to_list list comma (after_comma s depth) refl (comma_in_list s depth)
 symbol_leads (mode.Element s depth After) Close text = refl
 symbol_leads (mode.Element s depth After) SlashSymbol text = refl
@@ -208,7 +208,7 @@ symbol_leads (mode.Element s depth After) DotSymbol text = refl
 symbol_leads (mode.Element s depth After) DotDotSymbol text = refl
 symbol_leads (mode.Element s depth After) StarSymbol text = refl
 symbol_leads (mode.Element s depth After) PowerSymbol text = refl
-symbol_leads (mode.Element s depth After) _ text = to_list list other (behind_element s depth) refl (element_in_list s depth)
+symbol_leads (mode.Element s depth After) _ text = to_list list other (after_element s depth) refl (element_in_list s depth)
 symbol_leads (mode.Element s depth Spaced) CommaSymbol text = to_list list comma (after_comma s depth) refl (comma_in_list s depth)
 symbol_leads (mode.Element s depth Spaced) Close text = refl
 symbol_leads (mode.Element s depth Spaced) SlashSymbol text = refl
@@ -217,7 +217,7 @@ symbol_leads (mode.Element s depth Spaced) DotSymbol text = refl
 symbol_leads (mode.Element s depth Spaced) DotDotSymbol text = refl
 symbol_leads (mode.Element s depth Spaced) StarSymbol text = refl
 symbol_leads (mode.Element s depth Spaced) PowerSymbol text = refl
-symbol_leads (mode.Element s depth Spaced) _ text = to_list list other (behind_element s depth) refl (element_in_list s depth)
+symbol_leads (mode.Element s depth Spaced) _ text = to_list list other (after_element s depth) refl (element_in_list s depth)
 symbol_leads (mode.Value s) CommaSymbol text = to_list list comma (list_start s) refl (start_in_list s)
 symbol_leads (mode.Value s) Close text = to_list list closing (after_stray_paren s) refl (stray_in_list s)
 symbol_leads (mode.Value s) _ text = refl
@@ -251,11 +251,11 @@ abbrev AreWords : List Words → Type 0
 AreWords [] = Unit {0}
 AreWords (g ∷ groups) = (sort_of g.0 ≡ word) × AreWords groups
 
-word_kind : (text : List ℕ) (groups : List Words) (behind : Option Terminal) → AreWords groups → sort_of (or_name behind) ≡ word → sort_of (or_name (or_else (kind_among text groups) behind)) ≡ word
-word_kind text [] behind a h = h
-word_kind text (g ∷ groups) behind a h = by (is_word_among text g.1) (word_kind text groups behind a.1 h)
+word_kind : (text : List ℕ) (groups : List Words) (following : Option Terminal) → AreWords groups → sort_of (or_name following) ≡ word → sort_of (or_name (or_else (kind_among text groups) following)) ≡ word
+word_kind text [] following a h = h
+word_kind text (g ∷ groups) following a h = by (is_word_among text g.1) (word_kind text groups following a.1 h)
   where
-    by : (b : Bool) → sort_of (or_name (or_else (kind_among text groups) behind)) ≡ word → sort_of (or_name (or_else (if b then Some g.0 else kind_among text groups) behind)) ≡ word
+    by : (b : Bool) → sort_of (or_name (or_else (kind_among text groups) following)) ≡ word → sort_of (or_name (or_else (if b then Some g.0 else kind_among text groups) following)) ≡ word
     by true k = a.0
     by false k = k
 
@@ -268,11 +268,11 @@ abbrev AreHeads : List Words → Type 0
 AreHeads [] = Unit {0}
 AreHeads (g ∷ groups) = (sort_of g.0 ≡ key_sort (Some (keyword_as g.0))) × AreHeads groups
 
-head_kind : (text : List ℕ) (groups : List Words) (behind : Option Terminal) → AreHeads groups → sort_of (or_name behind) ≡ word → sort_of (or_name (or_else (kind_among text groups) behind)) ≡ key_sort (option_map keyword_as (kind_among text groups))
-head_kind text [] behind a h = h
-head_kind text (g ∷ groups) behind a h = by (is_word_among text g.1) (head_kind text groups behind a.1 h)
+head_kind : (text : List ℕ) (groups : List Words) (following : Option Terminal) → AreHeads groups → sort_of (or_name following) ≡ word → sort_of (or_name (or_else (kind_among text groups) following)) ≡ key_sort (option_map keyword_as (kind_among text groups))
+head_kind text [] following a h = h
+head_kind text (g ∷ groups) following a h = by (is_word_among text g.1) (head_kind text groups following a.1 h)
   where
-    by : (b : Bool) → sort_of (or_name (or_else (kind_among text groups) behind)) ≡ key_sort (option_map keyword_as (kind_among text groups)) → sort_of (or_name (or_else (if b then Some g.0 else kind_among text groups) behind)) ≡ key_sort (option_map keyword_as (if b then Some g.0 else kind_among text groups))
+    by : (b : Bool) → sort_of (or_name (or_else (kind_among text groups) following)) ≡ key_sort (option_map keyword_as (kind_among text groups)) → sort_of (or_name (or_else (if b then Some g.0 else kind_among text groups) following)) ≡ key_sort (option_map keyword_as (if b then Some g.0 else kind_among text groups))
     by true k = a.0
     by false k = k
 
@@ -335,7 +335,7 @@ word_leads m text k e can = subst (λ (j : Option Keyword). Leads (spot_of m) (k
     by (mode.Bare s) can = absurd can
     by (mode.Rest s) can = begun_leads rest (mode.Rest s) (keyword_of text) refl refl refl
     by (mode.Element s depth Fresh) can = stay_list (keyword_of text)
-    by (mode.Element s depth Due) can = stay_list (keyword_of text)
+    by (mode.Element s depth Expected) can = stay_list (keyword_of text)
     by (mode.Element s depth After) can = ap (has same same_is (step list (key_sort (keyword_of text)))) (element_in_list s depth) ∙ stay_list (keyword_of text)
     by (mode.Element s depth Spaced) can = ap (has same same_is (step list (key_sort (keyword_of text)))) (element_in_list s depth) ∙ stay_list (keyword_of text)
     by (mode.Value s) can = stay_list (keyword_of text)
@@ -358,18 +358,18 @@ text_sort text = by (nat_lt 65 (length text))
 
 label_leads : (m : Mode) (text : List ℕ) → CanStand m kind.Label → Leads (spot_of m) label (after_token m kind.Label text)
 label_leads (mode.Item s) text can = absurd can
-label_leads (mode.Element s depth After) text can = to_list list label (behind_element s depth) refl (element_in_list s depth)
-label_leads (mode.Element s depth Spaced) text can = to_list list label (behind_element s depth) refl (element_in_list s depth)
+label_leads (mode.Element s depth After) text can = to_list list label (after_element s depth) refl (element_in_list s depth)
+label_leads (mode.Element s depth Spaced) text can = to_list list label (after_element s depth) refl (element_in_list s depth)
 label_leads (mode.Element s depth Fresh) text can = refl
-label_leads (mode.Element s depth Due) text can = refl
+label_leads (mode.Element s depth Expected) text can = refl
 label_leads mode.Code text can = refl
 label_leads _ text can = refl
 
 number_leads : (m : Mode) (text : List ℕ) → Leads (spot_of m) other (after_token m kind.Number text)
-number_leads (mode.Element s depth After) text = to_list list other (behind_element s depth) refl (element_in_list s depth)
-number_leads (mode.Element s depth Spaced) text = to_list list other (behind_element s depth) refl (element_in_list s depth)
+number_leads (mode.Element s depth After) text = to_list list other (after_element s depth) refl (element_in_list s depth)
+number_leads (mode.Element s depth Spaced) text = to_list list other (after_element s depth) refl (element_in_list s depth)
 number_leads (mode.Element s depth Fresh) text = refl
-number_leads (mode.Element s depth Due) text = refl
+number_leads (mode.Element s depth Expected) text = refl
 number_leads mode.Code text = refl
 number_leads _ text = refl
 
@@ -417,16 +417,16 @@ mild_more bare _ h = refl
 mild_more _ _ h = absurd h
 
 -- what a token leads to from a place that stands for a mode
-pub stands_leads : (spot : Spot) (m behind : Mode) (sort : Sort) → StandsFor spot m → Leads (spot_of m) sort behind → Leads spot sort behind
-stands_leads spot m behind sort (inl e) l = subst (λ (s : Spot). Leads s sort behind) (sym e) l
-stands_leads spot m behind sort (inr e) l =
-    within_has same same_is (step rest sort) (step spot sort) (spot_of behind) (mild_more spot sort e.0) (subst (λ (s : Spot). Leads s sort behind) e.1 l)
+pub stands_leads : (spot : Spot) (m following : Mode) (sort : Sort) → StandsFor spot m → Leads (spot_of m) sort following → Leads spot sort following
+stands_leads spot m following sort (inl e) l = subst (λ (s : Spot). Leads s sort following) (sym e) l
+stands_leads spot m following sort (inr e) l =
+    within_has same same_is (step rest sort) (step spot sort) (spot_of following) (mild_more spot sort e.0) (subst (λ (s : Spot). Leads s sort following) e.1 l)
 
 -- what is no token leaves it
 pub stands_gap : (spot : Spot) (m : Mode) → StandsFor spot m → StandsFor spot (after_gap m)
 stands_gap spot (mode.Element s depth After) h = h
 stands_gap spot (mode.Element s depth Fresh) h = h
-stands_gap spot (mode.Element s depth Due) h = h
+stands_gap spot (mode.Element s depth Expected) h = h
 stands_gap spot (mode.Element s depth Spaced) h = h
 stands_gap spot mode.Code h = h
 stands_gap spot _ h = h

@@ -24,7 +24,7 @@ use Rattle.gms_expressions.specs.Outcomes.{open_after, kinded_tokens}
 use Rattle.gms_expressions.specs.Words.{terminal_of}
 use Rattle.gms_parse.specs.Tables.{labels_of_lines}
 use Rattle.gms_parse.specs.ReadStates.{KindedToken, ReaderState, start, kind_ahead, is_keyword, is_name, is_index, range_start, range_texts, list_labels, lines_with, new_labels, reader_after, reader_after_all}
-use Rattle.gms_joint_source.specs.JointSources.{joint_source, HaveFront}
+use Rattle.gms_joint_source.specs.JointSources.{joint_source, HaveJointPrefix}
 use Rattle.gms_joint_source.proofs.FedTokens.{if_alike}
 use Rattle.gms_joint_source.proofs.JointDerivations.{text_same, own_seen, last_same}
 
@@ -76,38 +76,38 @@ module _ (saved joint : List ℕ) where
 
   lines_alike : (before : List KindedToken) (line : KindedToken) → AreAlike before → token_text joint line.1 ≡ token_text saved line.1 → labels_of_lines joint (lines_with joint before line) ≡ labels_of_lines saved (lines_with saved before line)
   lines_alike before line a h =
-      let front : List KindedToken = line ∷ take_while (λ token. is terminal.TableLine token.0) before in
+      let prefix : List KindedToken = line ∷ take_while (λ token. is terminal.TableLine token.0) before in
       ap (λ ls. label_texts (table_of ls))
-      (map_reverse (Line joint) front
+      (map_reverse (Line joint) prefix
       ∙ ap reverse (ap₂ (λ text ls. words_of line.1.at.line text ∷ ls) h (taken_alike (λ token. is terminal.TableLine token.0) before a))
-      ∙ sym (map_reverse (Line saved) front))
+      ∙ sym (map_reverse (Line saved) prefix))
 
-  labels_alike : (walk : ReaderState) (token : KindedToken) (ahead : Terminal) → AreAlike walk.before → token_text joint token.1 ≡ token_text saved token.1 → new_labels joint walk token ahead ≡ new_labels saved walk token ahead
-  labels_alike walk token ahead a h =
-      if_alike (is_index walk token.0) _ _ _ _ (λ _. ap (λ text. unquoted text ∷ []) h)
-      (λ _. if_alike (is terminal.Label token.0) _ _ _ _ (λ _. list_alike walk.before ahead token.1 a h)
-      (λ _. if_alike (is terminal.TableLine token.0 && not (is terminal.TableLine ahead)) _ _ _ _ (λ _. lines_alike walk.before token a h) (λ _. refl)))
+  labels_alike : (read_state : ReaderState) (token : KindedToken) (ahead : Terminal) → AreAlike read_state.before → token_text joint token.1 ≡ token_text saved token.1 → new_labels joint read_state token ahead ≡ new_labels saved read_state token ahead
+  labels_alike read_state token ahead a h =
+      if_alike (is_index read_state token.0) _ _ _ _ (λ _. ap (λ text. unquoted text ∷ []) h)
+      (λ _. if_alike (is terminal.Label token.0) _ _ _ _ (λ _. list_alike read_state.before ahead token.1 a h)
+      (λ _. if_alike (is terminal.TableLine token.0 && not (is terminal.TableLine ahead)) _ _ _ _ (λ _. lines_alike read_state.before token a h) (λ _. refl)))
 
   -- a token leaves the same in both
-  after_alike : (walk : ReaderState) (token : KindedToken) (ahead : Terminal) → AreAlike walk.before → token_text joint token.1 ≡ token_text saved token.1 → reader_after joint walk token ahead ≡ reader_after saved walk token ahead
-  after_alike walk token ahead a h =
+  after_alike : (read_state : ReaderState) (token : KindedToken) (ahead : Terminal) → AreAlike read_state.before → token_text joint token.1 ≡ token_text saved token.1 → reader_after joint read_state token ahead ≡ reader_after saved read_state token ahead
+  after_alike read_state token ahead a h =
       ap₂ (λ (ns ls : List (List ℕ)). (let r : ReaderState = record {
-        open_count = open_after walk.open_count token.0;
+        open_count = open_after read_state.open_count token.0;
         names = ns;
         labels = ls;
-        before = token ∷ walk.before;
-        keyword = if is_keyword token.0 || is terminal.Semicolon token.0 then token.0 else walk.keyword;
-        level = if is_keyword token.0 || is terminal.Semicolon token.0 then walk.open_count else walk.level;
+        before = token ∷ read_state.before;
+        keyword = if is_keyword token.0 || is terminal.Semicolon token.0 then token.0 else read_state.keyword;
+        level = if is_keyword token.0 || is terminal.Semicolon token.0 then read_state.open_count else read_state.level;
       } in r))
-      (ap (λ text. if is_name walk token.0 then entered walk.names text else walk.names) h)
-      (ap (all_entered walk.labels) (labels_alike walk token ahead a h))
+      (ap (λ text. if is_name read_state token.0 then entered read_state.names text else read_state.names) h)
+      (ap (all_entered read_state.labels) (labels_alike read_state token ahead a h))
 
   -- tokens leave the same in both
-  pub walk_alike : (walk : ReaderState) (tokens : List KindedToken) (ahead : Terminal) → AreAlike walk.before → AreAlike tokens → reader_after_all joint walk tokens ahead ≡ reader_after_all saved walk tokens ahead
-  walk_alike walk [] ahead a h = refl
-  walk_alike walk (token ∷ tokens) ahead a h =
-      ap (λ (w : ReaderState). reader_after_all joint w tokens ahead) (after_alike walk token (kind_ahead tokens ahead) a h.0)
-      ∙ walk_alike (reader_after saved walk token (kind_ahead tokens ahead)) tokens ahead (h.0, a) h.1
+  pub walk_alike : (read_state : ReaderState) (tokens : List KindedToken) (ahead : Terminal) → AreAlike read_state.before → AreAlike tokens → reader_after_all joint read_state tokens ahead ≡ reader_after_all saved read_state tokens ahead
+  walk_alike read_state [] ahead a h = refl
+  walk_alike read_state (token ∷ tokens) ahead a h =
+      ap (λ (w : ReaderState). reader_after_all joint w tokens ahead) (after_alike read_state token (kind_ahead tokens ahead) a h.0)
+      ∙ walk_alike (reader_after saved read_state token (kind_ahead tokens ahead)) tokens ahead (h.0, a) h.1
 
 -- ---- the token ahead
 
@@ -116,21 +116,21 @@ module _ (source : List ℕ) where
   list_ahead (Some first) ahead token h = refl
   list_ahead None ahead token h = ap (λ v. if v then [] else unquoted (token_text source token) ∷ []) h
 
-  labels_ahead : (walk : ReaderState) (token : KindedToken) (ahead : Terminal) → is terminal.Star ahead ≡ false → is terminal.TableLine ahead ≡ false → new_labels source walk token ahead ≡ new_labels source walk token terminal.End
-  labels_ahead walk token ahead h k =
-      if_alike (is_index walk token.0) _ _ _ _ (λ _. refl)
-      (λ _. if_alike (is terminal.Label token.0) _ _ _ _ (λ _. list_ahead (range_start walk.before) ahead token.1 h)
-      (λ _. ap (λ v. if is terminal.TableLine token.0 && not v then labels_of_lines source (lines_with source walk.before token) else []) k))
+  labels_ahead : (read_state : ReaderState) (token : KindedToken) (ahead : Terminal) → is terminal.Star ahead ≡ false → is terminal.TableLine ahead ≡ false → new_labels source read_state token ahead ≡ new_labels source read_state token terminal.End
+  labels_ahead read_state token ahead h k =
+      if_alike (is_index read_state token.0) _ _ _ _ (λ _. refl)
+      (λ _. if_alike (is terminal.Label token.0) _ _ _ _ (λ _. list_ahead (range_start read_state.before) ahead token.1 h)
+      (λ _. ap (λ v. if is terminal.TableLine token.0 && not v then labels_of_lines source (lines_with source read_state.before token) else []) k))
 
-  after_ahead : (walk : ReaderState) (token : KindedToken) (ahead : Terminal) → is terminal.Star ahead ≡ false → is terminal.TableLine ahead ≡ false → reader_after source walk token ahead ≡ reader_after source walk token terminal.End
-  after_ahead walk token ahead h k =
-      ap (λ (ls : List (List ℕ)). (let r : ReaderState = record (reader_after source walk token terminal.End) { labels = all_entered walk.labels ls } in r)) (labels_ahead walk token ahead h k)
+  after_ahead : (read_state : ReaderState) (token : KindedToken) (ahead : Terminal) → is terminal.Star ahead ≡ false → is terminal.TableLine ahead ≡ false → reader_after source read_state token ahead ≡ reader_after source read_state token terminal.End
+  after_ahead read_state token ahead h k =
+      ap (λ (ls : List (List ℕ)). (let r : ReaderState = record (reader_after source read_state token terminal.End) { labels = all_entered read_state.labels ls } in r)) (labels_ahead read_state token ahead h k)
 
   -- tokens leave the same before the end and before a token that is no `*` and no line of a table
-  pub walk_ahead : (walk : ReaderState) (tokens : List KindedToken) (ahead : Terminal) → is terminal.Star ahead ≡ false → is terminal.TableLine ahead ≡ false → reader_after_all source walk tokens ahead ≡ reader_after_all source walk tokens terminal.End
-  walk_ahead walk [] ahead h k = refl
-  walk_ahead walk (token ∷ []) ahead h k = after_ahead walk token ahead h k
-  walk_ahead walk (token ∷ next ∷ tokens) ahead h k = walk_ahead (reader_after source walk token next.0) (next ∷ tokens) ahead h k
+  pub walk_ahead : (read_state : ReaderState) (tokens : List KindedToken) (ahead : Terminal) → is terminal.Star ahead ≡ false → is terminal.TableLine ahead ≡ false → reader_after_all source read_state tokens ahead ≡ reader_after_all source read_state tokens terminal.End
+  walk_ahead read_state [] ahead h k = refl
+  walk_ahead read_state (token ∷ []) ahead h k = after_ahead read_state token ahead h k
+  walk_ahead read_state (token ∷ next ∷ tokens) ahead h k = walk_ahead (reader_after source read_state token next.0) (next ∷ tokens) ahead h k
 
   -- ---- names and labels are only added
 
@@ -138,17 +138,17 @@ module _ (source : List ℕ) where
   if_goes table true x y h k = h
   if_goes table false x y h k = k
 
-  pub names_go_on : (walk : ReaderState) (tokens : List KindedToken) (ahead : Terminal) → IsPrefix walk.names (reader_after_all source walk tokens ahead).names
-  names_go_on walk tokens ahead =
-      all_keep (reader_after source) (λ (w : ReaderState). IsPrefix walk.names w.names)
-      (λ w token k h. GoesOn-trans walk.names w.names _ h (if_goes w.names (is_name w token.0) _ _ (GoesOn-entered w.names (token_text source token.1)) (GoesOn-refl w.names)))
-      walk tokens ahead (GoesOn-refl walk.names)
+  pub names_go_on : (read_state : ReaderState) (tokens : List KindedToken) (ahead : Terminal) → IsPrefix read_state.names (reader_after_all source read_state tokens ahead).names
+  names_go_on read_state tokens ahead =
+      all_keep (reader_after source) (λ (w : ReaderState). IsPrefix read_state.names w.names)
+      (λ w token k h. GoesOn-trans read_state.names w.names _ h (if_goes w.names (is_name w token.0) _ _ (GoesOn-entered w.names (token_text source token.1)) (GoesOn-refl w.names)))
+      read_state tokens ahead (GoesOn-refl read_state.names)
 
-  pub labels_go_on : (walk : ReaderState) (tokens : List KindedToken) (ahead : Terminal) → IsPrefix walk.labels (reader_after_all source walk tokens ahead).labels
-  labels_go_on walk tokens ahead =
-      all_keep (reader_after source) (λ (w : ReaderState). IsPrefix walk.labels w.labels)
-      (λ w token k h. GoesOn-trans walk.labels w.labels _ h (GoesOn-all_entered w.labels (new_labels source w token k)))
-      walk tokens ahead (GoesOn-refl walk.labels)
+  pub labels_go_on : (read_state : ReaderState) (tokens : List KindedToken) (ahead : Terminal) → IsPrefix read_state.labels (reader_after_all source read_state tokens ahead).labels
+  labels_go_on read_state tokens ahead =
+      all_keep (reader_after source) (λ (w : ReaderState). IsPrefix read_state.labels w.labels)
+      (λ w token k h. GoesOn-trans read_state.labels w.labels _ h (GoesOn-all_entered w.labels (new_labels source w token k)))
+      read_state tokens ahead (GoesOn-refl read_state.labels)
 
 -- ---- a saved source, and the joint one
 
@@ -157,25 +157,25 @@ own_alike : (source more : List ℕ) (own rest : List Token) → All (IsPlaced s
 own_alike source more [] rest all = tt
 own_alike source more (token ∷ own) rest all = (text_same source more token (All-head (IsPlaced source) token (own ++ rest) all), own_alike source more own rest (All-tail (IsPlaced source) token (own ++ rest) all))
 
--- `whole` is `front` followed by a list, and `behind` is that list followed by an element
-pub record Parted {T : Type 0} (front behind whole : List T) (x : T) : Type 0 where
+-- `whole` is `prefix` followed by a list, and `following` is that list followed by an element
+pub record Parted {T : Type 0} (prefix following whole : List T) (x : T) : Type 0 where
   pub middle : List T
-  pub whole_is : whole ≡ front ++ middle
-  pub behind_is : behind ≡ middle ++ x ∷ []
+  pub whole_is : whole ≡ prefix ++ middle
+  pub behind_is : following ≡ middle ++ x ∷ []
 
-parted : {T : Type 0} (front behind whole : List T) (y x : T) (others : List T) → behind ≡ y ∷ others → front ++ behind ≡ whole ++ x ∷ [] → Parted front behind whole x
-parted [] behind whole y x others some e = record { middle = whole; whole_is = refl; behind_is = e }
-parted (a ∷ front) behind [] y x others some e =
-    let none : front ++ behind ≡ [] = cc in
-    absurd (nothing front behind y others some none)
+parted : {T : Type 0} (prefix following whole : List T) (y x : T) (others : List T) → following ≡ y ∷ others → prefix ++ following ≡ whole ++ x ∷ [] → Parted prefix following whole x
+parted [] following whole y x others some e = record { middle = whole; whole_is = refl; behind_is = e }
+parted (a ∷ prefix) following [] y x others some e =
+    let none : prefix ++ following ≡ [] = cc in
+    absurd (nothing prefix following y others some none)
   where
     nothing : {T : Type 0} (u v : List T) (y : T) (others : List T) → v ≡ y ∷ others → u ++ v ≡ [] → ⊥
     nothing [] v y others some e = let z : y ∷ others ≡ [] = sym some ∙ e in cc
     nothing (b ∷ u) v y others some e = cc
-parted (a ∷ front) behind (b ∷ whole) y x others some e =
+parted (a ∷ prefix) following (b ∷ whole) y x others some e =
     let same : a ≡ b = cc in
-    let rest : front ++ behind ≡ whole ++ x ∷ [] = cc in
-    let p = parted front behind whole y x others some rest in
+    let rest : prefix ++ following ≡ whole ++ x ∷ [] = cc in
+    let p = parted prefix following whole y x others some rest in
     record { middle = p.middle; whole_is = ap₂ (λ c w. c ∷ w) (sym same) p.whole_is; behind_is = p.behind_is }
 
 -- a token that is no `*` and no line of a table
@@ -186,10 +186,10 @@ told : (kind other : Kind) (text : List ℕ) → kind ≡ other → IsQuiet (ter
 told kind other text e h = (ap (λ (c : Kind). is terminal.Star (terminal_of c text)) e ∙ h.0, ap (λ (c : Kind). is terminal.TableLine (terminal_of c text)) e ∙ h.1)
 
 -- the first token after those of a saved source
-pub record FirstBehind (source : List ℕ) (behind : List Token) : Type 0 where
+pub record FirstBehind (source : List ℕ) (following : List Token) : Type 0 where
   pub first : Token
   pub others : List Token
-  pub is : behind ≡ first ∷ others
+  pub is : following ≡ first ∷ others
   pub quiet : IsQuiet (terminal_of first.kind (token_text source first))
 
 first_behind : (source : List ℕ) (ends : List Token) (semicolon : Token) (others : List Token) → All (λ (token : Token). token.kind ≡ token_kind.Break) ends → semicolon.kind ≡ token_kind.Symbol sym.Semicolon → FirstBehind source (ends ++ semicolon ∷ others)
@@ -202,9 +202,9 @@ first_behind source (end ∷ ends) semicolon others all e = record {
   quiet = told end.kind token_kind.Break (token_text source end) (All-head (λ (token : Token). token.kind ≡ token_kind.Break) end ends all) (refl, refl);
 }
 
-quiet_ahead : (source : List ℕ) (behind : List Token) (f : FirstBehind source behind) (middle : List KindedToken) (x : KindedToken) → kinded_tokens source behind ≡ middle ++ x ∷ [] → IsQuiet (kind_ahead middle terminal.End)
-quiet_ahead source behind f [] x e = (refl, refl)
-quiet_ahead source behind f (y ∷ middle) x e =
+quiet_ahead : (source : List ℕ) (following : List Token) (f : FirstBehind source following) (middle : List KindedToken) (x : KindedToken) → kinded_tokens source following ≡ middle ++ x ∷ [] → IsQuiet (kind_ahead middle terminal.End)
+quiet_ahead source following f [] x e = (refl, refl)
+quiet_ahead source following f (y ∷ middle) x e =
     let see : KindedToken = (terminal_of f.first.kind (token_text source f.first), f.first) in
     let both : see ∷ kinded_tokens source f.others ≡ y ∷ (middle ++ x ∷ []) = ap (kinded_tokens source) (sym f.is) ∙ e in
     let same : see ≡ y = cc in
@@ -218,7 +218,7 @@ pub record FrontSeen (saved file : List ℕ) (first whole : List KindedToken) : 
   pub quiet : IsQuiet (kind_ahead middle terminal.End)
   pub alike : AreAlike saved (joint_source saved file) first
 
-pub front_seen : (saved file : List ℕ) (tokens joint : List Token) (first whole : List KindedToken) (end last : Token) → IsTokens saved tokens → HaveFront saved tokens joint → kinded_tokens saved tokens ≡ first ++ (terminal.End, end) ∷ [] → kinded_tokens (joint_source saved file) joint ≡ whole ++ (terminal.End, last) ∷ [] → FrontSeen saved file first whole
+pub front_seen : (saved file : List ℕ) (tokens joint : List Token) (first whole : List KindedToken) (end last : Token) → IsTokens saved tokens → HaveJointPrefix saved tokens joint → kinded_tokens saved tokens ≡ first ++ (terminal.End, end) ∷ [] → kinded_tokens (joint_source saved file) joint ≡ whole ++ (terminal.End, last) ∷ [] → FrontSeen saved file first whole
 front_seen saved file tokens joint first whole end last is_tokens h first_are whole_are =
     let source : List ℕ = joint_source saved file in
     let more : List ℕ = 10 ∷ 59 ∷ 10 ∷ file in
@@ -227,18 +227,18 @@ front_seen saved file tokens joint first whole end last is_tokens h first_are wh
     let own : kinded_tokens saved h.own ≡ first =
     last_same (kinded_tokens saved h.own) first (terminal.End, end_token saved) (terminal.End, end)
     (sym (map-append (see saved) h.own (end_token saved ∷ [])) ∙ ap (kinded_tokens saved) (sym h.tokens_are) ∙ first_are) in
-    let behind : List Token = h.ends ++ h.semicolon ∷ h.others in
+    let following : List Token = h.ends ++ h.semicolon ∷ h.others in
     let f = first_behind source h.ends h.semicolon h.others h.are_ends h.is_semicolon in
-    let all : first ++ kinded_tokens source behind ≡ whole ++ (terminal.End, last) ∷ [] =
-    ap (λ ts. ts ++ kinded_tokens source behind) (sym (own_seen saved more h.own (end_token saved ∷ []) placed ∙ own))
-    ∙ sym (map-append (see source) h.own behind)
+    let all : first ++ kinded_tokens source following ≡ whole ++ (terminal.End, last) ∷ [] =
+    ap (λ ts. ts ++ kinded_tokens source following) (sym (own_seen saved more h.own (end_token saved ∷ []) placed ∙ own))
+    ∙ sym (map-append (see source) h.own following)
     ∙ ap (kinded_tokens source) (sym (append_assoc h.own h.ends (h.semicolon ∷ h.others)) ∙ sym h.joint_are)
     ∙ whole_are in
-    let p = parted first (kinded_tokens source behind) whole (see source f.first) (terminal.End, last) (kinded_tokens source f.others) (ap (kinded_tokens source) f.is) all in
+    let p = parted first (kinded_tokens source following) whole (see source f.first) (terminal.End, last) (kinded_tokens source f.others) (ap (kinded_tokens source) f.is) all in
     record {
       middle = p.middle;
       whole_is = p.whole_is;
-      quiet = quiet_ahead source behind f p.middle (terminal.End, last) p.behind_is;
+      quiet = quiet_ahead source following f p.middle (terminal.End, last) p.behind_is;
       alike = subst (AreAlike saved source) own (own_alike saved more h.own (end_token saved ∷ []) placed);
     }
 

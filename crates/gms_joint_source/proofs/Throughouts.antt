@@ -88,10 +88,10 @@ module _ {S : Type 0} (each : (S → Bool) → Bool) (each_is : (f : S → Bool)
     -- a reader is after a part
     pub record Passed (ok : S → Bool) (p : GamsPart) (tree : Derivation) (rest : List KindedToken) : Type 0 where
       pub state : S
-      pub walk : ReaderState
+      pub read_state : ReaderState
       pub is_ok : ok state ≡ true
-      pub at : At state walk
-      pub stands : Here walk rest
+      pub at : At state read_state
+      pub stands : Here read_state rest
       pub all : Throughout L M p tree
 
     -- a token leads from state to state
@@ -115,7 +115,7 @@ module _ {S : Type 0} (each : (S → Bool) → Bool) (each_is : (f : S → Bool)
       pub passed : {p : GamsPart} {tokens rest : List KindedToken} {tree : Derivation} → Reads productions look_ahead p tokens (read tree rest) → (ok : S → Bool) (s : S) (w : ReaderState) → passes p ok s ≡ true → At s w → Here w tokens → Passed ok p tree rest
       passed (taken {test = test} {token = t} {rest = rest} h) ok s w k a e = record {
         state = next s t.0;
-        walk = reader_after first w t (kind_of rest);
+        read_state = reader_after first w t (kind_of rest);
         is_ok = also test (λ kind. ok (next s kind)) (right_and (allowed test s) _ k) t.0 h;
         at = step s w t (kind_of rest) a;
         stands = stands_on first second names labels whole w t rest e;
@@ -129,7 +129,7 @@ module _ {S : Type 0} (each : (S → Bool) → Bool) (each_is : (f : S → Bool)
           ] in
           record {
             state = inner.state;
-            walk = inner.walk;
+            read_state = inner.read_state;
             is_ok = follows_has (exit n s) ok (right_and (entry n s) _ k) inner.state inner.is_ok;
             at = inner.at;
             stands = inner.stands;
@@ -137,20 +137,20 @@ module _ {S : Type 0} (each : (S → Bool) → Bool) (each_is : (f : S → Bool)
           }
       passed (both {q = q} r x) ok s w k a e =
           let one = passed r (λ t. passes q ok t) s w k a e in
-          let other = passed x ok one.state one.walk one.is_ok one.at one.stands in
-          record { state = other.state; walk = other.walk; is_ok = other.is_ok; at = other.at; stands = other.stands; all = (one.all, other.all) }
+          let other = passed x ok one.state one.read_state one.is_ok one.at one.stands in
+          record { state = other.state; read_state = other.read_state; is_ok = other.is_ok; at = other.at; stands = other.stands; all = (one.all, other.all) }
       passed (in_left {p = p} l r) ok s w k a e =
           let one = passed r ok s w ((and_parts (passes p ok s) _ k).0) a e in
-          record { state = one.state; walk = one.walk; is_ok = one.is_ok; at = one.at; stands = one.stands; all = one.all }
+          record { state = one.state; read_state = one.read_state; is_ok = one.is_ok; at = one.at; stands = one.stands; all = one.all }
       passed (in_right {p = p} l m r) ok s w k a e =
           let one = passed r ok s w (right_and (passes p ok s) _ k) a e in
-          record { state = one.state; walk = one.walk; is_ok = one.is_ok; at = one.at; stands = one.stands; all = one.all }
-      passed (left_out l) ok s w k a e = record { state = s; walk = w; is_ok = (and_parts (ok s) _ k).0; at = a; stands = e; all = tt }
+          record { state = one.state; read_state = one.read_state; is_ok = one.is_ok; at = one.at; stands = one.stands; all = one.all }
+      passed (left_out l) ok s w k a e = record { state = s; read_state = w; is_ok = (and_parts (ok s) _ k).0; at = a; stands = e; all = tt }
       passed (there l r) ok s w k a e =
           let one = passed r ok s w (right_and (ok s) _ k) a e in
-          record { state = one.state; walk = one.walk; is_ok = one.is_ok; at = one.at; stands = one.stands; all = one.all }
-      passed (no_more l) ok s w k a e = record { state = s; walk = w; is_ok = (and_parts (ok s) _ k).0; at = a; stands = e; all = tt }
+          record { state = one.state; read_state = one.read_state; is_ok = one.is_ok; at = one.at; stands = one.stands; all = one.all }
+      passed (no_more l) ok s w k a e = record { state = s; read_state = w; is_ok = (and_parts (ok s) _ k).0; at = a; stands = e; all = tt }
       passed (again {p = p} l r x) ok s w k a e =
           let one = passed r ok s w (follows_has ok (λ t. passes p ok t) (right_and (ok s) _ k) s ((and_parts (ok s) _ k).0)) a e in
-          let other = passed x ok one.state one.walk (and_both (ok one.state) _ one.is_ok (right_and (ok s) _ k)) one.at one.stands in
-          record { state = other.state; walk = other.walk; is_ok = other.is_ok; at = other.at; stands = other.stands; all = (one.all, other.all) }
+          let other = passed x ok one.state one.read_state (and_both (ok one.state) _ one.is_ok (right_and (ok s) _ k)) one.at one.stands in
+          record { state = other.state; read_state = other.read_state; is_ok = other.is_ok; at = other.at; stands = other.stands; all = (one.all, other.all) }

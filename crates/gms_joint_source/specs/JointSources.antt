@@ -21,7 +21,7 @@ first_line saved = length (filter (λ byte. byte == 10) saved) + 3
 
 -- The tokens of a joint source are those of the saved source without its end, line ends that are
 -- tokens, a `;`, and others, which begin where the file does or below.
-pub record HaveFront (saved : List ℕ) (tokens joint : List Token) : Type 0 where
+pub record HaveJointPrefix (saved : List ℕ) (tokens joint : List Token) : Type 0 where
   pub own : List Token
   pub tokens_are : tokens ≡ own ++ end_token saved ∷ []
   pub ends : List Token

@@ -9,6 +9,6 @@ ghost use Rattle.gms_joint_source.specs.Programs.{IsProgramPrefix};
 /// saved name and label has the same number in both. Its statements are those of the saved program
 /// followed by others, whatever the saved source ends in (GAMS User's Guide, "Save and Restart").
 pub fn joint_program_laws()
-    ensures front { (limit : ℕ) (saved file : List ℕ) (first whole : ProgramView) →
+    ensures prefix { (limit : ℕ) (saved file : List ℕ) (first whole : ProgramView) →
         HasProgram limit saved first → HasProgram limit (joint_source saved file) whole → IsProgramPrefix first whole }
 {}

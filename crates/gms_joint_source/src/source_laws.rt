@@ -6,7 +6,7 @@ ghost use Rattle.gms_lex.specs.Tokens.{IsTokens};
 ghost use Rattle.gms_grammar.specs.declared.terminal.Terminal.{Terminal};
 ghost use Rattle.gms_grammar.specs.Grammar.{DerivationTree};
 ghost use Rattle.gms_expressions.specs.Outcomes.{kinded_tokens};
-ghost use Rattle.gms_joint_source.specs.JointSources.{joint_source, HaveFront, DerivesSource, BeginsWith};
+ghost use Rattle.gms_joint_source.specs.JointSources.{joint_source, HaveJointPrefix, DerivesSource, BeginsWith};
 
 /// A joint source begins as its saved source does, whatever that ends in: a table, a comment, a
 /// list of data, or a statement without its `;` (GAMS User's Guide, "Save and Restart", "GAMS
@@ -18,12 +18,12 @@ ghost use Rattle.gms_joint_source.specs.JointSources.{joint_source, HaveFront, D
 /// joint source begins with that of the saved source.
 pub fn joint_token_laws()
     ensures tokens { (saved file : List ℕ) (tokens joint : List Token) →
-        IsTokens saved tokens → IsTokens (joint_source saved file) joint → HaveFront saved tokens joint }
+        IsTokens saved tokens → IsTokens (joint_source saved file) joint → HaveJointPrefix saved tokens joint }
     ensures seen { (saved file : List ℕ) (tokens joint : List Token) → IsTokens saved tokens →
-        (front : HaveFront saved tokens joint) → kinded_tokens (joint_source saved file) front.own ≡ kinded_tokens saved front.own }
+        (prefix : HaveJointPrefix saved tokens joint) → kinded_tokens (joint_source saved file) prefix.own ≡ kinded_tokens saved prefix.own }
     ensures no_ends { (saved file : List ℕ) (tokens joint : List Token) (tree : DerivationTree (Terminal × Token)) →
         IsTokens saved tokens → IsTokens (joint_source saved file) joint → DerivesSource saved tokens tree →
-        (front : HaveFront saved tokens joint) → front.ends ≡ [] }
+        (prefix : HaveJointPrefix saved tokens joint) → prefix.ends ≡ [] }
     ensures derivation { (saved file : List ℕ) (tokens joint : List Token) (first whole : DerivationTree (Terminal × Token)) →
         IsTokens saved tokens → IsTokens (joint_source saved file) joint →
         DerivesSource saved tokens first → DerivesSource (joint_source saved file) joint whole → BeginsWith whole first }

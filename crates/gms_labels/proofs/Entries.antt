@@ -38,7 +38,7 @@ insert-new entries text written kept none =
 
 -- one more text
 pub AreLabels-push : (texts : List (List ℕ)) (text : List ℕ) → AreLabels texts → place_of texts text ≡ None → length texts < 65536 → length text ≤ 63 → AreLabels (texts ++ text ∷ [])
-AreLabels-push texts text labels none room short = record {
+AreLabels-push texts text labels none within_bound short = record {
   distinct = all_pairs_push (λ a b. is_same a b ≡ false) texts text labels.distinct (λ k d l. unlike k d l (is_same (get_or texts k d) text) refl);
   few = omega (arith, length_push texts text);
   short = All-push (λ t. length t ≤ 63) texts text labels.short short;
@@ -58,10 +58,10 @@ texts_of-push entries key written text is =
 
 -- one more entry, with a new text
 pub IsKept-push : (entries : List Entry) (written : String Global) (text : List ℕ) → IsLabelTable entries → place_of (texts_of entries) text ≡ None → length (texts_of entries) < 65536 → length text ≤ 63 → string_bytes written ≡ text → IsLabelTable (entries ++ (lower_case text, written) ∷ [])
-IsKept-push entries written text kept none room short is =
+IsKept-push entries written text kept none within_bound short is =
     let shows : texts_of (entries ++ (lower_case text, written) ∷ []) ≡ texts_of entries ++ text ∷ [] = texts_of-push entries (lower_case text) written text is in
     record {
-      labels = rw shows (AreLabels-push (texts_of entries) text kept.labels none room short);
+      labels = rw shows (AreLabels-push (texts_of entries) text kept.labels none within_bound short);
       keyed = map_push (λ (entry : Entry). entry.0) entries (lower_case text, written) ∙ ap (λ keys. keys ++ lower_case text ∷ []) kept.keyed ∙ sym (map_push lower_case (texts_of entries) text) ∙ ap (map lower_case) (sym shows);
     }
 

@@ -35,9 +35,9 @@ impl Folded {
     {
         let len = text.len();
         let mut bytes = [0; MOST_BYTES];
-        let front = &mut bytes[..len];
-        front.copy_from_slice(text.as_bytes());
-        front.make_ascii_lowercase();
+        let prefix = &mut bytes[..len];
+        prefix.copy_from_slice(text.as_bytes());
+        prefix.make_ascii_lowercase();
         Folded {
             bytes,
             len: len as u8,

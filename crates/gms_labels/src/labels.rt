@@ -115,7 +115,7 @@ impl Labels {
     fn append(&mut self, alloc: Global, text: &str) -> Result<(), LabelFault>
         requires short { length text.now ≤ most_label_bytes }
         requires new { place_of self.old text.now ≡ None }
-        requires room { length self.old < most_labels }
+        requires within_bound { length self.old < most_labels }
         ensures ok { OnOk result (self.new ≡ self.old ++ text.now ∷ []) }
         ensures err { OnErr result (self.new ≡ self.old) }
         ensures memory { IsOkUnless result LabelFault.Memory }

@@ -33,7 +33,7 @@ use Rattle.gms_eval.specs.Bindings.{Pairs, label_of}
 use Rattle.gms_eval.specs.Faults.{Answer}
 use Rattle.gms_eval.specs.Domain.{IsSimple}
 use Rattle.gms_eval.specs.Value.{labels}
-use Rattle.gms_rows.specs.Rows.{each_once, sets_among}
+use Rattle.gms_rows.specs.Rows.{distinct_numbers, sets_among}
 use Rattle.gms_rows.proofs.Domains.{given, only_value}
 use Rattle.gms_exec.specs.Assignment.{after_assignment, given_by, target_of}
 use Rattle.gms_exec.specs.Given.{Given, AllGiven, after_given}
@@ -110,17 +110,17 @@ filter-fewer keep ns =
     let most = count_by-le-length keep ns in
     omega (arith, same, most)
 
-once-fewer : (ns : List ℕ) → length (each_once ns) ≤ length ns
+once-fewer : (ns : List ℕ) → length (distinct_numbers ns) ≤ length ns
 once-fewer [] = omega arith
 once-fewer (n ∷ ns) =
-    let less = filter-fewer (λ m. not (m == n)) (each_once ns) in
+    let less = filter-fewer (λ m. not (m == n)) (distinct_numbers ns) in
     let rest = once-fewer ns in
     omega (arith, less, rest)
 
-once-all : (P : ℕ → Type 0) (ns : List ℕ) → All P ns → All P (each_once ns)
+once-all : (P : ℕ → Type 0) (ns : List ℕ) → All P ns → All P (distinct_numbers ns)
 once-all P [] all = All-nil P
 once-all P (n ∷ ns) all =
-    All-cons P n (filter (λ m. not (m == n)) (each_once ns)) (All-head P n ns all) (All-filter (λ m. not (m == n)) P (each_once ns) (once-all P ns (All-tail P n ns all)))
+    All-cons P n (filter (λ m. not (m == n)) (distinct_numbers ns)) (All-head P n ns all) (All-filter (λ m. not (m == n)) P (distinct_numbers ns) (once-all P ns (All-tail P n ns all)))
 
 -- ---- statements
 
@@ -165,7 +165,7 @@ module _ {F : Type 0} (v : F → Number) (limit : ℕ) (run : Execution F) (done
     pub short : (element : List ℕ) → length (labels v limit run.before (element_binding run element) (left_indices run)) ≤ 10
     pub may : may_be_assigned (declared_kind run.before run.target.name) run.target.suffix ≡ true
 
-  simple-sets : (indices : tree.Indices F) → All (λ (set : ℕ). is_index_set (known_after v run.world.program done.accepted.0 (sound done.of_program.before)).state set ≡ true) (index_sets indices) → All (IsSimple run.before) (each_once (sets_among indices))
+  simple-sets : (indices : tree.Indices F) → All (λ (set : ℕ). is_index_set (known_after v run.world.program done.accepted.0 (sound done.of_program.before)).state set ≡ true) (index_sets indices) → All (IsSimple run.before) (distinct_numbers (sets_among indices))
   simple-sets indices one =
       let before = done.of_program.before in
       let known = known_after v run.world.program done.accepted.0 (sound before) in
@@ -184,14 +184,14 @@ module _ {F : Type 0} (v : F → Number) (limit : ℕ) (run : Execution F) (done
       let count = used.2.few in
       let most = few-sets indices in
       let fewer = once-fewer (sets_among indices) in
-      let least : length (left_sets run) ≤ length (each_once (sets_among indices)) = filter-fewer (λ (set : ℕ). is_none (label_of run.binding set)) (each_once (sets_among indices)) in
+      let least : length (left_sets run) ≤ length (distinct_numbers (sets_among indices)) = filter-fewer (λ (set : ℕ). is_none (label_of run.binding set)) (distinct_numbers (sets_among indices)) in
       record {
         all = e.value;
         gives = e.is;
         after_is = only_value (after_given run.target.suffix run.target.name e.value run.before) run.after e.next_is;
         once = run-once v limit run.world statement run.target run.condition run.right_at run.right run.before run.binding e.value done.accepted done.of_program done.act lasts e.is;
         long = assigned-long v limit run.world.program done.accepted statement run.target run.condition run.right_at run.right run.before run.binding e.value done.of_program done.act lasts.stays e.is;
-        simple = All-filter (λ (set : ℕ). is_none (label_of run.binding set)) (IsSimple run.before) (each_once (sets_among indices)) (simple-sets indices used.2.sets);
+        simple = All-filter (λ (set : ℕ). is_none (label_of run.binding set)) (IsSimple run.before) (distinct_numbers (sets_among indices)) (simple-sets indices used.2.sets);
         few = omega (arith, count, most, fewer, least);
         short = λ element. short-labels element count;
         may = ap (λ (kind : SymbolKind). may_be_assigned kind run.target.suffix) (kind-now v limit run.world run.before lasts before done.of_program.outer done.of_program.stands run.target.name used.0) ∙ used.1;

@@ -66,10 +66,10 @@ module _ {F : Type 0} where
   both_none known us vs e f =
       flat_map-append (errors_at known) us vs ∙ none_both (flat_map (errors_at known) us) (flat_map (errors_at known) vs) e f
 
-  placed_none : (known : Known F) (at : Place) (due count : ℕ) → is_wrong_count due count ≡ false → errors_at known (at, placing due count) ≡ []
-  placed_none known at due count e =
+  placed_none : (known : Known F) (at : Place) (expected count : ℕ) → is_wrong_count expected count ≡ false → errors_at known (at, placing expected count) ≡ []
+  placed_none known at expected count e =
       ap (λ (kinds : List ErrorKind). map (λ kind. record { kind = kind; at = at }) kinds)
-      (filter_none (has_error known (placing due count)) checked_kinds (All-from_recursion (λ kind. has_error known (placing due count) kind ≡ false) checked_kinds (refl, (refl, (refl, (e, (refl, (refl, (refl, (refl, (refl, (refl, (refl, (refl, (refl, (refl, (refl, (refl, (refl, (refl, (refl, (refl, (refl, tt)))))))))))))))))))))))
+      (filter_none (has_error known (placing expected count)) checked_kinds (All-from_recursion (λ kind. has_error known (placing expected count) kind ≡ false) checked_kinds (refl, (refl, (refl, (e, (refl, (refl, (refl, (refl, (refl, (refl, (refl, (refl, (refl, (refl, (refl, (refl, (refl, (refl, (refl, (refl, (refl, tt)))))))))))))))))))))))
 
   placing_none : (known : Known F) (domain : List (Option ℕ)) (items : List (Item F)) → list_all (has_all_parts domain) items ≡ true → errors_of known (map (λ (item : Item F). (item.at, placing (length domain) (length item.parts))) items) ≡ []
   placing_none known domain [] h = refl

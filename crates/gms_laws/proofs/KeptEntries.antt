@@ -7,7 +7,7 @@ use Rattle.gms_tuple.specs.TupleSet.{has}
 use Rattle.gms_store.specs.State.{State, Content, undeclared, alias_of, set_of, parameter_of, variable_of, equation_of, model_with, Symbol, attributes_in, base_of, is_given, members_in, symbol_at, symbol_of, value_in, with_content, with_symbol, zero}
 use Rattle.gms_exec.specs.Given.{Given, AllGiven, after_given, fitting, members_given, plain_values, with_given}
 use Rattle.gms_exec.specs.Reads.{attributes_with, last_at}
-use Rattle.gms_exec.proofs.Assigned.{attributes-given, behind-given, zero-not_given}
+use Rattle.gms_exec.proofs.Assigned.{attributes-given, following-given, zero-not_given}
 use Rattle.gms_exec.proofs.Newest.{has-with_members, read-overlaid}
 use Rattle.gms_exec.proofs.Symbols.{at-after, base-after}
 use Rattle.gms_laws.proofs.LastGiven.{In, member-none, value-none}
@@ -77,7 +77,7 @@ module _ (state : State) (name : ℕ) (kind : Suffix) (all : AllGiven) where
   read-kept : {X : Type 0} (read : Content → X) → read (with_given kind (fitting (symbol_of state name) all) (symbol_of state name).content) ≡ read (symbol_of state name).content
       → read (symbol_of (after_given kind name all state) name).content ≡ read (symbol_of state name).content
   read-kept {X} read same =
-      ap (λ (n : ℕ). read (symbol_at (with_symbol state name new) n).content) (base-after state name new (behind-given kind (fitting (symbol_of state name) all) (symbol_of state name).content) name)
+      ap (λ (n : ℕ). read (symbol_at (with_symbol state name new) n).content) (base-after state name new (following-given kind (fitting (symbol_of state name) all) (symbol_of state name).content) name)
       ∙ elim (at-after state name new (base_of state name)) [
         | inl old ↦ ap (λ (s : Symbol). read s.content) old
         | inr changed ↦ ap (λ (s : Symbol). read s.content) changed.1 ∙ same

@@ -123,10 +123,10 @@ module _ (source : List ℕ) (labels : List (List ℕ)) where
       let rest = drop (next - base) tail in
       let high = start_high base (yield tree) in
       let sum : base + (next - base) ≡ next = omega (arith, high) in
-      let behind : rest ≡ drop next source = ap (drop (next - base)) e ∙ drop-drop (next - base) base source ∙ ap (λ n. drop n source) sum in
+      let following : rest ≡ drop next source = ap (drop (next - base)) e ∙ drop-drop (next - base) base source ∙ ap (λ n. drop n source) sum in
       ap₂ (λ (x : Item Rational) (xs : List (Item Rational)). x ∷ xs)
-      (ap (λ (text : Token → List ℕ). entry_by text (second_in tree)) (fun_ext (text_is next rest behind)) ∙ same_entry (second_in tree))
-      (same_entries next rest behind others)
+      (ap (λ (text : Token → List ℕ). entry_by text (second_in tree)) (fun_ext (text_is next rest following)) ∙ same_entry (second_in tree))
+      (same_entries next rest following others)
 
   -- the items of a parameter's list
   abbrev local_items : Derivation → List (Item Rational)

@@ -26,10 +26,10 @@ use Rattle.gms_store.specs.declared.kind.SymbolKind.TheVariants as kind
 use Rattle.gms_store.specs.State.{Content, State, alias_of, equation_of, model_with, parameter_of, set_of, symbol_at, undeclared, variable_of}
 use Rattle.gms_store.specs.Declarations.{is_set, kind_in}
 use Rattle.gms_scope.specs.Names.{declared_kind}
-use Rattle.gms_check.specs.declared.contexts.Standing.{Standing}
+use Rattle.gms_check.specs.declared.contexts.Context.{Context}
 use Rattle.gms_check.specs.declared.error.ErrorKind.TheVariants.{Endogenous}
 use Rattle.gms_check.specs.CompileErrors.{compile_errors, known_after}
-use Rattle.gms_check.specs.LeftSides.{StandsIn}
+use Rattle.gms_check.specs.LeftSides.{IsNestedIn}
 use Rattle.gms_check.specs.Loaded.{sound}
 use Rattle.gms_check.specs.Names.{is_variable}
 use Rattle.gms_check.specs.Past.{Known}
@@ -46,7 +46,7 @@ use Rattle.gms_laws.specs.Occurrences.{ExpressionStep, signed_operand, term, fac
 -- ---- what may be at a part
 
 -- what may be after a step
-abbrev after_step : ExpressionStep → Standing → Standing
+abbrev after_step : ExpressionStep → Context → Context
 after_step signed_operand at = as_part at
 after_step term at = as_part at
 after_step factor at = as_part at
@@ -63,12 +63,12 @@ after_step dollar_condition at = as_condition
 after_step lag_amount at = as_number
 
 -- what may be after some steps
-abbrev after_steps : List ExpressionStep → Standing → Standing
+abbrev after_steps : List ExpressionStep → Context → Context
 after_steps [] at = at
 after_steps (step ∷ steps) at = after_steps steps (after_step step at)
 
 -- what may be in an expression by its role
-abbrev in_role : Role → Standing
+abbrev in_role : Role → Context
 in_role left_amount = as_number
 in_role condition_of = as_condition
 in_role side_of = as_side
@@ -78,14 +78,14 @@ in_role value_right = as_number
 -- ---- variables
 
 -- where members are expected no variable may be
-abbrev IsPlain : Standing → Type 0
+abbrev IsPlain : Context → Type 0
 IsPlain at = at.membership ≡ true → at.variables ≡ false
 
-denied-by : (at : Standing) (b : Bool) → IsPlain at → IsPlain (if b then at else as_condition)
+denied-by : (at : Context) (b : Bool) → IsPlain at → IsPlain (if b then at else as_condition)
 denied-by at true plain = plain
 denied-by at false plain = λ e. refl
 
-plain-step : (step : ExpressionStep) (at : Standing) → IsPlain at → IsPlain (after_step step at)
+plain-step : (step : ExpressionStep) (at : Context) → IsPlain at → IsPlain (after_step step at)
 plain-step signed_operand at plain = plain
 plain-step term at plain = plain
 plain-step factor at plain = plain
@@ -101,11 +101,11 @@ plain-step dollar_operand at plain = plain
 plain-step dollar_condition at plain = λ e. refl
 plain-step lag_amount at plain = λ e. refl
 
-denied-variable : (at : Standing) (b : Bool) → at.membership ≡ b → IsPlain at → (if b then at else as_condition).variables ≡ true → ⊥
+denied-variable : (at : Context) (b : Bool) → at.membership ≡ b → IsPlain at → (if b then at else as_condition).variables ≡ true → ⊥
 denied-variable at true members plain may = true≢false (sym may ∙ plain members)
 denied-variable at false members plain may = true≢false (sym may)
 
-variable-step : (step : ExpressionStep) (at : Standing) → IsPlain at → (after_step step at).variables ≡ true → (at.variables ≡ true) × IsArithmetic step
+variable-step : (step : ExpressionStep) (at : Context) → IsPlain at → (after_step step at).variables ≡ true → (at.variables ≡ true) × IsArithmetic step
 variable-step signed_operand at plain may = (may, of_sign)
 variable-step term at plain may = (may, of_sum)
 variable-step factor at plain may = (may, of_product)
@@ -121,7 +121,7 @@ variable-step dollar_operand at plain may = (may, of_dollar)
 variable-step dollar_condition at plain may = absurd (true≢false (sym may))
 variable-step lag_amount at plain may = absurd (true≢false (sym may))
 
-variable-steps : (steps : List ExpressionStep) (at : Standing) → IsPlain at → (after_steps steps at).variables ≡ true → (at.variables ≡ true) × All IsArithmetic steps
+variable-steps : (steps : List ExpressionStep) (at : Context) → IsPlain at → (after_steps steps at).variables ≡ true → (at.variables ≡ true) × All IsArithmetic steps
 variable-steps [] at plain may = (may, All-nil IsArithmetic)
 variable-steps (step ∷ steps) at plain may =
     let later = variable-steps steps (after_step step at) (plain-step step at plain) may in
@@ -145,17 +145,17 @@ variable-role value_right steps may all = absurd (true≢false (sym may))
 -- ---- sets
 
 -- how a set may come to be after some steps
-data SetAfter (at : Standing) : List ExpressionStep → Type 0 where
+data SetAfter (at : Context) : List ExpressionStep → Type 0 where
   at_once : at.sets ≡ true → SetAfter at []
   led_to : {last : ExpressionStep} (steps : List ExpressionStep) → IsToSet last → SetAfter at (steps ++ last ∷ [])
   of_members : {steps : List ExpressionStep} → at.membership ≡ true → All IsOfMembers steps → SetAfter at steps
 
-denied-members : (at : Standing) (b : Bool) → at.membership ≡ b → (if b then at else as_condition).membership ≡ true → at.membership ≡ true
+denied-members : (at : Context) (b : Bool) → at.membership ≡ b → (if b then at else as_condition).membership ≡ true → at.membership ≡ true
 denied-members at true members e = members
 denied-members at false members e = absurd (true≢false (sym e))
 
 -- among members after a step
-members-step : (step : ExpressionStep) (at : Standing) → (after_step step at).membership ≡ true → (at.membership ≡ true) × IsOfMembers step
+members-step : (step : ExpressionStep) (at : Context) → (after_step step at).membership ≡ true → (at.membership ≡ true) × IsOfMembers step
 members-step signed_operand at e = (e, members_signed)
 members-step term at e = (e, members_added)
 members-step factor at e = (e, members_common)
@@ -175,7 +175,7 @@ one-member : (step : ExpressionStep) → IsOfMembers step → All IsOfMembers (s
 one-member step of = All-cons IsOfMembers step [] of (All-nil IsOfMembers)
 
 -- after one step
-set-step : (step : ExpressionStep) (at : Standing) → (after_step step at).sets ≡ true → SetAfter at (step ∷ [])
+set-step : (step : ExpressionStep) (at : Context) → (after_step step at).sets ≡ true → SetAfter at (step ∷ [])
 set-step signed_operand at e = of_members e (one-member signed_operand members_signed)
 set-step term at e = of_members e (one-member term members_added)
 set-step factor at e = of_members e (one-member factor members_common)
@@ -191,7 +191,7 @@ set-step dollar_operand at e = led_to [] operand_of_dollar
 set-step dollar_condition at e = led_to [] condition_of_dollar
 set-step lag_amount at e = absurd (true≢false (sym e))
 
-set-steps : (steps : List ExpressionStep) (at : Standing) → (after_steps steps at).sets ≡ true → SetAfter at steps
+set-steps : (steps : List ExpressionStep) (at : Context) → (after_steps steps at).sets ≡ true → SetAfter at steps
 set-steps [] at e = at_once e
 set-steps (step ∷ steps) at e = by (set-steps steps (after_step step at) e)
   where
@@ -219,12 +219,12 @@ set-role value_right (of_members members all) = absurd (true≢false (sym member
 
 module _ {F : Type 0} (known : Known F) where
   -- A part without errors, where this may be.
-  record IsCleanAt (at : Standing) (tree : Tree F) : Type 0 where
+  record IsCleanAt (at : Context) (tree : Tree F) : Type 0 where
     around : Place
     controlled : List ℕ
     clean : AreClean known (uses at around controlled tree)
 
-  clean-part : {tree : Tree F} {parts : Parts F} → IsPartOf tree parts → (at : Standing) (around : Place) (controlled : List ℕ) → AreClean known (part_uses at around controlled parts) → IsCleanAt at tree
+  clean-part : {tree : Tree F} {parts : Parts F} → IsPartOf tree parts → (at : Context) (around : Place) (controlled : List ℕ) → AreClean known (part_uses at around controlled parts) → IsCleanAt at tree
   clean-part {tree} (first_part {mark = mark} {rest = rest}) at around controlled clean =
       record { around = place_by_mark mark around; controlled = controlled; clean = clean-left known (uses at (place_by_mark mark around) controlled tree) (part_uses at around controlled rest) clean }
   clean-part (later_part {mark = mark} {other = other} {rest = rest} later) at around controlled clean =
@@ -247,7 +247,7 @@ module _ {F : Type 0} (known : Known F) where
   clean-shift (after_lag {at = at} {other = other} {rest = rest} later) controlled clean =
       clean-shift later controlled (clean-right known (uses as_number at controlled other) (shift_uses controlled rest) clean.1)
 
-  clean-occurs : {tree : Tree F} {steps : List ExpressionStep} {root : Tree F} → Occurs tree steps root → (at : Standing) (around : Place) (controlled : List ℕ) → AreClean known (uses at around controlled root) → IsCleanAt (after_steps steps at) tree
+  clean-occurs : {tree : Tree F} {steps : List ExpressionStep} {root : Tree F} → Occurs tree steps root → (at : Context) (around : Place) (controlled : List ℕ) → AreClean known (uses at around controlled root) → IsCleanAt (after_steps steps at) tree
   clean-occurs itself at around controlled clean = record { around = around; controlled = controlled; clean = clean }
   clean-occurs (in_signed inside) at around controlled clean = clean-occurs inside (as_part at) around controlled clean
   clean-occurs (in_sum among inside) at around controlled clean =
@@ -293,12 +293,12 @@ module _ {F : Type 0} (known : Known F) where
     of-act act is =
         subst (AreClean known) (uses-act statement known.state controlled ∙ ap (λ (act : Act F). act_uses act known.state statement.at controlled) is) clean
 
-    clean-right_side : (target : Target F) (condition : Option (Expr F)) (right_at : Place) (right : Expr F) → statement.act ≡ Assign target condition right_at (Value right) → (at : Standing) → right_standing known.state target.name ≡ at → IsCleanAt at (tree_of right)
+    clean-right_side : (target : Target F) (condition : Option (Expr F)) (right_at : Place) (right : Expr F) → statement.act ≡ Assign target condition right_at (Value right) → (at : Context) → right_standing known.state target.name ≡ at → IsCleanAt at (tree_of right)
     clean-right_side target condition right_at right is at role =
         let around = with_left controlled target.indices in
         let whole = subst (AreClean known) (uses-Assign known.state statement.at controlled target condition right_at right) (of-act _ is) in
         let right_clean = clean-right known (left_uses statement.at around target.indices condition) (uses (right_standing known.state target.name) right_at around (tree_of right)) whole.1 in
-        record { around = right_at; controlled = around; clean = subst (λ (s : Standing). AreClean known (uses s right_at around (tree_of right))) role right_clean }
+        record { around = right_at; controlled = around; clean = subst (λ (s : Context). AreClean known (uses s right_at around (tree_of right))) role right_clean }
 
     clean-expression : {role : Role} {root : Tree F} → IsExpressionOf known.state statement.act role root → IsCleanAt (in_role role) root
     clean-expression (amount_in_assignment target condition right_at right is among) =
@@ -357,22 +357,22 @@ variable-kind (variable_of type entries) e = refl
 variable-kind (equation_of entries) e = absurd cc
 variable-kind (model_with model solver) e = absurd cc
 
-stands-variable : (may variable : Bool) → variable ≡ true → (not may && variable) ≡ false → may ≡ true
-stands-variable true variable is e = refl
-stands-variable false variable is e = absurd (true≢false (sym is ∙ e))
+is_placed-variable : (may variable : Bool) → variable ≡ true → (not may && variable) ≡ false → may ≡ true
+is_placed-variable true variable is e = refl
+is_placed-variable false variable is e = absurd (true≢false (sym is ∙ e))
 
 module _ {F : Type 0} (value : F → Number) (program : Program F) (solvers : List (List ℕ)) (none : compile_errors value program solvers ≡ []) (before : List (Stmt F)) where
   clean-in : {role : Role} {steps : List ExpressionStep} {tree : Tree F} → OccursIn value program before role steps tree → IsCleanAt (known_after value program solvers (sound before)) (after_steps steps (in_role role)) tree
   clean-in {role} {steps} {tree} o =
       let known = known_after value program solvers (sound before) in
-      let inner = program-inner value program solvers before o.outer o.inner o.depth none o.stands o.inside in
+      let inner = program-inner value program solvers before o.outer o.inner o.depth none o.is_placed o.inside in
       let root = clean-expression known o.inner inner.0 inner.1 o.expression in
       clean-occurs known o.occurs (in_role role) root.around root.controlled root.clean
 
   pub variable-occurs : (role : Role) (steps : List ExpressionStep) (at : Place) (name : ℕ) (indices : Indices F) → OccursIn value program before role steps (reference at name suffix.None indices) → declared_kind (declared_before value program before) name ≡ kind.Variable → MayHaveVariable role steps
   variable-occurs role steps at name indices o is =
       let c = clean-in o in
-      let may : (after_steps steps (in_role role)).variables ≡ true = stands-variable (after_steps steps (in_role role)).variables (is_variable (symbol_at (declared_before value program before) name).content) (variable-kind (symbol_at (declared_before value program before) name).content is) (c.clean.0 Endogenous) in
+      let may : (after_steps steps (in_role role)).variables ≡ true = is_placed-variable (after_steps steps (in_role role)).variables (is_variable (symbol_at (declared_before value program before) name).content) (variable-kind (symbol_at (declared_before value program before) name).content is) (c.clean.0 Endogenous) in
       let all = variable-steps steps (in_role role) (plain-role role) may in
       variable-role role steps all.0 all.1
 
@@ -381,4 +381,4 @@ module _ {F : Type 0} (value : F → Number) (program : Program F) (solvers : Li
       let c = clean-in o in
       let known = known_after value program solvers (sound before) in
       let read = sound-use known (reading (after_steps steps (in_role role)) c.controlled name suffix.None indices) c.clean.0 in
-      set-role role (set-steps steps (in_role role) (sym (ap (λ (k : SymbolKind). may_stand (after_steps steps (in_role role)) k suffix.None) is) ∙ read.stands))
+      set-role role (set-steps steps (in_role role) (sym (ap (λ (k : SymbolKind). may_stand (after_steps steps (in_role role)) k suffix.None) is) ∙ read.is_placed))

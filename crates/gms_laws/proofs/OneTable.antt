@@ -54,16 +54,16 @@ with_own_code NoHeading = refl
 with_own_code Labels = refl
 
 same_least : (limit : ℕ) (labels : List (List ℕ)) (parts : List TablePart) (one other : TableFault) → IsFirstPartFault limit labels parts one → IsFirstPartFault limit labels parts other → one ≡ other
-same_least limit labels parts one other f g = by_order (order f.before f.part f.behind g.before g.part g.behind (sym f.parts_are ∙ g.parts_are))
+same_least limit labels parts one other f g = by_order (order f.before f.part f.following g.before g.part g.following (sym f.parts_are ∙ g.parts_are))
   where
-    by_order : Order f.before f.part f.behind g.before g.part g.behind → one ≡ other
+    by_order : Order f.before f.part f.following g.before g.part g.following → one ≡ other
     by_order (earlier w e k) =
         absurd (stands_not limit labels [] f.before f.part w one.error (subst (λ (ps : List TablePart). ArePartsFaultless limit labels [] ps) e g.sound) f.stands)
     by_order (later w e k) =
         absurd (stands_not limit labels [] g.before g.part w other.error (subst (λ (ps : List TablePart). ArePartsFaultless limit labels [] ps) e f.sound) g.stands)
-    by_order (at_once front part rest) =
-        let less = f.least other.error (subst (λ (ps : List TablePart). IsPartFault limit labels ps f.part other.error) (sym front) (subst (λ (p : TablePart). IsPartFault limit labels g.before p other.error) (sym part) g.stands)) in
-        let more = g.least one.error (subst (λ (ps : List TablePart). IsPartFault limit labels ps g.part one.error) front (subst (λ (p : TablePart). IsPartFault limit labels f.before p one.error) part f.stands)) in
+    by_order (at_once prefix part rest) =
+        let less = f.least other.error (subst (λ (ps : List TablePart). IsPartFault limit labels ps f.part other.error) (sym prefix) (subst (λ (p : TablePart). IsPartFault limit labels g.before p other.error) (sym part) g.stands)) in
+        let more = g.least one.error (subst (λ (ps : List TablePart). IsPartFault limit labels ps g.part one.error) prefix (subst (λ (p : TablePart). IsPartFault limit labels f.before p one.error) part f.stands)) in
         let codes : table_error_code one.error ≡ table_error_code other.error = omega (arith, less, more) in
         ap₂ (λ (e : TableError) (p : Place). record { error = e; at = p }) (sym (with_own_code one.error) ∙ ap with_code codes ∙ with_own_code other.error) (f.at ∙ ap place_of_part part ∙ sym g.at)
 
@@ -81,14 +81,14 @@ module _ (limit : ℕ) (lines : List TableLine) (before : List (List ℕ)) where
 
   pub one_fault : (one other : TableFault) → IsTableFault limit lines before one → IsTableFault limit lines before other → one ≡ other
   one_fault one other (inl a) (inl b) = a.1 ∙ sym b.1
-  one_fault one other (inl a) (inr b) = absurd (some_there b.before b.part b.behind (sym a.0 ∙ b.parts_are))
-  one_fault one other (inr a) (inl b) = absurd (some_there a.before a.part a.behind (sym b.0 ∙ a.parts_are))
+  one_fault one other (inl a) (inr b) = absurd (some_there b.before b.part b.following (sym a.0 ∙ b.parts_are))
+  one_fault one other (inr a) (inl b) = absurd (some_there a.before a.part a.following (sym b.0 ∙ a.parts_are))
   one_fault one other (inr a) (inr b) = same_least limit before (table_parts lines) one other a b
 
   pub not_both : (after : List (List ℕ)) (entries : List (Entry Number)) (fault : TableFault) → HasEntries limit lines before after entries → IsTableFault limit lines before fault → ⊥
   not_both after entries fault t (inl none) = t.headed none.0
   not_both after entries fault t (inr f) =
-      stands_not limit before [] f.before f.part f.behind fault.error (subst (λ (ps : List TablePart). ArePartsFaultless limit before [] ps) f.parts_are t.sound) f.stands
+      stands_not limit before [] f.before f.part f.following fault.error (subst (λ (ps : List TablePart). ArePartsFaultless limit before [] ps) f.parts_are t.sound) f.stands
 
   pub not_neither : ((fault : TableFault) → IsTableFault limit lines before fault → ⊥) → (after : List (List ℕ)) × ((entries : List (Entry Number)) × HasEntries limit lines before after entries)
   not_neither none =

@@ -95,8 +95,8 @@ module _ {F : Type 0} where
   same_tuples value (t ∷ ts) = ap (λ (us : List (List ℕ)). t ∷ us) (same_tuples value ts)
 
   no_fault : (state : State) (domain : List (Option ℕ)) (before : List (List ℕ)) (item : Item F) → has_outside state domain item.parts ≡ false → item.bad_range ≡ false → nat_lt 1048576 (length before + length (tuple_product item.parts)) ≡ false → has_repeat (before ++ tuple_product item.parts) ≡ false → error_of state domain before item ≡ None
-  no_fault state domain before item inside range room once =
-      by (has_outside state domain item.parts) item.bad_range (nat_lt 1048576 (length before + length (tuple_product item.parts))) (has_repeat (before ++ tuple_product item.parts)) inside range room once
+  no_fault state domain before item inside range within_bound once =
+      by (has_outside state domain item.parts) item.bad_range (nat_lt 1048576 (length before + length (tuple_product item.parts))) (has_repeat (before ++ tuple_product item.parts)) inside range within_bound once
     where
       by : (a b c d : Bool) → a ≡ false → b ≡ false → c ≡ false → d ≡ false → (if a then Some Outside else if b then Some BadRange else if c then Some Full else if d then Some Repeated else None) ≡ None
       by true b c d p q r s = absurd (cc)
@@ -107,8 +107,8 @@ module _ {F : Type 0} where
 
   module _ (state : State) (domain : List (Option ℕ)) where
     given_on : (given : ExpandedData F) (items : List (Item F)) → IsOrdered (tuples_of given ++ all_tuples items) → length (tuples_of given) + length (all_tuples items) ≤ 1048576 → list_all (is_within state domain) items ≡ true → with_items state domain given items ≡ Ok (given ++ all_data items)
-    given_on given [] ordered room within = ap (λ (ds : ExpandedData F). Ok ds) (sym (append-nil given))
-    given_on given (item ∷ items) ordered room within =
+    given_on given [] ordered within_bound within = ap (λ (ds : ExpandedData F). Ok ds) (sym (append-nil given))
+    given_on given (item ∷ items) ordered within_bound within =
         let ts = tuple_product item.parts in
         let own = tuples_with_value item.value ts in
         let here = (and_parts (is_within state domain item) (list_all (is_within state domain) items) within).0 in
@@ -119,9 +119,9 @@ module _ {F : Type 0} where
         let next : tuples_of (given ++ own) ≡ tuples_of given ++ ts = map-append _ given own ∙ ap (λ (us : List (List ℕ)). tuples_of given ++ us) (same_tuples item.value ts) in
         let many : length (ts ++ all_tuples items) ≡ length ts + length (all_tuples items) = length-append ts (all_tuples items) in
         let long : length (tuples_of given ++ ts) ≡ length (tuples_of given) + length ts = length-append (tuples_of given) ts in
-        let few : nat_lt 1048576 (length (tuples_of given) + length ts) ≡ false = not_below 1048576 (length (tuples_of given) + length ts) (omega (arith, room, many)) in
+        let few : nat_lt 1048576 (length (tuples_of given) + length ts) ≡ false = not_below 1048576 (length (tuples_of given) + length ts) (omega (arith, within_bound, many)) in
         let none = no_fault state domain (tuples_of given) item inside range few (no_repeat (tuples_of given ++ ts) (first-ordered (tuples_of given ++ ts) (all_tuples items) apart)) in
-        let fits : length (tuples_of (given ++ own)) + length (all_tuples items) ≤ 1048576 = subst (λ (us : List (List ℕ)). length us + length (all_tuples items) ≤ 1048576) (sym next) (omega (arith, room, many, long)) in
+        let fits : length (tuples_of (given ++ own)) + length (all_tuples items) ≤ 1048576 = subst (λ (us : List (List ℕ)). length us + length (all_tuples items) ≤ 1048576) (sym next) (omega (arith, within_bound, many, long)) in
         ap (λ (e : Option SetError). unless e item.at (with_items state domain (given ++ own) items)) none
         ∙ given_on (given ++ own) items (subst (λ (us : List (List ℕ)). IsOrdered (us ++ all_tuples items)) (sym next) apart) fits others
         ∙ ap (λ (ds : ExpandedData F). Ok ds) (append_assoc given own (all_data items))
@@ -132,5 +132,5 @@ module _ {F : Type 0} where
         let within = list_all (is_within state domain) items in
         let tests = nat_le (length (all_tuples items)) 1048576 && ascend (all_tuples items) in
         let more = second_of within tests fine in
-        let room : length (all_tuples items) ≤ 1048576 = leb-true (length (all_tuples items)) 1048576 ((and_parts (nat_le (length (all_tuples items)) 1048576) (ascend (all_tuples items)) more).0) in
-        given_on [] items (ordered_by (all_tuples items) (second_of (nat_le (length (all_tuples items)) 1048576) (ascend (all_tuples items)) more)) (omega (arith, room)) ((and_parts within tests fine).0)
+        let within_bound : length (all_tuples items) ≤ 1048576 = leb-true (length (all_tuples items)) 1048576 ((and_parts (nat_le (length (all_tuples items)) 1048576) (ascend (all_tuples items)) more).0) in
+        given_on [] items (ordered_by (all_tuples items) (second_of (nat_le (length (all_tuples items)) 1048576) (ascend (all_tuples items)) more)) (omega (arith, within_bound)) ((and_parts within tests fine).0)

@@ -12,7 +12,7 @@ use Rattle.gms_lex.specs.declared.keyword.Shape.TheVariants.{Set, Parameter, Sca
 use Rattle.gms_lex.specs.declared.keyword.Keyword.{Keyword}
 use Rattle.gms_lex.specs.declared.keyword.Keyword.TheVariants.{Declarer, Table}
 use Rattle.gms_lex.specs.declared.mode.Stage.{Stage}
-use Rattle.gms_lex.specs.declared.mode.Stage.TheVariants.{Fresh, Due, After, Spaced}
+use Rattle.gms_lex.specs.declared.mode.Stage.TheVariants.{Fresh, Expected, After, Spaced}
 use Rattle.gms_lex.specs.declared.mode.Mode.{Mode}
 use Rattle.gms_lex.specs.declared.mode.Mode.TheVariants.{Code, Item, Named, Domain, Rest, Element, TableName, TableNamed, TableDomain, TableTexted, TableLines}
 use Rattle.gms_lex.specs.declared.mode.LineEnds.TheVariants.{Skipped, EndElement}
@@ -68,7 +68,7 @@ pub label : (shape : Shape) (depth : ℕ) (stage : Stage) (text : List ℕ) → 
 label shape depth stage text at_element = refl
 label shape depth stage text after_mark = refl
 
-pub joined : (shape : Shape) (depth : ℕ) (symbol : Sym) (text : List ℕ) → Joins symbol → mode_after (Element shape depth After) (Token (Symbol symbol)) text ≡ Element shape depth Due
+pub joined : (shape : Shape) (depth : ℕ) (symbol : Sym) (text : List ℕ) → Joins symbol → mode_after (Element shape depth After) (Token (Symbol symbol)) text ≡ Element shape depth Expected
 joined shape depth symbol text dot = refl
 joined shape depth symbol text dots = refl
 joined shape depth symbol text star = refl
@@ -88,9 +88,9 @@ of_element Gap text is = absurd is
 of_element LineEnd text is = absurd is
 of_element Remark text is = absurd is
 
-listed : (shape : Shape) (depth : ℕ) (stage : Stage) (piece : Piece) (text behind : List ℕ) → IsLabelExpected stage → IsInList shape depth stage piece text behind → IsLabelOrSymbol piece
-listed shape depth stage piece text behind at_element is = of_element piece text is
-listed shape depth stage piece text behind after_mark is = of_element piece text is
+listed : (shape : Shape) (depth : ℕ) (stage : Stage) (piece : Piece) (text following : List ℕ) → IsLabelExpected stage → IsInList shape depth stage piece text following → IsLabelOrSymbol piece
+listed shape depth stage piece text following at_element is = of_element piece text is
+listed shape depth stage piece text following after_mark is = of_element piece text is
 
 pub labels : (shape : Shape) (depth : ℕ) (stage : Stage) (text : List ℕ) (next : Lexeme) → IsLabelExpected stage → piece_at (Element shape depth stage) text ≡ Ok next → has_text next.piece ≡ true → IsLabelOrSymbol next.piece
 labels shape depth stage text next expected is has =
@@ -194,7 +194,7 @@ in_domain named inside after LineEnd text of_table other = refl
 in_domain named inside after Remark text (of_item s) other = refl
 in_domain named inside after Remark text of_table other = refl
 
-pub opened : (shape : Shape) (depth : ℕ) (stage : Stage) (text : List ℕ) → IsLabelExpected stage → mode_after (Element shape depth stage) (Token (Symbol LeftParen)) text ≡ Element shape (depth + 1) Due
+pub opened : (shape : Shape) (depth : ℕ) (stage : Stage) (text : List ℕ) → IsLabelExpected stage → mode_after (Element shape depth stage) (Token (Symbol LeftParen)) text ≡ Element shape (depth + 1) Expected
 opened shape depth stage text at_element = refl
 opened shape depth stage text after_mark = refl
 
@@ -206,7 +206,7 @@ one_out shape depth = ap (λ n. Element shape n After) (one_less depth)
 
 pub closed : (shape : Shape) (depth : ℕ) (stage : Stage) (text : List ℕ) → mode_after (Element shape (suc depth) stage) (Token (Symbol RightParen)) text ≡ Element shape depth After
 closed shape depth Fresh text = one_out shape depth
-closed shape depth Due text = one_out shape depth
+closed shape depth Expected text = one_out shape depth
 closed shape depth After text = one_out shape depth
 closed shape depth Spaced text = one_out shape depth
 
@@ -214,23 +214,23 @@ closed shape depth Spaced text = one_out shape depth
 some_within : (depth : ℕ) → (suc depth == 0) ≡ false
 some_within depth = eqb-suc-zero depth
 
-still_within : (shape : Shape) (depth : ℕ) → after_comma shape (suc depth) ≡ Element shape (suc depth) Due
-still_within shape depth = ap (λ b. if b then list_start shape else Element shape (suc depth) Due) (some_within depth)
+still_within : (shape : Shape) (depth : ℕ) → after_comma shape (suc depth) ≡ Element shape (suc depth) Expected
+still_within shape depth = ap (λ b. if b then list_start shape else Element shape (suc depth) Expected) (some_within depth)
 
 line_within : (depth : ℕ) → element_line_ends (suc depth) ≡ Skipped
 line_within depth = ap (λ b. if b then EndElement else Skipped) (some_within depth)
 
-pub next_label : (shape : Shape) (depth : ℕ) (stage : Stage) (text : List ℕ) → mode_after (Element shape (suc depth) stage) (Token (Symbol Comma)) text ≡ Element shape (suc depth) Due
+pub next_label : (shape : Shape) (depth : ℕ) (stage : Stage) (text : List ℕ) → mode_after (Element shape (suc depth) stage) (Token (Symbol Comma)) text ≡ Element shape (suc depth) Expected
 next_label shape depth Fresh text = still_within shape depth
-next_label shape depth Due text = still_within shape depth
+next_label shape depth Expected text = still_within shape depth
 next_label shape depth After text = still_within shape depth
 next_label shape depth Spaced text = still_within shape depth
 
-enclosed : (shape : Shape) (depth : ℕ) (stage : Stage) (piece : Piece) (text behind : List ℕ) → IsInList shape (suc depth) stage piece text behind → IsLabelOrSymbol piece
-enclosed shape depth Fresh piece text behind is = of_element piece text is
-enclosed shape depth Due piece text behind is = of_element piece text is
-enclosed shape depth After piece text behind is = of_element piece text is
-enclosed shape depth Spaced piece text behind is = of_element piece text is
+enclosed : (shape : Shape) (depth : ℕ) (stage : Stage) (piece : Piece) (text following : List ℕ) → IsInList shape (suc depth) stage piece text following → IsLabelOrSymbol piece
+enclosed shape depth Fresh piece text following is = of_element piece text is
+enclosed shape depth Expected piece text following is = of_element piece text is
+enclosed shape depth After piece text following is = of_element piece text is
+enclosed shape depth Spaced piece text following is = of_element piece text is
 
 pub enclosed_labels : (shape : Shape) (depth : ℕ) (stage : Stage) (text : List ℕ) (next : Lexeme) → piece_at (Element shape (suc depth) stage) text ≡ Ok next → has_text next.piece ≡ true → IsLabelOrSymbol next.piece
 enclosed_labels shape depth stage text next is has =
@@ -240,7 +240,7 @@ pub lines : (mode : Mode) → IsInParentheses mode → line_ends mode ≡ Skippe
 lines current (in_item_domain shape) = refl
 lines current in_table_domain = refl
 lines current (in_list shape depth Fresh) = refl
-lines current (in_list shape depth Due) = line_within depth
+lines current (in_list shape depth Expected) = line_within depth
 lines current (in_list shape depth After) = line_within depth
 lines current (in_list shape depth Spaced) = line_within depth
 

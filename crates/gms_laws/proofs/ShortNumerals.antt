@@ -6,7 +6,7 @@ use Rattle.std.specs.List.{list_all}
 use Rattle.std.specs.Prelude.{slice_index}
 use Rattle.gq_number.specs.Number.{Number, ratio}
 use Rattle.gq_text.specs.Decimal.{MeansNumber}
-use Rattle.gq_text.specs.Literal.{HasNoZeroBehind, FitsLiteral}
+use Rattle.gq_text.specs.Literal.{HasNoTrailingZero, FitsLiteral}
 use Rattle.gq_text.specs.Numeral.{AreDigits, spelled, IsNumeral}
 use Rattle.gq_text.proofs.Literals.{fits_whole}
 use Rattle.gq_text.proofs.Numerals.{spelled-lt}
@@ -18,7 +18,7 @@ use Rattle.gq_text.proofs.Texts.{numeral_means}
 pub record Shortened (n : ℕ) : Type 0 where
   pub m : ℕ
   pub e : ℕ
-  pub shortest : HasNoZeroBehind m
+  pub shortest : HasNoTrailingZero m
   pub is : n ≡ m * 10 ^ e
 
 power_more : (m e : ℕ) → 10 * (m * 10 ^ e) ≡ m * 10 ^ suc e

@@ -24,7 +24,7 @@ use Rattle.gms_expressions.proofs.TokenKinds.{same_number}
 use Rattle.gms_parse.specs.declared.fault.SourceFault.{SourceFault}
 use Rattle.gms_parse.specs.Outcomes.{ProgramView, IsTableOf, HaveItems, HasProgram}
 use Rattle.gms_parse.specs.Programs.{statements_of}
-use Rattle.gms_parse.specs.ReadStates.{KindedToken, ReaderState, start, reader_after, reader_after_all, new_labels, LacksRoom, IsFaulty, deep, out_of_range, many_names, many_labels, in_table, without_lines, AreTokensFaultless}
+use Rattle.gms_parse.specs.ReadStates.{KindedToken, ReaderState, start, reader_after, reader_after_all, new_labels, ExceedsTable, IsFaulty, deep, out_of_range, many_names, many_labels, in_table, without_lines, AreTokensFaultless}
 use Rattle.gms_laws.proofs.SourcePieces.{Make, tokens_by, has_sound_lines, are_tokens}
 use Rattle.gms_laws.proofs.ShortNumerals.{is_short, short_means, right}
 
@@ -33,33 +33,33 @@ is_no kind token = not (is kind token.0)
 
 -- after the tokens so far this one has no fault
 abbrev pub is_sound : List ℕ → ReaderState → KindedToken → Terminal → Bool
-is_sound source walk token ahead =
-    (is_no LeftParen token || nat_lt walk.open_count 100)
+is_sound source read_state token ahead =
+    (is_no LeftParen token || nat_lt read_state.open_count 100)
     && ((is_no Number token || is_short (token_text source token.1))
-    && (nat_lt (length walk.names) most_labels
-    && (nat_lt (length walk.labels + length (new_labels source walk token ahead)) most_labels
-    && (is_no TableLine token && (is_no RightParen token || not (is Table walk.keyword))))))
+    && (nat_lt (length read_state.names) most_labels
+    && (nat_lt (length read_state.labels + length (new_labels source read_state token ahead)) most_labels
+    && (is_no TableLine token && (is_no RightParen token || not (is Table read_state.keyword))))))
 
 -- What the test says.
-record Sound (source : List ℕ) (walk : ReaderState) (token : KindedToken) (ahead : Terminal) : Type 0 where
-  parens : (is_no LeftParen token || nat_lt walk.open_count 100) ≡ true
+record Sound (source : List ℕ) (read_state : ReaderState) (token : KindedToken) (ahead : Terminal) : Type 0 where
+  parens : (is_no LeftParen token || nat_lt read_state.open_count 100) ≡ true
   number : (is_no Number token || is_short (token_text source token.1)) ≡ true
-  names : length walk.names < most_labels
-  labels : length walk.labels + length (new_labels source walk token ahead) < most_labels
+  names : length read_state.names < most_labels
+  labels : length read_state.labels + length (new_labels source read_state token ahead) < most_labels
   no_line : is_no TableLine token ≡ true
-  no_head : (is_no RightParen token || not (is Table walk.keyword)) ≡ true
+  no_head : (is_no RightParen token || not (is Table read_state.keyword)) ≡ true
 
-parts : (source : List ℕ) (walk : ReaderState) (token : KindedToken) (ahead : Terminal) → is_sound source walk token ahead ≡ true → Sound source walk token ahead
-parts source walk token ahead h =
-    let h1 = right (is_no LeftParen token || nat_lt walk.open_count 100) _ h in
+parts : (source : List ℕ) (read_state : ReaderState) (token : KindedToken) (ahead : Terminal) → is_sound source read_state token ahead ≡ true → Sound source read_state token ahead
+parts source read_state token ahead h =
+    let h1 = right (is_no LeftParen token || nat_lt read_state.open_count 100) _ h in
     let h2 = right (is_no Number token || is_short (token_text source token.1)) _ h1 in
-    let h3 = right (nat_lt (length walk.names) most_labels) _ h2 in
-    let h4 = right (nat_lt (length walk.labels + length (new_labels source walk token ahead)) most_labels) _ h3 in
+    let h3 = right (nat_lt (length read_state.names) most_labels) _ h2 in
+    let h4 = right (nat_lt (length read_state.labels + length (new_labels source read_state token ahead)) most_labels) _ h3 in
     record {
-      parens = (and_parts (is_no LeftParen token || nat_lt walk.open_count 100) _ h).0;
+      parens = (and_parts (is_no LeftParen token || nat_lt read_state.open_count 100) _ h).0;
       number = (and_parts (is_no Number token || is_short (token_text source token.1)) _ h1).0;
-      names = ltb-true (length walk.names) most_labels ((and_parts (nat_lt (length walk.names) most_labels) _ h2).0);
-      labels = ltb-true (length walk.labels + length (new_labels source walk token ahead)) most_labels ((and_parts (nat_lt (length walk.labels + length (new_labels source walk token ahead)) most_labels) _ h3).0);
+      names = ltb-true (length read_state.names) most_labels ((and_parts (nat_lt (length read_state.names) most_labels) _ h2).0);
+      labels = ltb-true (length read_state.labels + length (new_labels source read_state token ahead)) most_labels ((and_parts (nat_lt (length read_state.labels + length (new_labels source read_state token ahead)) most_labels) _ h3).0);
       no_line = (and_parts (is_no TableLine token) _ h4).0;
       no_head = right (is_no TableLine token) _ h4;
     }
@@ -83,10 +83,10 @@ all_few : (labels texts : List (List ℕ)) → length (all_entered labels texts)
 all_few labels [] = omega arith
 all_few labels (text ∷ texts) = omega (arith, all_few (entered labels text) texts, entered_by (is_some (place_of labels text)) labels text)
 
-no_lack : (labels texts : List (List ℕ)) → length labels + length texts < most_labels → LacksRoom labels texts → ⊥
+no_lack : (labels texts : List (List ℕ)) → length labels + length texts < most_labels → ExceedsTable labels texts → ⊥
 no_lack labels texts h l =
-    let long : length texts ≡ length (l.before ++ l.text ∷ l.behind) = ap length l.parts in
-    omega (arith, h, long, length-append l.before (l.text ∷ l.behind), all_few labels l.before, l.full.1)
+    let long : length texts ≡ length (l.before ++ l.text ∷ l.following) = ap length l.parts in
+    omega (arith, h, long, length-append l.before (l.text ∷ l.following), all_few labels l.before, l.full.1)
 
 -- ---- the tests
 
@@ -114,42 +114,42 @@ ended (token ∷ (next ∷ tokens)) h = absurd (cc)
 module _ (source : List ℕ) where
   -- none of the tokens has a fault
   abbrev pub all_sound : ReaderState → List KindedToken → Terminal → Bool
-  all_sound walk [] ahead = true
-  all_sound walk (token ∷ tokens) ahead =
-      is_sound source walk token (kind_ahead tokens ahead) && all_sound (reader_after source walk token (kind_ahead tokens ahead)) tokens ahead
+  all_sound read_state [] ahead = true
+  all_sound read_state (token ∷ tokens) ahead =
+      is_sound source read_state token (kind_ahead tokens ahead) && all_sound (reader_after source read_state token (kind_ahead tokens ahead)) tokens ahead
 
   -- how the program of a derivation is kinded_tokens
   abbrev pub view_of : DerivationTree KindedToken → ProgramView
   view_of tree =
-      let walk = reader_after_all source start (yield tree) End in
-      record { names = walk.names; labels = walk.labels; statements = statements_of source walk.names walk.labels tree }
+      let read_state = reader_after_all source start (yield tree) End in
+      record { names = read_state.names; labels = read_state.labels; statements = statements_of source read_state.names read_state.labels tree }
 
   -- The tests that a source with this derivation passes.
   abbrev pub passes : DerivationTree KindedToken → List KindedToken → Bool
   passes tree rest = is_end rest && (has_no_table (yield tree) && all_sound start (yield tree) End)
 
 module _ (limit : ℕ) (wide : 10 ^ 9 ≤ limit) (source : List ℕ) where
-  faultless : (walk : ReaderState) (token : KindedToken) (ahead : Terminal) → Sound source walk token ahead → (fault : SourceFault) → IsFaulty limit source walk token ahead fault → ⊥
-  faultless walk token ahead s _ (deep e le) =
-      let few : walk.open_count < 100 = ltb-true walk.open_count 100 (other LeftParen token.0 (nat_lt walk.open_count 100) e refl s.parens) in
+  faultless : (read_state : ReaderState) (token : KindedToken) (ahead : Terminal) → Sound source read_state token ahead → (fault : SourceFault) → IsFaulty limit source read_state token ahead fault → ⊥
+  faultless read_state token ahead s _ (deep e le) =
+      let few : read_state.open_count < 100 = ltb-true read_state.open_count 100 (other LeftParen token.0 (nat_lt read_state.open_count 100) e refl s.parens) in
       omega (arith, few, le)
-  faultless walk token ahead s _ (out_of_range e none) =
+  faultless read_state token ahead s _ (out_of_range e none) =
       let m = short_means limit wide (token_text source token.1) (other Number token.0 (is_short (token_text source token.1)) e refl s.number) in
       none m.0 m.1 m.2
-  faultless walk token ahead s _ (many_names e full) = omega (arith, s.names, full.1)
-  faultless walk token ahead s _ (many_labels e lacks) = no_lack walk.labels (new_labels source walk token ahead) s.labels lacks
-  faultless walk token ahead s _ (in_table e f g) = no_other TableLine token.0 e refl s.no_line
-  faultless walk token ahead s _ (without_lines e keyword f) =
-      no_other Table walk.keyword keyword refl (other RightParen token.0 (not (is Table walk.keyword)) e refl s.no_head)
+  faultless read_state token ahead s _ (many_names e full) = omega (arith, s.names, full.1)
+  faultless read_state token ahead s _ (many_labels e lacks) = no_lack read_state.labels (new_labels source read_state token ahead) s.labels lacks
+  faultless read_state token ahead s _ (in_table e f g) = no_other TableLine token.0 e refl s.no_line
+  faultless read_state token ahead s _ (without_lines e keyword f) =
+      no_other Table read_state.keyword keyword refl (other RightParen token.0 (not (is Table read_state.keyword)) e refl s.no_head)
 
   -- ---- tokens
 
-  sound_all : (walk : ReaderState) (tokens : List KindedToken) (ahead : Terminal) → all_sound source walk tokens ahead ≡ true → AreTokensFaultless limit source walk tokens ahead
-  sound_all walk [] ahead h = tt
-  sound_all walk (token ∷ tokens) ahead h =
-      let here = is_sound source walk token (kind_ahead tokens ahead) in
-      let next = reader_after source walk token (kind_ahead tokens ahead) in (
-        faultless walk token (kind_ahead tokens ahead) (parts source walk token (kind_ahead tokens ahead) ((and_parts here (all_sound source next tokens ahead) h).0)),
+  sound_all : (read_state : ReaderState) (tokens : List KindedToken) (ahead : Terminal) → all_sound source read_state tokens ahead ≡ true → AreTokensFaultless limit source read_state tokens ahead
+  sound_all read_state [] ahead h = tt
+  sound_all read_state (token ∷ tokens) ahead h =
+      let here = is_sound source read_state token (kind_ahead tokens ahead) in
+      let next = reader_after source read_state token (kind_ahead tokens ahead) in (
+        faultless read_state token (kind_ahead tokens ahead) (parts source read_state token (kind_ahead tokens ahead) ((and_parts here (all_sound source next tokens ahead) h).0)),
         sound_all next tokens ahead (right here (all_sound source next tokens ahead) h),
       )
 
@@ -162,17 +162,17 @@ module _ (limit : ℕ) (wide : 10 ^ 9 ≤ limit) (source : List ℕ) where
       by [] k = k.some refl
       by (line ∷ lines) k =
           let test = is_no TableLine in
-          let all : list_all test ((k.before ++ (line ∷ lines)) ++ k.behind) ≡ true = subst (λ (ts : List KindedToken). list_all test ts ≡ true) k.parts none in
-          let front : list_all test (k.before ++ (line ∷ lines)) ≡ true = (and_parts _ (list_all test k.behind) (sym (list_all-append test (k.before ++ (line ∷ lines)) k.behind) ∙ all)).0 in
-          let behind : list_all test (line ∷ lines) ≡ true = right (list_all test k.before) _ (sym (list_all-append test k.before (line ∷ lines)) ∙ front) in
-          no_other TableLine line.0 (All-head (λ (token : KindedToken). token.0 ≡ TableLine) line lines k.are_lines) refl ((and_parts (test line) _ behind).0)
+          let all : list_all test ((k.before ++ (line ∷ lines)) ++ k.following) ≡ true = subst (λ (ts : List KindedToken). list_all test ts ≡ true) k.parts none in
+          let prefix : list_all test (k.before ++ (line ∷ lines)) ≡ true = (and_parts _ (list_all test k.following) (sym (list_all-append test (k.before ++ (line ∷ lines)) k.following) ∙ all)).0 in
+          let following : list_all test (line ∷ lines) ≡ true = right (list_all test k.before) _ (sym (list_all-append test k.before (line ∷ lines)) ∙ prefix) in
+          no_other TableLine line.0 (All-head (λ (token : KindedToken). token.0 ≡ TableLine) line lines k.are_lines) refl ((and_parts (test line) _ following).0)
 
   pub has_program : (pieces : List Lexeme) (tree : DerivationTree KindedToken) (rest : List KindedToken) → nat_le (length source) most_source_bytes ≡ true → has_sound_lines source ≡ true → Make Code (code_text source) pieces → IsTree productions (the Program) tree × (kinded_tokens source (tokens_by source pieces) ≡ yield tree ++ rest) → passes source tree rest ≡ true → HasProgram limit source (view_of source tree)
   has_program pieces tree rest short lines make read h =
       let e = ended rest ((and_parts (is_end rest) _ h).0) in
       let others = right (is_end rest) _ h in
       let sound = sound_all start (yield tree) End (right (has_no_table (yield tree)) _ others) in
-      let walk = reader_after_all source start (yield tree) End in
+      let read_state = reader_after_all source start (yield tree) End in
       record {
         short = leb-true (length source) most_source_bytes short;
         tokens = tokens_by source pieces;
@@ -185,7 +185,7 @@ module _ (limit : ℕ) (wide : 10 ^ 9 ≤ limit) (source : List ℕ) where
           are_sound = sound;
           names_are = refl;
           labels_are = refl;
-          tables = no_items walk.labels (yield tree) ((and_parts (has_no_table (yield tree)) _ others).0);
+          tables = no_items read_state.labels (yield tree) ((and_parts (has_no_table (yield tree)) _ others).0);
           statements_are = refl;
         };
       }

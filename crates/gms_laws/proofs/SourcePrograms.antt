@@ -64,8 +64,8 @@ all_seen source ts = map seen_one ts ++ (End, end_token source) ∷ []
 -- how the program of a derivation is kinded_tokens
 abbrev pub view_by : List ℕ → List Texted → DerivationTree KindedToken → ProgramView
 view_by source ts tree =
-    let walk = left_by_texts source start ts End in
-    record { names = walk.names; labels = walk.labels; statements = local_statements source walk.names walk.labels tree }
+    let read_state = left_by_texts source start ts End in
+    record { names = read_state.names; labels = read_state.labels; statements = local_statements source read_state.names read_state.labels tree }
 
 -- the tests that a derivation passes
 abbrev pub is_whole : List ℕ → List Texted → List KindedToken → Bool
@@ -102,7 +102,7 @@ module _ (limit : ℕ) (wide : 10 ^ 9 ≤ limit) (source : List ℕ) (plain : is
       let all : all_sound source start (yield tree) End ≡ true = subst (λ (us : List KindedToken). all_sound source start us End ≡ true) yields (sound_is source start ts End texts sound) in
       let none : has_no_table (yield tree) ≡ true = subst (λ (us : List KindedToken). has_no_table us ≡ true) yields no_table in
       let has = has_program limit wide source pieces tree rest ((and_parts (nat_le (length source) most_source_bytes) _ plain).0) ((and_parts (has_sound_lines source) _ others).0) make (read.0, seen_is ∙ read.1) (and_from _ _ end_is (and_from _ _ none all)) in
-      let walk : reader_after_all source start (yield tree) End ≡ left_by_texts source start ts End = ap (λ (us : List KindedToken). reader_after_all source start us End) (sym yields) ∙ sym (left_is source start ts End texts) in
-      let behind = left_by_texts source start ts End in
-      subst (λ (ss : Statements Number). HasProgram limit source (record { names = behind.names; labels = behind.labels; statements = ss })) (sym (same_statements source behind.names behind.labels tree))
-      (subst (λ (w : ReaderState). HasProgram limit source (record { names = w.names; labels = w.labels; statements = statements_of source w.names w.labels tree })) walk has)
+      let read_state : reader_after_all source start (yield tree) End ≡ left_by_texts source start ts End = ap (λ (us : List KindedToken). reader_after_all source start us End) (sym yields) ∙ sym (left_is source start ts End texts) in
+      let following = left_by_texts source start ts End in
+      subst (λ (ss : Statements Number). HasProgram limit source (record { names = following.names; labels = following.labels; statements = ss })) (sym (same_statements source following.names following.labels tree))
+      (subst (λ (w : ReaderState). HasProgram limit source (record { names = w.names; labels = w.labels; statements = statements_of source w.names w.labels tree })) read_state has)

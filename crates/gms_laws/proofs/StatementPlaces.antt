@@ -38,7 +38,7 @@ use Rattle.gms_set.specs.Expansion.{ExpandedData, error_of, expanded, tuples_of,
 use Rattle.gms_tuple.specs.Products.{tuple_product}
 use Rattle.gms_check.specs.declared.error.CompileError.{CompileError}
 use Rattle.gms_check.specs.declared.error.ErrorKind.{ErrorKind}
-use Rattle.gms_check.specs.declared.contexts.Standing.{Standing}
+use Rattle.gms_check.specs.declared.contexts.Context.{Context}
 use Rattle.gms_check.specs.CompileErrors.{act_errors, checked_kinds, declaration_errors, each_error, errors_at, errors_of, has_error, known_after, known_after_item, known_in, model_errors, statement_error, statement_errors}
 use Rattle.gms_check.specs.DeclarationUses.{are_usable, data_uses, domain_use, expansion_uses, failure, has_all_parts, item_uses, kind_uses, model_uses}
 use Rattle.gms_check.specs.Errors.{comes_first, earlier, first_error}
@@ -111,9 +111,9 @@ module _ {F : Type 0} where
     at-own : Here statement.at
     at-own = its_own refl
 
-    expression : {state : State} {role : Role} {root : Tree F} → IsExpressionOf state statement.act role root → (around : Place) → Here around → (standing : Standing) (controlled : List ℕ) → Each Here (uses standing around controlled root)
-    expression {state} {role} {root} is around here standing controlled =
-        each-weaker (IsNear around root) Here near (uses standing around controlled root) (tree-places root standing around controlled)
+    expression : {state : State} {role : Role} {root : Tree F} → IsExpressionOf state statement.act role root → (around : Place) → Here around → (context : Context) (controlled : List ℕ) → Each Here (uses context around controlled root)
+    expression {state} {role} {root} is around here context controlled =
+        each-weaker (IsNear around root) Here near (uses context around controlled root) (tree-places root context around controlled)
       where
         near : (at : Place) → IsNear around root at → IsPlaceOf at statement
         near at (inl same) = subst (λ (p : Place). IsPlaceOf p statement) (sym same) here

@@ -93,33 +93,33 @@ listed_is source (Some first) ahead token = refl
 listed_is source None ahead token = refl
 
 abbrev labels_by : List ℕ → List ℕ → ReaderState → KindedToken → Terminal → List (List ℕ)
-labels_by source text walk token ahead =
-    if is_index walk token.0 then unquoted text ∷ [] else (if is terminal.Label token.0 then listed_by source (range_start walk.before) ahead text else (if is terminal.TableLine token.0 && not (is terminal.TableLine ahead) then labels_of_lines source (lines_with source walk.before token) else []))
+labels_by source text read_state token ahead =
+    if is_index read_state token.0 then unquoted text ∷ [] else (if is terminal.Label token.0 then listed_by source (range_start read_state.before) ahead text else (if is terminal.TableLine token.0 && not (is terminal.TableLine ahead) then labels_of_lines source (lines_with source read_state.before token) else []))
 
-labels_is : (source : List ℕ) (walk : ReaderState) (token : KindedToken) (ahead : Terminal) → labels_by source (token_text source token.1) walk token ahead ≡ new_labels source walk token ahead
-labels_is source walk token ahead =
-    ap (λ (ls : List (List ℕ)). if is_index walk token.0 then unquoted (token_text source token.1) ∷ [] else (if is terminal.Label token.0 then ls else (if is terminal.TableLine token.0 && not (is terminal.TableLine ahead) then labels_of_lines source (lines_with source walk.before token) else [])))
-    (listed_is source (range_start walk.before) ahead token.1)
+labels_is : (source : List ℕ) (read_state : ReaderState) (token : KindedToken) (ahead : Terminal) → labels_by source (token_text source token.1) read_state token ahead ≡ new_labels source read_state token ahead
+labels_is source read_state token ahead =
+    ap (λ (ls : List (List ℕ)). if is_index read_state token.0 then unquoted (token_text source token.1) ∷ [] else (if is terminal.Label token.0 then ls else (if is terminal.TableLine token.0 && not (is terminal.TableLine ahead) then labels_of_lines source (lines_with source read_state.before token) else [])))
+    (listed_is source (range_start read_state.before) ahead token.1)
 
 abbrev walk_with : List ℕ → List (List ℕ) → ReaderState → KindedToken → ReaderState
-walk_with text labels walk token =
+walk_with text labels read_state token =
     let begins = is_keyword token.0 || is terminal.Semicolon token.0 in
     record {
-      open_count = open_after walk.open_count token.0;
-      names = if is_name walk token.0 then entered walk.names text else walk.names;
-      labels = all_entered walk.labels labels;
-      before = token ∷ walk.before;
-      keyword = if begins then token.0 else walk.keyword;
-      level = if begins then walk.open_count else walk.level;
+      open_count = open_after read_state.open_count token.0;
+      names = if is_name read_state token.0 then entered read_state.names text else read_state.names;
+      labels = all_entered read_state.labels labels;
+      before = token ∷ read_state.before;
+      keyword = if begins then token.0 else read_state.keyword;
+      level = if begins then read_state.open_count else read_state.level;
     }
 
-abbrev pub walk_by : List ℕ → List ℕ → ReaderState → KindedToken → Terminal → ReaderState
-walk_by source text walk token ahead = walk_with text (labels_by source text walk token ahead) walk token
+abbrev pub traversal_by : List ℕ → List ℕ → ReaderState → KindedToken → Terminal → ReaderState
+traversal_by source text read_state token ahead = walk_with text (labels_by source text read_state token ahead) read_state token
 
-walk_is : (source text : List ℕ) (walk : ReaderState) (token : KindedToken) (ahead : Terminal) → token_text source token.1 ≡ text → walk_by source text walk token ahead ≡ reader_after source walk token ahead
-walk_is source text walk token ahead e =
-    ap (λ (x : List ℕ). walk_by source x walk token ahead) (sym e)
-    ∙ ap (λ (ls : List (List ℕ)). walk_with (token_text source token.1) ls walk token) (labels_is source walk token ahead)
+walk_is : (source text : List ℕ) (read_state : ReaderState) (token : KindedToken) (ahead : Terminal) → token_text source token.1 ≡ text → traversal_by source text read_state token ahead ≡ reader_after source read_state token ahead
+walk_is source text read_state token ahead e =
+    ap (λ (x : List ℕ). traversal_by source x read_state token ahead) (sym e)
+    ∙ ap (λ (ls : List (List ℕ)). walk_with (token_text source token.1) ls read_state token) (labels_is source read_state token ahead)
 
 -- the kind of the first of the tokens, or else this one
 abbrev ahead_by : List Texted → Terminal → Terminal
@@ -132,45 +132,45 @@ ahead_is (t ∷ ts) ahead = refl
 
 -- what tokens leave
 abbrev pub left_by_texts : List ℕ → ReaderState → List Texted → Terminal → ReaderState
-left_by_texts source walk [] ahead = walk
-left_by_texts source walk (t ∷ ts) ahead =
-    left_by_texts source (walk_by source t.1 walk (seen_one t) (ahead_by ts ahead)) ts ahead
+left_by_texts source read_state [] ahead = read_state
+left_by_texts source read_state (t ∷ ts) ahead =
+    left_by_texts source (traversal_by source t.1 read_state (seen_one t) (ahead_by ts ahead)) ts ahead
 
-pub left_is : (source : List ℕ) (walk : ReaderState) (ts : List Texted) (ahead : Terminal) → AreTexts source ts → left_by_texts source walk ts ahead ≡ reader_after_all source walk (map seen_one ts) ahead
-left_is source walk [] ahead h = refl
-left_is source walk (t ∷ ts) ahead h =
+pub left_is : (source : List ℕ) (read_state : ReaderState) (ts : List Texted) (ahead : Terminal) → AreTexts source ts → left_by_texts source read_state ts ahead ≡ reader_after_all source read_state (map seen_one ts) ahead
+left_is source read_state [] ahead h = refl
+left_is source read_state (t ∷ ts) ahead h =
     let next = kind_ahead (map seen_one ts) ahead in
-    ap (λ (k : Terminal). left_by_texts source (walk_by source t.1 walk (seen_one t) k) ts ahead) (ahead_is ts ahead)
-    ∙ left_is source (walk_by source t.1 walk (seen_one t) next) ts ahead h.1
-    ∙ ap (λ (w : ReaderState). reader_after_all source w (map seen_one ts) ahead) (walk_is source t.1 walk (seen_one t) next h.0)
+    ap (λ (k : Terminal). left_by_texts source (traversal_by source t.1 read_state (seen_one t) k) ts ahead) (ahead_is ts ahead)
+    ∙ left_is source (traversal_by source t.1 read_state (seen_one t) next) ts ahead h.1
+    ∙ ap (λ (w : ReaderState). reader_after_all source w (map seen_one ts) ahead) (walk_is source t.1 read_state (seen_one t) next h.0)
 
 -- ---- that no token has a fault
 
 abbrev sound_with : List ℕ → List (List ℕ) → ReaderState → KindedToken → Bool
-sound_with text labels walk token =
-    (is_no terminal.LeftParen token || nat_lt walk.open_count 100)
+sound_with text labels read_state token =
+    (is_no terminal.LeftParen token || nat_lt read_state.open_count 100)
     && ((is_no terminal.Number token || is_short text)
-    && (nat_lt (length walk.names) most_labels
-    && (nat_lt (length walk.labels + length labels) most_labels
-    && (is_no terminal.TableLine token && (is_no terminal.RightParen token || not (is terminal.Table walk.keyword))))))
+    && (nat_lt (length read_state.names) most_labels
+    && (nat_lt (length read_state.labels + length labels) most_labels
+    && (is_no terminal.TableLine token && (is_no terminal.RightParen token || not (is terminal.Table read_state.keyword))))))
 
 abbrev pub sound_by : List ℕ → ReaderState → List Texted → Terminal → Bool
-sound_by source walk [] ahead = true
-sound_by source walk (t ∷ ts) ahead =
+sound_by source read_state [] ahead = true
+sound_by source read_state (t ∷ ts) ahead =
     let next = ahead_by ts ahead in
-    sound_with t.1 (labels_by source t.1 walk (seen_one t) next) walk (seen_one t) && sound_by source (walk_by source t.1 walk (seen_one t) next) ts ahead
+    sound_with t.1 (labels_by source t.1 read_state (seen_one t) next) read_state (seen_one t) && sound_by source (traversal_by source t.1 read_state (seen_one t) next) ts ahead
 
-pub sound_is : (source : List ℕ) (walk : ReaderState) (ts : List Texted) (ahead : Terminal) → AreTexts source ts → sound_by source walk ts ahead ≡ true → all_sound source walk (map seen_one ts) ahead ≡ true
-sound_is source walk [] ahead h s = refl
-sound_is source walk (t ∷ ts) ahead h s =
+pub sound_is : (source : List ℕ) (read_state : ReaderState) (ts : List Texted) (ahead : Terminal) → AreTexts source ts → sound_by source read_state ts ahead ≡ true → all_sound source read_state (map seen_one ts) ahead ≡ true
+sound_is source read_state [] ahead h s = refl
+sound_is source read_state (t ∷ ts) ahead h s =
     let next = kind_ahead (map seen_one ts) ahead in
     let token = seen_one t in
-    let test = sound_with t.1 (labels_by source t.1 walk token next) walk token in
-    let both = subst (λ (k : Terminal). (sound_with t.1 (labels_by source t.1 walk token k) walk token && sound_by source (walk_by source t.1 walk token k) ts ahead) ≡ true) (ahead_is ts ahead) s in
+    let test = sound_with t.1 (labels_by source t.1 read_state token next) read_state token in
+    let both = subst (λ (k : Terminal). (sound_with t.1 (labels_by source t.1 read_state token k) read_state token && sound_by source (traversal_by source t.1 read_state token k) ts ahead) ≡ true) (ahead_is ts ahead) s in
     let here : test ≡ true = (and_parts test _ both).0 in
     let others = right test _ both in
-    let plain : sound_with (token_text source t.0) (labels_by source (token_text source t.0) walk token next) walk token ≡ true =
-    subst (λ (x : List ℕ). sound_with x (labels_by source x walk token next) walk token ≡ true) (sym h.0) here in
-    let sound = subst (λ (ls : List (List ℕ)). sound_with (token_text source t.0) ls walk token ≡ true) (labels_is source walk token next) plain in
-    let rest : all_sound source (walk_by source t.1 walk token next) (map seen_one ts) ahead ≡ true = sound_is source (walk_by source t.1 walk token next) ts ahead h.1 others in
-    and_from _ _ sound (subst (λ (w : ReaderState). all_sound source w (map seen_one ts) ahead ≡ true) (walk_is source t.1 walk token next h.0) rest)
+    let plain : sound_with (token_text source t.0) (labels_by source (token_text source t.0) read_state token next) read_state token ≡ true =
+    subst (λ (x : List ℕ). sound_with x (labels_by source x read_state token next) read_state token ≡ true) (sym h.0) here in
+    let sound = subst (λ (ls : List (List ℕ)). sound_with (token_text source t.0) ls read_state token ≡ true) (labels_is source read_state token next) plain in
+    let rest : all_sound source (traversal_by source t.1 read_state token next) (map seen_one ts) ahead ≡ true = sound_is source (traversal_by source t.1 read_state token next) ts ahead h.1 others in
+    and_from _ _ sound (subst (λ (w : ReaderState). all_sound source w (map seen_one ts) ahead ≡ true) (walk_is source t.1 read_state token next h.0) rest)

@@ -3,7 +3,7 @@ use Rattle.std.proofs.Common.{◌≡◌, ◌⊎◌, ℕ, List, [], ◌∷◌, �
 use Rattle.gms_labels.specs.declared.place.Place.{Place}
 use Rattle.gms_ast.specs.declared.expression.Suffix.{Suffix}
 use Rattle.gms_ast.specs.Trees.{Indices, Mark, Parts, Tree, all_of, call, chosen, fold_over, guarded, label, lagged, negated, no, no_index, no_part, not_available, not_so, number, one_of, over, over_where, part, place_in_set, placed, plain, plus_infinity, power, product, reference, related, relation, set, signed, size_of_set, sum, yes}
-use Rattle.gms_check.specs.declared.contexts.Standing.{Standing}
+use Rattle.gms_check.specs.declared.contexts.Context.{Context}
 use Rattle.gms_check.specs.Contexts.{as_condition, as_denied, as_guarded, as_inner, as_number, as_part}
 use Rattle.gms_check.specs.Uses.{Uses, amount_uses, later_steps, part_uses, place_by_mark, shift_uses, steps as step_uses, uses}
 use Rattle.gms_laws.specs.Occurrences.{ExpressionStep, signed_operand, term, factor, power_operand, argument, fold_condition, fold_body, relation_operand, not_operand, and_operand, or_operand, dollar_operand, dollar_condition, lag_amount, IsPartOf, first_part, later_part, IsAmountIn, first_amount, after_label, after_set, after_lag, Occurs, itself, in_signed, in_sum, in_product, in_power, in_call, in_fold_condition, in_fold_body, in_relation, in_not, in_and, in_or, in_dollar, in_dollar_condition, in_lag}
@@ -86,15 +86,15 @@ module _ {F : Type 0} where
   later-near mark around tree rest at (at_operand operand) = at_operand (later_operand operand)
   later-near mark around tree rest at (at_part among inside) = at_part (later_part among) inside
 
-  later-steps : (standing : Standing) (around : Place) (earlier : List (Tree F)) (parts : Parts F) → Each (IsNearParts around parts) (later_steps standing around earlier parts)
-  later-steps standing around earlier no_part = tt
-  later-steps standing around earlier (part mark tree rest) =
-      (mark-near mark around tree rest, each-weaker (IsNearParts around rest) (IsNearParts around (part mark tree rest)) (later-near mark around tree rest) (later_steps standing around (earlier ++ tree ∷ []) rest) (later-steps standing around (earlier ++ tree ∷ []) rest))
+  later-steps : (context : Context) (around : Place) (earlier : List (Tree F)) (parts : Parts F) → Each (IsNearParts around parts) (later_steps context around earlier parts)
+  later-steps context around earlier no_part = tt
+  later-steps context around earlier (part mark tree rest) =
+      (mark-near mark around tree rest, each-weaker (IsNearParts around rest) (IsNearParts around (part mark tree rest)) (later-near mark around tree rest) (later_steps context around (earlier ++ tree ∷ []) rest) (later-steps context around (earlier ++ tree ∷ []) rest))
 
-  all-steps : (standing : Standing) (around : Place) (parts : Parts F) → Each (IsNearParts around parts) (step_uses standing around parts)
-  all-steps standing around no_part = tt
-  all-steps standing around (part mark tree rest) =
-      each-weaker (IsNearParts around rest) (IsNearParts around (part mark tree rest)) (later-near mark around tree rest) (later_steps standing around (tree ∷ []) rest) (later-steps standing around (tree ∷ []) rest)
+  all-steps : (context : Context) (around : Place) (parts : Parts F) → Each (IsNearParts around parts) (step_uses context around parts)
+  all-steps context around no_part = tt
+  all-steps context around (part mark tree rest) =
+      each-weaker (IsNearParts around rest) (IsNearParts around (part mark tree rest)) (later-near mark around tree rest) (later_steps context around (tree ∷ []) rest) (later-steps context around (tree ∷ []) rest)
 
   -- ---- amounts
 
@@ -112,48 +112,48 @@ module _ {F : Type 0} where
 
   mutual
     -- the places of what an expression uses are the one around it or places in it
-    pub tree-places : (tree : Tree F) (standing : Standing) (around : Place) (controlled : List ℕ) → Each (IsNear around tree) (uses standing around controlled tree)
-    tree-places (number n) standing around controlled = (inl refl, tt)
-    tree-places plus_infinity standing around controlled = (inl refl, tt)
-    tree-places not_available standing around controlled = (inl refl, tt)
-    tree-places yes standing around controlled = (inl refl, tt)
-    tree-places no standing around controlled = (inl refl, tt)
-    tree-places (reference place name suffix indices) standing around controlled =
+    pub tree-places : (tree : Tree F) (context : Context) (around : Place) (controlled : List ℕ) → Each (IsNear around tree) (uses context around controlled tree)
+    tree-places (number n) context around controlled = (inl refl, tt)
+    tree-places plus_infinity context around controlled = (inl refl, tt)
+    tree-places not_available context around controlled = (inl refl, tt)
+    tree-places yes context around controlled = (inl refl, tt)
+    tree-places no context around controlled = (inl refl, tt)
+    tree-places (reference place name suffix indices) context around controlled =
         (inr (own reference_at), each-weaker (IsNearAmount indices) (IsNear around (reference place name suffix indices)) (of-reference around place name suffix indices) (amount_uses controlled indices) (amount-places indices controlled))
-    tree-places (place_in_set place name) standing around controlled = (inr (own ord_at), tt)
-    tree-places (size_of_set place name) standing around controlled = (inr (own card_at), tt)
-    tree-places (call place function args) standing around controlled =
-        (inr (own call_at), each-weaker (IsNearParts place args) (IsNear around (call place function args)) (parts-inside argument around place args (call place function args) parts_of_call call_at (λ next among steps tree o. in_call among o)) (part_uses (as_inner standing) place controlled args) (part-places args (as_inner standing) place controlled))
-    tree-places (fold_over place op (over sets) body) standing around controlled =
+    tree-places (place_in_set place name) context around controlled = (inr (own ord_at), tt)
+    tree-places (size_of_set place name) context around controlled = (inr (own card_at), tt)
+    tree-places (call place function args) context around controlled =
+        (inr (own call_at), each-weaker (IsNearParts place args) (IsNear around (call place function args)) (parts-inside argument around place args (call place function args) parts_of_call call_at (λ next among steps tree o. in_call among o)) (part_uses (as_inner context) place controlled args) (part-places args (as_inner context) place controlled))
+    tree-places (fold_over place op (over sets) body) context around controlled =
         let root : Tree F = fold_over place op (over sets) body in
-        (inr (own fold_at), (inr (own fold_at), each-weaker (IsNear place body) (IsNear around root) (near-inside fold_body around place body root fold_at (λ steps tree o. in_fold_body o)) (uses (as_inner standing) place (controlled ++ sets) body) (tree-places body (as_inner standing) place (controlled ++ sets))))
-    tree-places (fold_over place op (over_where sets condition) body) standing around controlled =
+        (inr (own fold_at), (inr (own fold_at), each-weaker (IsNear place body) (IsNear around root) (near-inside fold_body around place body root fold_at (λ steps tree o. in_fold_body o)) (uses (as_inner context) place (controlled ++ sets) body) (tree-places body (as_inner context) place (controlled ++ sets))))
+    tree-places (fold_over place op (over_where sets condition) body) context around controlled =
         let root : Tree F = fold_over place op (over_where sets condition) body in
-        (inr (own fold_at), (inr (own fold_at), each-both (IsNear around root) (uses as_condition place (controlled ++ sets) condition) (uses (as_inner standing) place (controlled ++ sets) body) (each-weaker (IsNear place condition) (IsNear around root) (near-inside fold_condition around place condition root fold_at (λ steps tree o. in_fold_condition o)) (uses as_condition place (controlled ++ sets) condition) (tree-places condition as_condition place (controlled ++ sets))) (each-weaker (IsNear place body) (IsNear around root) (near-inside fold_body around place body root fold_at (λ steps tree o. in_fold_body o)) (uses (as_inner standing) place (controlled ++ sets) body) (tree-places body (as_inner standing) place (controlled ++ sets)))))
-    tree-places (negated operand) standing around controlled =
-        each-weaker (IsNear around operand) (IsNear around (negated operand)) (deeper-near signed_operand around operand (negated operand) (λ steps tree o. in_signed o)) (uses (as_part standing) around controlled operand) (tree-places operand (as_part standing) around controlled)
-    tree-places (sum parts) standing around controlled =
-        each-weaker (IsNearParts around parts) (IsNear around (sum parts)) (parts-near term around parts (sum parts) parts_of_sum (λ next among steps tree o. in_sum among o)) (part_uses (as_part standing) around controlled parts) (part-places parts (as_part standing) around controlled)
-    tree-places (product parts) standing around controlled =
-        each-weaker (IsNearParts around parts) (IsNear around (product parts)) (parts-near factor around parts (product parts) parts_of_product (λ next among steps tree o. in_product among o)) (part_uses (as_part standing) around controlled parts ++ step_uses standing around parts) (each-both (IsNearParts around parts) (part_uses (as_part standing) around controlled parts) (step_uses standing around parts) (part-places parts (as_part standing) around controlled) (all-steps standing around parts))
-    tree-places (power parts) standing around controlled =
-        each-weaker (IsNearParts around parts) (IsNear around (power parts)) (parts-near power_operand around parts (power parts) parts_of_power (λ next among steps tree o. in_power among o)) (part_uses (as_part standing) around controlled parts ++ step_uses standing around parts) (each-both (IsNearParts around parts) (part_uses (as_part standing) around controlled parts) (step_uses standing around parts) (part-places parts (as_part standing) around controlled) (all-steps standing around parts))
-    tree-places (relation parts) standing around controlled =
+        (inr (own fold_at), (inr (own fold_at), each-both (IsNear around root) (uses as_condition place (controlled ++ sets) condition) (uses (as_inner context) place (controlled ++ sets) body) (each-weaker (IsNear place condition) (IsNear around root) (near-inside fold_condition around place condition root fold_at (λ steps tree o. in_fold_condition o)) (uses as_condition place (controlled ++ sets) condition) (tree-places condition as_condition place (controlled ++ sets))) (each-weaker (IsNear place body) (IsNear around root) (near-inside fold_body around place body root fold_at (λ steps tree o. in_fold_body o)) (uses (as_inner context) place (controlled ++ sets) body) (tree-places body (as_inner context) place (controlled ++ sets)))))
+    tree-places (negated operand) context around controlled =
+        each-weaker (IsNear around operand) (IsNear around (negated operand)) (deeper-near signed_operand around operand (negated operand) (λ steps tree o. in_signed o)) (uses (as_part context) around controlled operand) (tree-places operand (as_part context) around controlled)
+    tree-places (sum parts) context around controlled =
+        each-weaker (IsNearParts around parts) (IsNear around (sum parts)) (parts-near term around parts (sum parts) parts_of_sum (λ next among steps tree o. in_sum among o)) (part_uses (as_part context) around controlled parts) (part-places parts (as_part context) around controlled)
+    tree-places (product parts) context around controlled =
+        each-weaker (IsNearParts around parts) (IsNear around (product parts)) (parts-near factor around parts (product parts) parts_of_product (λ next among steps tree o. in_product among o)) (part_uses (as_part context) around controlled parts ++ step_uses context around parts) (each-both (IsNearParts around parts) (part_uses (as_part context) around controlled parts) (step_uses context around parts) (part-places parts (as_part context) around controlled) (all-steps context around parts))
+    tree-places (power parts) context around controlled =
+        each-weaker (IsNearParts around parts) (IsNear around (power parts)) (parts-near power_operand around parts (power parts) parts_of_power (λ next among steps tree o. in_power among o)) (part_uses (as_part context) around controlled parts ++ step_uses context around parts) (each-both (IsNearParts around parts) (part_uses (as_part context) around controlled parts) (step_uses context around parts) (part-places parts (as_part context) around controlled) (all-steps context around parts))
+    tree-places (relation parts) context around controlled =
         (inl refl, each-weaker (IsNearParts around parts) (IsNear around (relation parts)) (parts-near relation_operand around parts (relation parts) parts_of_relation (λ next among steps tree o. in_relation among o)) (part_uses as_number around controlled parts) (part-places parts as_number around controlled))
-    tree-places (not_so operand) standing around controlled =
-        each-weaker (IsNear around operand) (IsNear around (not_so operand)) (deeper-near not_operand around operand (not_so operand) (λ steps tree o. in_not o)) (uses (as_denied standing) around controlled operand) (tree-places operand (as_denied standing) around controlled)
-    tree-places (all_of parts) standing around controlled =
+    tree-places (not_so operand) context around controlled =
+        each-weaker (IsNear around operand) (IsNear around (not_so operand)) (deeper-near not_operand around operand (not_so operand) (λ steps tree o. in_not o)) (uses (as_denied context) around controlled operand) (tree-places operand (as_denied context) around controlled)
+    tree-places (all_of parts) context around controlled =
         (inl refl, each-weaker (IsNearParts around parts) (IsNear around (all_of parts)) (parts-near and_operand around parts (all_of parts) parts_of_and (λ next among steps tree o. in_and among o)) (part_uses as_condition around controlled parts) (part-places parts as_condition around controlled))
-    tree-places (one_of parts) standing around controlled =
+    tree-places (one_of parts) context around controlled =
         (inl refl, each-weaker (IsNearParts around parts) (IsNear around (one_of parts)) (parts-near or_operand around parts (one_of parts) parts_of_or (λ next among steps tree o. in_or among o)) (part_uses as_condition around controlled parts) (part-places parts as_condition around controlled))
-    tree-places (guarded operand guards) standing around controlled =
+    tree-places (guarded operand guards) context around controlled =
         let root : Tree F = guarded operand guards in
-        each-both (IsNear around root) (uses (as_guarded standing) around controlled operand) (part_uses as_condition around controlled guards) (each-weaker (IsNear around operand) (IsNear around root) (deeper-near dollar_operand around operand root (λ steps tree o. in_dollar o)) (uses (as_guarded standing) around controlled operand) (tree-places operand (as_guarded standing) around controlled)) (each-weaker (IsNearParts around guards) (IsNear around root) (parts-near dollar_condition around guards root parts_of_dollar (λ next among steps tree o. in_dollar_condition among o)) (part_uses as_condition around controlled guards) (part-places guards as_condition around controlled))
+        each-both (IsNear around root) (uses (as_guarded context) around controlled operand) (part_uses as_condition around controlled guards) (each-weaker (IsNear around operand) (IsNear around root) (deeper-near dollar_operand around operand root (λ steps tree o. in_dollar o)) (uses (as_guarded context) around controlled operand) (tree-places operand (as_guarded context) around controlled)) (each-weaker (IsNearParts around guards) (IsNear around root) (parts-near dollar_condition around guards root parts_of_dollar (λ next among steps tree o. in_dollar_condition among o)) (part_uses as_condition around controlled guards) (part-places guards as_condition around controlled))
 
-    part-places : (parts : Parts F) (standing : Standing) (around : Place) (controlled : List ℕ) → Each (IsNearParts around parts) (part_uses standing around controlled parts)
-    part-places no_part standing around controlled = tt
-    part-places (part mark tree rest) standing around controlled =
-        each-both (IsNearParts around (part mark tree rest)) (uses standing (place_by_mark mark around) controlled tree) (part_uses standing around controlled rest) (each-weaker (IsNear (place_by_mark mark around) tree) (IsNearParts around (part mark tree rest)) (first-near mark around tree rest) (uses standing (place_by_mark mark around) controlled tree) (tree-places tree standing (place_by_mark mark around) controlled)) (each-weaker (IsNearParts around rest) (IsNearParts around (part mark tree rest)) (later-near mark around tree rest) (part_uses standing around controlled rest) (part-places rest standing around controlled))
+    part-places : (parts : Parts F) (context : Context) (around : Place) (controlled : List ℕ) → Each (IsNearParts around parts) (part_uses context around controlled parts)
+    part-places no_part context around controlled = tt
+    part-places (part mark tree rest) context around controlled =
+        each-both (IsNearParts around (part mark tree rest)) (uses context (place_by_mark mark around) controlled tree) (part_uses context around controlled rest) (each-weaker (IsNear (place_by_mark mark around) tree) (IsNearParts around (part mark tree rest)) (first-near mark around tree rest) (uses context (place_by_mark mark around) controlled tree) (tree-places tree context (place_by_mark mark around) controlled)) (each-weaker (IsNearParts around rest) (IsNearParts around (part mark tree rest)) (later-near mark around tree rest) (part_uses context around controlled rest) (part-places rest context around controlled))
 
     amount-places : (indices : Indices F) (controlled : List ℕ) → Each (IsNearAmount indices) (amount_uses controlled indices)
     amount-places no_index controlled = tt

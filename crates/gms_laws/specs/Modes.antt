@@ -9,7 +9,7 @@ use Rattle.gms_lines.specs.declared.lexeme.Piece.TheVariants.{Token}
 use Rattle.gms_lex.specs.declared.keyword.Shape.{Shape}
 use Rattle.gms_lex.specs.declared.keyword.Shape.TheVariants.{Set, Parameter, Scalar, Model}
 use Rattle.gms_lex.specs.declared.mode.Stage.{Stage}
-use Rattle.gms_lex.specs.declared.mode.Stage.TheVariants.{Fresh, Due, After, Spaced}
+use Rattle.gms_lex.specs.declared.mode.Stage.TheVariants.{Fresh, Expected, After, Spaced}
 use Rattle.gms_lex.specs.declared.mode.Mode.{Mode}
 use Rattle.gms_lex.specs.declared.mode.Mode.TheVariants.{Named, Domain, Bare, Rest, Element, Value, Tail, TableNamed, TableDomain, TableBare, TableTexted}
 
@@ -35,7 +35,7 @@ pub data IsAfterElement : Shape → Mode → Type 0 where
 -- a label is expected: an element begins, or a dot, a star or a parenthesis comes before
 pub data IsLabelExpected : Stage → Type 0 where
   at_element : IsLabelExpected Fresh
-  after_mark : IsLabelExpected Due
+  after_mark : IsLabelExpected Expected
 
 -- a comma, or a line end that is a token, ends an item or an element
 pub data IsEnd : Piece → Type 0 where

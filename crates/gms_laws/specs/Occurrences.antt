@@ -25,8 +25,8 @@ use Rattle.gms_ast.specs.Trees.{Control, Indices, Mark, Parts, Tree, all_of, cal
 use Rattle.gms_ast.specs.TreeView.{control_tree, tree_of}
 use Rattle.gms_store.specs.State.{State, symbol_at}
 use Rattle.gms_store.specs.Declarations.{is_set}
-use Rattle.gms_check.specs.Checked.{StandsAfter}
-use Rattle.gms_check.specs.LeftSides.{StandsIn}
+use Rattle.gms_check.specs.Checked.{FollowsIn}
+use Rattle.gms_check.specs.LeftSides.{IsNestedIn}
 use Rattle.gms_check.specs.Loaded.{sound}
 use Rattle.gms_check.specs.Past.{state_after}
 use Rattle.gms_check.specs.StatementUses.{index_list}
@@ -139,10 +139,10 @@ declared_before value program before = state_after value (length program.names) 
 -- statements `before`: the expression's role, and the steps to the part.
 pub record OccursIn {F : Type 0} (value : F → Number) (program : Program F) (before : List (Stmt F)) (role : Role) (steps : List ExpressionStep) (tree : Tree F) : Type 0 where
   pub outer : Stmt F
-  pub stands : StandsAfter program before outer
+  pub is_placed : FollowsIn program before outer
   pub depth : ℕ
   pub inner : Stmt F
-  pub inside : StandsIn depth inner outer
+  pub inside : IsNestedIn depth inner outer
   pub root : Tree F
   pub expression : IsExpressionOf (declared_before value program before) inner.act role root
   pub occurs : Occurs tree steps root

@@ -10,7 +10,7 @@ ghost use Rattle.gms_lex.specs.declared.keyword.Shape.{Shape};
 ghost use Rattle.gms_lex.specs.declared.keyword.Shape.TheVariants.{Parameter};
 ghost use Rattle.gms_lex.specs.declared.keyword.Keyword.TheVariants.{Declarer, Table};
 ghost use Rattle.gms_lex.specs.declared.mode.Stage.{Stage};
-ghost use Rattle.gms_lex.specs.declared.mode.Stage.TheVariants.{Due, After, Spaced};
+ghost use Rattle.gms_lex.specs.declared.mode.Stage.TheVariants.{Expected, After, Spaced};
 ghost use Rattle.gms_lex.specs.declared.mode.Mode.{Mode};
 ghost use Rattle.gms_lex.specs.declared.mode.Mode.TheVariants.{Code, Item, Named, Rest, Element, Tail, TableName, TableNamed, TableTexted, TableLines};
 ghost use Rattle.gms_lex.specs.declared.mode.LineEnds.TheVariants.{Skipped};
@@ -50,7 +50,7 @@ pub fn mode_laws()
     ensures label { (shape : Shape) (depth : ℕ) (stage : Stage) (text : List ℕ) →
         IsLabelExpected stage → mode_after (Element shape depth stage) (Token Label) text ≡ Element shape depth After }
     ensures joined { (shape : Shape) (depth : ℕ) (symbol : Sym) (text : List ℕ) →
-        Joins symbol → mode_after (Element shape depth After) (Token (Symbol symbol)) text ≡ Element shape depth Due }
+        Joins symbol → mode_after (Element shape depth After) (Token (Symbol symbol)) text ≡ Element shape depth Expected }
     ensures labels { (shape : Shape) (depth : ℕ) (stage : Stage) (text : List ℕ) (next : Lexeme) →
         IsLabelExpected stage → piece_at (Element shape depth stage) text ≡ Ok next → has_text next.piece ≡ true → IsLabelOrSymbol next.piece }
     ensures never_numbers { (shape : Shape) (depth : ℕ) (stage : Stage) (text : List ℕ) (next : Lexeme) →
@@ -82,11 +82,11 @@ pub fn place_laws()
     ensures domain_end { (named inside after : Mode) (text : List ℕ) →
         HasDomain named inside after → mode_after inside (Token (Symbol RightParen)) text ≡ after }
     ensures opened { (shape : Shape) (depth : ℕ) (stage : Stage) (text : List ℕ) →
-        IsLabelExpected stage → mode_after (Element shape depth stage) (Token (Symbol LeftParen)) text ≡ Element shape (depth + 1) Due }
+        IsLabelExpected stage → mode_after (Element shape depth stage) (Token (Symbol LeftParen)) text ≡ Element shape (depth + 1) Expected }
     ensures closed { (shape : Shape) (depth : ℕ) (stage : Stage) (text : List ℕ) →
         mode_after (Element shape (suc depth) stage) (Token (Symbol RightParen)) text ≡ Element shape depth After }
     ensures comma { (shape : Shape) (depth : ℕ) (stage : Stage) (text : List ℕ) →
-        mode_after (Element shape (suc depth) stage) (Token (Symbol Comma)) text ≡ Element shape (suc depth) Due }
+        mode_after (Element shape (suc depth) stage) (Token (Symbol Comma)) text ≡ Element shape (suc depth) Expected }
     ensures labels { (shape : Shape) (depth : ℕ) (stage : Stage) (text : List ℕ) (next : Lexeme) →
         piece_at (Element shape (suc depth) stage) text ≡ Ok next → has_text next.piece ≡ true → IsLabelOrSymbol next.piece }
     ensures lines { (mode : Mode) → IsInParentheses mode → line_ends mode ≡ Skipped }

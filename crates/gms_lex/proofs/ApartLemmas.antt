@@ -28,7 +28,7 @@ use Rattle.gms_lex.specs.Apart.{is_space, IsSkipped, AreSkipped, AreApart, IsOne
 use Rattle.gms_lex.proofs.PrefixLemmas.{not_both}
 use Rattle.gms_lex.proofs.LineTextLemmas.{length-code_text}
 use Rattle.gms_lex.specs.Longest.{has_text}
-use Rattle.gms_lex.proofs.LongestLemmas.{IsTextIfRemark, TellsRead, allowed_tells, plain_tells, table_code_tells, table_line_tells, one_line_end, due}
+use Rattle.gms_lex.proofs.LongestLemmas.{IsTextIfRemark, TellsRead, allowed_tells, plain_tells, table_code_tells, table_line_tells, one_line_end, expected}
 use Rattle.gms_lex.proofs.ReadingLemmas.{lexeme_within}
 
 -- ---- between tokens
@@ -46,7 +46,7 @@ skipped_by Remark text told space = inr (told refl)
 
 skipped_piece : (current : Mode) (text : List ℕ) (p : Lexeme) → piece_at current text ≡ Ok p → IsSkippedPiece p.piece (take p.length text)
 skipped_piece current text p e =
-    let is = due current text p e in
+    let is = expected current text p e in
     skipped_by p.piece (take p.length text) (λ some. (allowed_tells current text p.piece p.length (is.0 some).0).1) is.1
 
 each_append : (xs ys : List (List ℕ)) → AllByRecursion IsSkipped xs → AllByRecursion IsSkipped ys → AllByRecursion IsSkipped (xs ++ ys)
@@ -72,9 +72,9 @@ skipped_more text from start bytes le so_far piece =
     let rest : List ℕ = drop from text in
     let long : start - from + bytes ≡ start + bytes - from = omega arith in
     let here : from + (start - from) ≡ start = omega arith in
-    let behind : drop (start - from) rest ≡ drop start text = drop-drop (start - from) from text ∙ ap (λ k. drop k text) here in
-    let front : take (start - from + bytes) rest ≡ take (start - from) rest ++ take bytes (drop start text) = take-add (start - from) bytes rest ∙ ap (λ t. take (start - from) rest ++ take bytes t) behind in
-    subst (λ k. AreSkipped (take k rest)) long (subst AreSkipped (sym front) (AreSkipped-append (take (start - from) rest) (take bytes (drop start text)) so_far (AreSkipped-one (take bytes (drop start text)) piece)))
+    let following : drop (start - from) rest ≡ drop start text = drop-drop (start - from) from text ∙ ap (λ k. drop k text) here in
+    let prefix : take (start - from + bytes) rest ≡ take (start - from) rest ++ take bytes (drop start text) = take-add (start - from) bytes rest ∙ ap (λ t. take (start - from) rest ++ take bytes t) following in
+    subst (λ k. AreSkipped (take k rest)) long (subst AreSkipped (sym prefix) (AreSkipped-append (take (start - from) rest) (take bytes (drop start text)) so_far (AreSkipped-one (take bytes (drop start text)) piece)))
 
 skipped_none : (text : List ℕ) (at : ℕ) → AreSkipped (take (at - at) (drop at text))
 skipped_none text at = let none : 0 ≡ at - at = omega arith in subst (λ k. AreSkipped (take k (drop at text))) none AreSkipped-none

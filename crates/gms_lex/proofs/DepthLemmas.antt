@@ -11,12 +11,12 @@ use Rattle.gms_lex.specs.declared.keyword.Shape.TheVariants.{Set, Parameter, Sca
 use Rattle.gms_lex.specs.declared.keyword.Keyword.{Keyword}
 use Rattle.gms_lex.specs.declared.keyword.Keyword.TheVariants.{Declarer, Table, Other}
 use Rattle.gms_lex.specs.declared.mode.Stage.{Stage}
-use Rattle.gms_lex.specs.declared.mode.Stage.TheVariants.{Fresh, Due, After, Spaced}
+use Rattle.gms_lex.specs.declared.mode.Stage.TheVariants.{Fresh, Expected, After, Spaced}
 use Rattle.gms_lex.specs.declared.mode.Mode.{Mode}
 use Rattle.gms_lex.specs.declared.mode.Mode.TheVariants.{Code, Item, Named, Domain, Bare, Rest, Element, Value, Tail, TableName, TableNamed, TableDomain, TableBare, TableTexted, TableLines}
 use Rattle.gms_lex.specs.Keywords.{keyword_of}
 use Rattle.gms_lex.specs.InnerDepths.{depth_of}
-use Rattle.gms_lex.specs.Modes.{list_start, begun_by, behind_element, after_plain, after_word, after_item_symbol, after_comma, after_due_symbol, after_element_symbol, after_stray_paren, after_tail_symbol, after_name_symbol, after_domain_symbol, after_table_symbol, after_list_symbol, after_symbol, after_break, after_token, after_gap, after_line, after_remark, mode_after}
+use Rattle.gms_lex.specs.Modes.{list_start, begun_by, after_element, after_plain, after_word, after_item_symbol, after_comma, after_expected_symbol, after_element_symbol, after_stray_paren, after_tail_symbol, after_name_symbol, after_domain_symbol, after_table_symbol, after_list_symbol, after_symbol, after_break, after_token, after_gap, after_line, after_remark, mode_after}
 
 list_start_depth : (s : Shape) (d : ℕ) → depth_of (list_start s) ≤ d
 list_start_depth Set d = omega arith
@@ -34,12 +34,12 @@ if_depth : (b : Bool) (x y : Mode) (d : ℕ) → depth_of x ≤ d → depth_of y
 if_depth true x y d p q = p
 if_depth false x y d p q = q
 
-behind_element_depth : (s : Shape) (d : ℕ) → depth_of (behind_element s d) ≤ d
+behind_element_depth : (s : Shape) (d : ℕ) → depth_of (after_element s d) ≤ d
 behind_element_depth s d = if_depth (d == 0) (Tail s) (Element s d After) d (omega arith) (omega arith)
 
 plain_depth : (current : Mode) → depth_of (after_plain current) ≤ depth_of current
 plain_depth (Element s d Fresh) = omega arith
-plain_depth (Element s d Due) = omega arith
+plain_depth (Element s d Expected) = omega arith
 plain_depth (Element s d After) = behind_element_depth s d
 plain_depth (Element s d Spaced) = behind_element_depth s d
 plain_depth current = omega arith
@@ -59,9 +59,9 @@ item_symbol_depth s Comma current d h = omega arith
 item_symbol_depth s symbol current d h = h
 
 comma_depth : (s : Shape) (d : ℕ) → depth_of (after_comma s d) ≤ d
-comma_depth s d = if_depth (d == 0) (list_start s) (Element s d Due) d (list_start_depth s d) (omega arith)
+comma_depth s d = if_depth (d == 0) (list_start s) (Element s d Expected) d (list_start_depth s d) (omega arith)
 
-due_symbol_depth : (s : Shape) (d : ℕ) (symbol : Sym) → depth_of (after_due_symbol s d symbol) ≤ d + 1
+due_symbol_depth : (s : Shape) (d : ℕ) (symbol : Sym) → depth_of (after_expected_symbol s d symbol) ≤ d + 1
 due_symbol_depth s d LeftParen = omega arith
 due_symbol_depth s d RightParen = omega arith
 due_symbol_depth s d Comma = omega (arith, comma_depth s d)
@@ -97,7 +97,7 @@ name_symbol_depth s symbol = omega arith
 
 list_symbol_depth : (s : Shape) (d : ℕ) (stage : Stage) (symbol : Sym) → depth_of (after_list_symbol s d stage symbol) ≤ d + 1
 list_symbol_depth s d Fresh symbol = due_symbol_depth s d symbol
-list_symbol_depth s d Due symbol = due_symbol_depth s d symbol
+list_symbol_depth s d Expected symbol = due_symbol_depth s d symbol
 list_symbol_depth s d After symbol = element_symbol_depth s d symbol
 list_symbol_depth s d Spaced symbol = element_symbol_depth s d symbol
 

@@ -23,15 +23,15 @@ use Rattle.gms_lines.proofs.WithinLemmas.{run_within, table_bytes_le}
 use Rattle.gms_lex.specs.declared.keyword.Shape.{Shape}
 use Rattle.gms_lex.specs.declared.keyword.Shape.TheVariants.{Set, Parameter, Scalar, Model}
 use Rattle.gms_lex.specs.declared.mode.Stage.{Stage}
-use Rattle.gms_lex.specs.declared.mode.Stage.TheVariants.{Fresh, Due, After, Spaced}
+use Rattle.gms_lex.specs.declared.mode.Stage.TheVariants.{Fresh, Expected, After, Spaced}
 use Rattle.gms_lex.specs.declared.mode.Mode.{Mode}
 use Rattle.gms_lex.specs.declared.mode.Mode.TheVariants.{Named, Bare, Element, Value, Tail, TableNamed, TableBare, TableLines}
 use Rattle.gms_lex.specs.declared.mode.LineEnds.{LineEnds}
 use Rattle.gms_lex.specs.declared.mode.LineEnds.TheVariants.{Skipped, EndItem, EndElement}
 use Rattle.gms_lex.specs.Keywords.{begins_statement}
-use Rattle.gms_lex.specs.Pieces.{passes, ends_or_begins, begins_other, space_length, line_end_length, line_ends, line_end, is_item_mark, is_element_mark, element_tail, behind_label, in_list, token_read, table_piece, plain_piece, piece_at}
+use Rattle.gms_lex.specs.Pieces.{passes, ends_or_begins, begins_other, space_length, line_end_length, line_ends, line_end, is_item_mark, is_element_mark, element_tail, piece_after_label, in_list, token_read, table_piece, plain_piece, piece_at}
 use Rattle.gms_lex.specs.Spellings.{IsWord, IsLabel, IsQuoted, IsText, IsSymbol, IsNumberSpelling}
-use Rattle.gms_lex.specs.Longest.{IsCode, IsElementPiece, IsMarkOrText, IsValuePiece, IsBehindElement, IsInList, IsOfTable, IsAllowedPiece, has_text, IsLongest, IsRefusedPiece}
+use Rattle.gms_lex.specs.Longest.{IsCode, IsElementPiece, IsMarkOrText, IsValuePiece, IsAfterElementPiece, IsInList, IsOfTable, IsAllowedPiece, has_text, IsLongest, IsRefusedPiece}
 use Rattle.gms_lex.specs.Apart.{is_space, IsOneLineEnd}
 use Rattle.gms_lex.proofs.PrefixLemmas.{not_both, front_most, front_all, begins_take, begins_front, begins_apart}
 use Rattle.gms_lex.proofs.NumberLemmas.{number_most, number_begins, number_positive, number_spelled}
@@ -105,20 +105,20 @@ number_apart test text digit dot h number = elim (number_front text number) [
 
 -- the spelling of a token of code
 abbrev IsSpelledCode : List ℕ → List ℕ → Type 0
-IsSpelledCode text behind = IsWord text ⊎ (IsNumberSpelling text behind ⊎ (IsQuoted text ⊎ ((s : Sym) × IsSymbol s text)))
+IsSpelledCode text following = IsWord text ⊎ (IsNumberSpelling text following ⊎ (IsQuoted text ⊎ ((s : Sym) × IsSymbol s text)))
 
-code_spelled : (kind : Kind) (piece : Piece) (text behind : List ℕ) → IsCode kind piece text behind → IsSpelledCode text behind
-code_spelled kind (Token Word) text behind h = inl h
-code_spelled kind (Token Number) text behind h = inr (inl h)
-code_spelled kind (Token (Symbol s)) text behind h = inr (inr (inr (s, h)))
-code_spelled kind (Token Text) text behind h = inr (inr (inl h.1))
-code_spelled kind (Token Label) text behind h = inr (inr (inl h.1))
-code_spelled kind (Token Break) text behind h = absurd h
-code_spelled kind (Token TableLine) text behind h = absurd h
-code_spelled kind (Token End) text behind h = absurd h
-code_spelled kind Gap text behind h = absurd h
-code_spelled kind LineEnd text behind h = absurd h
-code_spelled kind Remark text behind h = absurd h
+code_spelled : (kind : Kind) (piece : Piece) (text following : List ℕ) → IsCode kind piece text following → IsSpelledCode text following
+code_spelled kind (Token Word) text following h = inl h
+code_spelled kind (Token Number) text following h = inr (inl h)
+code_spelled kind (Token (Symbol s)) text following h = inr (inr (inr (s, h)))
+code_spelled kind (Token Text) text following h = inr (inr (inl h.1))
+code_spelled kind (Token Label) text following h = inr (inr (inl h.1))
+code_spelled kind (Token Break) text following h = absurd h
+code_spelled kind (Token TableLine) text following h = absurd h
+code_spelled kind (Token End) text following h = absurd h
+code_spelled kind Gap text following h = absurd h
+code_spelled kind LineEnd text following h = absurd h
+code_spelled kind Remark text following h = absurd h
 
 bounded_longest : (allowed : Allowing) (kind : Kind) (n : ℕ) (text : List ℕ) → n ≤ length text → begins is_quote text ≡ false → allowed (Token kind) n → ((other : Piece) (k : ℕ) → k ≤ length text → allowed other k → k ≤ n) → IsLongestRead allowed text (bounded kind n)
 bounded_longest allowed kind n text le plain may most =
@@ -294,36 +294,36 @@ is_label_quoted t b h = (refl, h)
 is_text_quoted : (t b : List ℕ) → IsQuoted t → IsCode Text (Token Text) t b
 is_text_quoted t b h = (refl, h)
 
-value_spelled : (stage : Stage) (piece : Piece) (text behind : List ℕ) → IsValuePiece stage piece text behind → IsSpelledCode text behind
-value_spelled After (Token Number) text behind h = inr (inl h.0)
-value_spelled After (Token Word) text behind h = inl h
-value_spelled After (Token (Symbol s)) text behind h = inr (inr (inr (s, h)))
-value_spelled After (Token Text) text behind h = inr (inr (inl h.1))
-value_spelled After (Token Label) text behind h = inr (inr (inl h.1))
-value_spelled After (Token Break) text behind h = absurd h
-value_spelled After (Token TableLine) text behind h = absurd h
-value_spelled After (Token End) text behind h = absurd h
-value_spelled After Gap text behind h = absurd h
-value_spelled After LineEnd text behind h = absurd h
-value_spelled After Remark text behind h = absurd h
-value_spelled Spaced piece text behind h = code_spelled Label piece text behind h
-value_spelled Fresh piece text behind h = code_spelled Label piece text behind h
-value_spelled Due piece text behind h = code_spelled Label piece text behind h
+value_spelled : (stage : Stage) (piece : Piece) (text following : List ℕ) → IsValuePiece stage piece text following → IsSpelledCode text following
+value_spelled After (Token Number) text following h = inr (inl h.0)
+value_spelled After (Token Word) text following h = inl h
+value_spelled After (Token (Symbol s)) text following h = inr (inr (inr (s, h)))
+value_spelled After (Token Text) text following h = inr (inr (inl h.1))
+value_spelled After (Token Label) text following h = inr (inr (inl h.1))
+value_spelled After (Token Break) text following h = absurd h
+value_spelled After (Token TableLine) text following h = absurd h
+value_spelled After (Token End) text following h = absurd h
+value_spelled After Gap text following h = absurd h
+value_spelled After LineEnd text following h = absurd h
+value_spelled After Remark text following h = absurd h
+value_spelled Spaced piece text following h = code_spelled Label piece text following h
+value_spelled Fresh piece text following h = code_spelled Label piece text following h
+value_spelled Expected piece text following h = code_spelled Label piece text following h
 
 -- what a value is after an element: not a number that begins with a dot, if it directly follows the
 -- element
-code_value : (piece : Piece) (text behind : List ℕ) → begins_dot text ≡ false → IsCode Label piece text behind → IsValuePiece After piece text behind
-code_value (Token Number) text behind dot h = (h, dot)
-code_value (Token Word) text behind dot h = h
-code_value (Token (Symbol s)) text behind dot h = h
-code_value (Token Text) text behind dot h = h
-code_value (Token Label) text behind dot h = h
-code_value (Token Break) text behind dot h = absurd h
-code_value (Token TableLine) text behind dot h = absurd h
-code_value (Token End) text behind dot h = absurd h
-code_value Gap text behind dot h = absurd h
-code_value LineEnd text behind dot h = absurd h
-code_value Remark text behind dot h = absurd h
+code_value : (piece : Piece) (text following : List ℕ) → begins_dot text ≡ false → IsCode Label piece text following → IsValuePiece After piece text following
+code_value (Token Number) text following dot h = (h, dot)
+code_value (Token Word) text following dot h = h
+code_value (Token (Symbol s)) text following dot h = h
+code_value (Token Text) text following dot h = h
+code_value (Token Label) text following dot h = h
+code_value (Token Break) text following dot h = absurd h
+code_value (Token TableLine) text following dot h = absurd h
+code_value (Token End) text following dot h = absurd h
+code_value Gap text following dot h = absurd h
+code_value LineEnd text following dot h = absurd h
+code_value Remark text following dot h = absurd h
 
 dot_is_mark : (b : ℕ) → (b == 46) ≡ true → is_element_mark b ≡ true
 dot_is_mark b h = grind (arith, nat_tests, h)
@@ -396,7 +396,7 @@ and_false true h = h
 and_false false h = refl
 
 -- in a parameter's list outside parentheses, directly after an element
-parameter_after : (text : List ℕ) → IsLongestRead (λ piece n. IsValuePiece After piece (take n text) (drop n text)) text (behind_label Parameter 0 After text)
+parameter_after : (text : List ℕ) → IsLongestRead (λ piece n. IsValuePiece After piece (take n text) (drop n text)) text (piece_after_label Parameter 0 After text)
 parameter_after text =
     let allowed : Allowing = λ piece n. IsValuePiece After piece (take n text) (drop n text) in
     if_longest allowed text (begins is_element_mark text && true) _ _
@@ -406,7 +406,7 @@ parameter_after text =
     code_longest allowed Label text is_label_quoted (λ piece n h. code_value piece (take n text) (drop n text) (front_no_dot n text none) h) (λ other n le h. value_spelled After other (take n text) (drop n text) h))
 
 -- in a parameter's list outside parentheses, after a blank
-parameter_spaced : (text : List ℕ) → IsLongestRead (λ piece n. IsValuePiece Spaced piece (take n text) (drop n text)) text (behind_label Parameter 0 Spaced text)
+parameter_spaced : (text : List ℕ) → IsLongestRead (λ piece n. IsValuePiece Spaced piece (take n text) (drop n text)) text (piece_after_label Parameter 0 Spaced text)
 parameter_spaced text =
     let allowed : Allowing = λ piece n. IsValuePiece Spaced piece (take n text) (drop n text) in
     let value : Bool = begins_dot text && begins is_ascii_digit (drop 1 text) in
@@ -443,11 +443,11 @@ due_longest text = element_longest (λ piece n. IsElementPiece piece (take n tex
 -- after an element, with blanks between or without
 abbrev IsBehind : Stage → Type 0
 IsBehind Fresh = ⊥
-IsBehind Due = ⊥
+IsBehind Expected = ⊥
 IsBehind After = Unit {0}
 IsBehind Spaced = Unit {0}
 
-outside_longest : (shape : Shape) (stage : Stage) (text : List ℕ) → IsBehind stage → IsLongestRead (λ piece n. IsBehindElement shape stage piece (take n text) (drop n text)) text (behind_label shape 0 stage text)
+outside_longest : (shape : Shape) (stage : Stage) (text : List ℕ) → IsBehind stage → IsLongestRead (λ piece n. IsAfterElementPiece shape stage piece (take n text) (drop n text)) text (piece_after_label shape 0 stage text)
 outside_longest Parameter After text h = parameter_after text
 outside_longest Parameter Spaced text h = parameter_spaced text
 outside_longest Set After text h = other_behind text
@@ -457,29 +457,29 @@ outside_longest Scalar Spaced text h = other_behind text
 outside_longest Model After text h = other_behind text
 outside_longest Model Spaced text h = other_behind text
 outside_longest shape Fresh text h = absurd h
-outside_longest shape Due text h = absurd h
+outside_longest shape Expected text h = absurd h
 
 positive : (depth : ℕ) → (suc depth == 0) ≡ false
 positive depth = grind (arith, nat_tests)
 
 -- what follows an element within parentheses
-nested_is : (shape : Shape) (depth : ℕ) (stage : Stage) (text : List ℕ) → behind_label shape (suc depth) stage text ≡ (if begins is_element_mark text && true then symbol text else label_token text)
+nested_is : (shape : Shape) (depth : ℕ) (stage : Stage) (text : List ℕ) → piece_after_label shape (suc depth) stage text ≡ (if begins is_element_mark text && true then symbol text else label_token text)
 nested_is Set depth stage text = ap (λ v. if begins is_element_mark text && true then symbol text else (if v then element_tail Set text else label_token text)) (positive depth)
 nested_is Scalar depth stage text = ap (λ v. if begins is_element_mark text && true then symbol text else (if v then element_tail Scalar text else label_token text)) (positive depth)
 nested_is Model depth stage text = ap (λ v. if begins is_element_mark text && true then symbol text else (if v then element_tail Model text else label_token text)) (positive depth)
 nested_is Parameter depth Fresh text = ap (λ v. if begins is_element_mark text && true then symbol text else (if v then element_tail Parameter text else label_token text)) (positive depth)
-nested_is Parameter depth Due text = ap (λ v. if begins is_element_mark text && true then symbol text else (if v then element_tail Parameter text else label_token text)) (positive depth)
+nested_is Parameter depth Expected text = ap (λ v. if begins is_element_mark text && true then symbol text else (if v then element_tail Parameter text else label_token text)) (positive depth)
 nested_is Parameter depth After text = ap (λ v. if begins is_element_mark text && true then symbol text else (if v then element_tail Parameter text else label_token text)) (positive depth)
 nested_is Parameter depth Spaced text =
     ap (λ v. if begins is_element_mark text && not (v && (begins_dot text && begins is_ascii_digit (drop 1 text))) then symbol text else (if v then element_tail Parameter text else label_token text)) (positive depth)
 
-nested_longest : (shape : Shape) (depth : ℕ) (stage : Stage) (text : List ℕ) → IsLongestRead (λ piece n. IsElementPiece piece (take n text)) text (behind_label shape (suc depth) stage text)
+nested_longest : (shape : Shape) (depth : ℕ) (stage : Stage) (text : List ℕ) → IsLongestRead (λ piece n. IsElementPiece piece (take n text)) text (piece_after_label shape (suc depth) stage text)
 nested_longest shape depth stage text =
     subst (IsLongestRead (λ piece n. IsElementPiece piece (take n text)) text) (sym (nested_is shape depth stage text)) (inside_longest text)
 
 list_longest : (shape : Shape) (depth : ℕ) (stage : Stage) (text : List ℕ) → IsLongestRead (λ piece n. IsInList shape depth stage piece (take n text) (drop n text)) text (in_list shape depth stage text)
 list_longest shape depth Fresh text = due_longest text
-list_longest shape depth Due text = due_longest text
+list_longest shape depth Expected text = due_longest text
 list_longest shape zero After text = outside_longest shape After text tt
 list_longest shape zero Spaced text = outside_longest shape Spaced text tt
 list_longest shape (suc depth) After text = nested_longest shape depth After text
@@ -517,12 +517,12 @@ IsTextIfRemark piece text = Unit {0}
 abbrev pub Tells : Piece → List ℕ → Type 0
 Tells piece text = (has_text piece ≡ true) × IsTextIfRemark piece text
 
-code_tells : (kind : Kind) (piece : Piece) (text behind : List ℕ) → IsCode kind piece text behind → Tells piece text
-code_tells kind (Token Break) text behind h = absurd h
-code_tells kind Gap text behind h = absurd h
-code_tells kind LineEnd text behind h = absurd h
-code_tells kind Remark text behind h = absurd h
-code_tells kind piece text behind h = (refl, tt)
+code_tells : (kind : Kind) (piece : Piece) (text following : List ℕ) → IsCode kind piece text following → Tells piece text
+code_tells kind (Token Break) text following h = absurd h
+code_tells kind Gap text following h = absurd h
+code_tells kind LineEnd text following h = absurd h
+code_tells kind Remark text following h = absurd h
+code_tells kind piece text following h = (refl, tt)
 
 element_tells : (piece : Piece) (text : List ℕ) → IsElementPiece piece text → Tells piece text
 element_tells (Token Break) text h = absurd h
@@ -538,29 +538,29 @@ mark_tells marks LineEnd text h = absurd h
 mark_tells marks Remark text h = (refl, h.1)
 mark_tells marks piece text h = (refl, tt)
 
-value_tells : (stage : Stage) (piece : Piece) (text behind : List ℕ) → IsValuePiece stage piece text behind → Tells piece text
-value_tells After (Token Break) text behind h = absurd h
-value_tells After Gap text behind h = absurd h
-value_tells After LineEnd text behind h = absurd h
-value_tells After Remark text behind h = absurd h
-value_tells After piece text behind h = (refl, tt)
-value_tells Spaced piece text behind h = code_tells Label piece text behind h
-value_tells Fresh piece text behind h = code_tells Label piece text behind h
-value_tells Due piece text behind h = code_tells Label piece text behind h
+value_tells : (stage : Stage) (piece : Piece) (text following : List ℕ) → IsValuePiece stage piece text following → Tells piece text
+value_tells After (Token Break) text following h = absurd h
+value_tells After Gap text following h = absurd h
+value_tells After LineEnd text following h = absurd h
+value_tells After Remark text following h = absurd h
+value_tells After piece text following h = (refl, tt)
+value_tells Spaced piece text following h = code_tells Label piece text following h
+value_tells Fresh piece text following h = code_tells Label piece text following h
+value_tells Expected piece text following h = code_tells Label piece text following h
 
-behind_tells : (shape : Shape) (stage : Stage) (piece : Piece) (text behind : List ℕ) → IsBehindElement shape stage piece text behind → Tells piece text
-behind_tells Parameter stage piece text behind h = value_tells stage piece text behind h
-behind_tells Set stage piece text behind h = mark_tells is_element_mark piece text h
-behind_tells Scalar stage piece text behind h = mark_tells is_element_mark piece text h
-behind_tells Model stage piece text behind h = mark_tells is_element_mark piece text h
+behind_tells : (shape : Shape) (stage : Stage) (piece : Piece) (text following : List ℕ) → IsAfterElementPiece shape stage piece text following → Tells piece text
+behind_tells Parameter stage piece text following h = value_tells stage piece text following h
+behind_tells Set stage piece text following h = mark_tells is_element_mark piece text h
+behind_tells Scalar stage piece text following h = mark_tells is_element_mark piece text h
+behind_tells Model stage piece text following h = mark_tells is_element_mark piece text h
 
-listed_tells : (shape : Shape) (depth : ℕ) (stage : Stage) (piece : Piece) (text behind : List ℕ) → IsInList shape depth stage piece text behind → Tells piece text
-listed_tells shape depth Fresh piece text behind h = element_tells piece text h
-listed_tells shape depth Due piece text behind h = element_tells piece text h
-listed_tells shape zero After piece text behind h = behind_tells shape After piece text behind h
-listed_tells shape zero Spaced piece text behind h = behind_tells shape Spaced piece text behind h
-listed_tells shape (suc depth) After piece text behind h = element_tells piece text h
-listed_tells shape (suc depth) Spaced piece text behind h = element_tells piece text h
+listed_tells : (shape : Shape) (depth : ℕ) (stage : Stage) (piece : Piece) (text following : List ℕ) → IsInList shape depth stage piece text following → Tells piece text
+listed_tells shape depth Fresh piece text following h = element_tells piece text h
+listed_tells shape depth Expected piece text following h = element_tells piece text h
+listed_tells shape zero After piece text following h = behind_tells shape After piece text following h
+listed_tells shape zero Spaced piece text following h = behind_tells shape Spaced piece text following h
+listed_tells shape (suc depth) After piece text following h = element_tells piece text h
+listed_tells shape (suc depth) Spaced piece text following h = element_tells piece text h
 
 table_tells : (text : List ℕ) (piece : Piece) (n : ℕ) → IsOfTable text piece n → Tells piece (take n text)
 table_tells text (Token TableLine) n h = (refl, tt)
@@ -713,12 +713,12 @@ space_space (b ∷ text) = elim (true_or_false (begins_other (b ∷ text))) [
 -- ---- the first piece
 
 -- a piece with a text is the longest that is allowed; any other is blank
-abbrev pub IsDue : Allowing → List ℕ → Lexeme → Type 0
-IsDue allowed text p =
+abbrev pub IsExpectedMode : Allowing → List ℕ → Lexeme → Type 0
+IsExpectedMode allowed text p =
     (has_text p.piece ≡ true → IsMost allowed text p) × (has_text p.piece ≡ false → list_all is_space (take p.length text) ≡ true)
 
 abbrev IsDueRead : Allowing → List ℕ → Read → Type 0
-IsDueRead allowed text (Ok p) = IsDue allowed text p
+IsDueRead allowed text (Ok p) = IsExpectedMode allowed text p
 IsDueRead allowed text (Err m) = IsRefusedBy allowed text m
 
 if_due : (allowed : Allowing) (text : List ℕ) (b : Bool) (x y : Read) → (b ≡ true → IsDueRead allowed text x) → (b ≡ false → IsDueRead allowed text y) → IsDueRead allowed text (if b then x else y)
@@ -762,12 +762,12 @@ piece_due TableLines text = table_due text
 piece_due current text = plain_due (IsAllowedPiece current text) current text (longest_due (IsAllowedPiece current text) text (token_read current text) (allowed_tells current text) (plain_read current text))
 
 -- the first piece of a text
-pub due : (current : Mode) (text : List ℕ) (p : Lexeme) → piece_at current text ≡ Ok p → IsDue (IsAllowedPiece current text) text p
-due current text p e = subst (IsDueRead (IsAllowedPiece current text) text) e (piece_due current text)
+pub expected : (current : Mode) (text : List ℕ) (p : Lexeme) → piece_at current text ≡ Ok p → IsExpectedMode (IsAllowedPiece current text) text p
+expected current text p e = subst (IsDueRead (IsAllowedPiece current text) text) e (piece_due current text)
 
 -- the first piece of a text is the longest that the mode allows there
 pub longest : (current : Mode) (text : List ℕ) (p : Lexeme) → piece_at current text ≡ Ok p → has_text p.piece ≡ true → IsLongest current text p
-longest current text p e h = let most = (due current text p e).0 h in record { allowed = most.0; longest = most.1 }
+longest current text p e h = let most = (expected current text p e).0 h in record { allowed = most.0; longest = most.1 }
 
 -- an error means that nothing is allowed there, or the longest that is allowed is no token
 pub refused : (current : Mode) (text : List ℕ) (m : Misread) → piece_at current text ≡ Err m → IsRefusedPiece current text m

@@ -78,13 +78,13 @@ quoted_spelled : (mark : ℕ) (text : List ℕ) → is_quote mark ≡ true → i
 quoted_spelled mark text quote closed =
     let inner : ℕ = quoted_length mark text in
     let long : suc (inner + 1) ≡ inner + 2 = omega arith in
-    let front : take (inner + 1) text ≡ take inner text ++ mark ∷ [] = take-add inner 1 text ∙ ap (λ t. take inner text ++ t) (one_front mark (drop inner text) closed) in
+    let prefix : take (inner + 1) text ≡ take inner text ++ mark ∷ [] = take-add inner 1 text ∙ ap (λ t. take inner text ++ t) (one_front mark (drop inner text) closed) in
     subst (λ k. IsQuoted (take k (mark ∷ text))) long record {
       mark = mark;
       inner = take inner text;
       quotes = quote;
       free = front_all (λ b. not (b == mark || b == 10)) text;
-      spelled = ap (λ t. mark ∷ t) front;
+      spelled = ap (λ t. mark ∷ t) prefix;
     }
 
 marks_same : (mark : ℕ) → (mark == mark) ≡ true
@@ -97,13 +97,13 @@ closed_by mark (suc n) text h =
     let same = same_front mark h.mark (take n text) (h.inner ++ h.mark ∷ []) h.spelled in
     let free : list_all (λ b. not (b == mark || b == 10)) h.inner ≡ true = subst (λ m. list_all (λ b. not (b == m || b == 10)) h.inner ≡ true) (sym same.0) h.free in
     let spelled : take n text ≡ h.inner ++ mark ∷ [] = same.1 ∙ ap (λ m. h.inner ++ m ∷ []) (sym same.0) in
-    let behind : List ℕ = drop n text in
-    let parts : h.inner ++ (mark ∷ behind) ≡ text = sym (append_assoc h.inner (mark ∷ []) behind) ∙ ap (λ t. t ++ behind) (sym spelled) ∙ take-append-drop n text in
-    let stops : quoted_length mark (mark ∷ behind) ≡ 0 = run_stops (λ b. not (b == mark || b == 10)) mark behind (ap (λ v. not (v || mark == 10)) (marks_same mark)) in
-    let long : quoted_length mark (h.inner ++ (mark ∷ behind)) ≡ length h.inner + quoted_length mark (mark ∷ behind) = run_over (λ b. not (b == mark || b == 10)) h.inner (mark ∷ behind) free in
-    let run : quoted_length mark (h.inner ++ (mark ∷ behind)) ≡ length h.inner = omega (arith, long, stops) in
+    let following : List ℕ = drop n text in
+    let parts : h.inner ++ (mark ∷ following) ≡ text = sym (append_assoc h.inner (mark ∷ []) following) ∙ ap (λ t. t ++ following) (sym spelled) ∙ take-append-drop n text in
+    let stops : quoted_length mark (mark ∷ following) ≡ 0 = run_stops (λ b. not (b == mark || b == 10)) mark following (ap (λ v. not (v || mark == 10)) (marks_same mark)) in
+    let long : quoted_length mark (h.inner ++ (mark ∷ following)) ≡ length h.inner + quoted_length mark (mark ∷ following) = run_over (λ b. not (b == mark || b == 10)) h.inner (mark ∷ following) free in
+    let run : quoted_length mark (h.inner ++ (mark ∷ following)) ≡ length h.inner = omega (arith, long, stops) in
     subst (λ t. is_closed mark t ≡ true) parts
-    (ap (λ k. begins (λ b. b == mark) (drop k (h.inner ++ (mark ∷ behind)))) run ∙ ap (begins (λ b. b == mark)) (drop-append_seam h.inner (mark ∷ behind)) ∙ marks_same mark)
+    (ap (λ k. begins (λ b. b == mark) (drop k (h.inner ++ (mark ∷ following)))) run ∙ ap (begins (λ b. b == mark)) (drop-append_seam h.inner (mark ∷ following)) ∙ marks_same mark)
 
 -- the first byte that is not of ASCII among the first of a text
 pub bad_byte : (text : List ℕ) (n : ℕ) → n ≤ length text → prefix_len is_ascii (take n text) < n → 127 < get_or text (prefix_len is_ascii (take n text)) 0

@@ -39,31 +39,31 @@ is_dot b e = subst (λ c. (c == 46) ≡ true) (sym e) refl
 -- how many bytes an exponent takes that is there
 exponent_at : (b : ℕ) (text : List ℕ) (sign : ℕ) (digits : List ℕ) → (b == 101 || b == 69) ≡ true → sign_length text ≡ sign → drop sign text ≡ digits → begins is_ascii_digit digits ≡ true → exponent_length (b ∷ text) ≡ 1 + sign + digit_count digits
 exponent_at b text sign digits letter signed rest some =
-    let behind : List ℕ = drop (1 + sign_length text) (b ∷ text) in
-    let is : behind ≡ digits = ap (λ k. drop k (b ∷ text)) (let e : 1 + sign_length text ≡ suc sign = omega (arith, signed) in e) ∙ rest in
-    let test : ((b == 101 || b == 69) && begins is_ascii_digit behind) ≡ true = and_from (b == 101 || b == 69) (begins is_ascii_digit behind) letter (ap (begins is_ascii_digit) is ∙ some) in
-    let long : exponent_length (b ∷ text) ≡ 1 + sign_length text + digit_count behind = ap (λ v. if v then 1 + sign_length text + digit_count behind else 0) test in
+    let following : List ℕ = drop (1 + sign_length text) (b ∷ text) in
+    let is : following ≡ digits = ap (λ k. drop k (b ∷ text)) (let e : 1 + sign_length text ≡ suc sign = omega (arith, signed) in e) ∙ rest in
+    let test : ((b == 101 || b == 69) && begins is_ascii_digit following) ≡ true = and_from (b == 101 || b == 69) (begins is_ascii_digit following) letter (ap (begins is_ascii_digit) is ∙ some) in
+    let long : exponent_length (b ∷ text) ≡ 1 + sign_length text + digit_count following = ap (λ v. if v then 1 + sign_length text + digit_count following else 0) test in
     omega (arith, long, signed, ap digit_count is)
 
 -- an exponent is no longer than that with which the text begins
-exponent_most : (exponent behind : List ℕ) → IsExponentSpelling exponent → length exponent ≤ exponent_length (exponent ++ behind)
-exponent_most [] behind h = omega arith
-exponent_most (b ∷ []) behind h = absurd h.1
-exponent_most (b ∷ c ∷ digits) behind h = elim h.1 [
+exponent_most : (exponent following : List ℕ) → IsExponentSpelling exponent → length exponent ≤ exponent_length (exponent ++ following)
+exponent_most [] following h = omega arith
+exponent_most (b ∷ []) following h = absurd h.1
+exponent_most (b ∷ c ∷ digits) following h = elim h.1 [
   | inl plain ↦
-      let unsigned : sign_length (c ∷ (digits ++ behind)) ≡ 0 = ap (λ v. if v then 1 else 0) (digit_no_sign c plain.0) in
-      omega (arith, exponent_at b (c ∷ (digits ++ behind)) 0 (c ∷ (digits ++ behind)) h.0 unsigned refl plain.0, run_over is_ascii_digit (c ∷ digits) behind plain.1)
+      let unsigned : sign_length (c ∷ (digits ++ following)) ≡ 0 = ap (λ v. if v then 1 else 0) (digit_no_sign c plain.0) in
+      omega (arith, exponent_at b (c ∷ (digits ++ following)) 0 (c ∷ (digits ++ following)) h.0 unsigned refl plain.0, run_over is_ascii_digit (c ∷ digits) following plain.1)
   | inr signed ↦
-      let one : sign_length (c ∷ (digits ++ behind)) ≡ 1 = ap (λ v. if v then 1 else 0) signed.0 in
-      omega (arith, exponent_at b (c ∷ (digits ++ behind)) 1 (digits ++ behind) h.0 one refl (begins_append is_ascii_digit digits behind signed.1.0), run_over is_ascii_digit digits behind signed.1.1)
+      let one : sign_length (c ∷ (digits ++ following)) ≡ 1 = ap (λ v. if v then 1 else 0) signed.0 in
+      omega (arith, exponent_at b (c ∷ (digits ++ following)) 1 (digits ++ following) h.0 one refl (begins_append is_ascii_digit digits following signed.1.0), run_over is_ascii_digit digits following signed.1.1)
 ]
 
 -- how many bytes a number takes, by its parts
 number_at : (text : List ℕ) (whole point : ℕ) (rest more : List ℕ) → digit_count text ≡ whole → drop whole text ≡ rest → point_length rest ≡ point → drop point rest ≡ more → number_length text ≡ whole + point + exponent_length more
-number_at text whole point rest more digits behind dot after =
-    let r : drop (digit_count text) text ≡ rest = ap (λ k. drop k text) digits ∙ behind in
+number_at text whole point rest more digits following dot after =
+    let r : drop (digit_count text) text ≡ rest = ap (λ k. drop k text) digits ∙ following in
     let d : decimal_length text ≡ whole + point = omega (arith, digits, ap point_length r, dot) in
-    let m : drop (decimal_length text) text ≡ more = ap (λ k. drop k text) d ∙ sym (drop-drop point whole text) ∙ ap (drop point) behind ∙ after in
+    let m : drop (decimal_length text) text ≡ more = ap (λ k. drop k text) d ∙ sym (drop-drop point whole text) ∙ ap (drop point) following ∙ after in
     omega (arith, d, ap exponent_length m)
 
 -- how many bytes a dot takes that no other dot follows, with the digits after it
@@ -81,37 +81,37 @@ digits_then [] rest h none = none refl
 digits_then (d ∷ digits) rest h none = digit_no_dot d (and_parts (is_ascii_digit d) (list_all is_ascii_digit digits) h).0
 
 -- a dot and digits, before an exponent
-pointed : (whole : List ℕ) (b : ℕ) (digits exponent behind : List ℕ) → list_all is_ascii_digit whole ≡ true → b ≡ 46 → list_all is_ascii_digit digits ≡ true → IsExponentSpelling exponent → begins_dot (digits ++ (exponent ++ behind)) ≡ false → length whole + (suc (length digits) + length exponent) ≤ number_length (whole ++ (b ∷ (digits ++ (exponent ++ behind))))
-pointed whole b digits [] behind all dot each power none =
-    let rest : List ℕ = digits ++ behind in
+pointed : (whole : List ℕ) (b : ℕ) (digits exponent following : List ℕ) → list_all is_ascii_digit whole ≡ true → b ≡ 46 → list_all is_ascii_digit digits ≡ true → IsExponentSpelling exponent → begins_dot (digits ++ (exponent ++ following)) ≡ false → length whole + (suc (length digits) + length exponent) ≤ number_length (whole ++ (b ∷ (digits ++ (exponent ++ following))))
+pointed whole b digits [] following all dot each power none =
+    let rest : List ℕ = digits ++ following in
     let text : List ℕ = whole ++ (b ∷ rest) in
     let count : digit_count text ≡ length whole = omega (arith, run_over is_ascii_digit whole (b ∷ rest) all, run_stops is_ascii_digit b rest (dot_no_digit b dot)) in
     let long : number_length text ≡ length whole + (1 + digit_count rest) + exponent_length (drop (1 + digit_count rest) (b ∷ rest)) = number_at text (length whole) (1 + digit_count rest) (b ∷ rest) (drop (1 + digit_count rest) (b ∷ rest)) count (drop-append_seam whole (b ∷ rest)) (point_at b rest dot none) refl in
-    omega (arith, long, run_over is_ascii_digit digits behind each)
-pointed whole b digits (e ∷ power) behind all dot each h none =
-    let more : List ℕ = e ∷ (power ++ behind) in
+    omega (arith, long, run_over is_ascii_digit digits following each)
+pointed whole b digits (e ∷ power) following all dot each h none =
+    let more : List ℕ = e ∷ (power ++ following) in
     let rest : List ℕ = digits ++ more in
     let text : List ℕ = whole ++ (b ∷ rest) in
     let count : digit_count text ≡ length whole = omega (arith, run_over is_ascii_digit whole (b ∷ rest) all, run_stops is_ascii_digit b rest (dot_no_digit b dot)) in
-    let few : digit_count rest ≡ length digits = omega (arith, run_over is_ascii_digit digits more each, run_stops is_ascii_digit e (power ++ behind) (letter_no_digit e h.0)) in
+    let few : digit_count rest ≡ length digits = omega (arith, run_over is_ascii_digit digits more each, run_stops is_ascii_digit e (power ++ following) (letter_no_digit e h.0)) in
     let point : point_length (b ∷ rest) ≡ suc (length digits) = omega (arith, point_at b rest dot none, few) in
     let long : number_length text ≡ length whole + suc (length digits) + exponent_length more = number_at text (length whole) (suc (length digits)) (b ∷ rest) more count (drop-append_seam whole (b ∷ rest)) point (drop-append_seam digits more) in
-    omega (arith, long, exponent_most (e ∷ power) behind h)
+    omega (arith, long, exponent_most (e ∷ power) following h)
 
 -- digits, before an exponent
-unpointed : (whole exponent behind : List ℕ) → list_all is_ascii_digit whole ≡ true → IsExponentSpelling exponent → length whole + length exponent ≤ number_length (whole ++ (exponent ++ behind))
-unpointed whole [] behind all power = omega (arith, run_over is_ascii_digit whole behind all)
-unpointed whole (e ∷ power) behind all h =
-    let more : List ℕ = e ∷ (power ++ behind) in
+unpointed : (whole exponent following : List ℕ) → list_all is_ascii_digit whole ≡ true → IsExponentSpelling exponent → length whole + length exponent ≤ number_length (whole ++ (exponent ++ following))
+unpointed whole [] following all power = omega (arith, run_over is_ascii_digit whole following all)
+unpointed whole (e ∷ power) following all h =
+    let more : List ℕ = e ∷ (power ++ following) in
     let text : List ℕ = whole ++ more in
-    let count : digit_count text ≡ length whole = omega (arith, run_over is_ascii_digit whole more all, run_stops is_ascii_digit e (power ++ behind) (letter_no_digit e h.0)) in
-    let long : number_length text ≡ length whole + 0 + exponent_length more = number_at text (length whole) 0 more more count (drop-append_seam whole more) (no_point e (power ++ behind) (letter_no_dot e h.0)) refl in
-    omega (arith, long, exponent_most (e ∷ power) behind h)
+    let count : digit_count text ≡ length whole = omega (arith, run_over is_ascii_digit whole more all, run_stops is_ascii_digit e (power ++ following) (letter_no_digit e h.0)) in
+    let long : number_length text ≡ length whole + 0 + exponent_length more = number_at text (length whole) 0 more more count (drop-append_seam whole more) (no_point e (power ++ following) (letter_no_dot e h.0)) refl in
+    omega (arith, long, exponent_most (e ∷ power) following h)
 
-parts_most : (whole point exponent behind : List ℕ) → list_all is_ascii_digit whole ≡ true → IsPoint point → IsExponentSpelling exponent → (point ≡ 46 ∷ [] → begins_dot (exponent ++ behind) ≡ false) → length whole + (length point + length exponent) ≤ number_length (whole ++ (point ++ (exponent ++ behind)))
-parts_most whole [] exponent behind all fraction power alone = omega (arith, unpointed whole exponent behind all power)
-parts_most whole (b ∷ digits) exponent behind all fraction power alone =
-    pointed whole b digits exponent behind all fraction.0 fraction.1 power (digits_then digits (exponent ++ behind) fraction.1 (λ e. alone (ap (λ c. c ∷ digits) fraction.0 ∙ ap (λ ds. 46 ∷ ds) e)))
+parts_most : (whole point exponent following : List ℕ) → list_all is_ascii_digit whole ≡ true → IsPoint point → IsExponentSpelling exponent → (point ≡ 46 ∷ [] → begins_dot (exponent ++ following) ≡ false) → length whole + (length point + length exponent) ≤ number_length (whole ++ (point ++ (exponent ++ following)))
+parts_most whole [] exponent following all fraction power alone = omega (arith, unpointed whole exponent following all power)
+parts_most whole (b ∷ digits) exponent following all fraction power alone =
+    pointed whole b digits exponent following all fraction.0 fraction.1 power (digits_then digits (exponent ++ following) fraction.1 (λ e. alone (ap (λ c. c ∷ digits) fraction.0 ∙ ap (λ ds. 46 ∷ ds) e)))
 
 -- a text is the number at its start and what follows it
 whole_text : (n : ℕ) (text whole point exponent : List ℕ) → take n text ≡ whole ++ (point ++ exponent) → whole ++ (point ++ (exponent ++ drop n text)) ≡ text
@@ -180,16 +180,16 @@ exponent_spelled : (text : List ℕ) → IsExponentSpelling (take (exponent_leng
 exponent_spelled [] = tt
 exponent_spelled (b ∷ text) =
     let sign : ℕ = sign_length text in
-    let behind : List ℕ = drop (1 + sign) (b ∷ text) in
-    let is : behind ≡ drop sign text = ap (λ k. drop k (b ∷ text)) (let e : 1 + sign ≡ suc sign = omega arith in e) in
-    elim (true_or_false ((b == 101 || b == 69) && begins is_ascii_digit behind)) [
+    let following : List ℕ = drop (1 + sign) (b ∷ text) in
+    let is : following ≡ drop sign text = ap (λ k. drop k (b ∷ text)) (let e : 1 + sign ≡ suc sign = omega arith in e) in
+    elim (true_or_false ((b == 101 || b == 69) && begins is_ascii_digit following)) [
       | inl t ↦
-          let both = and_parts (b == 101 || b == 69) (begins is_ascii_digit behind) t in
+          let both = and_parts (b == 101 || b == 69) (begins is_ascii_digit following) t in
           let power : IsPowerAt text sign = power_spelled text (ap (begins is_ascii_digit) (sym is) ∙ both.1) in
-          let long : suc (sign + digit_count (drop sign text)) ≡ 1 + sign + digit_count behind = omega (arith, ap digit_count is) in
-          let here : IsExponentSpelling (take (1 + sign + digit_count behind) (b ∷ text)) = subst (λ k. IsExponentSpelling (take k (b ∷ text))) long (both.0, power) in
-          subst (λ v. IsExponentSpelling (take (if v then 1 + sign + digit_count behind else 0) (b ∷ text))) (sym t) here
-      | inr f ↦ subst (λ v. IsExponentSpelling (take (if v then 1 + sign + digit_count behind else 0) (b ∷ text))) (sym f) tt
+          let long : suc (sign + digit_count (drop sign text)) ≡ 1 + sign + digit_count following = omega (arith, ap digit_count is) in
+          let here : IsExponentSpelling (take (1 + sign + digit_count following) (b ∷ text)) = subst (λ k. IsExponentSpelling (take k (b ∷ text))) long (both.0, power) in
+          subst (λ v. IsExponentSpelling (take (if v then 1 + sign + digit_count following else 0) (b ∷ text))) (sym t) here
+      | inr f ↦ subst (λ v. IsExponentSpelling (take (if v then 1 + sign + digit_count following else 0) (b ∷ text))) (sym f) tt
     ]
 
 point_is : (b : ℕ) → (b == 46) ≡ true → b ≡ 46
@@ -250,8 +250,8 @@ point_alone (b ∷ rest) h = elim (true_or_false (begins_dot (b ∷ rest) && not
       let long : point_length (b ∷ rest) ≡ 1 + digit_count rest = ap (λ v. if v then 1 + digit_count rest else 0) t in
       let le : point_length (b ∷ rest) ≤ length (b ∷ rest) = omega (arith, long, prefix_len-le-length is_ascii_digit rest) in
       let one : point_length (b ∷ rest) ≡ 1 = omega (arith, ap length h, length-take-le (point_length (b ∷ rest)) (b ∷ rest) le) in
-      let behind : drop (point_length (b ∷ rest)) (b ∷ rest) ≡ rest = ap (λ k. drop k (b ∷ rest)) one in
-      ap begins_dot behind ∙ not-true (begins_dot rest) both.1
+      let following : drop (point_length (b ∷ rest)) (b ∷ rest) ≡ rest = ap (λ k. drop k (b ∷ rest)) one in
+      ap begins_dot following ∙ not-true (begins_dot rest) both.1
   | inr f ↦
       let none : point_length (b ∷ rest) ≡ 0 = ap (λ v. if v then 1 + digit_count rest else 0) f in
       let empty : length (take (point_length (b ∷ rest)) (b ∷ rest)) ≡ 0 = ap (λ k. length (take k (b ∷ rest))) none in

@@ -14,13 +14,13 @@ use Rattle.gms_lines.proofs.WithinLemmas.{if_within, run_within, begins_some, ta
 use Rattle.gms_lex.specs.declared.keyword.Shape.{Shape}
 use Rattle.gms_lex.specs.declared.keyword.Shape.TheVariants.{Set, Parameter, Scalar, Model}
 use Rattle.gms_lex.specs.declared.mode.Stage.{Stage}
-use Rattle.gms_lex.specs.declared.mode.Stage.TheVariants.{Fresh, Due, After, Spaced}
+use Rattle.gms_lex.specs.declared.mode.Stage.TheVariants.{Fresh, Expected, After, Spaced}
 use Rattle.gms_lex.specs.declared.mode.Mode.{Mode}
 use Rattle.gms_lex.specs.declared.mode.Mode.TheVariants.{Named, Bare, Element, Value, Tail, TableNamed, TableBare, TableLines}
 use Rattle.gms_lex.specs.declared.mode.LineEnds.{LineEnds}
 use Rattle.gms_lex.specs.declared.mode.LineEnds.TheVariants.{Skipped, EndItem, EndElement}
 use Rattle.gms_lex.specs.Keywords.{begins_statement}
-use Rattle.gms_lex.specs.Pieces.{passes, ends_or_begins, begins_other, space_length, line_end_length, line_ends, line_end, is_item_mark, is_element_mark, behind_name, behind_domain, begins_value_dot, element_tail, behind_label, in_list, token_read, table_piece, plain_piece, piece_at}
+use Rattle.gms_lex.specs.Pieces.{passes, ends_or_begins, begins_other, space_length, line_end_length, line_ends, line_end, is_item_mark, is_element_mark, piece_after_name, piece_after_domain, begins_value_dot, element_tail, piece_after_label, in_list, token_read, table_piece, plain_piece, piece_at}
 
 -- a line end takes as many bytes as there are
 line_end_length_within : (text : List ℕ) → is_line_end text ≡ true → (0 < line_end_length text) × (line_end_length text ≤ length text)
@@ -53,20 +53,20 @@ tail_within Set text = remark_within text
 tail_within Scalar text = remark_within text
 tail_within Model text = remark_within text
 
-behind_label_within : (s : Shape) (d : ℕ) (stage : Stage) (text : List ℕ) → IsWithinText text (behind_label s d stage text)
+behind_label_within : (s : Shape) (d : ℕ) (stage : Stage) (text : List ℕ) → IsWithinText text (piece_after_label s d stage text)
 behind_label_within s d stage text =
     if_within text (begins is_element_mark text && not (begins_value_dot s d stage text)) _ _ (λ _. symbol_within text) (λ _. if_within text (d == 0) _ _ (λ _. tail_within s text) (λ _. label_token_within text))
 
 in_list_within : (s : Shape) (d : ℕ) (stage : Stage) (text : List ℕ) → IsWithinText text (in_list s d stage text)
 in_list_within s d Fresh text = label_token_within text
-in_list_within s d Due text = label_token_within text
+in_list_within s d Expected text = label_token_within text
 in_list_within s d After text = behind_label_within s d After text
 in_list_within s d Spaced text = behind_label_within s d Spaced text
 
-name_within : (text : List ℕ) → IsWithinText text (behind_name text)
+name_within : (text : List ℕ) → IsWithinText text (piece_after_name text)
 name_within text = if_within text (begins (λ b. b == 40 || is_item_mark b) text) _ _ (λ _. symbol_within text) (λ _. remark_within text)
 
-domain_within : (text : List ℕ) → IsWithinText text (behind_domain text)
+domain_within : (text : List ℕ) → IsWithinText text (piece_after_domain text)
 domain_within text = if_within text (begins is_item_mark text) _ _ (λ _. symbol_within text) (λ _. remark_within text)
 
 token_at_within : (current : Mode) (text : List ℕ) → IsWithinText text (token_read current text)

@@ -6,10 +6,10 @@ use Rattle.std.proofs.lemmas.List.{length-drop, length-take-le}
 use Rattle.gms_labels.specs.declared.place.Place.{Place}
 use Rattle.gms_lines.specs.Columns.{column_after}
 use Rattle.gms_lines.proofs.ColumnLemmas.{column_after-bounds}
-use Rattle.gms_lex.specs.Places.{IsEarlier, place_after, place_behind, place_of_byte, source_start}
+use Rattle.gms_lex.specs.Places.{IsEarlier, place_after, place_after_bytes, place_of_byte, source_start}
 
 -- the place of a byte further on
-pub place_of-add : (source : List ℕ) (n k : ℕ) → place_behind (place_of_byte source n) (take k (drop n source)) ≡ place_of_byte source (n + k)
+pub place_of-add : (source : List ℕ) (n k : ℕ) → place_after_bytes (place_of_byte source n) (take k (drop n source)) ≡ place_of_byte source (n + k)
 place_of-add source n k = sym (fold-append place_after source_start (take n source) (take k (drop n source))) ∙ ap (fold place_after source_start) (sym (take-add n k source))
 
 behind_by : (at : Place) (feed : Bool) (column : ℕ) → at.column < column → IsEarlier at (if feed then record { line = at.line + 1; column = 1 } else record { line = at.line; column = column })
@@ -25,7 +25,7 @@ earlier_trans p q r (inl a) (inr b) = inl (omega (arith, b.0))
 earlier_trans p q r (inr a) (inl b) = inl (omega (arith, a.0))
 earlier_trans p q r (inr a) (inr b) = inr (omega (arith, a.0, b.0), omega (arith, a.1, b.1))
 
-later_behind : (at : Place) (bytes : List ℕ) → 0 < length bytes → IsEarlier at (place_behind at bytes)
+later_behind : (at : Place) (bytes : List ℕ) → 0 < length bytes → IsEarlier at (place_after_bytes at bytes)
 later_behind at [] some = absurd (omega arith)
 later_behind at (b ∷ []) some = earlier_behind at b
 later_behind at (b ∷ c ∷ bytes) some = earlier_trans at (place_after at b) _ (earlier_behind at b) (later_behind (place_after at b) (c ∷ bytes) (omega arith))

@@ -29,12 +29,12 @@ front_all test (b ∷ text) = elim (true_or_false (test b)) [
 ]
 
 -- bytes that pass, before a text, make its run longer
-pub run_over : (test : ℕ → Bool) (front text : List ℕ) → list_all test front ≡ true → prefix_len test (front ++ text) ≡ length front + prefix_len test text
+pub run_over : (test : ℕ → Bool) (prefix text : List ℕ) → list_all test prefix ≡ true → prefix_len test (prefix ++ text) ≡ length prefix + prefix_len test text
 run_over test [] text h = omega arith
-run_over test (b ∷ front) text h =
-    let both = and_parts (test b) (list_all test front) h in
-    let longer : prefix_len test (b ∷ (front ++ text)) ≡ 1 + prefix_len test (front ++ text) = ap (λ v. cond v (1 + prefix_len test (front ++ text)) 0) both.0 in
-    omega (arith, longer, run_over test front text both.1)
+run_over test (b ∷ prefix) text h =
+    let both = and_parts (test b) (list_all test prefix) h in
+    let longer : prefix_len test (b ∷ (prefix ++ text)) ≡ 1 + prefix_len test (prefix ++ text) = ap (λ v. cond v (1 + prefix_len test (prefix ++ text)) 0) both.0 in
+    omega (arith, longer, run_over test prefix text both.1)
 
 -- a byte that does not pass begins no run
 pub run_stops : (test : ℕ → Bool) (b : ℕ) (text : List ℕ) → test b ≡ false → prefix_len test (b ∷ text) ≡ 0
@@ -53,9 +53,9 @@ begins_front test (suc n) [] h = h
 begins_front test (suc n) (b ∷ text) h = h
 
 -- if a text passes the test at its start, it does with more after it
-pub begins_append : (test : ℕ → Bool) (text behind : List ℕ) → begins test text ≡ true → begins test (text ++ behind) ≡ true
-begins_append test [] behind h = cc
-begins_append test (b ∷ text) behind h = h
+pub begins_append : (test : ℕ → Bool) (text following : List ℕ) → begins test text ≡ true → begins test (text ++ following) ≡ true
+begins_append test [] following h = cc
+begins_append test (b ∷ text) following h = h
 
 -- texts that begin with bytes of two kinds
 pub begins_apart : {A : Type 0} (one other : ℕ → Bool) (text : List ℕ) → ((b : ℕ) → one b ≡ true → other b ≡ true → ⊥) → begins one text ≡ true → begins other text ≡ true → A

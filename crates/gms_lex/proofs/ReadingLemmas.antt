@@ -80,8 +80,8 @@ pub record Opens (source text : List ℕ) (tokens : List Token) (start : ℕ) (c
   pub tokens_are : tokens ≡ tokens_of source 0 pieces
 
 -- at the start of the text
-pub Opens-front : (source text : List ℕ) → Opens source text [] 0 Code
-Opens-front source text = record { pieces = []; made = (refl, refl); long = refl; tokens_are = refl }
+pub Opens-prefix : (source text : List ℕ) → Opens source text [] 0 Code
+Opens-prefix source text = record { pieces = []; made = (refl, refl); long = refl; tokens_are = refl }
 
 -- one piece more
 pub Opens-next : (source text : List ℕ) (tokens : List Token) (start : ℕ) (current : Mode) (p : Lexeme) → Opens source text tokens start current → piece_at current (drop start text) ≡ Ok p → Opens source text (tokens ++ token_at (place_of_byte source start) p.piece start (start + p.length)) (start + p.length) (mode_after current p.piece (take p.length (drop start text)))

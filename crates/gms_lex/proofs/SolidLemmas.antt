@@ -23,13 +23,13 @@ use Rattle.gms_lines.proofs.WithinLemmas.{run_within, closed_more, table_bytes_l
 use Rattle.gms_lex.specs.declared.keyword.Shape.{Shape}
 use Rattle.gms_lex.specs.declared.keyword.Shape.TheVariants.{Set, Parameter, Scalar, Model}
 use Rattle.gms_lex.specs.declared.mode.Stage.{Stage}
-use Rattle.gms_lex.specs.declared.mode.Stage.TheVariants.{Fresh, Due, After, Spaced}
+use Rattle.gms_lex.specs.declared.mode.Stage.TheVariants.{Fresh, Expected, After, Spaced}
 use Rattle.gms_lex.specs.declared.mode.Mode.{Mode}
 use Rattle.gms_lex.specs.declared.mode.Mode.TheVariants.{Named, Bare, Element, Value, Tail, TableNamed, TableBare, TableLines}
 use Rattle.gms_lex.specs.declared.mode.LineEnds.{LineEnds}
 use Rattle.gms_lex.specs.declared.mode.LineEnds.TheVariants.{Skipped, EndItem, EndElement}
 use Rattle.gms_lex.specs.Keywords.{begins_statement}
-use Rattle.gms_lex.specs.Pieces.{passes, ends_or_begins, space_length, line_ends, line_end, is_item_mark, is_element_mark, behind_name, behind_domain, begins_value_dot, element_tail, behind_label, in_list, token_read, table_piece, plain_piece, piece_at}
+use Rattle.gms_lex.specs.Pieces.{passes, ends_or_begins, space_length, line_ends, line_end, is_item_mark, is_element_mark, piece_after_name, piece_after_domain, begins_value_dot, element_tail, piece_after_label, in_list, token_read, table_piece, plain_piece, piece_at}
 use Rattle.gms_lex.specs.TokenTexts.{unquoted, IsSpelled}
 use Rattle.gms_lex.proofs.LineTextLemmas.{IsSolidByte, IsSolid, length-take_most}
 use Rattle.gms_lex.proofs.TableLemmas.{IsTableText}
@@ -148,10 +148,10 @@ quoted_solid mark text quote closed plain =
     let le : k < inner + 1 = omega (arith, length-take_most (inner + 1) text) in
     let byte : get_or (take (inner + 1) text) k 0 ≡ get_or text k 0 = get_or-take (inner + 1) text k 0 le in
     elim (below_or k inner) [
-      | inl in_front ↦
-          let passed : test (get_or text k 0) ≡ true = prefix_len_passes test text k 0 in_front in
+      | inl values_first ↦
+          let passed : test (get_or text k 0) ≡ true = prefix_len_passes test text k 0 values_first in
           let ascii : is_ascii (get_or (take inner text) k 0) ≡ true = prefix_len_passes is_ascii (take inner text) k 0 (omega arith) in
-          let same : get_or (take inner text) k 0 ≡ get_or text k 0 = get_or-take inner text k 0 in_front in
+          let same : get_or (take inner text) k 0 ≡ get_or text k 0 = get_or-take inner text k 0 values_first in
           let small : is_ascii (get_or text k 0) ≡ true = ap is_ascii (sym same) ∙ ascii in
           (subst (λ b. b < 128) (sym byte) (plain_small (get_or text k 0) small), λ h. not_feed mark (get_or text k 0) passed (sym byte ∙ h))
       | inr at_end ↦
@@ -200,9 +200,9 @@ quoted_label_named (mark ∷ text) quote =
     (λ h.
     let solid = quoted_solid mark text quote (not-false _ closed) (no_more plain inner h) in
     let small : inner ≤ longest_label = no_more longest_label inner short in
-    let behind = take (inner + 1) text in
-    let marks : unquoted (mark ∷ behind) ≡ take (length behind - 1) behind = ap (λ v. if v then take (length behind - 1) behind else mark ∷ behind) quote in
-    let few : length (unquoted (mark ∷ behind)) ≤ longest_label = omega (arith, ap length marks, length-take_most (length behind - 1) behind, length-take_most (inner + 1) text) in
+    let following = take (inner + 1) text in
+    let marks : unquoted (mark ∷ following) ≡ take (length following - 1) following = ap (λ v. if v then take (length following - 1) following else mark ∷ following) quote in
+    let few : length (unquoted (mark ∷ following)) ≤ longest_label = omega (arith, ap length marks, length-take_most (length following - 1) following, length-take_most (inner + 1) text) in
     subst (λ t. IsSolid t × (IsAscii t × (length (unquoted t) ≤ longest_label))) (sym (quoted_front mark text inner)) (solid, (solid.ascii, few)))))
 
 -- a quoted descriptive text is no token
@@ -252,20 +252,20 @@ element_tail_named Set text = remark_named text
 element_tail_named Scalar text = remark_named text
 element_tail_named Model text = remark_named text
 
-behind_label_named : (s : Shape) (d : ℕ) (stage : Stage) (text : List ℕ) → IsNamedRead text (behind_label s d stage text)
+behind_label_named : (s : Shape) (d : ℕ) (stage : Stage) (text : List ℕ) → IsNamedRead text (piece_after_label s d stage text)
 behind_label_named s d stage text =
     if_named text (begins is_element_mark text && not (begins_value_dot s d stage text)) _ _ (λ _. symbol_named text) (λ _. if_named text (d == 0) _ _ (λ _. element_tail_named s text) (λ _. label_token_named text))
 
 in_list_named : (s : Shape) (d : ℕ) (stage : Stage) (text : List ℕ) → IsNamedRead text (in_list s d stage text)
 in_list_named s d Fresh text = label_token_named text
-in_list_named s d Due text = label_token_named text
+in_list_named s d Expected text = label_token_named text
 in_list_named s d After text = behind_label_named s d After text
 in_list_named s d Spaced text = behind_label_named s d Spaced text
 
-behind_name_named : (text : List ℕ) → IsNamedRead text (behind_name text)
+behind_name_named : (text : List ℕ) → IsNamedRead text (piece_after_name text)
 behind_name_named text = if_named text (begins (λ b. b == 40 || is_item_mark b) text) _ _ (λ _. symbol_named text) (λ _. remark_named text)
 
-behind_domain_named : (text : List ℕ) → IsNamedRead text (behind_domain text)
+behind_domain_named : (text : List ℕ) → IsNamedRead text (piece_after_domain text)
 behind_domain_named text = if_named text (begins is_item_mark text) _ _ (λ _. symbol_named text) (λ _. remark_named text)
 
 token_at_named : (current : Mode) (text : List ℕ) → IsNamedRead text (token_read current text)

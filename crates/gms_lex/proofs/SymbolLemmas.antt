@@ -187,7 +187,7 @@ found_longest test (y ∷ ys) x s sorted found there passes = elim (true_or_fals
       let all = and_parts (at_most (symbol_length y) ys) (longer_first ys) sorted in
       let le : symbol_length s ≤ symbol_length y = elim there [
         | inl e ↦ let long : symbol_length y ≡ symbol_length s = ap symbol_length e in omega (arith, long)
-        | inr behind ↦ at_most_each (symbol_length y) ys s all.0 behind
+        | inr following ↦ at_most_each (symbol_length y) ys s all.0 following
       ] in
       subst (λ z. symbol_length s ≤ symbol_length z) same le
   | inr f ↦
@@ -195,7 +195,7 @@ found_longest test (y ∷ ys) x s sorted found there passes = elim (true_or_fals
       let rest : find test ys ≡ Some x = ap (λ v. cond v (Some y) (find test ys)) (sym f) ∙ found in
       elim there [
         | inl e ↦ not_both (test s) passes (ap test (sym e) ∙ f)
-        | inr behind ↦ found_longest test ys x s all.1 rest behind passes
+        | inr following ↦ found_longest test ys x s all.1 rest following passes
       ]
 ]
 
@@ -233,7 +233,7 @@ found_none test (y ∷ ys) s h there passes = elim (true_or_false (test y)) [
   | inl t ↦ let found : Some y ≡ None = ap (λ v. cond v (Some y) (find test ys)) (sym t) ∙ h in absurd (cc)
   | inr f ↦ elim there [
     | inl e ↦ not_both (test s) passes (ap test (sym e) ∙ f)
-    | inr behind ↦ found_none test ys s (ap (λ v. cond v (Some y) (find test ys)) (sym f) ∙ h) behind passes
+    | inr following ↦ found_none test ys s (ap (λ v. cond v (Some y) (find test ys)) (sym f) ∙ h) following passes
   ]
 ]
 

@@ -8,7 +8,7 @@ use Rattle.gms_lines.specs.declared.fault.LexError.TheVariants.{BadByte, LongLin
 use Rattle.gms_lines.specs.declared.line.Class.{Class}
 use Rattle.gms_lines.specs.declared.line.Class.TheVariants.{Comment, Control, Code}
 use Rattle.gms_lines.specs.Lines.{put_first, lines, is_blank, is_line_end, before, content, blanked, read_as, class_of, inside_after, code_of, code_text}
-use Rattle.gms_lines.specs.LineFaults.{longest_line, is_control_byte, is_bad, StandsInLines, IsLineFault}
+use Rattle.gms_lines.specs.LineFaults.{longest_line, is_control_byte, is_bad, IsInLines, IsLineFault}
 use Rattle.gms_lines.proofs.LineLemmas.{true_or_false, below_or, before_stops, before_more, before-le-length}
 use Rattle.gms_lines.proofs.FirstLemmas.{length-read_as}
 use Rattle.gms_lex.proofs.LineTextLemmas.{HasFeed, AreEnded, lines-ended, joined, joined-lines, byte_blanked, on_line, behind_line}
@@ -144,10 +144,10 @@ stays_in class line rest lo n last fed below t =
             | inr ahead ↦
                 let there : is_line_end (drop (p - lo) (drop lo text)) ≡ true = ap is_line_end (drop-drop (p - lo) lo text ∙ ap (λ k. drop k text) (let e : lo + (p - lo) ≡ p = omega arith in e)) ∙ end_kept class line rest p stop in
                 omega (arith, t.within, before_most is_line_end (drop lo text) (p - lo) there, ahead)
-            | inl behind ↦ elim (end_bytes line p stop) [
-              | inl feed ↦ absurd (omega (arith, fed p feed, below, behind))
+            | inl following ↦ elim (end_bytes line p stop) [
+              | inl feed ↦ absurd (omega (arith, fed p feed, below, following))
               | inr both ↦
-                  let at : lo ≡ suc p = omega (arith, fed (suc p) both.1, below, behind) in
+                  let at : lo ≡ suc p = omega (arith, fed (suc p) both.1, below, following) in
                   let end : is_line_end (drop lo text) ≡ true = end_kept class line rest lo (bytes_end line lo (inl (ap (λ k. get_or line k 0) at ∙ both.1))) in
                   absurd (omega (arith, t.within, before_stops is_line_end (drop lo text) end, some))
             ]
@@ -188,7 +188,7 @@ same_class Code line rest lo n fits good t = refl
 abbrev IsSame : ℕ → List ℕ → List ℕ → Type 0
 IsSame n text source = (take n text ≡ take n source) × (n ≤ longest_line)
 
-in_lines : (start : ℕ) (inside : Bool) (ls : List (List ℕ)) (lo n : ℕ) → AreEnded ls → AreFedOnce ls → ((fault : ByteFault) → StandsInLines start inside ls fault → ⊥) → IsTableText n (drop lo (code_of inside ls)) → IsSame n (drop lo (code_of inside ls)) (drop lo (joined ls))
+in_lines : (start : ℕ) (inside : Bool) (ls : List (List ℕ)) (lo n : ℕ) → AreEnded ls → AreFedOnce ls → ((fault : ByteFault) → IsInLines start inside ls fault → ⊥) → IsTableText n (drop lo (code_of inside ls)) → IsSame n (drop lo (code_of inside ls)) (drop lo (joined ls))
 in_lines start inside [] lo n ended fed sound t =
     let none : before is_line_end (drop lo []) ≤ 0 = omega (arith, before-le-length is_line_end (drop {A = ℕ} lo []), length-drop {A = ℕ} lo []) in
     absurd (omega (arith, t.within, t.inside, none))
@@ -201,8 +201,8 @@ in_lines start inside (line ∷ others) lo n ended fed sound t =
       | inr ge ↦
           let code_is : drop lo (read ++ rest) ≡ drop (lo - length line) rest = behind_line read rest lo (length line) long ge in
           let source_is : drop lo (line ++ joined others) ≡ drop (lo - length line) (joined others) = behind_line line (joined others) lo (length line) refl ge in
-          let behind = in_lines (start + length line) (inside_after inside line) others (lo - length line) n ended.1 fed.1 (λ fault h. sound fault (inr h)) (subst (IsTableText n) code_is t) in
-          (ap (take n) code_is ∙ behind.0 ∙ sym (ap (take n) source_is), behind.1)
+          let following = in_lines (start + length line) (inside_after inside line) others (lo - length line) n ended.1 fed.1 (λ fault h. sound fault (inr h)) (subst (IsTableText n) code_is t) in
+          (ap (take n) code_is ∙ following.0 ∙ sym (ap (take n) source_is), following.1)
       | inl below ↦
           let last : (rest ≡ []) ⊎ HasFeed line = elim ended.0 [ inl e ↦ inl (ap (code_of (inside_after inside line)) e) | inr feed ↦ inr feed ] in
           let stays : lo + n ≤ before is_line_end line = stays_in class line rest lo n last fed.0 below t in

@@ -40,6 +40,6 @@ unquoted_same (b ∷ text) h = ap (λ c. cond c (take (length text - 1) text) (b
 pub unquoted_inner : (mark : ℕ) (text : List ℕ) (inner : ℕ) → is_quote mark ≡ true → inner < length text → length (unquoted (take (inner + 2) (mark ∷ text))) ≡ inner
 unquoted_inner mark text inner quote some =
     let long : inner + 2 ≡ suc (inner + 1) = omega arith in
-    let behind : List ℕ = take (inner + 1) text in
-    let marks : length (unquoted (mark ∷ behind)) ≡ length (take (length behind - 1) behind) = ap (λ c. length (cond c (take (length behind - 1) behind) (mark ∷ behind))) quote in
-    ap (λ n. length (unquoted (take n (mark ∷ text)))) long ∙ marks ∙ omega (arith, length-take (inner + 1) text, length-take (length behind - 1) behind)
+    let following : List ℕ = take (inner + 1) text in
+    let marks : length (unquoted (mark ∷ following)) ≡ length (take (length following - 1) following) = ap (λ c. length (cond c (take (length following - 1) following) (mark ∷ following))) quote in
+    ap (λ n. length (unquoted (take n (mark ∷ text)))) long ∙ marks ∙ omega (arith, length-take (inner + 1) text, length-take (length following - 1) following)

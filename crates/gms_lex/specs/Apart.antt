@@ -43,9 +43,9 @@ IsOneLineEnd text = (text ≡ 10 ∷ []) ⊎ (text ≡ 13 ∷ 10 ∷ [])
 -- the byte after all blanks and line ends is one before which a line end ends an item, or an
 -- element
 abbrev pub IsEnding : LineEnds → List ℕ → Type 0
-IsEnding Skipped behind = ⊥
-IsEnding EndItem behind = begins (λ b. not (b == 47 || (b == 44 || b == 59))) behind ≡ true
-IsEnding EndElement behind = begins (λ b. not (b == 47 || b == 44)) behind ≡ true
+IsEnding Skipped following = ⊥
+IsEnding EndItem following = begins (λ b. not (b == 47 || (b == 44 || b == 59))) following ≡ true
+IsEnding EndElement following = begins (λ b. not (b == 47 || b == 44)) following ≡ true
 
 -- A line end with which a text begins is a token in this mode: after a declared name or in a list a
 -- line end ends the item, or the element, unless the next byte that is neither blank nor a line end

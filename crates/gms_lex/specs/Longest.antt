@@ -15,7 +15,7 @@ use Rattle.gms_lines.specs.TableLines.{table_bytes}
 use Rattle.gms_lex.specs.declared.keyword.Shape.{Shape}
 use Rattle.gms_lex.specs.declared.keyword.Shape.TheVariants.{Set, Parameter, Scalar, Model}
 use Rattle.gms_lex.specs.declared.mode.Stage.{Stage}
-use Rattle.gms_lex.specs.declared.mode.Stage.TheVariants.{Fresh, Due, After, Spaced}
+use Rattle.gms_lex.specs.declared.mode.Stage.TheVariants.{Fresh, Expected, After, Spaced}
 use Rattle.gms_lex.specs.declared.mode.Mode.{Mode}
 use Rattle.gms_lex.specs.declared.mode.Mode.TheVariants.{Named, Bare, Element, Value, Tail, TableNamed, TableBare, TableLines}
 use Rattle.gms_lex.specs.Keywords.{begins_statement}
@@ -23,14 +23,15 @@ use Rattle.gms_lex.specs.Pieces.{is_item_mark, is_element_mark}
 use Rattle.gms_lex.specs.TokenTexts.{unquoted}
 use Rattle.gms_lex.specs.Spellings.{IsWord, IsLabel, IsQuoted, IsText, IsSymbol, IsNumberSpelling}
 
--- a token of code, followed by `behind`: a word, a number, a symbol, or a quoted token of this kind
+-- a token of code, followed by `following`: a word, a number, a symbol, or a quoted token of this
+-- kind
 abbrev pub IsCode : Kind → Piece → List ℕ → List ℕ → Type 0
-IsCode quoted (Token Word) text behind = IsWord text
-IsCode quoted (Token Number) text behind = IsNumberSpelling text behind
-IsCode quoted (Token (Symbol symbol)) text behind = IsSymbol symbol text
-IsCode quoted (Token Text) text behind = (quoted ≡ Text) × IsQuoted text
-IsCode quoted (Token Label) text behind = (quoted ≡ Label) × IsQuoted text
-IsCode quoted piece text behind = ⊥
+IsCode quoted (Token Word) text following = IsWord text
+IsCode quoted (Token Number) text following = IsNumberSpelling text following
+IsCode quoted (Token (Symbol symbol)) text following = IsSymbol symbol text
+IsCode quoted (Token Text) text following = (quoted ≡ Text) × IsQuoted text
+IsCode quoted (Token Label) text following = (quoted ≡ Label) × IsQuoted text
+IsCode quoted piece text following = ⊥
 
 -- a token where an element is expected: a label, unquoted or quoted, or a symbol
 abbrev pub IsElementPiece : Piece → List ℕ → Type 0
@@ -47,25 +48,25 @@ IsMarkOrText marks piece text = ⊥
 -- A token of code after an element of a parameter's list. Directly after the element a dot joins a
 -- label, and begins no number.
 abbrev pub IsValuePiece : Stage → Piece → List ℕ → List ℕ → Type 0
-IsValuePiece After (Token Number) text behind = IsNumberSpelling text behind × (begins_dot text ≡ false)
-IsValuePiece stage piece text behind = IsCode Label piece text behind
+IsValuePiece After (Token Number) text following = IsNumberSpelling text following × (begins_dot text ≡ false)
+IsValuePiece stage piece text following = IsCode Label piece text following
 
 -- after an element outside parentheses: a value in a parameter's list; in any other `/`, `,`, `;`,
 -- `)`, `*`, `.`, or a text
-abbrev pub IsBehindElement : Shape → Stage → Piece → List ℕ → List ℕ → Type 0
-IsBehindElement Parameter stage piece text behind = IsValuePiece stage piece text behind
-IsBehindElement Set stage piece text behind = IsMarkOrText is_element_mark piece text
-IsBehindElement Scalar stage piece text behind = IsMarkOrText is_element_mark piece text
-IsBehindElement Model stage piece text behind = IsMarkOrText is_element_mark piece text
+abbrev pub IsAfterElementPiece : Shape → Stage → Piece → List ℕ → List ℕ → Type 0
+IsAfterElementPiece Parameter stage piece text following = IsValuePiece stage piece text following
+IsAfterElementPiece Set stage piece text following = IsMarkOrText is_element_mark piece text
+IsAfterElementPiece Scalar stage piece text following = IsMarkOrText is_element_mark piece text
+IsAfterElementPiece Model stage piece text following = IsMarkOrText is_element_mark piece text
 
 -- within a list, inside `depth` parentheses
 abbrev pub IsInList : Shape → ℕ → Stage → Piece → List ℕ → List ℕ → Type 0
-IsInList shape depth Fresh piece text behind = IsElementPiece piece text
-IsInList shape depth Due piece text behind = IsElementPiece piece text
-IsInList shape zero After piece text behind = IsBehindElement shape After piece text behind
-IsInList shape zero Spaced piece text behind = IsBehindElement shape Spaced piece text behind
-IsInList shape (suc depth) After piece text behind = IsElementPiece piece text
-IsInList shape (suc depth) Spaced piece text behind = IsElementPiece piece text
+IsInList shape depth Fresh piece text following = IsElementPiece piece text
+IsInList shape depth Expected piece text following = IsElementPiece piece text
+IsInList shape zero After piece text following = IsAfterElementPiece shape After piece text following
+IsInList shape zero Spaced piece text following = IsAfterElementPiece shape Spaced piece text following
+IsInList shape (suc depth) After piece text following = IsElementPiece piece text
+IsInList shape (suc depth) Spaced piece text following = IsElementPiece piece text
 
 -- The first n bytes of a text, among the lines of a table: all of the line up to the `;` that ends
 -- the table; if that `;` or a statement begins, a token of code.

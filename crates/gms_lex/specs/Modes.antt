@@ -12,7 +12,7 @@ use Rattle.gms_lex.specs.declared.keyword.Shape.TheVariants.{Set, Parameter, Sca
 use Rattle.gms_lex.specs.declared.keyword.Keyword.{Keyword}
 use Rattle.gms_lex.specs.declared.keyword.Keyword.TheVariants.{Declarer, Table, Other}
 use Rattle.gms_lex.specs.declared.mode.Stage.{Stage}
-use Rattle.gms_lex.specs.declared.mode.Stage.TheVariants.{Fresh, Due, After, Spaced}
+use Rattle.gms_lex.specs.declared.mode.Stage.TheVariants.{Fresh, Expected, After, Spaced}
 use Rattle.gms_lex.specs.declared.mode.Mode.{Mode}
 use Rattle.gms_lex.specs.declared.mode.Mode.TheVariants.{Code, Item, Named, Domain, Bare, Rest, Element, Value, Tail, TableName, TableNamed, TableDomain, TableBare, TableTexted, TableLines}
 use Rattle.gms_lex.specs.Keywords.{keyword_of}
@@ -34,15 +34,15 @@ begun_by None current = current
 
 -- the mode after an element, or after a token that is where an element is expected: outside
 -- parentheses its text or value comes next, within them the list continues
-abbrev pub behind_element : Shape → ℕ → Mode
-behind_element shape depth = if depth == 0 then Tail shape else Element shape depth After
+abbrev pub after_element : Shape → ℕ → Mode
+after_element shape depth = if depth == 0 then Tail shape else Element shape depth After
 
 -- after a token that is no symbol, no line end and no keyword
 abbrev pub after_plain : Mode → Mode
 after_plain (Element shape depth Fresh) = Element shape depth After
-after_plain (Element shape depth Due) = Element shape depth After
-after_plain (Element shape depth After) = behind_element shape depth
-after_plain (Element shape depth Spaced) = behind_element shape depth
+after_plain (Element shape depth Expected) = Element shape depth After
+after_plain (Element shape depth After) = after_element shape depth
+after_plain (Element shape depth Spaced) = after_element shape depth
 after_plain (Value shape) = Tail shape
 after_plain TableName = Code
 after_plain TableTexted = Code
@@ -67,26 +67,26 @@ after_item_symbol shape symbol current = current
 
 -- after a comma of a list
 abbrev pub after_comma : Shape → ℕ → Mode
-after_comma shape depth = if depth == 0 then list_start shape else Element shape depth Due
+after_comma shape depth = if depth == 0 then list_start shape else Element shape depth Expected
 
 -- after a symbol where an element is expected
-abbrev pub after_due_symbol : Shape → ℕ → Sym → Mode
-after_due_symbol shape depth LeftParen = Element shape (depth + 1) Due
-after_due_symbol shape depth RightParen = Element shape (depth - 1) After
-after_due_symbol shape depth Comma = after_comma shape depth
-after_due_symbol shape depth Slash = Rest shape
-after_due_symbol shape depth symbol = Element shape depth Due
+abbrev pub after_expected_symbol : Shape → ℕ → Sym → Mode
+after_expected_symbol shape depth LeftParen = Element shape (depth + 1) Expected
+after_expected_symbol shape depth RightParen = Element shape (depth - 1) After
+after_expected_symbol shape depth Comma = after_comma shape depth
+after_expected_symbol shape depth Slash = Rest shape
+after_expected_symbol shape depth symbol = Element shape depth Expected
 
 -- after a symbol that follows an element: a dot joins the next label, a star makes a range
 abbrev pub after_element_symbol : Shape → ℕ → Sym → Mode
 after_element_symbol shape depth RightParen = Element shape (depth - 1) After
 after_element_symbol shape depth Comma = after_comma shape depth
 after_element_symbol shape depth Slash = Rest shape
-after_element_symbol shape depth Dot = Element shape depth Due
-after_element_symbol shape depth DotDot = Element shape depth Due
-after_element_symbol shape depth Star = Element shape depth Due
-after_element_symbol shape depth Power = Element shape depth Due
-after_element_symbol shape depth symbol = behind_element shape depth
+after_element_symbol shape depth Dot = Element shape depth Expected
+after_element_symbol shape depth DotDot = Element shape depth Expected
+after_element_symbol shape depth Star = Element shape depth Expected
+after_element_symbol shape depth Power = Element shape depth Expected
+after_element_symbol shape depth symbol = after_element shape depth
 
 -- after a closing parenthesis where a text or value has begun
 abbrev pub after_stray_paren : Shape → Mode
@@ -109,8 +109,8 @@ after_name_symbol shape symbol = after_item_symbol shape symbol (Named shape)
 
 -- after a symbol of a domain: it may end
 abbrev pub after_domain_symbol : Sym → Mode → Mode → Mode
-after_domain_symbol RightParen inside behind = behind
-after_domain_symbol symbol inside behind = inside
+after_domain_symbol RightParen inside following = following
+after_domain_symbol symbol inside following = inside
 
 -- after a symbol of a table's name: its domain begins
 abbrev pub after_table_symbol : Sym → Mode
@@ -119,8 +119,8 @@ after_table_symbol symbol = Code
 
 -- after a symbol in a list where an element is expected or has begun
 abbrev pub after_list_symbol : Shape → ℕ → Stage → Sym → Mode
-after_list_symbol shape depth Fresh symbol = after_due_symbol shape depth symbol
-after_list_symbol shape depth Due symbol = after_due_symbol shape depth symbol
+after_list_symbol shape depth Fresh symbol = after_expected_symbol shape depth symbol
+after_list_symbol shape depth Expected symbol = after_expected_symbol shape depth symbol
 after_list_symbol shape depth After symbol = after_element_symbol shape depth symbol
 after_list_symbol shape depth Spaced symbol = after_element_symbol shape depth symbol
 

@@ -12,7 +12,7 @@ use Rattle.gms_lines.specs.TableLines.{table_bytes, table_line}
 use Rattle.gms_lex.specs.declared.keyword.Shape.{Shape}
 use Rattle.gms_lex.specs.declared.keyword.Shape.TheVariants.{Set, Parameter, Scalar, Model}
 use Rattle.gms_lex.specs.declared.mode.Stage.{Stage}
-use Rattle.gms_lex.specs.declared.mode.Stage.TheVariants.{Fresh, Due, After, Spaced}
+use Rattle.gms_lex.specs.declared.mode.Stage.TheVariants.{Fresh, Expected, After, Spaced}
 use Rattle.gms_lex.specs.declared.mode.Mode.{Mode}
 use Rattle.gms_lex.specs.declared.mode.Mode.TheVariants.{Named, Bare, Rest, Element, Value, Tail, TableNamed, TableBare, TableLines}
 use Rattle.gms_lex.specs.declared.mode.LineEnds.{LineEnds}
@@ -27,7 +27,7 @@ element_line_ends depth = if depth == 0 then EndElement else Skipped
 -- what a line end means in a list
 abbrev pub list_line_ends : ℕ → Stage → LineEnds
 list_line_ends depth Fresh = Skipped
-list_line_ends depth Due = element_line_ends depth
+list_line_ends depth Expected = element_line_ends depth
 list_line_ends depth After = element_line_ends depth
 list_line_ends depth Spaced = element_line_ends depth
 
@@ -77,12 +77,12 @@ abbrev pub is_item_mark : ℕ → Bool
 is_item_mark b = b == 47 || (b == 44 || b == 59)
 
 -- after an item's name: its domain, its list, its end, or its text
-abbrev pub behind_name : List ℕ → Read
-behind_name text = if begins (λ b. b == 40 || is_item_mark b) text then symbol text else remark text
+abbrev pub piece_after_name : List ℕ → Read
+piece_after_name text = if begins (λ b. b == 40 || is_item_mark b) text then symbol text else remark text
 
 -- after an item's domain
-abbrev pub behind_domain : List ℕ → Read
-behind_domain text = if begins is_item_mark text then symbol text else remark text
+abbrev pub piece_after_domain : List ℕ → Read
+piece_after_domain text = if begins is_item_mark text then symbol text else remark text
 
 -- a byte that ends an element, or continues it: `/`, `,`, `;`, `)`, `*` and `.`
 abbrev pub is_element_mark : ℕ → Bool
@@ -102,23 +102,23 @@ element_tail Scalar text = remark text
 element_tail Model text = remark text
 
 -- after an element of a list
-abbrev pub behind_label : Shape → ℕ → Stage → List ℕ → Read
-behind_label shape depth stage text =
+abbrev pub piece_after_label : Shape → ℕ → Stage → List ℕ → Read
+piece_after_label shape depth stage text =
     if begins is_element_mark text && not (begins_value_dot shape depth stage text) then symbol text else (if depth == 0 then element_tail shape text else label_token text)
 
 -- the piece in a list, by the stage of its element
 abbrev pub in_list : Shape → ℕ → Stage → List ℕ → Read
 in_list shape depth Fresh text = label_token text
-in_list shape depth Due text = label_token text
-in_list shape depth After text = behind_label shape depth After text
-in_list shape depth Spaced text = behind_label shape depth Spaced text
+in_list shape depth Expected text = label_token text
+in_list shape depth After text = piece_after_label shape depth After text
+in_list shape depth Spaced text = piece_after_label shape depth Spaced text
 
 -- the piece at a byte that is no blank and no line end
 abbrev pub token_read : Mode → List ℕ → Read
-token_read (Named shape) text = behind_name text
-token_read TableNamed text = behind_name text
-token_read (Bare shape) text = behind_domain text
-token_read TableBare text = behind_domain text
+token_read (Named shape) text = piece_after_name text
+token_read TableNamed text = piece_after_name text
+token_read (Bare shape) text = piece_after_domain text
+token_read TableBare text = piece_after_domain text
 token_read (Element shape depth stage) text = in_list shape depth stage text
 token_read (Value shape) text = code_token Label text
 token_read (Tail shape) text = code_token Label text

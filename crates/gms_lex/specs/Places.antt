@@ -13,12 +13,12 @@ place_after at b =
     if b == 10 then record { line = at.line + 1; column = 1 } else record { line = at.line; column = column_after at.column b }
 
 -- the place after these bytes
-abbrev pub place_behind : Place → List ℕ → Place
-place_behind at bytes = fold place_after at bytes
+abbrev pub place_after_bytes : Place → List ℕ → Place
+place_after_bytes at bytes = fold place_after at bytes
 
 -- the place of a byte of a source, or of its end
 abbrev pub place_of_byte : List ℕ → ℕ → Place
-place_of_byte source n = place_behind source_start (take n source)
+place_of_byte source n = place_after_bytes source_start (take n source)
 
 -- one place comes before another: on an earlier line, or before it on the same line
 abbrev pub IsEarlier : Place → Place → Type 0

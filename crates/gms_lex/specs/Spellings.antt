@@ -58,10 +58,10 @@ abbrev pub IsExponentSpelling : List ℕ → Type 0
 IsExponentSpelling [] = Unit {0}
 IsExponentSpelling (b ∷ power) = ((b == 101 || b == 69) ≡ true) × IsPower power
 
--- A number followed by `behind`: digits, a dot that digits may follow, and an exponent, of which
+-- A number followed by `following`: digits, a dot that digits may follow, and an exponent, of which
 -- each may be absent; there is a digit before the exponent. A dot without digits is not followed by
 -- another dot.
-pub record IsNumberSpelling (text behind : List ℕ) : Type 0 where
+pub record IsNumberSpelling (text following : List ℕ) : Type 0 where
   pub whole : List ℕ
   pub point : List ℕ
   pub exponent : List ℕ
@@ -70,4 +70,4 @@ pub record IsNumberSpelling (text behind : List ℕ) : Type 0 where
   pub fraction : IsPoint point
   pub power : IsExponentSpelling exponent
   pub some : (0 < length whole) ⊎ (1 < length point)
-  pub alone : point ≡ 46 ∷ [] → begins_dot (exponent ++ behind) ≡ false
+  pub alone : point ≡ 46 ∷ [] → begins_dot (exponent ++ following) ≡ false

@@ -7,7 +7,7 @@ use crate::fault::{LexFault, LexFaultOrMemory};
 use crate::mode::Mode;
 use crate::mode_change::mode_after;
 use crate::piece::piece_at;
-use crate::place::{SOURCE_START, place_behind, place_of};
+use crate::place::{SOURCE_START, place_after_bytes, place_of};
 use crate::token::Token;
 use gms_labels::Place;
 use gms_lines::{ByteFault, Kind, Piece, code_text};
@@ -77,7 +77,7 @@ fn read_tokens(alloc: Global, source: &[u8], code: &[u8]) -> Result<Reading, All
         let end = start + lexeme.length;
         push_token(&mut tokens, lexeme.piece, start, end, at)?;
         mode = mode_after(mode, lexeme.piece, &code[start..end]);
-        at = place_behind(at, &source[start..end]);
+        at = place_after_bytes(at, &source[start..end]);
         start = end;
     }
     push_token(&mut tokens, Piece::Token(Kind::End), start, start, at)?;

@@ -11,7 +11,7 @@ pub enum Stage {
     /// before.
     Fresh,
     /// A label is expected, after a dot, a star or a parenthesis.
-    Due,
+    Expected,
     /// Directly after a label.
     After,
     /// After a label and a blank.

@@ -1,6 +1,6 @@
 //! The mode after each piece.
 ghost use Rattle.std.specs.Prelude.{◌≡◌, ◌<◌, ◌≤◌, ◌+◌, ◌^◌};
-ghost use Rattle.gms_lex.specs.Modes.{list_start, begun_by, behind_element, after_plain, after_word, after_item_symbol, after_comma, after_due_symbol, after_element_symbol, after_stray_paren, after_tail_symbol, after_name_symbol, after_domain_symbol, after_table_symbol, after_list_symbol, after_symbol, after_break, after_token, after_gap, after_line, after_remark, mode_after};
+ghost use Rattle.gms_lex.specs.Modes.{list_start, begun_by, after_element, after_plain, after_word, after_item_symbol, after_comma, after_expected_symbol, after_element_symbol, after_stray_paren, after_tail_symbol, after_name_symbol, after_domain_symbol, after_table_symbol, after_list_symbol, after_symbol, after_break, after_token, after_gap, after_line, after_remark, mode_after};
 ghost use Rattle.gms_lex.specs.InnerDepths.{depth_of};
 
 use crate::keyword::{Keyword, Shape, keyword_of};
@@ -30,8 +30,8 @@ fn begun_by(keyword: Option<Keyword>, mode: Mode) -> Mode
 }
 
 /// After an element, or something in its place.
-fn behind_element(shape: Shape, depth: u32) -> Mode
-    ensures { result ≡ behind_element shape depth }
+fn after_element(shape: Shape, depth: u32) -> Mode
+    ensures { result ≡ after_element shape depth }
 {
     if depth == 0 {
         Mode::Tail(shape)
@@ -45,10 +45,10 @@ fn after_plain(mode: Mode) -> Mode
     ensures { result ≡ after_plain mode }
 {
     match mode {
-        Mode::Element(shape, depth, Stage::Fresh | Stage::Due) => {
+        Mode::Element(shape, depth, Stage::Fresh | Stage::Expected) => {
             Mode::Element(shape, depth, Stage::After)
         }
-        Mode::Element(shape, depth, Stage::After | Stage::Spaced) => behind_element(shape, depth),
+        Mode::Element(shape, depth, Stage::After | Stage::Spaced) => after_element(shape, depth),
         Mode::Value(shape) => Mode::Tail(shape),
         Mode::TableName | Mode::TableTexted | Mode::TableLines => Mode::Code,
         _ => mode,
@@ -87,21 +87,21 @@ fn after_comma(shape: Shape, depth: u32) -> Mode
     if depth == 0 {
         list_start(shape)
     } else {
-        Mode::Element(shape, depth, Stage::Due)
+        Mode::Element(shape, depth, Stage::Expected)
     }
 }
 
 /// After a symbol where an element is expected.
-fn after_due_symbol(shape: Shape, depth: u32, symbol: Sym) -> Mode
+fn after_expected_symbol(shape: Shape, depth: u32, symbol: Sym) -> Mode
     requires { depth + 1 < 2 ^ 32 }
-    ensures { result ≡ after_due_symbol shape depth symbol }
+    ensures { result ≡ after_expected_symbol shape depth symbol }
 {
     match symbol {
-        Sym::LeftParen => Mode::Element(shape, depth + 1, Stage::Due),
+        Sym::LeftParen => Mode::Element(shape, depth + 1, Stage::Expected),
         Sym::RightParen => Mode::Element(shape, depth.saturating_sub(1), Stage::After),
         Sym::Comma => after_comma(shape, depth),
         Sym::Slash => Mode::Rest(shape),
-        _ => Mode::Element(shape, depth, Stage::Due),
+        _ => Mode::Element(shape, depth, Stage::Expected),
     }
 }
 
@@ -113,8 +113,8 @@ fn after_element_symbol(shape: Shape, depth: u32, symbol: Sym) -> Mode
         Sym::RightParen => Mode::Element(shape, depth.saturating_sub(1), Stage::After),
         Sym::Comma => after_comma(shape, depth),
         Sym::Slash => Mode::Rest(shape),
-        Sym::Dot | Sym::DotDot | Sym::Star | Sym::Power => Mode::Element(shape, depth, Stage::Due),
-        _ => behind_element(shape, depth),
+        Sym::Dot | Sym::DotDot | Sym::Star | Sym::Power => Mode::Element(shape, depth, Stage::Expected),
+        _ => after_element(shape, depth),
     }
 }
 
@@ -151,11 +151,11 @@ fn after_name_symbol(shape: Shape, symbol: Sym) -> Mode
 }
 
 /// After a symbol of a domain: it may end.
-fn after_domain_symbol(symbol: Sym, inside: Mode, behind: Mode) -> Mode
-    ensures { result ≡ after_domain_symbol symbol inside behind }
+fn after_domain_symbol(symbol: Sym, inside: Mode, following: Mode) -> Mode
+    ensures { result ≡ after_domain_symbol symbol inside following }
 {
     match symbol {
-        Sym::RightParen => behind,
+        Sym::RightParen => following,
         _ => inside,
     }
 }
@@ -176,7 +176,7 @@ fn after_list_symbol(shape: Shape, depth: u32, stage: Stage, symbol: Sym) -> Mod
     ensures { result ≡ after_list_symbol shape depth stage symbol }
 {
     match stage {
-        Stage::Fresh | Stage::Due => after_due_symbol(shape, depth, symbol),
+        Stage::Fresh | Stage::Expected => after_expected_symbol(shape, depth, symbol),
         Stage::After | Stage::Spaced => after_element_symbol(shape, depth, symbol),
     }
 }

@@ -3,7 +3,7 @@ ghost use Rattle.std.specs.Prelude.{◌≡◌, ◌≤◌, ◌<◌, length};
 ghost use Rattle.std.specs.List.{prefix_len};
 ghost use Rattle.gms_lines.specs.Lines.{begins, is_blank};
 ghost use Rattle.gms_lines.specs.Shapes.{IsWithinText};
-ghost use Rattle.gms_lex.specs.Pieces.{begins_other, space_length, line_end_length, ends_or_begins, passes, line_end, is_item_mark, behind_name, behind_domain, is_element_mark, begins_value_dot, element_tail, behind_label, in_list, token_read, table_piece_of, table_piece, plain_piece, piece_at};
+ghost use Rattle.gms_lex.specs.Pieces.{begins_other, space_length, line_end_length, ends_or_begins, passes, line_end, is_item_mark, piece_after_name, piece_after_domain, is_element_mark, begins_value_dot, element_tail, piece_after_label, in_list, token_read, table_piece_of, table_piece, plain_piece, piece_at};
 
 use crate::keyword::{Shape, begins_statement};
 use crate::mode::{LineEnds, Mode, Stage, line_ends, passes};
@@ -61,7 +61,7 @@ fn line_end_length(text: &[u8]) -> usize
 }
 
 /// Whether a text ends, or continues with a byte before which a line end ends nothing.
-fn goes_on(ends: LineEnds, text: &[u8]) -> bool
+fn continues(ends: LineEnds, text: &[u8]) -> bool
     ensures { result ≡ ends_or_begins (passes ends) text.now }
 {
     match text.first() {
@@ -78,7 +78,7 @@ fn line_end(ends: LineEnds, text: &[u8]) -> Result<Lexeme, Misread>
         return lexeme(Piece::LineEnd, line_end_length(text));
     }
     let space = space_length(text);
-    if goes_on(ends, &text[space..]) {
+    if continues(ends, &text[space..]) {
         lexeme(Piece::LineEnd, space)
     } else {
         lexeme(Piece::Token(Kind::Break), line_end_length(text))
@@ -93,8 +93,8 @@ fn is_item_mark(byte: u8) -> bool
 }
 
 /// The piece after an item's name.
-fn behind_name(text: &[u8]) -> Result<Lexeme, Misread>
-    ensures { result ≡ behind_name text.now }
+fn piece_after_name(text: &[u8]) -> Result<Lexeme, Misread>
+    ensures { result ≡ piece_after_name text.now }
 {
     if matches!(text, [byte, ..] if *byte == b'(' || is_item_mark(*byte)) {
         read_symbol(text)
@@ -104,8 +104,8 @@ fn behind_name(text: &[u8]) -> Result<Lexeme, Misread>
 }
 
 /// The piece after an item's domain.
-fn behind_domain(text: &[u8]) -> Result<Lexeme, Misread>
-    ensures { result ≡ behind_domain text.now }
+fn piece_after_domain(text: &[u8]) -> Result<Lexeme, Misread>
+    ensures { result ≡ piece_after_domain text.now }
 {
     if matches!(text, [byte, ..] if is_item_mark(*byte)) {
         read_symbol(text)
@@ -150,8 +150,8 @@ fn element_tail(shape: Shape, text: &[u8]) -> Result<Lexeme, Misread>
 }
 
 /// The piece after an element of a list.
-fn behind_label(shape: Shape, depth: u32, stage: Stage, text: &[u8]) -> Result<Lexeme, Misread>
-    ensures { result ≡ behind_label shape depth stage text.now }
+fn piece_after_label(shape: Shape, depth: u32, stage: Stage, text: &[u8]) -> Result<Lexeme, Misread>
+    ensures { result ≡ piece_after_label shape depth stage text.now }
 {
     if begins_element_mark(text) && !begins_value_dot(shape, depth, stage, text) {
         read_symbol(text)
@@ -167,8 +167,8 @@ fn in_list(shape: Shape, depth: u32, stage: Stage, text: &[u8]) -> Result<Lexeme
     ensures { result ≡ in_list shape depth stage text.now }
 {
     match stage {
-        Stage::Fresh | Stage::Due => label_token(text),
-        Stage::After | Stage::Spaced => behind_label(shape, depth, stage, text),
+        Stage::Fresh | Stage::Expected => label_token(text),
+        Stage::After | Stage::Spaced => piece_after_label(shape, depth, stage, text),
     }
 }
 
@@ -177,8 +177,8 @@ fn token_at(mode: Mode, text: &[u8]) -> Result<Lexeme, Misread>
     ensures { result ≡ token_read mode text.now }
 {
     match mode {
-        Mode::Named(_) | Mode::TableNamed => behind_name(text),
-        Mode::Bare(_) | Mode::TableBare => behind_domain(text),
+        Mode::Named(_) | Mode::TableNamed => piece_after_name(text),
+        Mode::Bare(_) | Mode::TableBare => piece_after_domain(text),
         Mode::Element(shape, depth, stage) => in_list(shape, depth, stage, text),
         Mode::Value(_) | Mode::Tail(_) => code_token(Kind::Label, text),
         _ => code_token(Kind::Text, text),

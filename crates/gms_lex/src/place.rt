@@ -1,6 +1,6 @@
 //! Places after bytes.
 ghost use Rattle.std.specs.Prelude.{◌≡◌, ◌<◌, ◌≤◌, ◌+◌, ◌*◌, ◌^◌, length};
-ghost use Rattle.gms_lex.specs.Places.{place_after, place_behind, place_of_byte};
+ghost use Rattle.gms_lex.specs.Places.{place_after, place_after_bytes, place_of_byte};
 ghost use Rattle.gms_lex.specs.Tokens.{most_source_bytes};
 
 use gms_labels::Place;
@@ -28,10 +28,10 @@ fn place_after(at: Place, byte: u8) -> Place
 }
 
 /// The place after bytes.
-pub(crate) fn place_behind(mut at: Place, bytes: &[u8]) -> Place
+pub(crate) fn place_after_bytes(mut at: Place, bytes: &[u8]) -> Place
     requires line { at.line + length bytes.now < 2 ^ 32 }
     requires column { at.column + 8 * length bytes.now < 2 ^ 32 }
-    ensures value { result ≡ place_behind at bytes.now }
+    ensures value { result ≡ place_after_bytes at bytes.now }
     ensures line { result.line ≤ at.line + length bytes.now }
     ensures column { result.column ≤ at.column + 8 * length bytes.now }
 {
@@ -47,5 +47,5 @@ pub(crate) fn place_of(source: &[u8], count: usize) -> Place
     requires within { count ≤ length source.now }
     ensures { result ≡ place_of_byte source.now count }
 {
-    place_behind(SOURCE_START, &source[..count])
+    place_after_bytes(SOURCE_START, &source[..count])
 }

@@ -13,7 +13,7 @@ use Rattle.gms_lines.specs.declared.fault.LexError.TheVariants.{BadByte, OpenQuo
 use Rattle.gms_lines.specs.declared.fault.ByteFault.{ByteFault}
 use Rattle.gms_lines.specs.Errors.{lex_error_code, IsFirstFault}
 use Rattle.gms_lines.specs.Lines.{before, is_line_end, content, class_of, closes, opens, inside_after, blanked, read_as, code_of, lines, put_first}
-use Rattle.gms_lines.specs.LineFaults.{longest_line, is_bad, is_unknown_control, IsLineError, StandsInLines, IsLineFault}
+use Rattle.gms_lines.specs.LineFaults.{longest_line, is_bad, is_unknown_control, IsLineError, IsInLines, IsLineFault}
 use Rattle.gms_lines.specs.InnerLineSearch.{fault_at, good_length, head_error, first_of_line, first_in_line, first_in_lines}
 use Rattle.gms_lines.proofs.LineLemmas.{true_or_false, below_or, before-le-length}
 
@@ -221,13 +221,13 @@ error_within inside line others k OpenQuote some h = absurd h
 error_within inside line others k LongLabel some h = absurd h
 
 -- an error of lines is at their first byte or after it
-stands_behind : (start : ℕ) (inside : Bool) (ls : List (List ℕ)) (f : ByteFault) → StandsInLines start inside ls f → start ≤ f.at
+stands_behind : (start : ℕ) (inside : Bool) (ls : List (List ℕ)) (f : ByteFault) → IsInLines start inside ls f → start ≤ f.at
 stands_behind start inside [] f h = absurd h
 stands_behind start inside (line ∷ others) f (inl (k, at, h)) = omega arith
 stands_behind start inside (line ∷ others) f (inr h) = omega (arith, stands_behind (start + length line) (inside_after inside line) others f h)
 
 -- the first error of a line, or else of those after it, is the first of all
-first_joined : (start : ℕ) (inside : Bool) (line : List ℕ) (others : List (List ℕ)) (a b : Option ByteFault) → 0 < length line → IsFirstFault (StandsInLine start inside line others) a → IsFirstFault (StandsInLines (start + length line) (inside_after inside line) others) b → IsFirstFault (StandsInLines start inside (line ∷ others)) (option_or a b)
+first_joined : (start : ℕ) (inside : Bool) (line : List ℕ) (others : List (List ℕ)) (a b : Option ByteFault) → 0 < length line → IsFirstFault (StandsInLine start inside line others) a → IsFirstFault (IsInLines (start + length line) (inside_after inside line) others) b → IsFirstFault (IsInLines start inside (line ∷ others)) (option_or a b)
 first_joined start inside line others None None some p q = λ f h. elim h [ inl g ↦ p f g | inr g ↦ q f g ]
 first_joined start inside line others None (Some y) some p q = (inr q.0, λ f h. elim h [ inl g ↦ absurd (p f g) | inr g ↦ q.1 f g ])
 first_joined start inside line others (Some x) b some p q = (
@@ -239,7 +239,7 @@ first_joined start inside line others (Some x) b some p q = (
 )
 
 -- the first error of lines
-first_in_lines-first : (start : ℕ) (inside : Bool) (ls : List (List ℕ)) → AreSome ls → IsFirstFault (StandsInLines start inside ls) (first_in_lines start inside ls)
+first_in_lines-first : (start : ℕ) (inside : Bool) (ls : List (List ℕ)) → AreSome ls → IsFirstFault (IsInLines start inside ls) (first_in_lines start inside ls)
 first_in_lines-first start inside [] some = λ f h. h
 first_in_lines-first start inside (line ∷ others) some =
     first_joined start inside line others _ _ some.0 (first_in_line-first start inside line others) (first_in_lines-first (start + length line) (inside_after inside line) others some.1)
@@ -291,7 +291,7 @@ total-lines (b ∷ text) = elim (true_or_false (b == 10)) [
   | inr h ↦ ap (λ v. total (if v then (b ∷ []) ∷ lines text else put_first b (lines text))) h ∙ omega (arith, total-put_first b (lines text), total-lines text)
 ]
 
-stands_within : (start : ℕ) (inside : Bool) (ls : List (List ℕ)) (f : ByteFault) → AreSome ls → StandsInLines start inside ls f → f.at < start + total ls
+stands_within : (start : ℕ) (inside : Bool) (ls : List (List ℕ)) (f : ByteFault) → AreSome ls → IsInLines start inside ls f → f.at < start + total ls
 stands_within start inside [] f some h = absurd h
 stands_within start inside (line ∷ others) f some (inl (k, at, h)) = omega (arith, error_within inside line others k f.error some.0 h)
 stands_within start inside (line ∷ others) f some (inr h) = omega (arith, stands_within (start + length line) (inside_after inside line) others f some.1 h)

@@ -21,10 +21,10 @@ use Rattle.gms_lines.specs.Numbers.{begins_number, begins_dot, digit_count, poin
 use Rattle.gms_lines.specs.Symbols.{written_symbol, symbols, begins_with_word, longest_symbol}
 use Rattle.gms_lines.specs.Shapes.{Read, lexeme, misread, longest_label, bounded, symbol_read, symbol, quoted_length, is_closed, is_label, quoted, code_token, label_token, remark, IsWithinText}
 use Rattle.gms_lines.specs.declared.split_fields.Separator.TheVariants.{Semicolon}
-use Rattle.gms_lines.specs.declared.split_fields.Stand.TheVariants.{First}
+use Rattle.gms_lines.specs.declared.split_fields.SplitState.TheVariants.{First}
 use Rattle.gms_lines.specs.SplitFields.{is_separator}
 use Rattle.gms_lines.specs.TableLines.{table_bytes, table_line}
-use Rattle.gms_lines.proofs.FieldLemmas.{stretch_length-le}
+use Rattle.gms_lines.proofs.FieldLemmas.{field_length-le}
 
 -- a choice is within the text where both sides are
 pub if_within : (text : List ℕ) (b : Bool) (x y : Read) → (b ≡ true → IsWithinText text x) → (b ≡ false → IsWithinText text y) → IsWithinText text (if b then x else y)
@@ -198,4 +198,4 @@ table_line_within n text some le = if_within text (nat_lt (prefix_len is_ascii (
 
 -- a line of a table is a part of the line
 pub table_bytes_le : (line : List ℕ) → table_bytes line ≤ length line
-table_bytes_le line = stretch_length-le (is_separator Semicolon) First line
+table_bytes_le line = field_length-le (is_separator Semicolon) First line

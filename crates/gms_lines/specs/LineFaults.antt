@@ -43,11 +43,11 @@ IsLineError inside line others k LongLabel = ⊥
 
 -- The fault is in these lines, of which the first begins at byte `start`, inside a block of comment
 -- or outside.
-abbrev pub StandsInLines : ℕ → Bool → List (List ℕ) → ByteFault → Type 0
-StandsInLines start inside [] fault = ⊥
-StandsInLines start inside (line ∷ others) fault =
-    ((k : ℕ) × (fault.at ≡ start + k) × IsLineError inside line others k fault.error) ⊎ StandsInLines (start + length line) (inside_after inside line) others fault
+abbrev pub IsInLines : ℕ → Bool → List (List ℕ) → ByteFault → Type 0
+IsInLines start inside [] fault = ⊥
+IsInLines start inside (line ∷ others) fault =
+    ((k : ℕ) × (fault.at ≡ start + k) × IsLineError inside line others k fault.error) ⊎ IsInLines (start + length line) (inside_after inside line) others fault
 
 -- the fault is in a line of the source
 abbrev pub IsLineFault : List ℕ → ByteFault → Type 0
-IsLineFault source fault = StandsInLines 0 false (lines source) fault
+IsLineFault source fault = IsInLines 0 false (lines source) fault

@@ -6,8 +6,8 @@ use Rattle.gms_lines.specs.Lines.{is_blank}
 use Rattle.gms_lines.specs.Bytes.{is_quote}
 use Rattle.gms_lines.specs.declared.split_fields.Separator.{Separator}
 use Rattle.gms_lines.specs.declared.split_fields.Separator.TheVariants.{Semicolon, Blank, Dot}
-use Rattle.gms_lines.specs.declared.split_fields.Stand.{Stand}
-use Rattle.gms_lines.specs.declared.split_fields.Stand.TheVariants.{First, Marked, Inner}
+use Rattle.gms_lines.specs.declared.split_fields.SplitState.{SplitState}
+use Rattle.gms_lines.specs.declared.split_fields.SplitState.TheVariants.{First, Marked, Inner}
 
 -- a dot
 abbrev pub is_dot : ℕ → Bool
@@ -21,27 +21,27 @@ is_separator Dot b = is_dot b
 
 -- the state after a byte that is no quotation mark of a label: a label may begin after a blank and
 -- after a dot
-abbrev pub behind_plain : ℕ → Stand
-behind_plain b = if is_blank b || is_dot b then First else Inner
+abbrev pub state_after_plain : ℕ → SplitState
+state_after_plain b = if is_blank b || is_dot b then First else Inner
 
 -- The state after a byte, which the rest of its text follows. A quotation mark begins a label where
 -- one may begin, and only if the mark occurs again.
-abbrev pub state_after_byte : Stand → ℕ → List ℕ → Stand
-state_after_byte First b rest = if is_quote b && list_any (λ c. c == b) rest then Marked b else behind_plain b
-state_after_byte Inner b rest = behind_plain b
+abbrev pub state_after_byte : SplitState → ℕ → List ℕ → SplitState
+state_after_byte First b rest = if is_quote b && list_any (λ c. c == b) rest then Marked b else state_after_plain b
+state_after_byte Inner b rest = state_after_plain b
 state_after_byte (Marked mark) b rest = if b == mark then Inner else Marked mark
 
 -- a byte splits a text: it passes the test, and is outside labels in quotation marks
-abbrev pub parts : (ℕ → Bool) → Stand → ℕ → Bool
+abbrev pub parts : (ℕ → Bool) → SplitState → ℕ → Bool
 parts test First b = test b
 parts test Inner b = test b
 parts test (Marked mark) b = false
 
 -- how many bytes come before the first that splits the text, beginning in this state
-abbrev pub stretch_length : (ℕ → Bool) → Stand → List ℕ → ℕ
-stretch_length test stand [] = 0
-stretch_length test stand (b ∷ rest) = if parts test stand b then 0 else suc (stretch_length test (state_after_byte stand b rest) rest)
+abbrev pub field_length : (ℕ → Bool) → SplitState → List ℕ → ℕ
+field_length test split_state [] = 0
+field_length test split_state (b ∷ rest) = if parts test split_state b then 0 else suc (field_length test (state_after_byte split_state b rest) rest)
 
 -- how many bytes come before the first that splits the text, or all
-abbrev pub stretch_bytes : (ℕ → Bool) → List ℕ → ℕ
-stretch_bytes test text = stretch_length test First text
+abbrev pub field_bytes : (ℕ → Bool) → List ℕ → ℕ
+field_bytes test text = field_length test First text

@@ -41,7 +41,7 @@ symbols =
 
 -- a text begins with these bytes, letter case ignored
 abbrev pub begins_with_word : List ℕ → List ℕ → Bool
-begins_with_word text front = nat_le (length front) (length text) && str_eq_ignore_ascii_case (take (length front) text) front
+begins_with_word text prefix = nat_le (length prefix) (length text) && str_eq_ignore_ascii_case (take (length prefix) text) prefix
 
 -- the longest symbol with which a text begins, and how many bytes it takes
 unfoldable pub longest_symbol : List ℕ → Option (ℕ × Sym)

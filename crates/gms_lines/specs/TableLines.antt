@@ -6,13 +6,13 @@ use Rattle.gms_lines.specs.declared.fault.LexError.TheVariants.{BadByte}
 use Rattle.gms_lines.specs.declared.kind.Kind.TheVariants.{TableLine}
 use Rattle.gms_lines.specs.declared.lexeme.Piece.TheVariants.{Token}
 use Rattle.gms_lines.specs.declared.split_fields.Separator.TheVariants.{Semicolon}
-use Rattle.gms_lines.specs.SplitFields.{is_separator, stretch_bytes}
+use Rattle.gms_lines.specs.SplitFields.{is_separator, field_bytes}
 use Rattle.gms_lines.specs.Bytes.{is_ascii}
 use Rattle.gms_lines.specs.Shapes.{Read, lexeme, misread}
 
 -- how many bytes of a line belong to the table: up to a `;` outside quoted labels, or all
 abbrev pub table_bytes : List ℕ → ℕ
-table_bytes line = stretch_bytes (is_separator Semicolon) line
+table_bytes line = field_bytes (is_separator Semicolon) line
 
 -- `length` bytes of a line of a table, of which the first `plain` are ASCII
 abbrev pub table_line_of : ℕ → ℕ → Read

@@ -22,5 +22,5 @@ pub use kind::{Kind, Sym};
 pub use lexeme::{Lexeme, Misread, Piece};
 pub use line::{content_length, is_among, is_blank, is_line_end};
 pub use shape::{code_token, label_length, label_token, read_symbol, remark};
-pub use split_fields::{Separator, stretch_length};
+pub use split_fields::{Separator, field_length};
 pub use table::{table_bytes, table_line};

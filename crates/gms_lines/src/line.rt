@@ -140,8 +140,8 @@ fn word_length(content: &[u8]) -> usize
 pub(crate) fn closes(line: &[u8]) -> bool
     ensures { result ≡ closes line.now }
 {
-    let front = if line.len() < 8 { line } else { &line[..8] };
-    front.eq_ignore_ascii_case(b"$offtext")
+    let prefix = if line.len() < 8 { line } else { &line[..8] };
+    prefix.eq_ignore_ascii_case(b"$offtext")
 }
 
 /// Whether a line begins a block of comment.

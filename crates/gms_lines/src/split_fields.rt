@@ -3,7 +3,7 @@
 ghost use Rattle.std.specs.Prelude.{◌≡◌, ◌≤◌, ◌&&◌, ◌==◌, length};
 ghost use Rattle.std.specs.List.{list_any};
 ghost use Rattle.gms_lines.specs.Bytes.{is_quote};
-ghost use Rattle.gms_lines.specs.SplitFields.{is_separator, state_after_byte, parts, stretch_bytes};
+ghost use Rattle.gms_lines.specs.SplitFields.{is_separator, state_after_byte, parts, field_bytes};
 
 use crate::line::is_blank;
 
@@ -20,7 +20,7 @@ pub enum Separator {
 
 /// What a byte of a text may be.
 #[derive(Clone, Copy)]
-enum Stand {
+enum SplitState {
     /// The first of a label.
     First,
     /// One of a label in quotation marks, which the next of these marks ends.
@@ -42,12 +42,12 @@ impl Separator {
     }
 
     /// Whether the byte, read in this state, splits a text.
-    fn parts(self, stand: Stand, byte: u8) -> bool
-        ensures { result ≡ parts (is_separator self) stand byte }
+    fn parts(self, split_state: SplitState, byte: u8) -> bool
+        ensures { result ≡ parts (is_separator self) split_state byte }
     {
-        match stand {
-            Stand::First | Stand::Inner => self.has(byte),
-            Stand::Marked(_) => false,
+        match split_state {
+            SplitState::First | SplitState::Inner => self.has(byte),
+            SplitState::Marked(_) => false,
         }
     }
 }
@@ -59,36 +59,36 @@ fn opens(byte: u8, rest: &[u8]) -> bool
     (byte == b'"' || byte == b'\'') && rest.contains(&byte)
 }
 
-impl Stand {
+impl SplitState {
     /// The state after a byte, which the rest of the text follows.
-    fn behind(self, byte: u8, rest: &[u8]) -> Stand
+    fn following(self, byte: u8, rest: &[u8]) -> SplitState
         ensures { result ≡ state_after_byte self byte rest.now }
     {
         match self {
-            Stand::First if opens(byte, rest) => Stand::Marked(byte),
-            Stand::First | Stand::Inner => {
+            SplitState::First if opens(byte, rest) => SplitState::Marked(byte),
+            SplitState::First | SplitState::Inner => {
                 if is_blank(byte) || byte == b'.' {
-                    Stand::First
+                    SplitState::First
                 } else {
-                    Stand::Inner
+                    SplitState::Inner
                 }
             }
-            Stand::Marked(mark) if byte == mark => Stand::Inner,
-            Stand::Marked(mark) => Stand::Marked(mark),
+            SplitState::Marked(mark) if byte == mark => SplitState::Inner,
+            SplitState::Marked(mark) => SplitState::Marked(mark),
         }
     }
 }
 
 /// How many bytes of a text come before the first that splits it, or all. A label in quotation
 /// marks is not split if it begins the text or follows a blank or a dot.
-pub fn stretch_length(separator: Separator, text: &[u8]) -> usize
-    ensures value { result ≡ stretch_bytes (is_separator separator) text.now }
+pub fn field_length(separator: Separator, text: &[u8]) -> usize
+    ensures value { result ≡ field_bytes (is_separator separator) text.now }
     ensures within { result ≤ length text.now }
 {
-    let mut stand = Stand::First;
+    let mut split_state = SplitState::First;
     let mut count = 0;
-    while count < text.len() && !separator.parts(stand, text[count]) {
-        stand = stand.behind(text[count], &text[count + 1..]);
+    while count < text.len() && !separator.parts(split_state, text[count]) {
+        split_state = split_state.following(text[count], &text[count + 1..]);
         count += 1;
     }
     count

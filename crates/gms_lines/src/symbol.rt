@@ -33,10 +33,10 @@ const SYMBOLS: [Sym; 24] = [
 ];
 
 /// Whether a text begins with these bytes, letter case ignored.
-fn begins_with(text: &[u8], front: &[u8]) -> bool
-    ensures { result ≡ begins_with_word text.now front.now }
+fn begins_with(text: &[u8], prefix: &[u8]) -> bool
+    ensures { result ≡ begins_with_word text.now prefix.now }
 {
-    front.len() <= text.len() && text[..front.len()].eq_ignore_ascii_case(front)
+    prefix.len() <= text.len() && text[..prefix.len()].eq_ignore_ascii_case(prefix)
 }
 
 /// The first of the symbols with which a text begins, and how many bytes it takes.

@@ -6,14 +6,14 @@ use crate::fault::LexError;
 use crate::kind::Kind;
 use crate::lexeme::{Lexeme, Misread, Piece};
 use crate::shape::plain_length;
-use crate::split_fields::{Separator, stretch_length};
+use crate::split_fields::{Separator, field_length};
 
 /// How many bytes of a line belong to the table: up to a `;` outside quoted labels, or all.
 pub fn table_bytes(line: &[u8]) -> usize
     ensures value { result ≡ table_bytes line.now }
     ensures within { result ≤ length line.now }
 {
-    stretch_length(Separator::Semicolon, line)
+    field_length(Separator::Semicolon, line)
 }
 
 /// The token of `bytes` bytes of a table's line. `BadByte` at the first byte above 127.

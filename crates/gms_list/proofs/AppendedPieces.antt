@@ -9,23 +9,23 @@ use Rattle.gms_fmt.proofs.Appending.{failed, begins_first, begins_second, append
 
 -- a text is an old one followed by a prefix of a whole, of which this remains
 pub record Walked (old whole now rest : List ℕ) : Type 0 where
-  pub front : List ℕ
-  pub now_is : now ≡ old ++ front
-  pub whole_is : front ++ rest ≡ whole
+  pub prefix : List ℕ
+  pub now_is : now ≡ old ++ prefix
+  pub whole_is : prefix ++ rest ≡ whole
 
 -- nothing of the whole was appended yet
-pub walk : {old whole : List ℕ} (text : List ℕ) → text ≡ whole → Walked old whole old text
-walk {old} {whole} text e = record { front = []; now_is = sym (append-nil old); whole_is = e }
+pub traversal : {old whole : List ℕ} (text : List ℕ) → text ≡ whole → Walked old whole old text
+traversal {old} {whole} text e = record { prefix = []; now_is = sym (append-nil old); whole_is = e }
 
 -- the next piece was appended
 pub step : {old whole now new : List ℕ} (t rest : List ℕ) → Walked old whole now (t ++ rest) → new ≡ now ++ t → Walked old whole new rest
 step {old} {whole} {now} {new} t rest w e =
-    record { front = w.front ++ t; now_is = e ∙ ap (λ x. x ++ t) w.now_is ∙ append_assoc old w.front t; whole_is = append_assoc w.front t rest ∙ w.whole_is }
+    record { prefix = w.prefix ++ t; now_is = e ∙ ap (λ x. x ++ t) w.now_is ∙ append_assoc old w.prefix t; whole_is = append_assoc w.prefix t rest ∙ w.whole_is }
 
 -- a prefix of the next piece gives a prefix of the whole
 pub front_of_whole : {old whole now new : List ℕ} (t rest : List ℕ) → Walked old whole now (t ++ rest) → IsExtendedByPrefix now t new → IsExtendedByPrefix old whole new
 front_of_whole {old} {whole} {now} {new} t rest w b =
-    subst (λ x. IsExtendedByPrefix old x new) w.whole_is (begins_second old now new w.front (t ++ rest) w.now_is (begins_first now new t rest b))
+    subst (λ x. IsExtendedByPrefix old x new) w.whole_is (begins_second old now new w.prefix (t ++ rest) w.now_is (begins_first now new t rest b))
 
 -- the next piece failed
 pub broke : {A E : Type 0} {old whole now new : List ℕ} (result : Result A E) → IsErr result → (t rest : List ℕ) → Walked old whole now (t ++ rest) → IsExtendedByPrefix now t new → Appends result old new whole
@@ -34,16 +34,16 @@ broke {A} {E} {old} {whole} {now} {new} result is t rest w b = failed old new wh
 -- a call failed that appends nothing
 pub stop : {A E : Type 0} {old whole now rest : List ℕ} (result : Result A E) → IsErr result → Walked old whole now rest → Appends result old now whole
 stop {A} {E} {old} {whole} {now} {rest} result is w =
-    failed old now whole result is (w.front, rest, sym w.whole_is, w.now_is)
+    failed old now whole result is (w.prefix, rest, sym w.whole_is, w.now_is)
 
 -- the last piece was appended, or a prefix of it
 pub last : {A E : Type 0} {old whole now : List ℕ} (new t : List ℕ) (result : Result A E) → Walked old whole now t → Appends result now new t → Appends result old new whole
 last {A} {E} {old} {whole} {now} new t result w h =
-    subst (Appends result old new) w.whole_is (appended old now new w.front t result w.now_is h)
+    subst (Appends result old new) w.whole_is (appended old now new w.prefix t result w.now_is h)
 
 -- nothing is left
 pub all : {old whole now : List ℕ} → Walked old whole now [] → now ≡ old ++ whole
-all {old} {whole} {now} w = w.now_is ∙ ap (λ x. old ++ x) (sym (append-nil w.front) ∙ w.whole_is)
+all {old} {whole} {now} w = w.now_is ∙ ap (λ x. old ++ x) (sym (append-nil w.prefix) ∙ w.whole_is)
 
 -- what remains, written in another way
 pub rest_is : {old whole now rest : List ℕ} (text : List ℕ) → rest ≡ text → Walked old whole now rest → Walked old whole now text

@@ -56,9 +56,9 @@ fixed_without d n e h =
     let none : d ≡ 0 = grind (arith, nat_tests) in
     record {
       before = decimal (n / 10 ^ d);
-      behind = [];
+      following = [];
       before_is = numeral_is (n / 10 ^ d) (let q = div-le_self n (10 ^ d) in omega (arith, q));
-      behind_digits = tt;
+      after_digits = tt;
       behind_places = sym none;
       behind_spells = sym (ap (λ k. n % 10 ^ k) none ∙ (let l = mod-lt n {m = 1} (omega arith) in omega (arith, l)));
       text_is = ap (λ t. decimal (n / 10 ^ d) ++ t) (sym (tail_of d (in_places d (n % 10 ^ d)) true e));
@@ -70,9 +70,9 @@ fixed_with d n e h =
     let p = in_places_are d (n % 10 ^ d) some (mod-lt n {m = 10 ^ d} (tens_above d)) (let q = mod-le n (10 ^ d) in omega (arith, q)) in
     record {
       before = decimal (n / 10 ^ d);
-      behind = in_places d (n % 10 ^ d);
+      following = in_places d (n % 10 ^ d);
       before_is = numeral_is (n / 10 ^ d) (let q = div-le_self n (10 ^ d) in omega (arith, q));
-      behind_digits = p.digits;
+      after_digits = p.digits;
       behind_places = p.places;
       behind_spells = p.spells;
       text_is = ap (λ t. decimal (n / 10 ^ d) ++ t) (sym (tail_of d (in_places d (n % 10 ^ d)) false e) ∙ point_behind (in_places d (n % 10 ^ d)) (let l = p.places in omega (arith, l)));

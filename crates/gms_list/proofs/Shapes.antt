@@ -38,8 +38,8 @@ pub member_line : (made tuple a : List ℕ) → made ≡ codes "  " ++ (tuple ++
 member_line made tuple a e f = rw (e, f) (simp append_assoc)
 
 -- a word, a name and the text after it
-pub head_of : (made word text behind a : List ℕ) → made ≡ word ++ (text ++ behind) → text ≡ a → made ≡ word ++ a ++ behind
-head_of made word text behind a e f = rw (e, f) (simp append_assoc)
+pub head_of : (made word text following a : List ℕ) → made ≡ word ++ (text ++ following) → text ≡ a → made ≡ word ++ a ++ following
+head_of made word text following a e f = rw (e, f) (simp append_assoc)
 
 -- a term of a row
 pub term : (made sign number column a b c : List ℕ) → made ≡ sign ++ (number ++ (codes "*" ++ column)) → sign ≡ a → number ≡ b → column ≡ c → made ≡ a ++ b ++ codes "*" ++ c
@@ -159,8 +159,8 @@ pub count_line : (made : List ℕ) (n : ℕ) → made ≡ codes " count " ++ (de
 count_line made n e = rw e (simp append_assoc)
 
 -- a word, a name and the text after it in the line, and the text after the line
-pub headed_line : (word text behind rest : List ℕ) → (word ++ text ++ (behind ++ codes "\n")) ++ rest ≡ line_of (word ++ text ++ behind) ++ rest
-headed_line word text behind rest = simp append_assoc
+pub headed_line : (word text following rest : List ℕ) → (word ++ text ++ (following ++ codes "\n")) ++ rest ≡ line_of (word ++ text ++ following) ++ rest
+headed_line word text following rest = simp append_assoc
 
 -- a line of a solution, from equal numbers and an equal mark
 pub point_same : (names labels : List (List ℕ)) (width : ℕ) (key : Key) (lower a : Option Number) (level b : Number) (upper d : Option Number) (marginal e : Number) (mark m : List ℕ) →

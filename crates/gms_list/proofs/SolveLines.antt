@@ -18,7 +18,7 @@ use Rattle.gms_list.specs.Amounts.{line_of}
 use Rattle.gms_list.specs.SolveText.{Solution, amount, head_text, rows_listing, columns_listing, solver_status_text, model_status_text, summary_text, solution_text, solution_of, proof_text, solve_text}
 use Rattle.gms_list.specs.InnerSolves.{solution_in, solved_in, status_lines}
 use Rattle.gms_list.proofs.Shapes.{statuses, summary_lines}
-use Rattle.gms_list.proofs.AppendedPieces.{Walked, walk}
+use Rattle.gms_list.proofs.AppendedPieces.{Walked, traversal}
 
 -- the numbers of an end count as it does
 status-numbers : {F : Type 0} (value : F → Number) (end : End F) → solve_status (end_numbers value end) ≡ solve_status end
@@ -104,7 +104,7 @@ pub solve_begun : {F : Type 0} (names labels : List (List ℕ)) (limit : ℕ) (v
     ++ ((if s.settings.solprint then solution_text names labels limit (lp_numbers value s.lp.now) s.equations.now (solution_of s.lp.now.objective (end_numbers value answer.end)) else [])
     ++ proof_text names labels limit (lp_numbers value s.lp.now) (length answer.pivots) (end_numbers value answer.end))))))
 solve_begun names labels limit value place s answer old =
-    walk _
+    traversal _
     (six (head_text names labels limit (solved_in value place s)) (rows_listing names labels limit (lp_numbers value s.lp.now) s.settings.limrow s.equations.now) (columns_listing names labels limit (lp_numbers value s.lp.now) s.settings.limcol)
     (summary_text (solved_in value place s) (answer_numbers value answer))
     (if s.settings.solprint then solution_text names labels limit (lp_numbers value s.lp.now) s.equations.now (solution_of s.lp.now.objective (end_numbers value answer.end)) else [])

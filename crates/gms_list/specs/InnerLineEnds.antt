@@ -4,6 +4,6 @@ use Rattle.gms_lines.specs.Lines.{begins}
 
 -- the text after the line end with which a text begins: a line feed, or a carriage return and a
 -- line feed; nothing if it begins with no line end
-abbrev pub behind_end : List ℕ → List ℕ
-behind_end [] = []
-behind_end (b ∷ t) = if b == 10 then t else (if b == 13 && begins (λ c. c == 10) t then drop 1 t else [])
+abbrev pub text_after_end : List ℕ → List ℕ
+text_after_end [] = []
+text_after_end (b ∷ t) = if b == 10 then t else (if b == 13 && begins (λ c. c == 10) t then drop 1 t else [])

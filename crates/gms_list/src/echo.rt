@@ -3,31 +3,31 @@ ghost use Rattle.std.specs.Prelude.{◌≡◌, ◌∷◌, ◌<◌, length, take,
 ghost use Rattle.gms_lines.specs.Lines.{lines, content, before, is_line_end};
 ghost use Rattle.gms_fmt.specs.Columns.{Appends};
 ghost use Rattle.gms_list.specs.ListingText.{echo_text, numbered_line};
-ghost use Rattle.gms_list.specs.InnerLineEnds.{behind_end};
+ghost use Rattle.gms_list.specs.InnerLineEnds.{text_after_end};
 
 use crate::listing::Listing;
 use gms_lines::content_length;
 use std::alloc::{AllocError, Global};
 
 /// The text after the line end with which it begins.
-fn behind_end(text: &[u8]) -> &[u8]
-    ensures { result.now ≡ behind_end text.now }
+fn text_after_end(text: &[u8]) -> &[u8]
+    ensures { result.now ≡ text_after_end text.now }
 {
     match text {
-        [b'\r', b'\n', behind @ ..] => behind,
-        [b'\n', behind @ ..] => behind,
+        [b'\r', b'\n', following @ ..] => following,
+        [b'\n', following @ ..] => following,
         _ => &[],
     }
 }
 
 /// The text after its first line, which has `count` bytes before its line end.
-fn behind_line(text: &[u8], count: usize) -> &[u8]
+fn text_after_line(text: &[u8], count: usize) -> &[u8]
     requires some { 0 < length text.now }
     requires end { count ≡ before is_line_end text.now }
     ensures shorter { length result.now < length text.now }
     ensures lines { map content (lines text.now) ≡ take count text.now ∷ map content (lines result.now) }
 {
-    behind_end(&text[count..])
+    text_after_end(&text[count..])
 }
 
 impl Listing {
@@ -54,7 +54,7 @@ impl Listing {
             }
             let length = content_length(rest);
             self.push_line(alloc, number, &rest[..length])?;
-            rest = behind_line(rest, length);
+            rest = text_after_line(rest, length);
         }
         Ok(())
     }

@@ -116,9 +116,9 @@ impl Listing {
         p: &Program<F>,
         word: &str,
         name: u32,
-        behind: &str,
+        following: &str,
     ) -> Result<(), AllocError>
-        ensures { Appends result self.old self.new (word.now ++ label_in_table p.now.names name ++ behind.now) }
+        ensures { Appends result self.old self.new (word.now ++ label_in_table p.now.names name ++ following.now) }
     {
         let text = text_of(&p.names, name);
         let line = format!(in alloc; "{word}{text}{behind}")?;

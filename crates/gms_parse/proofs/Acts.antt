@@ -64,21 +64,21 @@ is_worded = is_terminal_among
 unnamed : (w : ReaderState) (kind : Terminal) → Nameless w → is_name w kind ≡ false
 unnamed w kind u = and_second (is_terminal_among (Name ∷ Suffix ∷ []) kind) _ (ap not u)
 
-module _ (reader : Reader) (w : ReaderState) (kind : Terminal) (t : Token) (behind : ℕ) (passes : is_worded kind ≡ true) (u : Nameless w) where
-  pub worded_stays : {tables : Tables} → Has reader tables w → Stays reader tables w (past reader w kind t behind)
+module _ (reader : Reader) (w : ReaderState) (kind : Terminal) (t : Token) (following : ℕ) (passes : is_worded kind ≡ true) (u : Nameless w) where
+  pub worded_stays : {tables : Tables} → Has reader tables w → Stays reader tables w (past reader w kind t following)
   worded_stays h =
-      let m = mute_after reader.source.now w kind t (kind_of (seen_from reader behind)) (also is_worded is_mute refl kind passes) in
-      stays_by reader w kind t behind (not-true (begins kind) (also is_worded (λ k. not (begins k)) refl kind passes)) h m.0 (ap (λ c. cond c (entered w.names (token_text reader.source.now t)) w.names) (unnamed w kind u) ∙ h.holds.names) (ap (all_entered w.labels) m.1 ∙ h.holds.labels)
+      let m = mute_after reader.source.now w kind t (kind_of (seen_from reader following)) (also is_worded is_mute refl kind passes) in
+      stays_by reader w kind t following (not-true (begins kind) (also is_worded (λ k. not (begins k)) refl kind passes)) h m.0 (ap (λ c. cond c (entered w.names (token_text reader.source.now t)) w.names) (unnamed w kind u) ∙ h.holds.names) (ap (all_entered w.labels) m.1 ∙ h.holds.labels)
 
-  pub worded_sound : (limit : ℕ) (fault : SourceFault) → IsFaulty limit reader.source.now w (kind, t) (kind_of (seen_from reader behind)) fault → ⊥
+  pub worded_sound : (limit : ℕ) (fault : SourceFault) → IsFaulty limit reader.source.now w (kind, t) (kind_of (seen_from reader following)) fault → ⊥
   worded_sound limit =
-      free_sound limit reader.source.now w kind t (kind_of (seen_from reader behind)) (also is_worded is_free refl kind passes) (λ e d. let k = unnamed w kind u in cc)
-      (room_for_none w.labels _ (mute_after reader.source.now w kind t (kind_of (seen_from reader behind)) (also is_worded is_mute refl kind passes)).1)
+      free_sound limit reader.source.now w kind t (kind_of (seen_from reader following)) (also is_worded is_free refl kind passes) (λ e d. let k = unnamed w kind u in cc)
+      (room_for_none w.labels _ (mute_after reader.source.now w kind t (kind_of (seen_from reader following)) (also is_worded is_mute refl kind passes)).1)
 
 -- a word that is no name of the program
-pub word_got : {limit : ℕ} {reader : Reader} {at behind : ℕ} {t : Token} {w : ReaderState} {tables : Tables} (n : IsNext is_worded reader at t behind) → Has reader tables w → Nameless w → (x : Word) → x ≡ record { at = t.at; text = token_text reader.source.now t } →
-    IsGot limit (IsWord reader.source.now) (Stays reader tables w) word reader at tables w x behind
-word_got {limit} {reader} {at} {behind} {t} {w} n h u x is = got_by (gives_one n.is n.passes (worded_sound reader w n.kind t behind n.passes u limit) refl) (worded_stays reader w n.kind t behind n.passes u h) (λ sense m. is)
+pub word_got : {limit : ℕ} {reader : Reader} {at following : ℕ} {t : Token} {w : ReaderState} {tables : Tables} (n : IsNext is_worded reader at t following) → Has reader tables w → Nameless w → (x : Word) → x ≡ record { at = t.at; text = token_text reader.source.now t } →
+    IsGot limit (IsWord reader.source.now) (Stays reader tables w) word reader at tables w x following
+word_got {limit} {reader} {at} {following} {t} {w} n h u x is = got_by (gives_one n.is n.passes (worded_sound reader w n.kind t following n.passes u limit) refl) (worded_stays reader w n.kind t following n.passes u h) (λ sense m. is)
     (let g = n.further in omega arith)
 
 -- ---- suffixes
@@ -87,14 +87,14 @@ pub suffix_none : {limit : ℕ} {reader : Reader} {at : ℕ} {tables : Tables} {
     IsGot limit (IsSuffix reader.source.now) (Stays reader tables w) (opt (the Attribute)) reader at tables w suffix.None at
 suffix_none {reader = reader} {at = at} {w = w} h unled = got_by (gives_none (leads_attribute (seen_from reader at) ∙ unled)) (stays_same h) (λ sense m. refl) (omega arith)
 
-pub suffix_got : {limit : ℕ} {reader : Reader} {at between behind : ℕ} {dot t : Token} {tables : Tables} {w : ReaderState} → IsNext (is Dot) reader at dot between → IsNext (is Suffix) reader between t behind → Has reader tables w →
-    (x : SuffixNode) → x ≡ suffix_of (token_text reader.source.now t) → IsGot limit (IsSuffix reader.source.now) (Stays reader tables w) (opt (the Attribute)) reader at tables w x behind
-suffix_got {limit} {reader} {at} {between} {behind} {dot} {t} {tables} {w} d n h x is =
+pub suffix_got : {limit : ℕ} {reader : Reader} {at between following : ℕ} {dot t : Token} {tables : Tables} {w : ReaderState} → IsNext (is Dot) reader at dot between → IsNext (is Suffix) reader between t following → Has reader tables w →
+    (x : SuffixNode) → x ≡ suffix_of (token_text reader.source.now t) → IsGot limit (IsSuffix reader.source.now) (Stays reader tables w) (opt (the Attribute)) reader at tables w x following
+suffix_got {limit} {reader} {at} {between} {following} {dot} {t} {tables} {w} d n h x is =
     let v = past reader w Dot dot between in
     let s = plain_stays reader w Dot dot between refl h in
     let passes : is_worded n.kind ≡ true = ap is_worded (sym (exact_kind {kind = Suffix} n)) in
-    got_by (gives_some (leads_attribute (seen_from reader at) ∙ led_next d) (gives_the Attribute (gives_both (gives_exact d refl) (gives_one n.is n.passes (worded_sound reader v n.kind t behind passes refl limit) refl))))
-    (stays_then s (worded_stays reader v n.kind t behind passes refl s.has)) (λ sense m. is) (let a = d.further in let b = n.further in omega arith)
+    got_by (gives_some (leads_attribute (seen_from reader at) ∙ led_next d) (gives_the Attribute (gives_both (gives_exact d refl) (gives_one n.is n.passes (worded_sound reader v n.kind t following passes refl limit) refl))))
+    (stays_then s (worded_stays reader v n.kind t following passes refl s.has)) (λ sense m. is) (let a = d.further in let b = n.further in omega arith)
 
 pub suffix_refused : {limit : ℕ} {reader : Reader} {at between : ℕ} {dot : Token} {w : ReaderState} {e : SourceFaultOrMemory} → IsNext (is Dot) reader at dot between → IsLacking (is Suffix) reader between e → Refuses limit reader.source.now (opt (the Attribute)) w (seen_from reader at) e
 suffix_refused {reader = reader} {at = at} d l = refuses_some (leads_attribute (seen_from reader at) ∙ led_next d) (refuses_the Attribute (refuses_second (gives_exact {kind = Dot} d refl) (refuses_lacking l)))
@@ -122,26 +122,26 @@ text_after source w Text t ahead h = (refl, refl, refl)
 text_after source w LongText t ahead h = (refl, refl, refl)
 text_after source w _ t ahead h = cc
 
-module _ {reader : Reader} {at behind : ℕ} {t : Token} {w : ReaderState} (n : IsNext is_text reader at t behind) (k : Shows w) where
-  text_sound : (limit : ℕ) (fault : SourceFault) → IsFaulty limit reader.source.now w (n.kind, t) (kind_of (seen_from reader behind)) fault → ⊥
+module _ {reader : Reader} {at following : ℕ} {t : Token} {w : ReaderState} (n : IsNext is_text reader at t following) (k : Shows w) where
+  text_sound : (limit : ℕ) (fault : SourceFault) → IsFaulty limit reader.source.now w (n.kind, t) (kind_of (seen_from reader following)) fault → ⊥
   text_sound limit =
-      free_sound limit reader.source.now w n.kind t (kind_of (seen_from reader behind)) (also is_text is_free refl n.kind n.passes)
+      free_sound limit reader.source.now w n.kind t (kind_of (seen_from reader following)) (also is_text is_free refl n.kind n.passes)
       (λ e d. let passes = n.passes in let other : not (is_text n.kind) ≡ true = also (is_terminal_among (Name ∷ Suffix ∷ [])) (λ kind. not (is_text kind)) refl n.kind ((and_parts _ _ e).0) in cc)
-      (room_for_none w.labels _ (text_new reader.source.now w n.kind t (kind_of (seen_from reader behind)) n.passes k))
+      (room_for_none w.labels _ (text_new reader.source.now w n.kind t (kind_of (seen_from reader following)) n.passes k))
 
-  text_stays : {tables : Tables} → Has reader tables w → Stays reader tables w (past reader w n.kind t behind)
+  text_stays : {tables : Tables} → Has reader tables w → Stays reader tables w (past reader w n.kind t following)
   text_stays h =
-      let a = text_after reader.source.now w n.kind t (kind_of (seen_from reader behind)) n.passes in
-      stays_by reader w n.kind t behind a.2 h a.0 (a.1 ∙ h.holds.names) (ap (all_entered w.labels) (text_new reader.source.now w n.kind t (kind_of (seen_from reader behind)) n.passes k) ∙ h.holds.labels)
+      let a = text_after reader.source.now w n.kind t (kind_of (seen_from reader following)) n.passes in
+      stays_by reader w n.kind t following a.2 h a.0 (a.1 ∙ h.holds.names) (ap (all_entered w.labels) (text_new reader.source.now w n.kind t (kind_of (seen_from reader following)) n.passes k) ∙ h.holds.labels)
 
   -- a text
   pub text_got : {limit : ℕ} {tables : Tables} → Has reader tables w → (x : Word) → x ≡ record { at = t.at; text = unquoted (token_text reader.source.now t) } →
-      IsGot limit (IsShown reader.source.now) (Stays reader tables w) (the Shown) reader at tables w (show.Text x) behind
+      IsGot limit (IsShown reader.source.now) (Stays reader tables w) (the Shown) reader at tables w (show.Text x) following
   text_got {limit} h x is = got_by (gives_the Shown (gives_left (led_next n) (gives_one n.is n.passes (text_sound limit) refl))) (text_stays h) (λ sense m. ap show.Text is) (let g = n.further in omega arith)
 
 -- a symbol, perhaps with a suffix
 pub symbol_got : {limit : ℕ} {reader : Reader} {at middle next : ℕ} {new : Tables} {w : ReaderState} {named : Named} {x : SuffixNode} → leads productions look_ahead (any_of (Text ∷ LongText ∷ [])) (seen_from reader at) ≡ false →
-    (n : IsGot limit (IsNamed reader.source.now) (Stays reader new w) name reader at new w named middle) → IsGot limit (IsSuffix reader.source.now) (Stays reader new n.behind) (opt (the Attribute)) reader middle new n.behind x next →
+    (n : IsGot limit (IsNamed reader.source.now) (Stays reader new w) name reader at new w named middle) → IsGot limit (IsSuffix reader.source.now) (Stays reader new n.following) (opt (the Attribute)) reader middle new n.following x next →
     IsGot limit (IsShown reader.source.now) (Stays reader new w) (the Shown) reader at new w (show.Symbol named x) next
 symbol_got {reader = reader} {at = at} unled n s = got_by (gives_the Shown (gives_right unled (led_first (is_terminal_among (Name ∷ Suffix ∷ [])) (opt (the Attribute)) (seen_from reader at) (led_given n.gives)) (gives_both n.gives s.gives)))
     (stays_then n.leaves s.leaves) (λ sense m. ap₂ (λ a b. show.Symbol a b) (n.means sense m) (s.means sense m)) (let a = n.further in let b = s.further in omega arith)
@@ -211,16 +211,16 @@ module _ {reader : Reader} {at start : ℕ} {t : Token} {old : Tables} {w : Read
   abort_starts = begun_starts reader w Abort t start refl refl refl refl h
 
   module _ {F : Type 0} (value : F → Rational) {limit : ℕ} {mid : Tables} {condition : Maybe (Expr F)} {middle : ℕ} (c : IsGot limit (IsCondition value reader.source.now) (StaysOpen reader mid (past reader w Abort t start)) (opt (the Condition)) reader start mid (past reader w Abort t start) condition middle) where
-    pub abort_shows : Shows c.behind
+    pub abort_shows : Shows c.following
     abort_shows = shows_on {reader = reader} {old = old} {w = past reader w Abort t start} abort_starts.has.holds c.leaves.stays (refl, refl)
 
-    pub abort_got : {new : Tables} {items : List Show} {next : ℕ} → IsGot limit (ArePerhapsShown reader.source.now) (Stays reader new c.behind) (opt (the ShownList)) reader middle new c.behind items next →
+    pub abort_got : {new : Tables} {items : List Show} {next : ℕ} → IsGot limit (ArePerhapsShown reader.source.now) (Stays reader new c.following) (opt (the ShownList)) reader middle new c.following items next →
         IsGot limit (IsAct value reader.source.now abort_act) (Ends reader new) (the AbortStatement) reader at new w (act.Abort condition items) next
     abort_got {items = items} got = got_by (gives_the AbortStatement (gives_both (gives_exact n refl) (gives_both c.gives got.gives))) (record { holds = got.leaves.has.holds; tableless = ap (is Table) (got.leaves.keyword ∙ c.leaves.stays.keyword) })
         (λ sense m. view-Abort value condition items ∙ ap₂ (λ a b. aborts a b) (c.means sense (earlier got.gives c.leaves.stays.has.holds got.leaves.has.holds m)) (got.means sense m))
         (let a = n.further in let b = c.further in let d = got.further in omega arith)
 
-    pub abort_refused : {e : SourceFaultOrMemory} → leads productions look_ahead (any_of (Text ∷ LongText ∷ Name ∷ Suffix ∷ [])) (seen_from reader middle) ≡ true → Refuses limit reader.source.now (the ShownList) c.behind (seen_from reader middle) e → Refuses limit reader.source.now (the AbortStatement) w (seen_from reader at) e
+    pub abort_refused : {e : SourceFaultOrMemory} → leads productions look_ahead (any_of (Text ∷ LongText ∷ Name ∷ Suffix ∷ [])) (seen_from reader middle) ≡ true → Refuses limit reader.source.now (the ShownList) c.following (seen_from reader middle) e → Refuses limit reader.source.now (the AbortStatement) w (seen_from reader at) e
     abort_refused led r = refuses_the AbortStatement (refuses_second (gives_exact n refl) (refuses_second c.gives (refuses_some (leads_shown (seen_from reader middle) ∙ led) r)))
 
 -- ---- options
@@ -230,11 +230,11 @@ pub option_nameless : (w v : ReaderState) → v.keyword ≡ w.keyword → is Opt
 option_nameless w v same h = or_right _ _ (ap (is Option) same ∙ h)
 
 module _ {F : Type 0} (value : F → Rational) {limit : ℕ} {reader : Reader} {at middle start : ℕ} {e : Token} {tables : Tables} {w : ReaderState} {option : Word} (o : IsGot limit (IsWord reader.source.now) (Stays reader tables w) word reader at tables w option middle) (q : IsNext (is Equals) reader middle e start) where
-  pub equals_stays : Stays reader tables w (past reader o.behind Equals e start)
-  equals_stays = stays_then o.leaves (plain_stays reader o.behind Equals e start refl o.leaves.has)
+  pub equals_stays : Stays reader tables w (past reader o.following Equals e start)
+  equals_stays = stays_then o.leaves (plain_stays reader o.following Equals e start refl o.leaves.has)
 
-  pub equals_nameless : is Option w.keyword ≡ true → Nameless (past reader o.behind Equals e start)
-  equals_nameless k = option_nameless w (past reader o.behind Equals e start) equals_stays.keyword k
+  pub equals_nameless : is Option w.keyword ≡ true → Nameless (past reader o.following Equals e start)
+  equals_nameless k = option_nameless w (past reader o.following Equals e start) equals_stays.keyword k
 
   pub setting_number : {next : ℕ} {t : Token} {v : F} → IsNext (is Number) reader start t next → IsValue limit value (token_text reader.source.now t) v →
       IsGot limit (IsSetting value reader.source.now) (Stays reader tables w) (the Setting) reader at tables w (option, setting.Number t.at v) next
@@ -246,12 +246,12 @@ module _ {F : Type 0} (value : F → Rational) {limit : ℕ} {reader : Reader} {
   pub setting_number_refused : {next : ℕ} {t : Token} {refusal : SourceFaultOrMemory} → IsNext (is Number) reader start t next → IsTooLarge limit reader.source.now t refusal → Refuses limit reader.source.now (the Setting) w (seen_from reader at) refusal
   setting_number_refused n l = refuses_the Setting (refuses_second o.gives (refuses_second (gives_exact {kind = Equals} q refl) (refuses_left {q = word} (led_next n) (number_refused n refl l))))
 
-  pub setting_word : {next : ℕ} {x : Word} → leads productions look_ahead (token Number) (seen_from reader start) ≡ false → IsGot limit (IsWord reader.source.now) (Stays reader tables (past reader o.behind Equals e start)) word reader start tables (past reader o.behind Equals e start) x next →
+  pub setting_word : {next : ℕ} {x : Word} → leads productions look_ahead (token Number) (seen_from reader start) ≡ false → IsGot limit (IsWord reader.source.now) (Stays reader tables (past reader o.following Equals e start)) word reader start tables (past reader o.following Equals e start) x next →
       IsGot limit (IsSetting value reader.source.now) (Stays reader tables w) (the Setting) reader at tables w (option, setting.Name x) next
   setting_word unled got = got_by (gives_the Setting (gives_both o.gives (gives_both (gives_exact q refl) (gives_right unled (led_given got.gives) got.gives)))) (stays_then equals_stays got.leaves)
       (λ sense m. ap₂ (λ (a : Word) (b : SettingNode Rational). (a, b)) (o.means sense m) (ap setting.Name (got.means sense m))) (let a = o.further in let b = q.further in let c = got.further in omega arith)
 
-  pub setting_word_refused : {refusal : SourceFaultOrMemory} → leads productions look_ahead (token Number) (seen_from reader start) ≡ false → Refuses limit reader.source.now word (past reader o.behind Equals e start) (seen_from reader start) refusal →
+  pub setting_word_refused : {refusal : SourceFaultOrMemory} → leads productions look_ahead (token Number) (seen_from reader start) ≡ false → Refuses limit reader.source.now word (past reader o.following Equals e start) (seen_from reader start) refusal →
       Refuses limit reader.source.now (the Setting) w (seen_from reader at) refusal
   setting_word_refused unled r = refuses_the Setting (refuses_second o.gives (refuses_second (gives_exact q refl) (refuses_other unled r)))
 
@@ -276,17 +276,17 @@ module _ {p q r : GamsPart} {ts : List KindedToken} where
       Reads productions look_ahead (p · (q · r)) ts (read (pair (first_in a) (pair (second_in a) b)) rest) × (yield a ≡ yield (first_in a) ++ yield (second_in a))
   regrouped_reads (both h k) l = (both h (both k l), refl)
 
-  grouped_reads : {front rest : List KindedToken} → Reads productions look_ahead ((p · q) · r) ts (stuck front rest) → Reads productions look_ahead (p · (q · r)) ts (stuck front rest)
+  grouped_reads : {prefix rest : List KindedToken} → Reads productions look_ahead ((p · q) · r) ts (stuck prefix rest) → Reads productions look_ahead (p · (q · r)) ts (stuck prefix rest)
   grouped_reads (first_stuck (first_stuck h)) = first_stuck h
   grouped_reads (first_stuck (second_stuck h k)) = second_stuck h (first_stuck k)
-  grouped_reads {rest = rest} (second_stuck {front = front} (both {a = a} {b = b} h k) l) =
-      subst (λ (u : List KindedToken). Reads productions look_ahead (p · (q · r)) ts (stuck u rest)) (sym (append_assoc (yield a) (yield b) front)) (second_stuck h (second_stuck k l))
+  grouped_reads {rest = rest} (second_stuck {prefix = prefix} (both {a = a} {b = b} h k) l) =
+      subst (λ (u : List KindedToken). Reads productions look_ahead (p · (q · r)) ts (stuck u rest)) (sym (append_assoc (yield a) (yield b) prefix)) (second_stuck h (second_stuck k l))
 
-  grouped_takes : {front rest : List KindedToken} → Takes productions look_ahead ((p · q) · r) ts front rest → Takes productions look_ahead (p · (q · r)) ts front rest
+  grouped_takes : {prefix rest : List KindedToken} → Takes productions look_ahead ((p · q) · r) ts prefix rest → Takes productions look_ahead (p · (q · r)) ts prefix rest
   grouped_takes (takes_first (takes_first h)) = takes_first h
   grouped_takes (takes_first (takes_second h k)) = takes_second h (takes_first k)
-  grouped_takes {rest = rest} (takes_second {front = front} (both {a = a} {b = b} h k) l) =
-      subst (λ (u : List KindedToken). Takes productions look_ahead (p · (q · r)) ts u rest) (sym (append_assoc (yield a) (yield b) front)) (takes_second h (takes_second k l))
+  grouped_takes {rest = rest} (takes_second {prefix = prefix} (both {a = a} {b = b} h k) l) =
+      subst (λ (u : List KindedToken). Takes productions look_ahead (p · (q · r)) ts u rest) (sym (append_assoc (yield a) (yield b) prefix)) (takes_second h (takes_second k l))
 
 module _ {limit : ℕ} {source : List ℕ} {p q r : GamsPart} {w : ReaderState} {ts : List KindedToken} where
   -- the first of two, and the second followed by another
@@ -326,7 +326,7 @@ objective_got {reader = reader} {start = start} {t = t} {w = w} n h is got = got
 pub led_both : {test : Terminal → Bool} {q : GamsPart} {ts rest : List KindedToken} {tree : Derivation} (r : GamsPart) → Reads productions look_ahead (one test · q) ts (read tree rest) → leads productions look_ahead (one test · r) ts ≡ true
 led_both {test} r (both (taken {token = token} {rest = rest} h) k) = led_first test r (token ∷ rest) h
 
-stuck_more : {test : Terminal → Bool} {p q : GamsPart} {ts front rest : List KindedToken} → leads productions look_ahead p ts ≡ false → Reads productions look_ahead (one test · q) ts (stuck front rest) → Reads productions look_ahead (p ∣ one test · q) ts (stuck front rest)
+stuck_more : {test : Terminal → Bool} {p q : GamsPart} {ts prefix rest : List KindedToken} → leads productions look_ahead p ts ≡ false → Reads productions look_ahead (one test · q) ts (stuck prefix rest) → Reads productions look_ahead (p ∣ one test · q) ts (stuck prefix rest)
 stuck_more {test} {p} {q} k (first_stuck (refused {tokens = ts} h)) = in_neither k (unled_next test q ts h)
 stuck_more {test} {p} {q} k (second_stuck (taken {token = token} {rest = rest} h) l) = in_right_stuck k (led_first test q (token ∷ rest) h) (second_stuck (taken h) l)
 
@@ -340,19 +340,19 @@ using_unled : (ts : List KindedToken) → leads productions look_ahead (token Us
 using_unled ts unled = unled_next (is Using) (word · token Direction · name) ts unled
 
 module _ {F : Type 0} (value : F → Rational) {limit : ℕ} {reader : Reader} {at start middle : ℕ} {t : Token} {mid : Tables} {w : ReaderState} {model : Named} (n : IsNext (is Solve) reader at t start) (m : IsGot limit (IsNamed reader.source.now) (Stays reader mid (past reader w Solve t start)) name reader start mid (past reader w Solve t start) model middle) where
-  solve_refused : {e : SourceFaultOrMemory} → Refuses limit reader.source.now (token Using · word · token Direction · name ∣ token Direction · name · token Using · word) m.behind (seen_from reader middle) e → Refuses limit reader.source.now (the SolveStatement) w (seen_from reader at) e
+  solve_refused : {e : SourceFaultOrMemory} → Refuses limit reader.source.now (token Using · word · token Direction · name ∣ token Direction · name · token Using · word) m.following (seen_from reader middle) e → Refuses limit reader.source.now (the SolveStatement) w (seen_from reader at) e
   solve_refused r = refuses_the SolveStatement (refuses_second (gives_exact n refl) (refuses_second m.gives r))
 
   -- `using` comes first
   module _ (led : leads productions look_ahead (token Using) (seen_from reader middle) ≡ true) where
-    pub using_refused : {e : SourceFaultOrMemory} → Refuses limit reader.source.now (token Using · word) m.behind (seen_from reader middle) e → Refuses limit reader.source.now (the SolveStatement) w (seen_from reader at) e
+    pub using_refused : {e : SourceFaultOrMemory} → Refuses limit reader.source.now (token Using · word) m.following (seen_from reader middle) e → Refuses limit reader.source.now (the SolveStatement) w (seen_from reader at) e
     using_refused r = solve_refused (refuses_left (using_led (seen_from reader middle) led) (refuses_pair r))
 
-    module _ {between : ℕ} {method : Word} (u : IsGot limit (IsMethod reader.source.now) (Stays reader mid m.behind) (token Using · word) reader middle mid m.behind method between) where
-      pub aim_refused : {e : SourceFaultOrMemory} → Refuses limit reader.source.now (token Direction · name) u.behind (seen_from reader between) e → Refuses limit reader.source.now (the SolveStatement) w (seen_from reader at) e
+    module _ {between : ℕ} {method : Word} (u : IsGot limit (IsMethod reader.source.now) (Stays reader mid m.following) (token Using · word) reader middle mid m.following method between) where
+      pub aim_refused : {e : SourceFaultOrMemory} → Refuses limit reader.source.now (token Direction · name) u.following (seen_from reader between) e → Refuses limit reader.source.now (the SolveStatement) w (seen_from reader at) e
       aim_refused r = solve_refused (refuses_left (using_led (seen_from reader middle) led) (refuses_behind u.gives r))
 
-      pub using_solved : {new : Tables} {maximize : Bool} {objective : Named} {next : ℕ} → IsGot limit (IsObjective reader.source.now) (Stays reader new u.behind) (token Direction · name) reader between new u.behind (maximize, objective) next →
+      pub using_solved : {new : Tables} {maximize : Bool} {objective : Named} {next : ℕ} → IsGot limit (IsObjective reader.source.now) (Stays reader new u.following) (token Direction · name) reader between new u.following (maximize, objective) next →
           (act : ActNode F) → act_view value act ≡ solves model method objective maximize → IsGot limit (IsAct value reader.source.now solve_act) (Ends reader new) (the SolveStatement) reader at new w act next
       using_solved o act shown = got_by (gives_the SolveStatement (gives_both (gives_exact n refl) (gives_both m.gives (gives_left (using_led (seen_from reader middle) led) (gives_regrouped u.gives o.gives)))))
           (record { holds = o.leaves.has.holds; tableless = ap (is Table) (o.leaves.keyword ∙ u.leaves.keyword ∙ m.leaves.keyword) })
@@ -364,14 +364,14 @@ module _ {F : Type 0} (value : F → Rational) {limit : ℕ} {reader : Reader} {
 
   -- the direction comes first
   module _ (unled : leads productions look_ahead (token Using) (seen_from reader middle) ≡ false) where
-    pub objective_refused : {e : SourceFaultOrMemory} → Refuses limit reader.source.now (token Direction · name) m.behind (seen_from reader middle) e → Refuses limit reader.source.now (the SolveStatement) w (seen_from reader at) e
+    pub objective_refused : {e : SourceFaultOrMemory} → Refuses limit reader.source.now (token Direction · name) m.following (seen_from reader middle) e → Refuses limit reader.source.now (the SolveStatement) w (seen_from reader at) e
     objective_refused r = solve_refused (refuses_more (using_unled (seen_from reader middle) unled) (refuses_pair r))
 
-    module _ {between : ℕ} {new : Tables} {maximize : Bool} {objective : Named} (o : IsGot limit (IsObjective reader.source.now) (Stays reader new m.behind) (token Direction · name) reader middle new m.behind (maximize, objective) between) where
-      pub method_refused : {e : SourceFaultOrMemory} → Refuses limit reader.source.now (token Using · word) o.behind (seen_from reader between) e → Refuses limit reader.source.now (the SolveStatement) w (seen_from reader at) e
+    module _ {between : ℕ} {new : Tables} {maximize : Bool} {objective : Named} (o : IsGot limit (IsObjective reader.source.now) (Stays reader new m.following) (token Direction · name) reader middle new m.following (maximize, objective) between) where
+      pub method_refused : {e : SourceFaultOrMemory} → Refuses limit reader.source.now (token Using · word) o.following (seen_from reader between) e → Refuses limit reader.source.now (the SolveStatement) w (seen_from reader at) e
       method_refused r = solve_refused (refuses_right (using_unled (seen_from reader middle) unled) (led_both (name · token Using · word) o.gives.reads) (refuses_behind o.gives r))
 
-      pub aim_solved : {method : Word} {next : ℕ} → IsGot limit (IsMethod reader.source.now) (Stays reader new o.behind) (token Using · word) reader between new o.behind method next →
+      pub aim_solved : {method : Word} {next : ℕ} → IsGot limit (IsMethod reader.source.now) (Stays reader new o.following) (token Using · word) reader between new o.following method next →
           (act : ActNode F) → act_view value act ≡ solves model method objective maximize → IsGot limit (IsAct value reader.source.now solve_act) (Ends reader new) (the SolveStatement) reader at new w act next
       aim_solved u act shown = got_by
           (gives_the SolveStatement (gives_both (gives_exact n refl) (gives_both m.gives (gives_right (using_unled (seen_from reader middle) unled) (led_both (name · token Using · word) o.gives.reads) (gives_regrouped o.gives u.gives)))))
@@ -388,11 +388,11 @@ module _ {F : Type 0} (value : F → Rational) {limit : ℕ} {reader : Reader} {
 abbrev pub ArePair : List ℕ → Sense → Derivation → Named × Named → Type 0
 ArePair source sense tree x = IsNamed source sense (first_in tree) x.0 × IsNamed source sense (second_in (second_in tree)) x.1
 
-pub pair_got : {limit : ℕ} {reader : Reader} {at middle behind next : ℕ} {t : Token} {mid new : Tables} {w : ReaderState} {first second : Named} (f : IsGot limit (IsNamed reader.source.now) (Stays reader mid w) name reader at mid w first middle) → IsNext (is Comma) reader middle t behind →
-    IsGot limit (IsNamed reader.source.now) (Stays reader new (past reader f.behind Comma t behind)) name reader behind new (past reader f.behind Comma t behind) second next →
+pub pair_got : {limit : ℕ} {reader : Reader} {at middle following next : ℕ} {t : Token} {mid new : Tables} {w : ReaderState} {first second : Named} (f : IsGot limit (IsNamed reader.source.now) (Stays reader mid w) name reader at mid w first middle) → IsNext (is Comma) reader middle t following →
+    IsGot limit (IsNamed reader.source.now) (Stays reader new (past reader f.following Comma t following)) name reader following new (past reader f.following Comma t following) second next →
     IsGot limit (ArePair reader.source.now) (Stays reader new w) (name · token Comma · name) reader at new w (first, second) next
-pair_got {reader = reader} {behind = behind} {t = t} f n s =
-    let k = plain_stays reader f.behind Comma t behind refl f.leaves.has in
+pair_got {reader = reader} {following = following} {t = t} f n s =
+    let k = plain_stays reader f.following Comma t following refl f.leaves.has in
     got_by (gives_both f.gives (gives_both (gives_exact n refl) s.gives)) (stays_then f.leaves (stays_then k s.leaves)) (λ sense m. (f.means sense (earlier s.gives k.has.holds s.leaves.has.holds m), s.means sense m))
     (let a = f.further in let b = n.further in let c = s.further in omega arith)
 
@@ -414,9 +414,9 @@ module _ {reader : Reader} {at start : ℕ} {t : Token} {old : Tables} {w : Read
       pub alias_unclosed : {e : SourceFaultOrMemory} → IsLacking (is RightParen) reader next e → Refuses limit reader.source.now (the AliasStatement) w (seen_from reader at) e
       alias_unclosed l = refuses_the AliasStatement (refuses_second (gives_exact n refl) (refuses_unclosed o alias_has alias_pair.leaves alias_pair.gives l))
 
-      pub alias_got : {F : Type 0} (value : F → Rational) {behind : ℕ} {c : Token} → IsNext (is RightParen) reader next c behind → IsGot limit (IsAct value reader.source.now alias_act) (Ends reader new) (the AliasStatement) reader at new w (act.Alias first second) behind
-      alias_got value {behind} {c} close =
-          let s = close_stays o alias_has alias_pair.leaves c behind in
+      pub alias_got : {F : Type 0} (value : F → Rational) {following : ℕ} {c : Token} → IsNext (is RightParen) reader next c following → IsGot limit (IsAct value reader.source.now alias_act) (Ends reader new) (the AliasStatement) reader at new w (act.Alias first second) following
+      alias_got value {following} {c} close =
+          let s = close_stays o alias_has alias_pair.leaves c following in
           got_by (gives_the AliasStatement (gives_both (gives_exact n refl) (gives_bracketed o alias_has alias_pair.leaves alias_pair.gives close refl))) (record { holds = s.has.holds; tableless = ap (is Table) s.keyword })
           (λ sense m. let both_are = alias_pair.means sense m in view-Alias value first second ∙ ap₂ (λ a b. aliases a b) both_are.0 both_are.1)
           (let a = n.further in let b = o.next.further in let d = alias_pair.further in let e = close.further in omega arith)

@@ -15,7 +15,7 @@ use Rattle.gms_parse.specs.declared.fault.SourceFault.{SourceFault}
 use Rattle.gms_parse.specs.Faults.{source_fault}
 use Rattle.gms_parse.specs.Tables.{labels_of_lines}
 use Rattle.gms_table.specs.WordLabels.{all_entered}
-use Rattle.gms_parse.specs.ReadStates.{KindedToken, ReaderState, kind_ahead, last_kind, is_index, is_name, LacksRoom, range_start, list_labels, lines_with, new_labels, reader_after, reader_after_all, IsFaulty, deep, out_of_range, many_names, many_labels, in_table, without_lines, AreTokensFaultless}
+use Rattle.gms_parse.specs.ReadStates.{KindedToken, ReaderState, kind_ahead, last_kind, is_index, is_name, ExceedsTable, range_start, list_labels, lines_with, new_labels, reader_after, reader_after_all, IsFaulty, deep, out_of_range, many_names, many_labels, in_table, without_lines, AreTokensFaultless}
 use Rattle.gms_parse.specs.InnerReadings.{Optionless, Tableless}
 use Rattle.std.proofs.lemmas.Bool.{not-true, eqb-true}
 use Rattle.gms_grammar.proofs.Basics.{not_true}
@@ -100,7 +100,7 @@ module _ (limit : ℕ) (source : List ℕ) where
 
       go : (b : Bool) → is Text t.0 ≡ b → (found : SyntaxFault) × inner.IsFaultyInExpression limit source x t found
       go true e =
-          let lacks : LacksRoom w.labels (text ∷ []) = subst (λ (ls : List (List ℕ)). LacksRoom w.labels ls) (new_are ∙ ap (λ b. cond b (text ∷ []) []) e) k in
+          let lacks : ExceedsTable w.labels (text ∷ []) = subst (λ (ls : List (List ℕ)). ExceedsTable w.labels ls) (new_are ∙ ap (λ b. cond b (text ∷ []) []) e) k in
           (_, inner.many_labels (sym (same_kind Text t.0 e)) (subst (λ (ls : List (List ℕ)). IsFullFor ls text) a.labels (full_of w.labels text lacks)))
       go false e = absurd (room_for_none w.labels (new_labels source w t ahead) (new_are ∙ ap (λ b. cond b (text ∷ []) []) e) k)
   fault_inside w x t ahead h d a fault (in_table e k f) = let n : is_inner t.0 ≡ false = ap is_inner e in cc
@@ -115,7 +115,7 @@ module _ (limit : ℕ) (source : List ℕ) where
       let text : List ℕ = unquoted (token_text source t.1) in
       let there : is Text t.0 ≡ true = ap (is Text) e in
       let new_are : new_labels source w t ahead ≡ text ∷ [] = same_new source w t ahead h d ∙ ap (λ b. cond b (text ∷ []) []) there in
-      many_labels (ap (is TableLine) e) (subst (λ (ls : List (List ℕ)). LacksRoom w.labels ls) (sym new_are) (lacks_append w.labels [] text [] (subst (λ (ls : List (List ℕ)). IsFullFor ls text) (sym a.labels) k)))
+      many_labels (ap (is TableLine) e) (subst (λ (ls : List (List ℕ)). ExceedsTable w.labels ls) (sym new_are) (lacks_append w.labels [] text [] (subst (λ (ls : List (List ℕ)). IsFullFor ls text) (sym a.labels) k)))
 
   -- a sound token leaves states that agree
   agrees_on : (w : ReaderState) (x : inner.ExpressionState) (t : KindedToken) (ahead : Terminal) → is_inner t.0 ≡ true → (t.0 ≡ Text → w.level < w.open_count) → Agrees w x →

@@ -34,25 +34,25 @@ use Rattle.gms_parse.proofs.Views.{view-Assign, view-Define}
 
 -- ---- right sides
 
-pub right_value_got : {F : Type 0} (value : F → Number) {limit : ℕ} {reader : Reader} {at behind next : ℕ} {place : Place} {t : Token} {old new : Tables} {w : ReaderState} {e : Expr F} → Has reader old w → IsNext (is Equals) reader at t behind →
-    place ≡ next_place reader.source.now (seen_from reader behind) →
-    IsGot limit (IsExpression value reader.source.now) (StaysOpen reader new (past reader w Equals t behind)) (the Expression) reader behind new (past reader w Equals t behind) e next →
+pub right_value_got : {F : Type 0} (value : F → Number) {limit : ℕ} {reader : Reader} {at following next : ℕ} {place : Place} {t : Token} {old new : Tables} {w : ReaderState} {e : Expr F} → Has reader old w → IsNext (is Equals) reader at t following →
+    place ≡ next_place reader.source.now (seen_from reader following) →
+    IsGot limit (IsExpression value reader.source.now) (StaysOpen reader new (past reader w Equals t following)) (the Expression) reader following new (past reader w Equals t following) e next →
     IsGot limit (IsRightSide value reader.source.now) (Stays reader new w) (token Equals · the Expression) reader at new w (place, e) next
 right_value_got value {reader = reader} {t = t} h n placed got = got_by (gives_both (gives_exact {kind = Equals} n refl) got.gives) (stays_then (kind_stays Equals n refl h) got.leaves.stays)
     (λ sense s. (placed ∙ sym (place_read (the Expression) refl got.gives), got.means sense s)) (let a = n.further in let b = got.further in omega arith)
 
 -- ---- sides
 
-pub related_got : {F : Type 0} (value : F → Number) {limit : ℕ} {reader : Reader} {at behind next : ℕ} {place : Place} {side : Side} {t : Token} {old new : Tables} {w : ReaderState} {e : Expr F} → Has reader old w → IsNext (is SenseMark) reader at t behind →
-    side ≡ side_of t.kind → place ≡ next_place reader.source.now (seen_from reader behind) →
-    IsGot limit (IsExpression value reader.source.now) (StaysOpen reader new (past reader w SenseMark t behind)) (the Expression) reader behind new (past reader w SenseMark t behind) e next →
+pub related_got : {F : Type 0} (value : F → Number) {limit : ℕ} {reader : Reader} {at following next : ℕ} {place : Place} {side : Side} {t : Token} {old new : Tables} {w : ReaderState} {e : Expr F} → Has reader old w → IsNext (is SenseMark) reader at t following →
+    side ≡ side_of t.kind → place ≡ next_place reader.source.now (seen_from reader following) →
+    IsGot limit (IsExpression value reader.source.now) (StaysOpen reader new (past reader w SenseMark t following)) (the Expression) reader following new (past reader w SenseMark t following) e next →
     IsGot limit (IsRelated value reader.source.now) (Stays reader new w) (token SenseMark · the Expression) reader at new w (side, place, e) next
 related_got value {reader = reader} {t = t} h n told placed got = got_by (gives_both (gives_exact {kind = SenseMark} n refl) got.gives) (stays_then (kind_stays SenseMark n refl h) got.leaves.stays)
     (λ sense s. (told, (placed ∙ sym (place_read (the Expression) refl got.gives), got.means sense s))) (let a = n.further in let b = got.further in omega arith)
 
 pub relation_got : {F : Type 0} (value : F → Number) {limit : ℕ} {reader : Reader} {at middle next : ℕ} {between new : Tables} {w : ReaderState} {l r : Expr F} {left_at right_at : Place} {side : Side} → left_at ≡ next_place reader.source.now (seen_from reader at) →
     (one : IsGot limit (IsExpression value reader.source.now) (StaysOpen reader between w) (the Expression) reader at between w l middle) →
-    IsGot limit (IsRelated value reader.source.now) (Stays reader new one.behind) (token SenseMark · the Expression) reader middle new one.behind (side, right_at, r) next →
+    IsGot limit (IsRelated value reader.source.now) (Stays reader new one.following) (token SenseMark · the Expression) reader middle new one.following (side, right_at, r) next →
     IsGot limit (IsRelation value reader.source.now) (Stays reader new w) (the SidesPart) reader at new w (record { left_at = left_at; left = l; side = side; right_at = right_at; right = r }) next
 relation_got value placed one other = got_by (gives_the SidesPart (gives_both one.gives other.gives)) (stays_then one.leaves.stays other.leaves)
     (λ sense s.
@@ -88,8 +88,8 @@ mapped P' f (Err e) made m k same p q = rw k (q e m)
 -- ---- assignments in loops
 
 pub assignment_got : {F : Type 0} (value : F → Number) {limit : ℕ} {reader : Reader} {at middle further next : ℕ} {first second new : Tables} {w : ReaderState} {target : TargetNode F} {condition : Maybe (Expr F)} {act : ActNode F} →
-    (t : IsGot limit (IsTarget value reader.source.now) (StaysOpen reader first w) (the TargetPart) reader at first w target middle) → (c : IsGot limit (IsCondition value reader.source.now) (StaysOpen reader second t.behind) (opt (the Condition)) reader middle second t.behind condition further) →
-    IsGot limit (IsAssigned value reader.source.now target condition) (Stays reader new c.behind) (token Equals · the Expression) reader further new c.behind act next → IsGot limit (IsAct value reader.source.now assignment_act) (Stays reader new w) (the Assignment) reader at new w act next
+    (t : IsGot limit (IsTarget value reader.source.now) (StaysOpen reader first w) (the TargetPart) reader at first w target middle) → (c : IsGot limit (IsCondition value reader.source.now) (StaysOpen reader second t.following) (opt (the Condition)) reader middle second t.following condition further) →
+    IsGot limit (IsAssigned value reader.source.now target condition) (Stays reader new c.following) (token Equals · the Expression) reader further new c.following act next → IsGot limit (IsAct value reader.source.now assignment_act) (Stays reader new w) (the Assignment) reader at new w act next
 assignment_got value {reader = reader} t c r = got_by (gives_the Assignment (gives_both t.gives (gives_the AfterTarget (gives_both c.gives r.gives)))) (stays_then t.leaves.stays (stays_then c.leaves.stays r.leaves))
     (λ sense s.
     let s2 = earlier r.gives c.leaves.stays.has.holds r.leaves.has.holds s in

@@ -28,7 +28,7 @@ leads_at p kind [] e h = let f : is End kind ≡ true = ap (is End) (sym e) in c
 leads_at p kind (t ∷ ts) e h = ap (may_begin look_ahead p) e
 
 pub way_within : {limit : ℕ} {source : List ℕ} {kind : Terminal} {p r : GamsPart} {c : Derivation → Derivation} → Way kind p r c → {w : ReaderState} {ts : List KindedToken} → kind_of ts ≡ kind → is End kind ≡ false → Within limit source p w ts r w ts c
-way_within at_once e h = record { gives = λ a x behind g. g; refuses = λ f r. r }
+way_within at_once e h = record { gives = λ a x following g. g; refuses = λ f r. r }
 way_within {kind = kind} (in_first {p = p} k way) {ts = ts} e h = within_then (within_left (leads_at p kind ts e h ∙ k)) (way_within way e h)
 way_within {kind = kind} (in_other {p = p} {q = q} k m way) {ts = ts} e h = within_then (within_right (leads_at p kind ts e h ∙ k) (leads_at q kind ts e h ∙ m)) (way_within way e h)
 way_within (in_node {n = n} way) e h = within_then (within_the n) (way_within way e h)
@@ -37,5 +37,5 @@ way_within (in_node {n = n} way) e h = within_then (within_the n) (way_within wa
 pub through : {T : Type 0} {limit : ℕ} {Means : Sense → Derivation → T → Type 0} (Says : Sense → Derivation → T → Type 0) {Leaves : ReaderState → Type 0} (After : ReaderState → Type 0) {p r : GamsPart} {c : Derivation → Derivation} (reader : Reader) (at : ℕ) (new : Tables) (w : ReaderState) (result : Result (T × ℕ) SourceFaultOrMemory) →
     Within limit reader.source.now p w (seen_from reader at) r w (seen_from reader at) c → IsAnswer limit Means Leaves r reader at new w result → ((v : ReaderState) → Leaves v → After v) →
     ((sense : Sense) (tree : Derivation) (x : T) → Means sense tree x → Says sense (c tree) x) → IsAnswer limit Says After p reader at new w result
-through Says After {c = c} reader at new w (Ok b) within got holds says = got_by (within.gives _ _ _ got.gives) (holds got.behind got.leaves) (λ sense s. says sense got.tree b.0 (got.means sense s)) got.further
+through Says After {c = c} reader at new w (Ok b) within got holds says = got_by (within.gives _ _ _ got.gives) (holds got.following got.leaves) (λ sense s. says sense got.tree b.0 (got.means sense s)) got.further
 through Says After reader at new w (Err e) within r holds says = within.refuses e r

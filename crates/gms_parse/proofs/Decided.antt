@@ -7,7 +7,7 @@ use Rattle.std.proofs.lemmas.Grind.{pow_more}
 use Rattle.gq_number.specs.Number.{Number, whole, ratio}
 use Rattle.gq_number.proofs.Means.{number_from_parts}
 use Rattle.gq_text.specs.Decimal.{MeansNumber}
-use Rattle.gq_text.specs.Literal.{HasNoZeroBehind, FitsLiteral}
+use Rattle.gq_text.specs.Literal.{HasNoTrailingZero, FitsLiteral}
 use Rattle.gq_text.proofs.Literals.{tens_above}
 use Rattle.gms_table.specs.CellNumbers.{unsigned, signed_number, IsValue}
 use Rattle.gms_table.proofs.NumberLemmas.{no_value, no_shape}
@@ -87,7 +87,7 @@ search P told (suc bound) = go (search P told bound) (told bound)
 -- the number is m times ten to the power e, or m over it, within the limit
 abbrev Fits : ℕ → Number → ℕ → ℕ → Type 0
 Fits limit x m e =
-    HasNoZeroBehind m × (((x ≡ whole (pos (m * 10 ^ e))) × (m * 10 ^ e ≤ limit)) ⊎ ((x ≡ ratio (pos m) (10 ^ e)) × (m ≤ limit) × (10 ^ e ≤ limit)))
+    HasNoTrailingZero m × (((x ≡ whole (pos (m * 10 ^ e))) × (m * 10 ^ e ≤ limit)) ⊎ ((x ≡ ratio (pos m) (10 ^ e)) × (m ≤ limit) × (10 ^ e ≤ limit)))
 
 fit_told : (limit : ℕ) (x : Number) (m e : ℕ) → Told (Fits limit x m e)
 fit_told limit x m e =
@@ -109,7 +109,7 @@ Bounded limit x = Found (λ m. Found (λ e. Fits limit x m e) (suc limit)) (suc 
 bounded : (limit : ℕ) (x : Number) → FitsLiteral limit x → Bounded limit x
 bounded limit x f = by f.m f.e f.shortest f.within
   where
-    by_product : (m e : ℕ) → HasNoZeroBehind m → x ≡ whole (pos (m * 10 ^ e)) → m * 10 ^ e ≤ limit → Told (m ≡ 0) → Bounded limit x
+    by_product : (m e : ℕ) → HasNoTrailingZero m → x ≡ whole (pos (m * 10 ^ e)) → m * 10 ^ e ≤ limit → Told (m ≡ 0) → Bounded limit x
     by_product m e h is small (inl none) =
         let empty : m * 10 ^ e ≡ 0 * 10 ^ 0 = ap (λ k. k * 10 ^ e) none ∙ omega arith in
         record {
@@ -127,7 +127,7 @@ bounded limit x f = by f.m f.e f.shortest f.within
           holds = record { n = e; within = omega (arith, tens_high e, unit_small, small); holds = (h, inl (is, small)) };
         }
 
-    by : (m e : ℕ) → HasNoZeroBehind m → ((x ≡ whole (pos (m * 10 ^ e))) × (m * 10 ^ e ≤ limit)) ⊎ ((x ≡ ratio (pos m) (10 ^ e)) × (m ≤ limit) × (10 ^ e ≤ limit)) → Bounded limit x
+    by : (m e : ℕ) → HasNoTrailingZero m → ((x ≡ whole (pos (m * 10 ^ e))) × (m * 10 ^ e ≤ limit)) ⊎ ((x ≡ ratio (pos m) (10 ^ e)) × (m ≤ limit) × (10 ^ e ≤ limit)) → Bounded limit x
     by m e h (inl product) = by_product m e h product.0 product.1 (nat_same m 0)
     by m e h (inr over) = record {
       n = m;

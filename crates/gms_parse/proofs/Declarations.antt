@@ -58,31 +58,31 @@ form_items form = record {
 abbrev pub is_declaring : Terminal → Bool
 is_declaring = is_terminal_among (Set ∷ Parameter ∷ Scalar ∷ Variable ∷ Equation ∷ [])
 
-module _ (keyword : Terminal) {reader : Reader} {at behind : ℕ} {t : Token} {old : Tables} {w : ReaderState} (declaring : is_declaring keyword ≡ true) (h : Holds reader old w) (n : IsNext (is keyword) reader at t behind) where
-  pub keyword_starts : Starts reader old (past reader w keyword t behind)
-  keyword_starts = begun_starts reader w keyword t behind (also is_declaring is_quiet refl keyword declaring) (also is_declaring begins refl keyword declaring)
+module _ (keyword : Terminal) {reader : Reader} {at following : ℕ} {t : Token} {old : Tables} {w : ReaderState} (declaring : is_declaring keyword ≡ true) (h : Holds reader old w) (n : IsNext (is keyword) reader at t following) where
+  pub keyword_starts : Starts reader old (past reader w keyword t following)
+  keyword_starts = begun_starts reader w keyword t following (also is_declaring is_quiet refl keyword declaring) (also is_declaring begins refl keyword declaring)
       (not-true _ (also is_declaring (λ k. not (is Option k)) refl keyword declaring)) (not-true _ (also is_declaring (λ k. not (is_terminal_among (Dot ∷ Using ∷ []) k)) refl keyword declaring)) h
 
-  pub keyword_tableless : Tableless (past reader w keyword t behind)
-  keyword_tableless = ap (is Table) (begun_keyword reader w keyword t behind (also is_declaring begins refl keyword declaring)) ∙ not-true _ (also is_declaring (λ k. not (is Table k)) refl keyword declaring)
+  pub keyword_tableless : Tableless (past reader w keyword t following)
+  keyword_tableless = ap (is Table) (begun_keyword reader w keyword t following (also is_declaring begins refl keyword declaring)) ∙ not-true _ (also is_declaring (λ k. not (is Table k)) refl keyword declaring)
 
-  keyword_gives : {limit : ℕ} → Gives limit reader.source.now (token keyword) w (seen_from reader at) (leaf (keyword, t)) (past reader w keyword t behind) (seen_from reader behind)
+  keyword_gives : {limit : ℕ} → Gives limit reader.source.now (token keyword) w (seen_from reader at) (leaf (keyword, t)) (past reader w keyword t following) (seen_from reader following)
   keyword_gives = gives_exact {kind = keyword} n (also is_declaring is_quiet refl keyword declaring)
 
-  pub declaration_refused : {limit : ℕ} {p : GamsPart} {e : SourceFaultOrMemory} → Refuses limit reader.source.now p (past reader w keyword t behind) (seen_from reader behind) e → Refuses limit reader.source.now (token keyword · p) w (seen_from reader at) e
+  pub declaration_refused : {limit : ℕ} {p : GamsPart} {e : SourceFaultOrMemory} → Refuses limit reader.source.now p (past reader w keyword t following) (seen_from reader following) e → Refuses limit reader.source.now (token keyword · p) w (seen_from reader at) e
   declaration_refused r = refuses_second keyword_gives r
 
   pub declaration_got : {F : Type 0} (value : F → Rational) (kind : DeclKind) (form : Form) {limit : ℕ} {new : Tables} {xs : List (Decl F)} {next : ℕ} (act : ActNode F) → act_view value act ≡ declares kind (map (declared_in value) xs) →
-      IsGot limit (AreDeclared value reader.source.now form) (Stays reader new (past reader w keyword t behind)) (the (items_part form)) reader behind new (past reader w keyword t behind) xs next →
+      IsGot limit (AreDeclared value reader.source.now form) (Stays reader new (past reader w keyword t following)) (the (items_part form)) reader following new (past reader w keyword t following) xs next →
       IsGot limit (IsDeclaration value reader.source.now kind form) (Ends reader new) (token keyword · the (items_part form)) reader at new w act next
   declaration_got value kind form act shown got = got_by (gives_both keyword_gives got.gives) (record { holds = got.leaves.has.holds; tableless = ap (is Table) got.leaves.keyword ∙ keyword_tableless })
       (λ sense s. shown ∙ ap (declares kind) (got.means sense s)) (let a = n.further in let b = got.further in omega arith)
 
 -- ---- variables
 
-pub type_got : {limit : ℕ} {reader : Reader} {at behind : ℕ} {t : Token} {tables : Tables} {w : ReaderState} (kind : DeclKind) → IsNext (is VariableType) reader at t behind → kind ≡ variable_kind (token_text reader.source.now t) → Holds reader tables w →
-    IsGot limit (IsVariableType reader.source.now) (Holds reader tables) (opt (token VariableType)) reader at tables w kind behind
-type_got {reader = reader} {behind = behind} {t = t} {w = w} kind n told h = got_by (gives_some (led_next n) (gives_exact {kind = VariableType} n refl)) (quiet_holds reader w VariableType t behind refl h) (λ sense s. told)
+pub type_got : {limit : ℕ} {reader : Reader} {at following : ℕ} {t : Token} {tables : Tables} {w : ReaderState} (kind : DeclKind) → IsNext (is VariableType) reader at t following → kind ≡ variable_kind (token_text reader.source.now t) → Holds reader tables w →
+    IsGot limit (IsVariableType reader.source.now) (Holds reader tables) (opt (token VariableType)) reader at tables w kind following
+type_got {reader = reader} {following = following} {t = t} {w = w} kind n told h = got_by (gives_some (led_next n) (gives_exact {kind = VariableType} n refl)) (quiet_holds reader w VariableType t following refl h) (λ sense s. told)
     (let g = n.further in omega arith)
 
 pub type_none : {limit : ℕ} {reader : Reader} {at : ℕ} {tables : Tables} {w : ReaderState} → leads productions look_ahead (token VariableType) (seen_from reader at) ≡ false → Holds reader tables w →
@@ -90,7 +90,7 @@ pub type_none : {limit : ℕ} {reader : Reader} {at : ℕ} {tables : Tables} {w 
 type_none {w = w} unled h = got_by (gives_none unled) h (λ sense s. refl) (omega arith)
 
 pub variables_got : {F : Type 0} (value : F → Rational) {limit : ℕ} {reader : Reader} {at middle next : ℕ} {old new : Tables} {w : ReaderState} {kind : DeclKind} {act : ActNode F} →
-    (k : IsGot limit (IsVariableType reader.source.now) (Holds reader old) (opt (token VariableType)) reader at old w kind middle) → IsGot limit (IsDeclaration value reader.source.now kind form.Plain) (Ends reader new) (token Variable · the PlainItems) reader middle new k.behind act next →
+    (k : IsGot limit (IsVariableType reader.source.now) (Holds reader old) (opt (token VariableType)) reader at old w kind middle) → IsGot limit (IsDeclaration value reader.source.now kind form.Plain) (Ends reader new) (token Variable · the PlainItems) reader middle new k.following act next →
     IsGot limit (IsAct value reader.source.now variable_act) (Ends reader new) (the VariableStatement) reader at new w act next
 variables_got value {reader = reader} k got = got_by (gives_the VariableStatement (gives_both k.gives got.gives)) got.leaves
     (λ sense s. got.means sense s ∙ ap (λ kind. declares kind (items_in (item_meaning form.Plain reader.source.now sense.names sense.labels) (second_in got.tree))) (k.means sense (earlier got.gives k.leaves got.leaves.holds s)))

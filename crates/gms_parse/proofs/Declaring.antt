@@ -45,8 +45,8 @@ gives_data list {limit} {source} {w} {v} {ts} {rest} {tree} g = gives_the (item_
 
 pub data_got : {F : Type 0} (value : F → Rational) (list : ListOf) {limit : ℕ} {reader : Reader} {at middle further next : ℕ} {first second new : Tables} {w : ReaderState} {named : Named} {domain : Vec (Maybe Named) Global} {items : Vec (Item F) Global} (decl : Decl F) →
     declared_in value decl ≡ record { named = named; domain = domain.items; items = map (item_in value) items.items } →
-    (n : IsGot limit (IsNamed reader.source.now) (Stays reader first w) name reader at first w named middle) → (d : IsGot limit (IsOptionalDomain reader.source.now) (Stays reader second n.behind) (opt (the Domain)) reader middle second n.behind domain further) →
-    IsGot limit (AreListed value reader.source.now list) (Stays reader new d.behind) (opt (token Slash · the (list_part list) · token Slash)) reader further new d.behind items next → IsGot limit (IsDeclared value reader.source.now (form_of list)) (Stays reader new w) (the (item_part (form_of list))) reader at new w decl next
+    (n : IsGot limit (IsNamed reader.source.now) (Stays reader first w) name reader at first w named middle) → (d : IsGot limit (IsOptionalDomain reader.source.now) (Stays reader second n.following) (opt (the Domain)) reader middle second n.following domain further) →
+    IsGot limit (AreListed value reader.source.now list) (Stays reader new d.following) (opt (token Slash · the (list_part list) · token Slash)) reader further new d.following items next → IsGot limit (IsDeclared value reader.source.now (form_of list)) (Stays reader new w) (the (item_part (form_of list))) reader at new w decl next
 data_got value list {reader = reader} {items = items} decl shown n d l = got_by (gives_data list (gives_both n.gives (gives_both d.gives l.gives))) (stays_then n.leaves (stays_then d.leaves l.leaves))
     (λ sense s.
     let s2 = earlier l.gives d.leaves.has.holds l.leaves.has.holds s in
@@ -58,7 +58,7 @@ data_got value list {reader = reader} {items = items} decl shown n d l = got_by 
 -- ---- scalars
 
 pub scalar_got : {F : Type 0} (value : F → Rational) {limit : ℕ} {reader : Reader} {at middle next : ℕ} {new : Tables} {w : ReaderState} {named : Named} {items : Vec (Item F) Global} (decl : Decl F) → declared_in value decl ≡ record { named = named; domain = []; items = map (item_in value) items.items } →
-    (n : IsGot limit (IsNamed reader.source.now) (Stays reader new w) name reader at new w named middle) → IsGot limit (IsScalarValue value reader.source.now) (Stays reader new n.behind) (opt (token Slash · the Value · token Slash)) reader middle new n.behind items next →
+    (n : IsGot limit (IsNamed reader.source.now) (Stays reader new w) name reader at new w named middle) → IsGot limit (IsScalarValue value reader.source.now) (Stays reader new n.following) (opt (token Slash · the Value · token Slash)) reader middle new n.following items next →
     IsGot limit (IsDeclared value reader.source.now form.Scalar) (Stays reader new w) (the ScalarItem) reader at new w decl next
 scalar_got value decl shown n l = got_by (gives_the ScalarItem (gives_both n.gives l.gives)) (stays_then n.leaves l.leaves)
     (λ sense s. shown ∙ ap₂ (λ (x : Named) (y : List (Item Rational)). record { named = x; domain = []; items = y }) (n.means sense s) (l.means sense s)) (let a = n.further in let c = l.further in omega arith)
@@ -66,7 +66,7 @@ scalar_got value decl shown n l = got_by (gives_the ScalarItem (gives_both n.giv
 -- ---- variables and equations
 
 pub plain_got : {F : Type 0} (value : F → Rational) {limit : ℕ} {reader : Reader} {at middle next : ℕ} {first new : Tables} {w : ReaderState} {named : Named} {domain : Vec (Maybe Named) Global} (decl : Decl F) → declared_in value decl ≡ record { named = named; domain = domain.items; items = [] } →
-    (n : IsGot limit (IsNamed reader.source.now) (Stays reader first w) name reader at first w named middle) → IsGot limit (IsOptionalDomain reader.source.now) (Stays reader new n.behind) (opt (the Domain)) reader middle new n.behind domain next →
+    (n : IsGot limit (IsNamed reader.source.now) (Stays reader first w) name reader at first w named middle) → IsGot limit (IsOptionalDomain reader.source.now) (Stays reader new n.following) (opt (the Domain)) reader middle new n.following domain next →
     IsGot limit (IsDeclared value reader.source.now form.Plain) (Stays reader new w) (the PlainItem) reader at new w decl next
 plain_got value decl shown n d = got_by (gives_the PlainItem (gives_both n.gives d.gives)) (stays_then n.leaves d.leaves)
     (λ sense s.

@@ -26,7 +26,7 @@ use Rattle.gms_parse.specs.declared.fault.SourceError.TheVariants as source_erro
 use Rattle.gms_table.specs.declared.fault.TableError.TheVariants.{NoHeading}
 use Rattle.gms_parse.specs.declared.fault.SourceFaultOrMemory.TheVariants.{Fault}
 use Rattle.gms_parse.specs.ReadStates.{KindedToken, ReaderState, ends_statement, last_kind, table_name, kind_ahead, reader_after, reader_after_all, IsFaulty, without_lines}
-use Rattle.gms_parse.specs.InnerReadings.{Derivation, Gives, Refuses, Sense, Has, Starts, Stays, IsNext, IsGot, IsOpened, AnswersDomain, AnswersBehind, ends_head, seen_from, kind_of}
+use Rattle.gms_parse.specs.InnerReadings.{Derivation, Gives, Refuses, Sense, Has, Starts, Stays, IsNext, IsGot, IsOpened, AnswersDomain, AnswersAfter, ends_head, seen_from, kind_of}
 use Rattle.gms_parse.specs.InnerMeanings.{IsNamed, IsPosition, IsDomain, IsOptionalDomain}
 use Rattle.gms_parse.proofs.TokenKinds.{leads_alike, same_kind}
 use Rattle.gms_parse.proofs.Alphabet.{AllPass, only, all_pass}
@@ -36,8 +36,8 @@ use Rattle.gms_grammar.proofs.Eithers.{led_given, refuses_other}
 use Rattle.gms_parse.proofs.Listing.{AreAll, all_meant, list_of}
 
 -- `*`
-pub star_got : {limit : ℕ} {reader : Reader} {at : ℕ} {old : Tables} {w : ReaderState} {t : Token} {behind : ℕ} → Starts reader old w → IsNext (is Star) reader at t behind → IsGot limit (IsPosition reader.source.now) (Stays reader old w) (the DomainPosition) reader at old w None behind
-star_got {reader = reader} {w = w} {t = t} {behind = behind} s n = got_by (gives_the DomainPosition (gives_left (led_next n) (gives_exact n refl))) (plain_stays reader w Star t behind refl s.has) (λ sense m. refl) (let g = n.further in omega arith)
+pub star_got : {limit : ℕ} {reader : Reader} {at : ℕ} {old : Tables} {w : ReaderState} {t : Token} {following : ℕ} → Starts reader old w → IsNext (is Star) reader at t following → IsGot limit (IsPosition reader.source.now) (Stays reader old w) (the DomainPosition) reader at old w None following
+star_got {reader = reader} {w = w} {t = t} {following = following} s n = got_by (gives_the DomainPosition (gives_left (led_next n) (gives_exact n refl))) (plain_stays reader w Star t following refl s.has) (λ sense m. refl) (let g = n.further in omega arith)
 
 -- a set
 pub position_got : {limit : ℕ} {reader : Reader} {at : ℕ} {w : ReaderState} {new : Tables} {named : Named} {next : ℕ} → leads productions look_ahead (token Star) (seen_from reader at) ≡ false → IsGot limit (IsNamed reader.source.now) (Stays reader new w) name reader at new w named next →
@@ -77,28 +77,28 @@ name_kept source w (t ∷ u) ahead h k = name_kept source (reader_after source w
 
 module _ {reader : Reader} {at start : ℕ} {inner : Reader} {old : Tables} {w : ReaderState} (o : IsOpened reader at inner start) (h : Has reader old w) where
   -- positions between parentheses
-  pub domain_got : {limit : ℕ} {new : Tables} {positions : Vec (Maybe Named) Global} {next behind : ℕ} {t : Token} →
-      IsGot limit (AreAll (IsPosition reader.source.now)) (Stays inner new (opened w o)) (list_of (is Comma) (the DomainPosition)) reader start new (opened w o) positions.items next → IsNext (is RightParen) reader next t behind →
-      (ends_head w (seen_from reader behind) ≡ false → IsGot limit (IsDomain reader.source.now) (Stays reader new w) (the Domain) reader at new w positions behind)
-      × (ends_head w (seen_from reader behind) ≡ true → is Table (last_kind w.before) ≡ false → Refuses limit reader.source.now (the Domain) w (seen_from reader at) (Fault (record { error = source_error.Table NoHeading; at = table_name w.before })))
-  domain_got {limit} {new} {positions = positions} {next = next} {behind = behind} {t = t} got n = (found, headless)
+  pub domain_got : {limit : ℕ} {new : Tables} {positions : Vec (Maybe Named) Global} {next following : ℕ} {t : Token} →
+      IsGot limit (AreAll (IsPosition reader.source.now)) (Stays inner new (opened w o)) (list_of (is Comma) (the DomainPosition)) reader start new (opened w o) positions.items next → IsNext (is RightParen) reader next t following →
+      (ends_head w (seen_from reader following) ≡ false → IsGot limit (IsDomain reader.source.now) (Stays reader new w) (the Domain) reader at new w positions following)
+      × (ends_head w (seen_from reader following) ≡ true → is Table (last_kind w.before) ≡ false → Refuses limit reader.source.now (the Domain) w (seen_from reader at) (Fault (record { error = source_error.Table NoHeading; at = table_name w.before })))
+  domain_got {limit} {new} {positions = positions} {next = next} {following = following} {t = t} got n = (found, headless)
     where
-      listed : Gives limit reader.source.now (the DomainList) (opened w o) (seen_from reader start) (node got.tree) got.behind (seen_from reader next)
+      listed : Gives limit reader.source.now (the DomainList) (opened w o) (seen_from reader start) (node got.tree) got.following (seen_from reader next)
       listed = gives_the DomainList got.gives
 
-      found : ends_head w (seen_from reader behind) ≡ false → IsGot limit (IsDomain reader.source.now) (Stays reader new w) (the Domain) reader at new w positions behind
-      found on = got_by (gives_the Domain (gives_bracketed o h got.leaves listed n on)) (close_stays o h got.leaves t behind) (λ sense m. positions_meant reader.source.now sense got.tree positions.items (got.means sense m))
+      found : ends_head w (seen_from reader following) ≡ false → IsGot limit (IsDomain reader.source.now) (Stays reader new w) (the Domain) reader at new w positions following
+      found on = got_by (gives_the Domain (gives_bracketed o h got.leaves listed n on)) (close_stays o h got.leaves t following) (λ sense m. positions_meant reader.source.now sense got.tree positions.items (got.means sense m))
           (let a = o.next.further in let b = got.further in let c = n.further in omega arith)
 
-      headless : ends_head w (seen_from reader behind) ≡ true → is Table (last_kind w.before) ≡ false → Refuses limit reader.source.now (the Domain) w (seen_from reader at) (Fault (record { error = source_error.Table NoHeading; at = table_name w.before }))
+      headless : ends_head w (seen_from reader following) ≡ true → is Table (last_kind w.before) ≡ false → Refuses limit reader.source.now (the Domain) w (seen_from reader at) (Fault (record { error = source_error.Table NoHeading; at = table_name w.before }))
       headless true_there last =
           let table : Table ≡ w.keyword = same_kind Table w.keyword ((and_parts _ _ true_there).0) in
-          let ends = right_and (is Table w.keyword) (ends_statement (kind_of (seen_from reader behind))) true_there in
+          let ends = right_and (is Table w.keyword) (ends_statement (kind_of (seen_from reader following))) true_there in
           let kinds = all_pass is_domain_list no_table domains_other (the DomainList) (node got.tree) (sound productions look_ahead listed.reads).0 refl in
-          let where_it_is : table_name got.behind.before ≡ table_name w.before =
+          let where_it_is : table_name got.following.before ≡ table_name w.before =
           ap (λ (x : ReaderState). table_name x.before) listed.leaves ∙ name_kept reader.source.now (opened w o) (yield got.tree) (kind_of (seen_from reader next)) kinds refl ∙ name_pushed (LeftParen, o.token) w.before last in
           refuses_the Domain (refuses_second (gives_open o h) (refuses_second listed
-          (refuses_token (takes_next (exact n) refl) (subst (λ (x : Place). IsFaulty limit reader.source.now got.behind (RightParen, t) (kind_of (seen_from reader behind)) (record { error = source_error.Table NoHeading; at = x })) where_it_is (without_lines refl (got.leaves.keyword ∙ sym table) ends)) refl)))
+          (refuses_token (takes_next (exact n) refl) (subst (λ (x : Place). IsFaulty limit reader.source.now got.following (RightParen, t) (kind_of (seen_from reader following)) (record { error = source_error.Table NoHeading; at = x })) where_it_is (without_lines refl (got.leaves.keyword ∙ sym table) ends)) refl)))
 
 -- a parenthesis leads into a domain
 pub leads_domain : (ts : List KindedToken) → leads productions look_ahead (the Domain) ts ≡ leads productions look_ahead (token LeftParen) ts
@@ -110,7 +110,7 @@ no_domain {reader = reader} {at = at} {w = w} positions is h unled = got_by (giv
 
 -- a domain that is there
 pub some_domain : (limit : ℕ) (reader : Reader) (at : ℕ) (old new : Tables) (r : Result (Vec (Maybe Named) Global × ℕ) SourceFaultOrMemory) → AnswersDomain limit (IsDomain reader.source.now) (the Domain) reader at old new r →
-    leads productions look_ahead (token LeftParen) (seen_from reader at) ≡ true → AnswersBehind limit (IsOptionalDomain reader.source.now) (opt (the Domain)) reader at old new r
+    leads productions look_ahead (token LeftParen) (seen_from reader at) ≡ true → AnswersAfter limit (IsOptionalDomain reader.source.now) (opt (the Domain)) reader at old new r
 some_domain limit reader at old new (Ok b) answer led w h o other =
     let got = (answer w h o).0 (closes_on w.keyword (ends_statement (kind_of (seen_from reader b.1))) other) in
     got_by (gives_some (leads_domain (seen_from reader at) ∙ led) got.gives) got.leaves got.means got.further

@@ -40,9 +40,9 @@ other_ranges tree = each_in (λ other. second_in other) tree
 -- the ranges added so far to a position
 pub record Gathering (limit : ℕ) (reader : Reader) (start : ℕ) (w : ReaderState) (new : Tables) (part : Position) (at : ℕ) : Type 0 where
   pub context : Derivation → Derivation
-  pub behind : ReaderState
-  pub within : Within limit reader.source.now (the Range · many (token Comma · the Range)) w (seen_from reader start) (many (token Comma · the Range)) behind (seen_from reader at) context
-  pub stays : Stays reader new w behind
+  pub following : ReaderState
+  pub within : Within limit reader.source.now (the Range · many (token Comma · the Range)) w (seen_from reader start) (many (token Comma · the Range)) following (seen_from reader at) context
+  pub stays : Stays reader new w following
   pub labels : (sense : Sense) → IsSense new sense → (b : Derivation) → labels_of reader.source.now sense (first_ranges (context b)) ≡ part.labels.items ++ labels_of reader.source.now sense (other_ranges b)
   pub bad : (sense : Sense) → IsSense new sense → (b : Derivation) → bad_of reader.source.now sense (first_ranges (context b)) ≡ (part.bad_range || bad_of reader.source.now sense (other_ranges b))
   pub further : start ≤ at
@@ -51,7 +51,7 @@ module _ {limit : ℕ} {reader : Reader} {start : ℕ} {w : ReaderState} where
   pub gathering_start : (was : Position) {new : Tables} {part : Position} {at : ℕ} → was.labels.items ≡ [] → was.bad_range ≡ false → IsGot limit (λ sense tree x. IsAdded reader.source.now sense tree was x) (Stays reader new w) (the Range) reader start new w part at → Gathering limit reader start w new part at
   gathering_start was {part = part} none_yet sound_yet got = record {
     context = λ b. pair got.tree b;
-    behind = got.behind;
+    following = got.following;
     within = within_second got.gives;
     stays = got.leaves;
     labels = λ sense s b. ap (λ u. u ++ labels_of reader.source.now sense (other_ranges b)) (sym ((got.means sense s).0 ∙ ap (λ u. u ++ labels_in_range reader.source.now sense.labels got.tree) none_yet));
@@ -59,17 +59,17 @@ module _ {limit : ℕ} {reader : Reader} {start : ℕ} {w : ReaderState} where
     further = got.further;
   }
 
-  module _ {new : Tables} {part : Position} {at : ℕ} (l : Gathering limit reader start w new part at) {t : Token} {behind : ℕ} (n : IsNext (is Comma) reader at t behind) where
-    pub comma_stays : Stays reader new w (past reader l.behind Comma t behind)
-    comma_stays = stays_then l.stays (plain_stays reader l.behind Comma t behind refl l.stays.has)
+  module _ {new : Tables} {part : Position} {at : ℕ} (l : Gathering limit reader start w new part at) {t : Token} {following : ℕ} (n : IsNext (is Comma) reader at t following) where
+    pub comma_stays : Stays reader new w (past reader l.following Comma t following)
+    comma_stays = stays_then l.stays (plain_stays reader l.following Comma t following refl l.stays.has)
 
-    pub gathering_on : {newer : Tables} {now : Position} {after : ℕ} → IsGot limit (λ sense tree x. IsAdded reader.source.now sense tree part x) (Stays reader newer (past reader l.behind Comma t behind)) (the Range) reader behind newer (past reader l.behind Comma t behind) now after →
+    pub gathering_on : {newer : Tables} {now : Position} {after : ℕ} → IsGot limit (λ sense tree x. IsAdded reader.source.now sense tree part x) (Stays reader newer (past reader l.following Comma t following)) (the Range) reader following newer (past reader l.following Comma t following) now after →
         Gathering limit reader start w newer now after
     gathering_on {newer} {now} got =
         let g = gives_both (gives_exact {kind = Comma} n refl) got.gives in
         record {
           context = λ b. l.context (more (pair (leaf (Comma, t)) got.tree) b);
-          behind = got.behind;
+          following = got.following;
           within = within_then l.within (within_again (leads_next (the Range) n) g);
           stays = stays_then comma_stays got.leaves;
           labels = λ sense s b.
@@ -83,7 +83,7 @@ module _ {limit : ℕ} {reader : Reader} {start : ℕ} {w : ReaderState} where
           further = (let a = l.further in let f = got.further in let g = n.further in omega arith);
         }
 
-    pub gathering_refuses : {e : SourceFaultOrMemory} → Refuses limit reader.source.now (the Range) (past reader l.behind Comma t behind) (seen_from reader behind) e → Refuses limit reader.source.now (the RangeList) w (seen_from reader start) e
+    pub gathering_refuses : {e : SourceFaultOrMemory} → Refuses limit reader.source.now (the Range) (past reader l.following Comma t following) (seen_from reader following) e → Refuses limit reader.source.now (the RangeList) w (seen_from reader start) e
     gathering_refuses r = refuses_the RangeList (l.within.refuses _ (refuses_again (leads_next (the Range) n) (refuses_second (gives_exact {kind = Comma} n refl) r)))
 
 -- ---- positions
@@ -109,11 +109,11 @@ lone_got {reader = reader} {at = at} was part none_yet sound_yet got = got_by (g
 pub lone_refused : {limit : ℕ} {source : List ℕ} {w : ReaderState} {ts : List KindedToken} {e : SourceFaultOrMemory} → leads productions look_ahead (token LeftParen) ts ≡ false → Refuses limit source (the Range) w ts e → Refuses limit source (the ElementPart) w ts e
 lone_refused {ts = ts} unled r = refuses_the ElementPart (by_cause r (λ fault s. stuck_as s (stuck_range (unled_next (is LeftParen) (the RangeList · token RightParen) ts unled) s.reads)) (λ fault s. wrong_as s (takes_left s.takes)))
   where
-    stuck_in : {p : GamsPart} {us front rest : List KindedToken} → leads productions look_ahead p us ≡ false → Reads productions look_ahead (productions Range) us (stuck front rest) → Reads productions look_ahead (the Range) us (stuck front rest) → Reads productions look_ahead (the Range ∣ p) us (stuck front rest)
+    stuck_in : {p : GamsPart} {us prefix rest : List KindedToken} → leads productions look_ahead p us ≡ false → Reads productions look_ahead (productions Range) us (stuck prefix rest) → Reads productions look_ahead (the Range) us (stuck prefix rest) → Reads productions look_ahead (the Range ∣ p) us (stuck prefix rest)
     stuck_in {us = us} k (first_stuck (refused h)) r = in_neither (leads_range us ∙ h) k
     stuck_in {us = us} k (second_stuck (taken h) s) r = in_left_stuck (leads_range us ∙ h) r
 
-    stuck_range : {p : GamsPart} {us front rest : List KindedToken} → leads productions look_ahead p us ≡ false → Reads productions look_ahead (the Range) us (stuck front rest) → Reads productions look_ahead (the Range ∣ p) us (stuck front rest)
+    stuck_range : {p : GamsPart} {us prefix rest : List KindedToken} → leads productions look_ahead p us ≡ false → Reads productions look_ahead (the Range) us (stuck prefix rest) → Reads productions look_ahead (the Range ∣ p) us (stuck prefix rest)
     stuck_range k (entered_stuck r) = stuck_in k r (entered_stuck r)
 
 -- ranges in parentheses
@@ -138,10 +138,10 @@ module _ {reader : Reader} {at start : ℕ} {inner : Reader} {old : Tables} {w :
     pub part_unclosed : {e : SourceFaultOrMemory} → IsLacking (is RightParen) reader next e → Refuses limit reader.source.now (the ElementPart) w (seen_from reader at) e
     part_unclosed k = refuses_the ElementPart (refuses_right unled_range led_in (refuses_unclosed o h outer_got.leaves (gives_the RangeList outer_got.gives) k))
 
-    pub part_got : Tableless w → {t : Token} {behind : ℕ} → IsNext (is RightParen) reader next t behind → IsGot limit (IsPart reader.source.now) (Stays reader new w) (the ElementPart) reader at new w part behind
-    part_got other {t} {behind} n = got_by
-        (gives_the ElementPart (gives_right unled_range led_in (gives_bracketed o h outer_got.leaves (gives_the RangeList outer_got.gives) n (closes_on w.keyword (ends_statement (kind_of (seen_from reader behind))) other))))
-        (close_stays o h outer_got.leaves t behind) outer_got.means (let a = o.next.further in let b = outer_got.further in let c = n.further in omega arith)
+    pub part_got : Tableless w → {t : Token} {following : ℕ} → IsNext (is RightParen) reader next t following → IsGot limit (IsPart reader.source.now) (Stays reader new w) (the ElementPart) reader at new w part following
+    part_got other {t} {following} n = got_by
+        (gives_the ElementPart (gives_right unled_range led_in (gives_bracketed o h outer_got.leaves (gives_the RangeList outer_got.gives) n (closes_on w.keyword (ends_statement (kind_of (seen_from reader following))) other))))
+        (close_stays o h outer_got.leaves t following) outer_got.means (let a = o.next.further in let b = outer_got.further in let c = n.further in omega arith)
 
 pub unopened_part : {limit : ℕ} {reader : Reader} {at : ℕ} {old : Tables} {w : ReaderState} {e : SourceFaultOrMemory} → Has reader old w → IsUnopened reader at e → leads productions look_ahead (token LeftParen) (seen_from reader at) ≡ true → Refuses limit reader.source.now (the ElementPart) w (seen_from reader at) e
 unopened_part {reader = reader} {at = at} h u led =

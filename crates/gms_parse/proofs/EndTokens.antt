@@ -21,7 +21,7 @@ use Rattle.gms_lines.specs.TableLines.{table_bytes}
 use Rattle.gms_lex.specs.declared.keyword.Shape.{Shape}
 use Rattle.gms_lex.specs.declared.keyword.Shape.TheVariants.{Set, Parameter, Scalar, Model}
 use Rattle.gms_lex.specs.declared.mode.Stage.{Stage}
-use Rattle.gms_lex.specs.declared.mode.Stage.TheVariants.{Fresh, Due, After, Spaced}
+use Rattle.gms_lex.specs.declared.mode.Stage.TheVariants.{Fresh, Expected, After, Spaced}
 use Rattle.gms_lex.specs.declared.mode.Mode.{Mode}
 use Rattle.gms_lex.specs.declared.mode.Mode.TheVariants.{Code, Named, Bare, Element, Value, Tail, TableNamed, TableBare, TableLines}
 use Rattle.gms_lex.specs.declared.mode.LineEnds.{LineEnds}
@@ -30,7 +30,7 @@ use Rattle.gms_lex.specs.declared.token.Token.{Token}
 use Rattle.gms_lex.specs.Keywords.{begins_statement}
 use Rattle.gms_lex.specs.Modes.{mode_after}
 use Rattle.gms_lex.specs.Places.{place_of_byte}
-use Rattle.gms_lex.specs.Pieces.{passes, ends_or_begins, space_length, line_ends, line_end, is_item_mark, is_element_mark, behind_name, behind_domain, begins_value_dot, element_tail, behind_label, in_list, token_read, table_piece, plain_piece, piece_at}
+use Rattle.gms_lex.specs.Pieces.{passes, ends_or_begins, space_length, line_ends, line_end, is_item_mark, is_element_mark, piece_after_name, piece_after_domain, begins_value_dot, element_tail, piece_after_label, in_list, token_read, table_piece, plain_piece, piece_at}
 use Rattle.gms_lex.specs.TokenTexts.{token_text}
 use Rattle.gms_lex.specs.Tokens.{IsMadeOf, tokens_of, end_token, IsTokens, token_at as token_of_piece}
 use Rattle.gms_grammar.specs.declared.terminal.Terminal.{Terminal}
@@ -99,20 +99,20 @@ element_tail_goes Set text = remark_goes text
 element_tail_goes Scalar text = remark_goes text
 element_tail_goes Model text = remark_goes text
 
-behind_label_goes : (s : Shape) (d : ℕ) (stage : Stage) (text : List ℕ) → Goes (behind_label s d stage text)
+behind_label_goes : (s : Shape) (d : ℕ) (stage : Stage) (text : List ℕ) → Goes (piece_after_label s d stage text)
 behind_label_goes s d stage text =
     either_goes (begins is_element_mark text && not (begins_value_dot s d stage text)) _ _ (symbol_goes text) (either_goes (d == 0) _ _ (element_tail_goes s text) (label_goes text))
 
 in_list_goes : (s : Shape) (d : ℕ) (stage : Stage) (text : List ℕ) → Goes (in_list s d stage text)
 in_list_goes s d Fresh text = label_goes text
-in_list_goes s d Due text = label_goes text
+in_list_goes s d Expected text = label_goes text
 in_list_goes s d After text = behind_label_goes s d After text
 in_list_goes s d Spaced text = behind_label_goes s d Spaced text
 
-behind_name_goes : (text : List ℕ) → Goes (behind_name text)
+behind_name_goes : (text : List ℕ) → Goes (piece_after_name text)
 behind_name_goes text = either_goes (begins (λ b. b == 40 || is_item_mark b) text) _ _ (symbol_goes text) (remark_goes text)
 
-behind_domain_goes : (text : List ℕ) → Goes (behind_domain text)
+behind_domain_goes : (text : List ℕ) → Goes (piece_after_domain text)
 behind_domain_goes text = either_goes (begins is_item_mark text) _ _ (symbol_goes text) (remark_goes text)
 
 token_goes : (current : Mode) (text : List ℕ) → Goes (token_read current text)
@@ -190,8 +190,8 @@ each_known _ = refl
 tree_other : (tree : Derivation) → IsTree productions (the Program) tree → AllPass is_other (yield tree)
 tree_other tree k = all_pass (λ n. true) is_other each_known (the Program) tree k refl
 
-pub begins_other : (front : List KindedToken) → Begins productions (the Program) front → AllPass is_other front
-begins_other front b = pass_front is_other front b.further (subst (λ (u : List KindedToken). AllPass is_other u) b.derives.yields (tree_other b.derives.tree b.derives.is_tree))
+pub begins_other : (prefix : List KindedToken) → Begins productions (the Program) prefix → AllPass is_other prefix
+begins_other prefix b = pass_front is_other prefix b.further (subst (λ (u : List KindedToken). AllPass is_other u) b.derives.yields (tree_other b.derives.tree b.derives.is_tree))
 
 ends_at_once : (u v rest : List KindedToken) (end : Token) → u ++ (End, end) ∷ [] ≡ v ++ rest → AllPass is_other u → AllPass is_other v → kind_of rest ≡ End → rest ≡ (End, end) ∷ []
 ends_at_once [] [] rest end e h k is_end = sym e

@@ -24,14 +24,14 @@ seen_token reader t = (terminal_of t.kind (token_text reader.source.now t), t)
 pub length_seen : (reader : Reader) (at : ℕ) → length (seen_from reader at) ≡ length reader.tokens.now - at
 length_seen reader at = length-map (drop at reader.tokens.now) (seen_token reader) ∙ length-drop at reader.tokens.now
 
-module _ {reader : Reader} {test : Terminal → Bool} {at behind : ℕ} {t : Token} (ready : IsReady reader) (n : IsNext test reader at t behind) where
+module _ {reader : Reader} {test : Terminal → Bool} {at following : ℕ} {t : Token} (ready : IsReady reader) (n : IsNext test reader at t following) where
   -- the last token is the end
   alone : (drop at reader.tokens.now ≡ t ∷ []) → n.kind ≡ End
   alone e =
       let tokens = reader.tokens.now in
-      let front = tokens_of reader.source.now 0 ready.tokens.has.pieces in
-      let all : take at tokens ++ t ∷ [] ≡ front ++ end_token reader.source.now ∷ [] = ap (λ u. take at tokens ++ u) (sym e) ∙ take-append-drop at tokens ∙ ready.tokens.has.tokens_are in
-      let same : t ≡ end_token reader.source.now = elim (order (take at tokens) t [] front (end_token reader.source.now) [] all) [
+      let prefix = tokens_of reader.source.now 0 ready.tokens.has.pieces in
+      let all : take at tokens ++ t ∷ [] ≡ prefix ++ end_token reader.source.now ∷ [] = ap (λ u. take at tokens ++ u) (sym e) ∙ take-append-drop at tokens ∙ ready.tokens.has.tokens_are in
+      let same : t ≡ end_token reader.source.now = elim (order (take at tokens) t [] prefix (end_token reader.source.now) [] all) [
         | at_once e f g ↦ f
         | earlier w e g ↦ absurd (some_there w (end_token reader.source.now) [] g)
         | later w e g ↦ absurd (some_there w t [] g)
@@ -44,18 +44,18 @@ module _ {reader : Reader} {test : Terminal → Bool} {at behind : ℕ} {t : Tok
   one_left (u ∷ (v ∷ us)) e = cc
 
   -- after a token other than the end there is another token
-  pub more_behind : is End n.kind ≡ false → behind < length reader.tokens.now
-  more_behind other = go (seen_from reader behind) refl
+  pub more_behind : is End n.kind ≡ false → following < length reader.tokens.now
+  more_behind other = go (seen_from reader following) refl
     where
-      go : (rest : List KindedToken) → seen_from reader behind ≡ rest → behind < length reader.tokens.now
+      go : (rest : List KindedToken) → seen_from reader following ≡ rest → following < length reader.tokens.now
       go [] e =
           let last = alone (one_left (drop at reader.tokens.now) (n.is ∙ ap (λ u. (n.kind, t) ∷ u) e)) in
           let yes : is End n.kind ≡ true = ap (is End) last in
           cc
-      go (x ∷ rest) e = let l = sym (length_seen reader behind) ∙ ap length e in omega (arith, l)
+      go (x ∷ rest) e = let l = sym (length_seen reader following) ∙ ap length e in omega (arith, l)
 
 -- of this kind
-pub behind_within : (kind : Terminal) {reader : Reader} {at behind : ℕ} {t : Token} → IsReady reader → (n : IsNext (is kind) reader at t behind) → is End kind ≡ false → behind < length reader.tokens.now
+pub behind_within : (kind : Terminal) {reader : Reader} {at following : ℕ} {t : Token} → IsReady reader → (n : IsNext (is kind) reader at t following) → is End kind ≡ false → following < length reader.tokens.now
 behind_within kind ready n other = more_behind ready n (ap (is End) (sym (same_kind kind n.kind n.passes)) ∙ other)
 
 -- where a part may begin, a token stands

@@ -40,29 +40,29 @@ abbrev pub is_named : Terminal → Bool
 is_named = is_terminal_among (Name ∷ Suffix ∷ [])
 
 -- the next token is a name
-named_there : {reader : Reader} {at behind : ℕ} {t : Token} {old : Tables} {w : ReaderState} (n : IsNext is_named reader at t behind) → Starts reader old w → is_name w n.kind ≡ true
+named_there : {reader : Reader} {at following : ℕ} {t : Token} {old : Tables} {w : ReaderState} (n : IsNext is_named reader at t following) → Starts reader old w → is_name w n.kind ≡ true
 named_there n s = ap₂ (λ a b. a && not b) n.passes (ap₂ (λ a b. a || b) s.undotted s.optionless)
 
-name_sound : (limit : ℕ) {reader : Reader} {at behind : ℕ} {t : Token} {old : Tables} {w : ReaderState} (n : IsNext is_named reader at t behind) → Starts reader old w → (IsFullFor old.names (token_text reader.source.now t) → ⊥) → (fault : SourceFault) →
-    IsFaulty limit reader.source.now w (n.kind, t) (kind_of (seen_from reader behind)) fault → ⊥
-name_sound limit {reader} {behind = behind} {t = t} {w = w} n s room =
-    free_sound limit reader.source.now w n.kind t (kind_of (seen_from reader behind)) (also is_named is_free refl n.kind n.passes) (λ e d. room (subst (λ (ns : List (List ℕ)). IsFullFor ns (token_text reader.source.now t)) s.has.holds.names d))
-    (room_for_none w.labels _ (mute_after reader.source.now w n.kind t (kind_of (seen_from reader behind)) (also is_named is_mute refl n.kind n.passes)).1)
+name_sound : (limit : ℕ) {reader : Reader} {at following : ℕ} {t : Token} {old : Tables} {w : ReaderState} (n : IsNext is_named reader at t following) → Starts reader old w → (IsFullFor old.names (token_text reader.source.now t) → ⊥) → (fault : SourceFault) →
+    IsFaulty limit reader.source.now w (n.kind, t) (kind_of (seen_from reader following)) fault → ⊥
+name_sound limit {reader} {following = following} {t = t} {w = w} n s within_bound =
+    free_sound limit reader.source.now w n.kind t (kind_of (seen_from reader following)) (also is_named is_free refl n.kind n.passes) (λ e d. within_bound (subst (λ (ns : List (List ℕ)). IsFullFor ns (token_text reader.source.now t)) s.has.holds.names d))
+    (room_for_none w.labels _ (mute_after reader.source.now w n.kind t (kind_of (seen_from reader following)) (also is_named is_mute refl n.kind n.passes)).1)
 
 -- a name was entered, and has this number
-pub name_got : {limit : ℕ} {reader : Reader} {at behind : ℕ} {t : Token} {old : Tables} {w : ReaderState} (n : IsNext is_named reader at t behind) → Starts reader old w → (number : ℕ) (texts : List ℕ) → texts ≡ token_text reader.source.now t → (names : List (List ℕ)) → IsEntered old.names names texts number →
-    (new : Tables) → new.names ≡ names → new.labels ≡ old.labels → IsGot limit (IsNamed reader.source.now) (Stays reader new w) name reader at new w (record { at = t.at; name = number }) behind
-name_got {limit} {reader} {at} {behind} {t} {old} {w} n s number texts is names entered_there new same labels =
+pub name_got : {limit : ℕ} {reader : Reader} {at following : ℕ} {t : Token} {old : Tables} {w : ReaderState} (n : IsNext is_named reader at t following) → Starts reader old w → (number : ℕ) (texts : List ℕ) → texts ≡ token_text reader.source.now t → (names : List (List ℕ)) → IsEntered old.names names texts number →
+    (new : Tables) → new.names ≡ names → new.labels ≡ old.labels → IsGot limit (IsNamed reader.source.now) (Stays reader new w) name reader at new w (record { at = t.at; name = number }) following
+name_got {limit} {reader} {at} {following} {t} {old} {w} n s number texts is names entered_there new same labels =
     let text = token_text reader.source.now t in
-    let m = mute_after reader.source.now w n.kind t (kind_of (seen_from reader behind)) (also is_named is_mute refl n.kind n.passes) in
+    let m = mute_after reader.source.now w n.kind t (kind_of (seen_from reader following)) (also is_named is_mute refl n.kind n.passes) in
     let table : IsEntered old.names names text number = subst (λ (x : List ℕ). IsEntered old.names names x number) is entered_there in
-    got_by (gives_one n.is n.passes (name_sound limit n s table.room) refl)
-    (stays_by reader w n.kind t behind (not-true (begins n.kind) (also is_named (λ k. not (begins k)) refl n.kind n.passes)) s.has m.0
+    got_by (gives_one n.is n.passes (name_sound limit n s table.within_bound) refl)
+    (stays_by reader w n.kind t following (not-true (begins n.kind) (also is_named (λ k. not (begins k)) refl n.kind n.passes)) s.has m.0
     (ap (λ c. cond c (entered w.names text) w.names) (named_there n s) ∙ ap (λ (ns : List (List ℕ)). entered ns text) s.has.holds.names ∙ sym table.table ∙ sym same) (ap (all_entered w.labels) m.1 ∙ s.has.holds.labels ∙ sym labels))
     (λ sense m. ap (λ v. record { at = t.at; name = v }) (sym (ap or_0 (m.names text number (ap (λ (ns : List (List ℕ)). place_of ns text) same ∙ table.place))))) (let g = n.further in omega arith)
 
 -- the table of names is full for a name
-pub name_refused : {limit : ℕ} {reader : Reader} {at behind : ℕ} {t : Token} {old : Tables} {w : ReaderState} (n : IsNext is_named reader at t behind) → Starts reader old w → {e : SourceFaultOrMemory} (texts : List ℕ) → texts ≡ token_text reader.source.now t → IsNotEntered old.names texts t.at e →
+pub name_refused : {limit : ℕ} {reader : Reader} {at following : ℕ} {t : Token} {old : Tables} {w : ReaderState} (n : IsNext is_named reader at t following) → Starts reader old w → {e : SourceFaultOrMemory} (texts : List ℕ) → texts ≡ token_text reader.source.now t → IsNotEntered old.names texts t.at e →
     Refuses limit reader.source.now name w (seen_from reader at) e
 name_refused {reader = reader} {t = t} {old = old} n s texts is r = elim r.why [
   | inl m ↦ refuses_memory m
@@ -71,9 +71,9 @@ name_refused {reader = reader} {t = t} {old = old} n s texts is r = elim r.why [
 
 -- ---- signs
 
-pub sign_got : {limit : ℕ} {reader : Reader} {at behind : ℕ} {t : Token} {tables : Tables} {w : ReaderState} (minus : Bool) → IsNext (is Sign) reader at t behind → minus ≡ is_minus t.kind → Has reader tables w →
-    IsGot limit IsSign (Stays reader tables w) (opt (token Sign)) reader at tables w minus behind
-sign_got {reader = reader} {behind = behind} {t = t} {w = w} minus n is h = got_by (gives_some (led_next n) (gives_exact n refl)) (plain_stays reader w Sign t behind refl h) (λ sense s v. ap (λ m. cond m (opposed v) v) (sym is))
+pub sign_got : {limit : ℕ} {reader : Reader} {at following : ℕ} {t : Token} {tables : Tables} {w : ReaderState} (minus : Bool) → IsNext (is Sign) reader at t following → minus ≡ is_minus t.kind → Has reader tables w →
+    IsGot limit IsSign (Stays reader tables w) (opt (token Sign)) reader at tables w minus following
+sign_got {reader = reader} {following = following} {t = t} {w = w} minus n is h = got_by (gives_some (led_next n) (gives_exact n refl)) (plain_stays reader w Sign t following refl h) (λ sense s v. ap (λ m. cond m (opposed v) v) (sym is))
     (let g = n.further in omega arith)
 
 pub sign_none : {limit : ℕ} {reader : Reader} {at : ℕ} {tables : Tables} {w : ReaderState} → leads productions look_ahead (token Sign) (seen_from reader at) ≡ false → Has reader tables w → IsGot limit IsSign (Stays reader tables w) (opt (token Sign)) reader at tables w false at
@@ -91,16 +91,16 @@ number_sound limit source w t ahead x means fits fault (in_table e d f) = cc
 number_sound limit source w t ahead x means fits fault (without_lines e d f) = cc
 
 -- the next token is a number, which is allowed there
-pub number_gives : {limit : ℕ} {test : Terminal → Bool} {reader : Reader} {at behind : ℕ} {t : Token} {w : ReaderState} (x : Rational) → IsNext (is Number) reader at t behind → test Number ≡ true →
-    MeansNumber (token_text reader.source.now t) x → FitsLiteral limit x → Gives limit reader.source.now (one test) w (seen_from reader at) (leaf (Number, t)) (past reader w Number t behind) (seen_from reader behind)
-number_gives {limit = limit} {reader = reader} {behind = behind} {t = t} {w = w} x n h means fits = gives_one (exact n) h (number_sound limit reader.source.now w t (kind_of (seen_from reader behind)) x means fits) refl
+pub number_gives : {limit : ℕ} {test : Terminal → Bool} {reader : Reader} {at following : ℕ} {t : Token} {w : ReaderState} (x : Rational) → IsNext (is Number) reader at t following → test Number ≡ true →
+    MeansNumber (token_text reader.source.now t) x → FitsLiteral limit x → Gives limit reader.source.now (one test) w (seen_from reader at) (leaf (Number, t)) (past reader w Number t following) (seen_from reader following)
+number_gives {limit = limit} {reader = reader} {following = following} {t = t} {w = w} x n h means fits = gives_one (exact n) h (number_sound limit reader.source.now w t (kind_of (seen_from reader following)) x means fits) refl
 
 -- what a number leaves
-pub number_stays : {reader : Reader} (behind : ℕ) {t : Token} {tables : Tables} {w : ReaderState} → Has reader tables w → Stays reader tables w (past reader w Number t behind)
-number_stays behind h = record { has = record { holds = record { open_count = h.holds.open_count; names = h.holds.names; labels = h.holds.labels }; level = h.level }; keyword = refl; level = refl }
+pub number_stays : {reader : Reader} (following : ℕ) {t : Token} {tables : Tables} {w : ReaderState} → Has reader tables w → Stays reader tables w (past reader w Number t following)
+number_stays following h = record { has = record { holds = record { open_count = h.holds.open_count; names = h.holds.names; labels = h.holds.labels }; level = h.level }; keyword = refl; level = refl }
 
 -- a number is out of range
-pub number_refused : {limit : ℕ} {test : Terminal → Bool} {reader : Reader} {at behind : ℕ} {t : Token} {w : ReaderState} {e : SourceFaultOrMemory} → IsNext (is Number) reader at t behind → test Number ≡ true →
+pub number_refused : {limit : ℕ} {test : Terminal → Bool} {reader : Reader} {at following : ℕ} {t : Token} {w : ReaderState} {e : SourceFaultOrMemory} → IsNext (is Number) reader at t following → test Number ≡ true →
     IsTooLarge limit reader.source.now t e → Refuses limit reader.source.now (one test) w (seen_from reader at) e
 number_refused n h o = refuses_token (takes_next (exact n) h) (out_of_range refl o.none_fits) o.is
 
@@ -108,7 +108,7 @@ number_refused n h o = refuses_token (takes_next (exact n) h) (out_of_range refl
 pub unopened_lacking : {reader : Reader} {at : ℕ} {e : SourceFaultOrMemory} → IsLacking (is LeftParen) reader at e → IsUnopened reader at e
 unopened_lacking l = record { refuses = λ limit tables w h. refuses_lacking l }
 
-pub unopened_deep : {reader : Reader} {at behind : ℕ} {t : Token} {e : SourceFaultOrMemory} → IsNext (is LeftParen) reader at t behind → 100 ≤ reader.unclosed → e ≡ Fault (record { error = Syntax Depth; at = t.at }) → IsUnopened reader at e
+pub unopened_deep : {reader : Reader} {at following : ℕ} {t : Token} {e : SourceFaultOrMemory} → IsNext (is LeftParen) reader at t following → 100 ≤ reader.unclosed → e ≡ Fault (record { error = Syntax Depth; at = t.at }) → IsUnopened reader at e
 unopened_deep n many is = record { refuses = λ limit tables w h. refuses_token (takes_next (exact n) refl) (deep refl (let o = h.open_count in omega (arith, o, many))) is }
 
 -- the error of a token that is unexpected, by its kind

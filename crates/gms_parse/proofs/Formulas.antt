@@ -12,7 +12,7 @@ use Rattle.gms_expressions.specs.declared.fault.SyntaxFaultOrMemory.TheVariants 
 use Rattle.gms_expressions.specs.Outcomes as inner
 use Rattle.gms_expressions.specs.Words.{terminal_of}
 use Rattle.gms_lex.specs.TokenTexts.{token_text}
-use Rattle.gms_expressions.specs.Calls.{walk_from, IsRead, IsSyntaxRefusal}
+use Rattle.gms_expressions.specs.Calls.{expression_state, IsRead, IsSyntaxRefusal}
 use Rattle.gms_parse.specs.declared.fault.SourceFaultOrMemory.TheVariants as answer
 use Rattle.gms_parse.specs.declared.fault.SourceFault.{SourceFault}
 use Rattle.gms_parse.specs.declared.reader.Reader.{Reader}
@@ -39,7 +39,7 @@ open_behind source w (t ∷ u) ahead = open_behind source (reader_after source w
 
 -- the state that the other crate begins with
 abbrev before : Reader → Tables → inner.ExpressionState
-before reader old = walk_from reader.unclosed old.names old.labels
+before reader old = expression_state reader.unclosed old.names old.labels
 
 begin : {reader : Reader} {old : Tables} {w : ReaderState} → Starts reader old w → Tableless w → Agrees w (before reader old)
 begin s other = record {
@@ -61,7 +61,7 @@ module _ {reader : Reader} {old : Tables} {w : ReaderState} (n : Nonterminal) (f
 
   -- a part that was read
   pub formula_got : {limit : ℕ} (at : ℕ) {T : Type 0} {Says : List (List ℕ) → List (List ℕ) → Derivation → T → Type 0} {new : Tables} {next : ℕ} {x : T} → at < length reader.tokens.now →
-      IsRead limit reader.source.now n Says (walk_from reader.unclosed old.names old.labels) (walk_from reader.unclosed new.names new.labels) (seen_from reader at) (seen_from reader next) x →
+      IsRead limit reader.source.now n Says (expression_state reader.unclosed old.names old.labels) (expression_state reader.unclosed new.names new.labels) (seen_from reader at) (seen_from reader next) x →
       (Means : Sense → Derivation → T → Type 0) → ((sense : Sense) (tree : Derivation) → IsTree productions (the n) tree → Says sense.names sense.labels tree x → Means sense tree x) → IsGot limit Means (StaysOpen reader new w) (the n) reader at new w x next
   formula_got {limit} at {new = new} {next = next} within r Means says =
       let p = r.is_part in
@@ -75,7 +75,7 @@ module _ {reader : Reader} {old : Tables} {w : ReaderState} (n : Nonterminal) (f
       let level = g.level in
       record {
         tree = r.tree;
-        behind = reader_after_all reader.source.now w (yield r.tree) (kind_of (seen_from reader next));
+        following = reader_after_all reader.source.now w (yield r.tree) (kind_of (seen_from reader next));
         gives = record { reads = reads_of n (seen_from reader at) (seen_from reader next) r.tree p.is_tree p.stops; are_sound = g.sound; leaves = refl };
         leaves = record {
           stays = record {
@@ -92,15 +92,15 @@ module _ {reader : Reader} {old : Tables} {w : ReaderState} (n : Nonterminal) (f
         further = ahead_of reader at next (yield r.tree) within p.stops.parts;
       }
     where
-      ahead_of : (reader : Reader) (at next : ℕ) (front : List KindedToken) → at < length reader.tokens.now → seen_from reader at ≡ front ++ seen_from reader next → at ≤ next
-      ahead_of reader at next front within e =
+      ahead_of : (reader : Reader) (at next : ℕ) (prefix : List KindedToken) → at < length reader.tokens.now → seen_from reader at ≡ prefix ++ seen_from reader next → at ≤ next
+      ahead_of reader at next prefix within e =
           let seen_token : Token → KindedToken = (λ t. (terminal_of t.kind (token_text reader.source.now t), t)) in
-          let l : length reader.tokens.now - at ≡ length front + (length reader.tokens.now - next) =
-          sym (length-drop at reader.tokens.now) ∙ sym (length-map (drop at reader.tokens.now) seen_token) ∙ ap length e ∙ length-append front (seen_from reader next) ∙ ap (λ m. length front + m) (length-map (drop next reader.tokens.now) seen_token ∙ length-drop next reader.tokens.now) in
+          let l : length reader.tokens.now - at ≡ length prefix + (length reader.tokens.now - next) =
+          sym (length-drop at reader.tokens.now) ∙ sym (length-map (drop at reader.tokens.now) seen_token) ∙ ap length e ∙ length-append prefix (seen_from reader next) ∙ ap (λ m. length prefix + m) (length-map (drop next reader.tokens.now) seen_token ∙ length-drop next reader.tokens.now) in
           omega (arith, l, within)
 
   -- a part that was refused
-  pub formula_refused : {limit : ℕ} (at : ℕ) (e : SyntaxFaultOrMemory) → IsSyntaxRefusal limit reader.source.now n (walk_from reader.unclosed old.names old.labels) (seen_from reader at) e → Refuses limit reader.source.now (the n) w (seen_from reader at) (fault_of_syntax e)
+  pub formula_refused : {limit : ℕ} (at : ℕ) (e : SyntaxFaultOrMemory) → IsSyntaxRefusal limit reader.source.now n (expression_state reader.unclosed old.names old.labels) (seen_from reader at) e → Refuses limit reader.source.now (the n) w (seen_from reader at) (fault_of_syntax e)
   formula_refused at syntax.Memory r = refuses_memory refl
   formula_refused {limit} at (syntax.Fault found) r = record { why = λ fault same. elim r.cause [ inl c ↦ inr (wrong fault (told fault same) c) | inr c ↦ inl (stopped fault (told fault same) c) ] }
     where
@@ -113,39 +113,39 @@ module _ {reader : Reader} {old : Tables} {w : ReaderState} (n : Nonterminal) (f
       whole : Derivation
       whole = r.stops.begins.derives.tree
 
-      inner_front : AllPass is_inner r.front
-      inner_front = pass_front is_inner r.front r.stops.begins.further (subst (λ (u : List KindedToken). AllPass is_inner u) r.stops.begins.derives.yields (inner_tokens whole r.stops.begins.derives.is_tree))
+      inner_front : AllPass is_inner r.prefix
+      inner_front = pass_front is_inner r.prefix r.stops.begins.further (subst (λ (u : List KindedToken). AllPass is_inner u) r.stops.begins.derives.yields (inner_tokens whole r.stops.begins.derives.is_tree))
 
-      above_all : TextsAbove w.level w.open_count r.front
-      above_all = above_front w.level w.open_count r.front r.stops.begins.further (subst (λ (u : List KindedToken). TextsAbove w.level w.open_count u) r.stops.begins.derives.yields (above_tokens whole r.stops.begins.derives.is_tree))
+      above_all : TextsAbove w.level w.open_count r.prefix
+      above_all = above_front w.level w.open_count r.prefix r.stops.begins.further (subst (λ (u : List KindedToken). TextsAbove w.level w.open_count u) r.stops.begins.derives.yields (above_tokens whole r.stops.begins.derives.is_tree))
 
       told : (fault : SourceFault) → fault_of_syntax (syntax.Fault found) ≡ answer.Fault fault → source_fault found ≡ fault
       told fault same = cc
 
-      stopped : (fault : SourceFault) → source_fault found ≡ fault → rules.IsUnexpectedByRule inner.syntax_rule (limit, source) (Derives productions (the n) r.front → ⊥) (before reader old) r.front r.rest found → IsStuck limit source (the n) w ts fault
+      stopped : (fault : SourceFault) → source_fault found ≡ fault → rules.IsUnexpectedByRule inner.syntax_rule (limit, source) (Derives productions (the n) r.prefix → ⊥) (before reader old) r.prefix r.rest found → IsStuck limit source (the n) w ts fault
       stopped fault is c = record {
-        front = r.front;
+        prefix = r.prefix;
         rest = r.rest;
-        reads = stuck_of n ts r.front r.rest r.stops c.wants;
-        are_sound = (agree limit source w (before reader old) r.front (kind_of r.rest) inner_front above_all (begin s other) c.are_sound).sound;
+        reads = stuck_of n ts r.prefix r.rest r.stops c.needs;
+        are_sound = (agree limit source w (before reader old) r.prefix (kind_of r.rest) inner_front above_all (begin s other) c.are_sound).sound;
         is = sym is ∙ ap source_fault c.is;
       }
 
-      wrong : (fault : SourceFault) → source_fault found ≡ fault → rules.IsFirstFaulty inner.syntax_rule (limit, source) (before reader old) r.front (kind_of r.rest) found → IsWrong limit source (the n) w ts fault
+      wrong : (fault : SourceFault) → source_fault found ≡ fault → rules.IsFirstFaulty inner.syntax_rule (limit, source) (before reader old) r.prefix (kind_of r.rest) found → IsWrong limit source (the n) w ts fault
       wrong fault is c =
           let inner_all = subst (λ (u : List KindedToken). AllPass is_inner u) c.parts inner_front in
           let above = subst (λ (u : List KindedToken). TextsAbove w.level w.open_count u) c.parts above_all in
-          let g : Agreed limit source w (before reader old) c.before c.token.0 = agree limit source w (before reader old) c.before c.token.0 (pass_front is_inner c.before (c.token ∷ c.behind) inner_all) (above_front w.level w.open_count c.before (c.token ∷ c.behind) above) (begin s other) c.are_sound in
-          let deep_here = above_rest w.level w.open_count c.before (c.token ∷ c.behind) above in
+          let g : Agreed limit source w (before reader old) c.before c.token.0 = agree limit source w (before reader old) c.before c.token.0 (pass_front is_inner c.before (c.token ∷ c.following) inner_all) (above_front w.level w.open_count c.before (c.token ∷ c.following) above) (begin s other) c.are_sound in
+          let deep_here = above_rest w.level w.open_count c.before (c.token ∷ c.following) above in
           let level = g.level in
           let count = open_behind source w c.before c.token.0 in
           record {
             before = c.before;
             token = c.token;
-            behind = c.behind ++ r.rest;
-            takes = takes_of n ts r.front r.rest r.stops c.before c.token c.behind c.parts;
+            following = c.following ++ r.rest;
+            takes = takes_of n ts r.prefix r.rest r.stops c.before c.token c.following c.parts;
             are_sound = g.sound;
-            is_faulty = subst (λ (x : SourceFault). IsFaulty limit source (reader_after_all source w c.before c.token.0) c.token (kind_of (c.behind ++ r.rest)) x) is
-                (fault_outside limit source (reader_after_all source w c.before c.token.0) (inner.state_after_tokens source (before reader old) c.before c.token.0) c.token (kind_of (c.behind ++ r.rest)) (pass_rest is_inner c.before (c.token ∷ c.behind) inner_all).0
+            is_faulty = subst (λ (x : SourceFault). IsFaulty limit source (reader_after_all source w c.before c.token.0) c.token (kind_of (c.following ++ r.rest)) x) is
+                (fault_outside limit source (reader_after_all source w c.before c.token.0) (inner.state_after_tokens source (before reader old) c.before c.token.0) c.token (kind_of (c.following ++ r.rest)) (pass_rest is_inner c.before (c.token ∷ c.following) inner_all).0
                 (λ text. let l = deep_here.0 text in omega (arith, l, level, count)) g.agrees found c.is_faulty);
           }

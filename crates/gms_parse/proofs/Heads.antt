@@ -24,53 +24,53 @@ use Rattle.gms_parse.proofs.TokenKinds.{leads_alike, unled_less, led_more, unled
 
 -- ---- a part that continues with another after some tokens
 
-pub record Leading (part : GamsPart) (ts front : List KindedToken) (inner : GamsPart) (rest : List KindedToken) (context : Derivation → Derivation) : Type 0 where
-  pub reads : (a : Derivation) (behind : List KindedToken) → Reads productions look_ahead inner rest (read a behind) → Reads productions look_ahead part ts (read (context a) behind)
-  pub yields : (a : Derivation) → yield (context a) ≡ front ++ yield a
-  pub sticks : (u behind : List KindedToken) → Reads productions look_ahead inner rest (stuck u behind) → Reads productions look_ahead part ts (stuck (front ++ u) behind)
-  pub takes : (u behind : List KindedToken) → Takes productions look_ahead inner rest u behind → Takes productions look_ahead part ts (front ++ u) behind
+pub record Leading (part : GamsPart) (ts prefix : List KindedToken) (inner : GamsPart) (rest : List KindedToken) (context : Derivation → Derivation) : Type 0 where
+  pub reads : (a : Derivation) (following : List KindedToken) → Reads productions look_ahead inner rest (read a following) → Reads productions look_ahead part ts (read (context a) following)
+  pub yields : (a : Derivation) → yield (context a) ≡ prefix ++ yield a
+  pub sticks : (u following : List KindedToken) → Reads productions look_ahead inner rest (stuck u following) → Reads productions look_ahead part ts (stuck (prefix ++ u) following)
+  pub takes : (u following : List KindedToken) → Takes productions look_ahead inner rest u following → Takes productions look_ahead part ts (prefix ++ u) following
 
 lead_here : {p : GamsPart} {ts : List KindedToken} → Leading p ts [] p ts (λ a. a)
-lead_here = record { reads = λ a behind r. r; yields = λ a. refl; sticks = λ u behind r. r; takes = λ u behind t. t }
+lead_here = record { reads = λ a following r. r; yields = λ a. refl; sticks = λ u following r. r; takes = λ u following t. t }
 
-lead_the : (n : Nonterminal) {inner : GamsPart} {ts front rest : List KindedToken} {c : Derivation → Derivation} → Leading (productions n) ts front inner rest c → Leading (the n) ts front inner rest (λ a. node (c a))
+lead_the : (n : Nonterminal) {inner : GamsPart} {ts prefix rest : List KindedToken} {c : Derivation → Derivation} → Leading (productions n) ts prefix inner rest c → Leading (the n) ts prefix inner rest (λ a. node (c a))
 lead_the n l = record {
-  reads = λ a behind r. entered (l.reads a behind r);
+  reads = λ a following r. entered (l.reads a following r);
   yields = λ a. l.yields a;
-  sticks = λ u behind r. entered_stuck (l.sticks u behind r);
-  takes = λ u behind t. takes_the (l.takes u behind t);
+  sticks = λ u following r. entered_stuck (l.sticks u following r);
+  takes = λ u following t. takes_the (l.takes u following t);
 }
 
-lead_left : {p q inner : GamsPart} {ts front rest : List KindedToken} {c : Derivation → Derivation} → leads productions look_ahead p ts ≡ true → Leading p ts front inner rest c → Leading (p ∣ q) ts front inner rest (λ a. left (c a))
+lead_left : {p q inner : GamsPart} {ts prefix rest : List KindedToken} {c : Derivation → Derivation} → leads productions look_ahead p ts ≡ true → Leading p ts prefix inner rest c → Leading (p ∣ q) ts prefix inner rest (λ a. left (c a))
 lead_left h l = record {
-  reads = λ a behind r. in_left h (l.reads a behind r);
+  reads = λ a following r. in_left h (l.reads a following r);
   yields = λ a. l.yields a;
-  sticks = λ u behind r. in_left_stuck h (l.sticks u behind r);
-  takes = λ u behind t. takes_left (l.takes u behind t);
+  sticks = λ u following r. in_left_stuck h (l.sticks u following r);
+  takes = λ u following t. takes_left (l.takes u following t);
 }
 
-lead_right : {p q inner : GamsPart} {ts front rest : List KindedToken} {c : Derivation → Derivation} → leads productions look_ahead p ts ≡ false → leads productions look_ahead q ts ≡ true → Leading q ts front inner rest c → Leading (p ∣ q) ts front inner rest (λ a. right (c a))
+lead_right : {p q inner : GamsPart} {ts prefix rest : List KindedToken} {c : Derivation → Derivation} → leads productions look_ahead p ts ≡ false → leads productions look_ahead q ts ≡ true → Leading q ts prefix inner rest c → Leading (p ∣ q) ts prefix inner rest (λ a. right (c a))
 lead_right h k l = record {
-  reads = λ a behind r. in_right h k (l.reads a behind r);
+  reads = λ a following r. in_right h k (l.reads a following r);
   yields = λ a. l.yields a;
-  sticks = λ u behind r. in_right_stuck h k (l.sticks u behind r);
-  takes = λ u behind t. takes_right (l.takes u behind t);
+  sticks = λ u following r. in_right_stuck h k (l.sticks u following r);
+  takes = λ u following t. takes_right (l.takes u following t);
 }
 
-lead_second : {p q inner : GamsPart} {ts between front rest : List KindedToken} {a : Derivation} {c : Derivation → Derivation} → Reads productions look_ahead p ts (read a between) → Leading q between front inner rest c → Leading (p · q) ts (yield a ++ front) inner rest (λ b. pair a (c b))
-lead_second {p} {q} {ts = ts} {front = front} {a = a} r l = record {
-  reads = λ b behind s. both r (l.reads b behind s);
-  yields = λ b. ap (λ w. yield a ++ w) (l.yields b) ∙ sym (append_assoc (yield a) front (yield b));
-  sticks = λ u behind s. subst (λ (w : List KindedToken). Reads productions look_ahead (p · q) ts (stuck w behind)) (sym (append_assoc (yield a) front u)) (second_stuck r (l.sticks u behind s));
-  takes = λ u behind t. subst (λ (w : List KindedToken). Takes productions look_ahead (p · q) ts w behind) (sym (append_assoc (yield a) front u)) (takes_second r (l.takes u behind t));
+lead_second : {p q inner : GamsPart} {ts between prefix rest : List KindedToken} {a : Derivation} {c : Derivation → Derivation} → Reads productions look_ahead p ts (read a between) → Leading q between prefix inner rest c → Leading (p · q) ts (yield a ++ prefix) inner rest (λ b. pair a (c b))
+lead_second {p} {q} {ts = ts} {prefix = prefix} {a = a} r l = record {
+  reads = λ b following s. both r (l.reads b following s);
+  yields = λ b. ap (λ w. yield a ++ w) (l.yields b) ∙ sym (append_assoc (yield a) prefix (yield b));
+  sticks = λ u following s. subst (λ (w : List KindedToken). Reads productions look_ahead (p · q) ts (stuck w following)) (sym (append_assoc (yield a) prefix u)) (second_stuck r (l.sticks u following s));
+  takes = λ u following t. subst (λ (w : List KindedToken). Takes productions look_ahead (p · q) ts w following) (sym (append_assoc (yield a) prefix u)) (takes_second r (l.takes u following t));
 }
 
 lead_then : {p q inner : GamsPart} {ts between u v rest : List KindedToken} {c d : Derivation → Derivation} → Leading p ts u q between c → Leading q between v inner rest d → Leading p ts (u ++ v) inner rest (λ a. c (d a))
 lead_then {p} {ts = ts} {u = u} {v = v} {d = d} l m = record {
-  reads = λ a behind r. l.reads (d a) behind (m.reads a behind r);
+  reads = λ a following r. l.reads (d a) following (m.reads a following r);
   yields = λ a. l.yields (d a) ∙ ap (λ w. u ++ w) (m.yields a) ∙ sym (append_assoc u v (yield a));
-  sticks = λ x behind s. subst (λ (w : List KindedToken). Reads productions look_ahead p ts (stuck w behind)) (sym (append_assoc u v x)) (l.sticks (v ++ x) behind (m.sticks x behind s));
-  takes = λ x behind t. subst (λ (w : List KindedToken). Takes productions look_ahead p ts w behind) (sym (append_assoc u v x)) (l.takes (v ++ x) behind (m.takes x behind t));
+  sticks = λ x following s. subst (λ (w : List KindedToken). Reads productions look_ahead p ts (stuck w following)) (sym (append_assoc u v x)) (l.sticks (v ++ x) following (m.sticks x following s));
+  takes = λ x following t. subst (λ (w : List KindedToken). Takes productions look_ahead p ts w following) (sym (append_assoc u v x)) (l.takes (v ++ x) following (m.takes x following t));
 }
 
 lead_same : {p inner : GamsPart} {ts rest u v : List KindedToken} {c : Derivation → Derivation} → u ≡ v → Leading p ts u inner rest c → Leading p ts v inner rest c
@@ -107,20 +107,20 @@ plain_led ts h = led_more (bracketed (the IndexList)) plain_rest ts refl refl re
 -- after a name without a lag
 behind_name : (ts : List KindedToken) → leads productions look_ahead (the Lag) ts ≡ false → Leading (the AfterHeadName) ts [] (the AfterHeadIndex) ts (λ b. node (right b))
 behind_name ts h = record {
-  reads = λ a behind r. entered (in_right (sym (lag_alike ts) ∙ h) (led r) r);
+  reads = λ a following r. entered (in_right (sym (lag_alike ts) ∙ h) (led r) r);
   yields = λ a. refl;
-  sticks = λ u behind r. entered_stuck (sticks_on r);
-  takes = λ u behind t. takes_the (takes_right t);
+  sticks = λ u following r. entered_stuck (sticks_on r);
+  takes = λ u following t. takes_the (takes_right t);
 }
   where
-    led : {a : Derivation} {behind : List KindedToken} → Reads productions look_ahead (the AfterHeadIndex) ts (read a behind) → leads productions look_ahead (the AfterHeadIndex) ts ≡ true
+    led : {a : Derivation} {following : List KindedToken} → Reads productions look_ahead (the AfterHeadIndex) ts (read a following) → leads productions look_ahead (the AfterHeadIndex) ts ≡ true
     led (entered (in_left k r)) = led_more (token Comma · the HeadIndices) (the AfterHeadIndex) ts refl refl refl k
     led (entered (in_right j k r)) = led_more (token RightParen · the AfterHead) (the AfterHeadIndex) ts refl refl refl k
 
     alike : leads productions look_ahead (the AfterHeadIndex) ts ≡ leads productions look_ahead (productions AfterHeadIndex) ts
     alike = leads_alike (the AfterHeadIndex) (productions AfterHeadIndex) ts refl refl (same_test _ _ refl)
 
-    sticks_on : {u behind : List KindedToken} → Reads productions look_ahead (the AfterHeadIndex) ts (stuck u behind) → Reads productions look_ahead (productions AfterHeadName) ts (stuck u behind)
+    sticks_on : {u following : List KindedToken} → Reads productions look_ahead (the AfterHeadIndex) ts (stuck u following) → Reads productions look_ahead (productions AfterHeadName) ts (stuck u following)
     sticks_on (entered_stuck (in_left_stuck k r)) = in_right_stuck (sym (lag_alike ts) ∙ h) (led_more (token Comma · the HeadIndices) (the AfterHeadIndex) ts refl refl refl k) (entered_stuck (in_left_stuck k r))
     sticks_on (entered_stuck (in_right_stuck j k r)) = in_right_stuck (sym (lag_alike ts) ∙ h) (led_more (token RightParen · the AfterHead) (the AfterHeadIndex) ts refl refl refl k) (entered_stuck (in_right_stuck j k r))
     sticks_on (entered_stuck (in_neither j k)) = in_neither (sym (lag_alike ts) ∙ h) (alike ∙ unled_either (token Comma · the HeadIndices) (token RightParen · the AfterHead) ts j k)
@@ -244,7 +244,7 @@ list_goes {first = first} r (again {b = others} h (both {b = second} (taken k) s
 
 -- ---- where indices are not read to their end
 
-index_stuck : {ts u behind : List KindedToken} → Reads productions look_ahead (the Index) ts (stuck u behind) → Reads productions look_ahead (the HeadIndices) ts (stuck u behind)
+index_stuck : {ts u following : List KindedToken} → Reads productions look_ahead (the Index) ts (stuck u following) → Reads productions look_ahead (the HeadIndices) ts (stuck u following)
 index_stuck {ts} (entered_stuck (in_left_stuck h (refused k))) = absurd (both_ways _ h k)
 index_stuck {ts} (entered_stuck (in_right_stuck h k (first_stuck (refused l)))) = absurd (both_ways _ k (unled_next (is_terminal_among (Name ∷ SuffixWord ∷ [])) (opt (the Lag)) ts l))
 index_stuck {ts} (entered_stuck (in_right_stuck h k (second_stuck {between = us} r (there_stuck l s)))) =
@@ -252,35 +252,35 @@ index_stuck {ts} (entered_stuck (in_right_stuck h k (second_stuck {between = us}
 index_stuck {ts} (entered_stuck (in_neither h k)) =
     entered_stuck (in_neither (unled_next (is Text) (the AfterHeadIndex) ts h) (unled_less (name · the AfterHeadName) (name · opt (the Lag)) ts refl refl refl k))
 
-index_taken : {ts u behind : List KindedToken} → Takes productions look_ahead (the Index) ts u behind → Takes productions look_ahead (the HeadIndices) ts u behind
+index_taken : {ts u following : List KindedToken} → Takes productions look_ahead (the Index) ts u following → Takes productions look_ahead (the HeadIndices) ts u following
 index_taken (takes_the (takes_left (takes_one h))) = takes_the (takes_left (takes_first (takes_one h)))
 index_taken (takes_the (takes_right (takes_first (takes_one h)))) = takes_the (takes_right (takes_first (takes_one h)))
 index_taken (takes_the (takes_right (takes_second r (takes_opt t)))) = takes_the (takes_right (takes_second r (takes_the (takes_left (takes_first t)))))
 
 -- after an index: either form continues
-stuck_behind : {ts between u behind : List KindedToken} {first : Derivation} → Reads productions look_ahead (the Index) ts (read first between) → Reads productions look_ahead (the AfterHeadIndex) between (stuck u behind) → Reads productions look_ahead (many (token Comma · the Index)) between (stuck u behind) →
-    Reads productions look_ahead (the HeadIndices) ts (stuck (yield first ++ u) behind)
-stuck_behind {u = u} {behind = behind} r a m = elim (index_goes r) [ inl p ↦ p.leading.sticks u behind a | inr l ↦ l.leading.sticks u behind (entered_stuck (first_stuck m)) ]
+stuck_behind : {ts between u following : List KindedToken} {first : Derivation} → Reads productions look_ahead (the Index) ts (read first between) → Reads productions look_ahead (the AfterHeadIndex) between (stuck u following) → Reads productions look_ahead (many (token Comma · the Index)) between (stuck u following) →
+    Reads productions look_ahead (the HeadIndices) ts (stuck (yield first ++ u) following)
+stuck_behind {u = u} {following = following} r a m = elim (index_goes r) [ inl p ↦ p.leading.sticks u following a | inr l ↦ l.leading.sticks u following (entered_stuck (first_stuck m)) ]
 
-taken_behind : {ts between u behind : List KindedToken} {first : Derivation} → Reads productions look_ahead (the Index) ts (read first between) → Takes productions look_ahead (the AfterHeadIndex) between u behind → Takes productions look_ahead (many (token Comma · the Index)) between u behind →
-    Takes productions look_ahead (the HeadIndices) ts (yield first ++ u) behind
-taken_behind {u = u} {behind = behind} r a m = elim (index_goes r) [ inl p ↦ p.leading.takes u behind a | inr l ↦ l.leading.takes u behind (takes_the (takes_first m)) ]
+taken_behind : {ts between u following : List KindedToken} {first : Derivation} → Reads productions look_ahead (the Index) ts (read first between) → Takes productions look_ahead (the AfterHeadIndex) between u following → Takes productions look_ahead (many (token Comma · the Index)) between u following →
+    Takes productions look_ahead (the HeadIndices) ts (yield first ++ u) following
+taken_behind {u = u} {following = following} r a m = elim (index_goes r) [ inl p ↦ p.leading.takes u following a | inr l ↦ l.leading.takes u following (takes_the (takes_first m)) ]
 
-others_stuck : {ts between u behind : List KindedToken} {first : Derivation} → Reads productions look_ahead (the Index) ts (read first between) → Reads productions look_ahead (many (token Comma · the Index)) between (stuck u behind) → Reads productions look_ahead (the HeadIndices) ts (stuck (yield first ++ u) behind)
+others_stuck : {ts between u following : List KindedToken} {first : Derivation} → Reads productions look_ahead (the Index) ts (read first between) → Reads productions look_ahead (many (token Comma · the Index)) between (stuck u following) → Reads productions look_ahead (the HeadIndices) ts (stuck (yield first ++ u) following)
 others_stuck {between = between} r (again_stuck h (first_stuck (refused k))) = absurd (both_ways _ h (unled_next (is Comma) (the Index) between k))
 others_stuck {between = between} r (again_stuck h (second_stuck c s)) = stuck_behind r (entered_stuck (in_left_stuck (sym (comma_alike between) ∙ h) (second_stuck c (index_stuck s)))) (again_stuck h (second_stuck c s))
 others_stuck {between = between} r (later_stuck h (both (taken k) s) m) = stuck_behind r (entered_stuck (in_left_stuck (sym (comma_alike between) ∙ h) (second_stuck (taken k) (others_stuck s m)))) (later_stuck h (both (taken k) s) m)
 
-others_taken : {ts between u behind : List KindedToken} {first : Derivation} → Reads productions look_ahead (the Index) ts (read first between) → Takes productions look_ahead (many (token Comma · the Index)) between u behind → Takes productions look_ahead (the HeadIndices) ts (yield first ++ u) behind
+others_taken : {ts between u following : List KindedToken} {first : Derivation} → Reads productions look_ahead (the Index) ts (read first between) → Takes productions look_ahead (many (token Comma · the Index)) between u following → Takes productions look_ahead (the HeadIndices) ts (yield first ++ u) following
 others_taken r (takes_many (takes_first (takes_one h))) = taken_behind r (takes_the (takes_left (takes_first (takes_one h)))) (takes_many (takes_first (takes_one h)))
 others_taken r (takes_many (takes_second c t)) = taken_behind r (takes_the (takes_left (takes_second c (index_taken t)))) (takes_many (takes_second c t))
 others_taken r (takes_later (both (taken k) s) t) = taken_behind r (takes_the (takes_left (takes_second (taken k) (others_taken s t)))) (takes_later (both (taken k) s) t)
 
-list_stuck : {ts u behind : List KindedToken} → Reads productions look_ahead (the IndexList) ts (stuck u behind) → Reads productions look_ahead (the HeadIndices) ts (stuck u behind)
+list_stuck : {ts u following : List KindedToken} → Reads productions look_ahead (the IndexList) ts (stuck u following) → Reads productions look_ahead (the HeadIndices) ts (stuck u following)
 list_stuck (entered_stuck (first_stuck r)) = index_stuck r
 list_stuck (entered_stuck (second_stuck r m)) = others_stuck r m
 
-list_taken : {ts u behind : List KindedToken} → Takes productions look_ahead (the IndexList) ts u behind → Takes productions look_ahead (the HeadIndices) ts u behind
+list_taken : {ts u following : List KindedToken} → Takes productions look_ahead (the IndexList) ts u following → Takes productions look_ahead (the HeadIndices) ts u following
 list_taken (takes_the (takes_first t)) = index_taken t
 list_taken (takes_the (takes_second r t)) = others_taken r t
 
@@ -291,15 +291,15 @@ unclosed {rest = rest} (entered (both r m)) h = elim (list_goes r m) [
   | inr l ↦ l.leading.sticks [] rest (first_stuck (refused h))
 ]
 
-closed_taken : {ts rest u behind : List KindedToken} {list : Derivation} → Reads productions look_ahead (the IndexList) ts (read list rest) → Takes productions look_ahead (token RightParen) rest u behind → Takes productions look_ahead (the HeadIndices) ts (yield list ++ u) behind
-closed_taken {u = u} {behind = behind} (entered (both r m)) t = elim (list_goes r m) [
-  | inl p ↦ p.leading.takes u behind (takes_the (takes_right (takes_first t)))
-  | inr l ↦ l.leading.takes u behind (takes_first t)
+closed_taken : {ts rest u following : List KindedToken} {list : Derivation} → Reads productions look_ahead (the IndexList) ts (read list rest) → Takes productions look_ahead (token RightParen) rest u following → Takes productions look_ahead (the HeadIndices) ts (yield list ++ u) following
+closed_taken {u = u} {following = following} (entered (both r m)) t = elim (list_goes r m) [
+  | inl p ↦ p.leading.takes u following (takes_the (takes_right (takes_first t)))
+  | inr l ↦ l.leading.takes u following (takes_first t)
 ]
 
 -- ---- what is assigned or defined
 
-pub target_stuck : {ts u behind : List KindedToken} → Reads productions look_ahead (the Target) ts (stuck u behind) → Reads productions look_ahead (the NamedStatement) ts (stuck u behind)
+pub target_stuck : {ts u following : List KindedToken} → Reads productions look_ahead (the Target) ts (stuck u following) → Reads productions look_ahead (the NamedStatement) ts (stuck u following)
 target_stuck (entered_stuck (first_stuck r)) = entered_stuck (first_stuck r)
 target_stuck (entered_stuck (second_stuck {between = us} r (first_stuck (there_stuck h s)))) = entered_stuck (second_stuck r (entered_stuck (in_left_stuck (sym (dotted_alike us) ∙ h) (first_stuck s))))
 target_stuck (entered_stuck (second_stuck {between = us} r (second_stuck (there h s) m))) = entered_stuck (second_stuck r (entered_stuck (in_left_stuck (sym (dotted_alike us) ∙ h) (second_stuck s (first_stuck m)))))
@@ -309,7 +309,7 @@ target_stuck (entered_stuck (second_stuck {between = us} r (second_stuck (left_o
 target_stuck (entered_stuck (second_stuck {between = us} r (second_stuck (left_out h) (there_stuck k (second_stuck (taken l) (second_stuck m (refused j))))))) =
     entered_stuck (second_stuck r (entered_stuck (in_right_stuck (sym (dotted_alike us) ∙ h) (plain_led us k) (in_left_stuck (sym (paren_alike us) ∙ k) (second_stuck (taken l) (unclosed m j))))))
 
-pub target_taken : {ts u behind : List KindedToken} → Takes productions look_ahead (the Target) ts u behind → Takes productions look_ahead (the NamedStatement) ts u behind
+pub target_taken : {ts u following : List KindedToken} → Takes productions look_ahead (the Target) ts u following → Takes productions look_ahead (the NamedStatement) ts u following
 target_taken (takes_the (takes_first t)) = takes_the (takes_first t)
 target_taken (takes_the (takes_second r (takes_first (takes_opt t)))) = takes_the (takes_second r (takes_the (takes_left (takes_first t))))
 target_taken (takes_the (takes_second r (takes_second (there h s) t))) = takes_the (takes_second r (takes_the (takes_left (takes_second s (takes_first t)))))
@@ -351,24 +351,24 @@ unconditioned = the Condition ∣ token Equals · the Expression ∣ token DotDo
 -- neither a suffix nor indices
 bare : (ts : List KindedToken) → leads productions look_ahead (the Attribute) ts ≡ false → leads productions look_ahead (bracketed (the IndexList)) ts ≡ false → Leading (the AfterName) ts [] (the AfterHead) ts (λ b. node (right (right b)))
 bare ts h k = record {
-  reads = λ a behind r. entered (in_right (sym (dotted_alike ts) ∙ h) (led_more (the AfterHead) plain_rest ts refl refl refl (led r)) (in_right (sym (paren_alike ts) ∙ k) (led r) r));
+  reads = λ a following r. entered (in_right (sym (dotted_alike ts) ∙ h) (led_more (the AfterHead) plain_rest ts refl refl refl (led r)) (in_right (sym (paren_alike ts) ∙ k) (led r) r));
   yields = λ a. refl;
-  sticks = λ u behind r. sticks_on r;
-  takes = λ u behind t. takes_the (takes_right (takes_right t));
+  sticks = λ u following r. sticks_on r;
+  takes = λ u following t. takes_the (takes_right (takes_right t));
 }
   where
-    led : {a : Derivation} {behind : List KindedToken} → Reads productions look_ahead (the AfterHead) ts (read a behind) → leads productions look_ahead (the AfterHead) ts ≡ true
+    led : {a : Derivation} {following : List KindedToken} → Reads productions look_ahead (the AfterHead) ts (read a following) → leads productions look_ahead (the AfterHead) ts ≡ true
     led (entered (both (there l r) s)) = led_more (the Condition) (the AfterHead) ts refl refl refl l
     led (entered (both (left_out l) (in_left j s))) = led_more (token Equals · the Expression) (the AfterHead) ts refl refl refl j
     led (entered (both (left_out l) (in_right i j s))) = led_more (token DotDot · the Sides) (the AfterHead) ts refl refl refl j
 
-    sticks_led : {u behind : List KindedToken} → leads productions look_ahead (the AfterHead) ts ≡ true → Reads productions look_ahead (the AfterHead) ts (stuck u behind) → Reads productions look_ahead (the AfterName) ts (stuck u behind)
+    sticks_led : {u following : List KindedToken} → leads productions look_ahead (the AfterHead) ts ≡ true → Reads productions look_ahead (the AfterHead) ts (stuck u following) → Reads productions look_ahead (the AfterName) ts (stuck u following)
     sticks_led l r = entered_stuck (in_right_stuck (sym (dotted_alike ts) ∙ h) (led_more (the AfterHead) plain_rest ts refl refl refl l) (in_right_stuck (sym (paren_alike ts) ∙ k) l r))
 
     alike : leads productions look_ahead plain_rest ts ≡ leads productions look_ahead (token LeftParen · the HeadIndices ∣ unconditioned) ts
     alike = leads_alike plain_rest (token LeftParen · the HeadIndices ∣ unconditioned) ts refl refl (same_test _ _ refl)
 
-    sticks_on : {u behind : List KindedToken} → Reads productions look_ahead (the AfterHead) ts (stuck u behind) → Reads productions look_ahead (the AfterName) ts (stuck u behind)
+    sticks_on : {u following : List KindedToken} → Reads productions look_ahead (the AfterHead) ts (stuck u following) → Reads productions look_ahead (the AfterName) ts (stuck u following)
     sticks_on (entered_stuck (first_stuck (there_stuck l r))) = sticks_led (led_more (the Condition) (the AfterHead) ts refl refl refl l) (entered_stuck (first_stuck (there_stuck l r)))
     sticks_on (entered_stuck (second_stuck (there l r) s)) = sticks_led (led_more (the Condition) (the AfterHead) ts refl refl refl l) (entered_stuck (second_stuck (there l r) s))
     sticks_on (entered_stuck (second_stuck (left_out l) (in_left_stuck j s))) = sticks_led (led_more (token Equals · the Expression) (the AfterHead) ts refl refl refl j) (entered_stuck (second_stuck (left_out l) (in_left_stuck j s)))

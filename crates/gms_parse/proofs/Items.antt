@@ -52,8 +52,8 @@ module _ {limit : ℕ} {reader : Reader} {start : ℕ} {w : ReaderState} where
   pub positions_start : {new : Tables} {part : Position} {at : ℕ} {bad : Bool} → IsGot limit (IsPart reader.source.now) (Stays reader new w) (the ElementPart) reader start new w part at → (parts : List (List ℕ)) → parts ≡ part.labels.items ∷ [] → bad ≡ part.bad_range → Positions limit reader start w new parts bad at
   positions_start {part = part} got parts one_part bad_is = record { ghost = part ∷ []; parts_are = one_part; bad_is = bad_is ∙ sym (or-false part.bad_range); listing = listing_start got (part ∷ []) refl }
 
-  pub positions_on : {new : Tables} {parts : List (List ℕ)} {bad : Bool} {at : ℕ} (l : Positions limit reader start w new parts bad at) {t : Token} {behind : ℕ} (n : IsNext (is Dot) reader at t behind) {newer : Tables} {part : Position} {after : ℕ} →
-      IsGot limit (IsPart reader.source.now) (Stays reader newer (separated_walk l.listing n)) (the ElementPart) reader behind newer (separated_walk l.listing n) part after → (now : List (List ℕ)) → now ≡ parts ++ part.labels.items ∷ [] → (worse : Bool) → worse ≡ (bad || part.bad_range) → Positions limit reader start w newer now worse after
+  pub positions_on : {new : Tables} {parts : List (List ℕ)} {bad : Bool} {at : ℕ} (l : Positions limit reader start w new parts bad at) {t : Token} {following : ℕ} (n : IsNext (is Dot) reader at t following) {newer : Tables} {part : Position} {after : ℕ} →
+      IsGot limit (IsPart reader.source.now) (Stays reader newer (separated_walk l.listing n)) (the ElementPart) reader following newer (separated_walk l.listing n) part after → (now : List (List ℕ)) → now ≡ parts ++ part.labels.items ∷ [] → (worse : Bool) → worse ≡ (bad || part.bad_range) → Positions limit reader start w newer now worse after
   positions_on l n {part = part} got now one_more worse bad_is = record {
     ghost = l.ghost ++ part ∷ [];
     parts_are = one_more ∙ ap (λ u. u ++ part.labels.items ∷ []) l.parts_are ∙ sym (map_push (λ (p : Position). p.labels.items) l.ghost part);
@@ -84,7 +84,7 @@ lone_item value element item shown got = got_by got.gives got.leaves
 
 -- an element with a value
 pub entry_got : {F : Type 0} (value : F → Rational) {limit : ℕ} {reader : Reader} {at middle next : ℕ} {new : Tables} {w : ReaderState} (element : ElementNode) (v : Ext F) (item : Item F) → item_in value item ≡ record { at = element.at; parts = element.parts.items; value = Some (extended_in value v); bad_range = element.bad_range } →
-    (got : IsGot limit (IsElement reader.source.now) (Stays reader new w) (the Element) reader at new w element middle) → IsGot limit (λ sense tree v. IsGiven value reader.source.now sense (second_in tree) v) (Stays reader new got.behind) (opt (token Equals) · the Value) reader middle new got.behind v next →
+    (got : IsGot limit (IsElement reader.source.now) (Stays reader new w) (the Element) reader at new w element middle) → IsGot limit (λ sense tree v. IsGiven value reader.source.now sense (second_in tree) v) (Stays reader new got.following) (opt (token Equals) · the Value) reader middle new got.following v next →
     IsGot limit (IsListed value reader.source.now list_of_kind.Entries) (Stays reader new w) (the Entry) reader at new w item next
 entry_got value element v item shown got given = got_by (gives_the Entry (gives_both got.gives given.gives)) (stays_then got.leaves given.leaves)
     (λ sense s.
@@ -113,16 +113,16 @@ pub no_list : {F : Type 0} (value : F → Rational) (list : ListOf) {limit : ℕ
 no_list value list {reader = reader} {at = at} {w = w} items none_yet unled h = got_by (gives_none (unled_next (is Slash) (the (list_part list) · token Slash) (seen_from reader at) unled)) (stays_same h) (λ sense s. ap (map (item_in value)) none_yet)
     (omega arith)
 
-module _ (list : ListOf) {limit : ℕ} {reader : Reader} {at behind : ℕ} {t : Token} {old : Tables} {w : ReaderState} (h : Has reader old w) (n : IsNext (is Slash) reader at t behind) where
-  pub list_refused : {e : SourceFaultOrMemory} → Refuses limit reader.source.now (list_of separators (the (listed_part list))) (past reader w Slash t behind) (seen_from reader behind) e → Refuses limit reader.source.now (opt (token Slash · the (list_part list) · token Slash)) w (seen_from reader at) e
-  list_refused {e} r = refuses_some (leads_next (the (list_part list) · token Slash) n) (refuses_second (gives_exact {kind = Slash} n refl) (refuses_first (refuses_the (list_part list) (subst (λ (p : GamsPart). Refuses limit reader.source.now p (past reader w Slash t behind) (seen_from reader behind) e) (sym (list_production list)) r))))
+module _ (list : ListOf) {limit : ℕ} {reader : Reader} {at following : ℕ} {t : Token} {old : Tables} {w : ReaderState} (h : Has reader old w) (n : IsNext (is Slash) reader at t following) where
+  pub list_refused : {e : SourceFaultOrMemory} → Refuses limit reader.source.now (list_of separators (the (listed_part list))) (past reader w Slash t following) (seen_from reader following) e → Refuses limit reader.source.now (opt (token Slash · the (list_part list) · token Slash)) w (seen_from reader at) e
+  list_refused {e} r = refuses_some (leads_next (the (list_part list) · token Slash) n) (refuses_second (gives_exact {kind = Slash} n refl) (refuses_first (refuses_the (list_part list) (subst (λ (p : GamsPart). Refuses limit reader.source.now p (past reader w Slash t following) (seen_from reader following) e) (sym (list_production list)) r))))
 
-  module _ {F : Type 0} (value : F → Rational) {new : Tables} {items : List (Item F)} {next : ℕ} (got : IsGot limit (AreAll (IsListed value reader.source.now list)) (Stays reader new (past reader w Slash t behind)) (list_of separators (the (listed_part list))) reader behind new (past reader w Slash t behind) items next) where
+  module _ {F : Type 0} (value : F → Rational) {new : Tables} {items : List (Item F)} {next : ℕ} (got : IsGot limit (AreAll (IsListed value reader.source.now list)) (Stays reader new (past reader w Slash t following)) (list_of separators (the (listed_part list))) reader following new (past reader w Slash t following) items next) where
     pub list_unclosed : {e : SourceFaultOrMemory} → IsLacking (is Slash) reader next e → Refuses limit reader.source.now (opt (token Slash · the (list_part list) · token Slash)) w (seen_from reader at) e
     list_unclosed l = refuses_some (leads_next (the (list_part list) · token Slash) n) (refuses_second (gives_exact {kind = Slash} n refl) (refuses_second (gives_list list got.gives) (refuses_lacking l)))
 
     pub list_got : {end : Token} {after : ℕ} → IsNext (is Slash) reader next end after → (all : Vec (Item F) Global) → all.items ≡ items → IsGot limit (AreListed value reader.source.now list) (Stays reader new w) (opt (token Slash · the (list_part list) · token Slash)) reader at new w all after
     list_got {end} {after} m all same = got_by (gives_some (leads_next (the (list_part list) · token Slash) n) (gives_both (gives_exact {kind = Slash} n refl) (gives_both (gives_list list got.gives) (gives_exact {kind = Slash} m refl))))
-        (stays_then (plain_stays reader w Slash t behind refl h) (stays_then got.leaves (plain_stays reader got.behind Slash end after refl got.leaves.has)))
+        (stays_then (plain_stays reader w Slash t following refl h) (stays_then got.leaves (plain_stays reader got.following Slash end after refl got.leaves.has)))
         (λ sense s. ap (map (item_in value)) same ∙ all_meant (IsListed value reader.source.now list) (item_in value) (listed_meaning list reader.source.now sense.labels) sense (λ tree x h. h) got.tree items (got.means sense s) ∙ list_meant list reader.source.now sense.labels got.tree)
         (let a = n.further in let b = got.further in let c = m.further in omega arith)

@@ -37,9 +37,9 @@ module _ {F : Type 0} where
   none_lagged [] h = refl
   none_lagged (i ∷ items) h = h.0 (indices_of (map index_tree items)) ∙ none_lagged items h.1
 
-  some_lagged : (items : List (IndexNode F)) (i : IndexNode F) (behind : List (IndexNode F)) → AreLagless items → LagIs i true → has_lag (indices_of (map index_tree (items ++ i ∷ behind))) ≡ true
-  some_lagged [] i behind h k = k (indices_of (map index_tree behind))
-  some_lagged (x ∷ items) i behind h k = h.0 (indices_of (map index_tree (items ++ i ∷ behind))) ∙ some_lagged items i behind h.1 k
+  some_lagged : (items : List (IndexNode F)) (i : IndexNode F) (following : List (IndexNode F)) → AreLagless items → LagIs i true → has_lag (indices_of (map index_tree (items ++ i ∷ following))) ≡ true
+  some_lagged [] i following h k = k (indices_of (map index_tree following))
+  some_lagged (x ∷ items) i following h k = h.0 (indices_of (map index_tree (items ++ i ∷ following))) ∙ some_lagged items i following h.1 k
 
 -- a suffix that is none
 pub unsuffixed : (s : Suffix) → not (sameb the_type s suffix.None) ≡ false → is_unsuffixed s ≡ true

@@ -61,9 +61,9 @@ list_of separator p = p · many (one separator · p)
 -- the parts of a list read so far
 pub record Listing {T : Type 0} (limit : ℕ) (Means : Sense → Derivation → T → Type 0) (separator : Terminal → Bool) (p : GamsPart) (reader : Reader) (start : ℕ) (w : ReaderState) (new : Tables) (items : List T) (at : ℕ) : Type 0 where
   pub context : Derivation → Derivation
-  pub behind : ReaderState
-  pub within : Within limit reader.source.now (list_of separator p) w (seen_from reader start) (many (one separator · p)) behind (seen_from reader at) context
-  pub stays : Stays reader new w behind
+  pub following : ReaderState
+  pub within : Within limit reader.source.now (list_of separator p) w (seen_from reader start) (many (one separator · p)) following (seen_from reader at) context
+  pub stays : Stays reader new w following
   pub means : (sense : Sense) → IsSense new sense → (b : Derivation) (xs : List T) → AreEach Means sense b xs → AreAll Means sense (context b) (items ++ xs)
   pub further : start ≤ at
 
@@ -72,7 +72,7 @@ module _ {T : Type 0} {limit : ℕ} {Means : Sense → Derivation → T → Type
   pub listing_start : {new : Tables} {x : T} {at : ℕ} → IsGot limit Means (Stays reader new w) p reader start new w x at → (items : List T) → items ≡ x ∷ [] → Listing limit Means separator p reader start w new items at
   listing_start got items is = record {
     context = λ b. pair got.tree b;
-    behind = got.behind;
+    following = got.following;
     within = within_second got.gives;
     stays = got.leaves;
     means = λ sense s b xs h. subst (λ (ys : List T). AreAll Means sense (pair got.tree b) (ys ++ xs)) (sym is) (got.means sense s, h);
@@ -81,30 +81,30 @@ module _ {T : Type 0} {limit : ℕ} {Means : Sense → Derivation → T → Type
 
   module _ {new : Tables} {items : List T} {at : ℕ} (l : Listing limit Means separator p reader start w new items at) where
     -- the state after a separator
-    abbrev pub separated_walk : {t : Token} {behind : ℕ} → IsNext separator reader at t behind → ReaderState
-    separated_walk {t} {behind} n = past reader l.behind n.kind t behind
+    abbrev pub separated_walk : {t : Token} {following : ℕ} → IsNext separator reader at t following → ReaderState
+    separated_walk {t} {following} n = past reader l.following n.kind t following
 
-    pub separated_stays : {t : Token} {behind : ℕ} (n : IsNext separator reader at t behind) → implies separator is_plain ≡ true → Stays reader new w (separated_walk n)
-    separated_stays {t = t} {behind = behind} n plain = stays_then l.stays (plain_stays reader l.behind n.kind t behind (also separator is_plain plain n.kind n.passes) l.stays.has)
+    pub separated_stays : {t : Token} {following : ℕ} (n : IsNext separator reader at t following) → implies separator is_plain ≡ true → Stays reader new w (separated_walk n)
+    separated_stays {t = t} {following = following} n plain = stays_then l.stays (plain_stays reader l.following n.kind t following (also separator is_plain plain n.kind n.passes) l.stays.has)
 
     -- a name may follow it
-    pub separated_starts : {t : Token} {behind : ℕ} (n : IsNext separator reader at t behind) → implies separator is_plain ≡ true → implies separator is_undotted ≡ true → {old : Tables} → Starts reader old w → Starts reader new (separated_walk n)
+    pub separated_starts : {t : Token} {following : ℕ} (n : IsNext separator reader at t following) → implies separator is_plain ≡ true → implies separator is_undotted ≡ true → {old : Tables} → Starts reader old w → Starts reader new (separated_walk n)
     separated_starts n plain undotted s =
         let k = separated_stays n plain in
         record { has = k.has; undotted = not-true _ (also separator is_undotted undotted n.kind n.passes); optionless = optionless_on k.keyword s.optionless }
 
     -- a range may begin after it
-    pub separated_starless : {t : Token} {behind : ℕ} (n : IsNext separator reader at t behind) → implies separator is_starless ≡ true → is Star (last_kind (separated_walk n).before) ≡ false
+    pub separated_starless : {t : Token} {following : ℕ} (n : IsNext separator reader at t following) → implies separator is_starless ≡ true → is Star (last_kind (separated_walk n).before) ≡ false
     separated_starless n starless = not-true _ (also separator is_starless starless n.kind n.passes)
 
     -- one more
-    pub listing_on : {t : Token} {behind : ℕ} (n : IsNext separator reader at t behind) → implies separator is_plain ≡ true → {newer : Tables} {x : T} {after : ℕ} → IsGot limit Means (Stays reader newer (separated_walk n)) p reader behind newer (separated_walk n) x after →
+    pub listing_on : {t : Token} {following : ℕ} (n : IsNext separator reader at t following) → implies separator is_plain ≡ true → {newer : Tables} {x : T} {after : ℕ} → IsGot limit Means (Stays reader newer (separated_walk n)) p reader following newer (separated_walk n) x after →
         (now : List T) → now ≡ items ++ x ∷ [] → Listing limit Means separator p reader start w newer now after
     listing_on {t = t} n plain {newer = newer} {x = x} got now is =
         let g = gives_both (gives_plain n plain) got.gives in
         record {
           context = λ b. l.context (more (pair (leaf (n.kind, t)) got.tree) b);
-          behind = got.behind;
+          following = got.following;
           within = within_then l.within (within_again (leads_next p n) g);
           stays = stays_then (separated_stays n plain) got.leaves;
           means = λ sense s b xs h. subst (λ (ys : List T). AreAll Means sense (l.context (more (pair (leaf (n.kind, t)) got.tree) b)) ys) (sym (ap (λ ys. ys ++ xs) is ∙ append_assoc items (x ∷ []) xs))
@@ -113,7 +113,7 @@ module _ {T : Type 0} {limit : ℕ} {Means : Sense → Derivation → T → Type
         }
 
     -- the next one is refused
-    pub listing_refuses : {t : Token} {behind : ℕ} (n : IsNext separator reader at t behind) → implies separator is_plain ≡ true → {e : SourceFaultOrMemory} → Refuses limit reader.source.now p (separated_walk n) (seen_from reader behind) e →
+    pub listing_refuses : {t : Token} {following : ℕ} (n : IsNext separator reader at t following) → implies separator is_plain ≡ true → {e : SourceFaultOrMemory} → Refuses limit reader.source.now p (separated_walk n) (seen_from reader following) e →
         Refuses limit reader.source.now (list_of separator p) w (seen_from reader start) e
     listing_refuses n plain r = l.within.refuses _ (refuses_again (leads_next p n) (refuses_second (gives_plain n plain) r))
 

@@ -28,7 +28,7 @@ use Rattle.gms_expressions.proofs.TokenKinds.{same_test}
 use Rattle.gms_parse.specs.declared.fault.SourceFaultOrMemory.{SourceFaultOrMemory}
 use Rattle.gms_parse.specs.declared.reader.Reader.{Reader}
 use Rattle.gms_parse.specs.declared.reader.Tables.{Tables}
-use Rattle.gms_parse.specs.Programs.{loop_act, controlled_act, loop_body, behind_semicolon, inner_act, display_or_other}
+use Rattle.gms_parse.specs.Programs.{loop_act, controlled_act, loop_body, after_semicolon, inner_act, display_or_other}
 use Rattle.gms_parse.specs.Statements.{assignment_act}
 use Rattle.std.specs.Prelude.{IsErrAnd}
 use Rattle.gms_parse.specs.ReadStates.{KindedToken, ReaderState}
@@ -65,12 +65,12 @@ pub ends_of : {reader : Reader} {new : Tables} {w v : ReaderState} → Stays rea
 ends_of s h = record { holds = s.has.holds; tableless = tableless_on s.keyword h }
 
 -- after a semicolon
-module _ {reader : Reader} {at behind : ℕ} {t : Token} {tables : Tables} {w : ReaderState} (h : Holds reader tables w) (n : IsNext (is Semicolon) reader at t behind) where
-  pub semicolon_starts : Starts reader tables (past reader w Semicolon t behind)
-  semicolon_starts = begun_starts reader w Semicolon t behind refl refl refl refl h
+module _ {reader : Reader} {at following : ℕ} {t : Token} {tables : Tables} {w : ReaderState} (h : Holds reader tables w) (n : IsNext (is Semicolon) reader at t following) where
+  pub semicolon_starts : Starts reader tables (past reader w Semicolon t following)
+  semicolon_starts = begun_starts reader w Semicolon t following refl refl refl refl h
 
-  pub semicolon_ends : Ends reader tables (past reader w Semicolon t behind)
-  semicolon_ends = record { holds = quiet_holds reader w Semicolon t behind refl h; tableless = refl }
+  pub semicolon_ends : Ends reader tables (past reader w Semicolon t following)
+  semicolon_ends = record { holds = quiet_holds reader w Semicolon t following refl h; tableless = refl }
 
 -- ---- a loop
 
@@ -83,16 +83,16 @@ IsLooped value source sense tree x = loops (control_in_numbers value (control_tr
 -- between the parentheses
 module _ {F : Type 0} (value : F → Number) {limit : ℕ} {r : Reader} {start : ℕ} {v : ReaderState} (looping : v.keyword ≡ Loop) {between : Tables} {sets : ControlNode F} {next : ℕ}
     (c : IsGot limit (IsControl value r.source.now) (StaysOpen r between v) (the Control) r start between v sets next) {comma : Token} {first : ℕ} (m : IsNext (is Comma) r next comma first) where
-  pub body_starts : Starts r between (past r c.behind Comma comma first)
-  body_starts = plain_starts r c.behind Comma comma first refl refl c.leaves.stays.has (ap (is Option) (c.leaves.stays.keyword ∙ looping))
+  pub body_starts : Starts r between (past r c.following Comma comma first)
+  body_starts = plain_starts r c.following Comma comma first refl refl c.leaves.stays.has (ap (is Option) (c.leaves.stays.keyword ∙ looping))
 
-  pub body_tableless : Tableless (past r c.behind Comma comma first)
+  pub body_tableless : Tableless (past r c.following Comma comma first)
   body_tableless = ap (is Table) (c.leaves.stays.keyword ∙ looping)
 
-  pub body_refused : {e : SourceFaultOrMemory} → Refuses limit r.source.now (the LoopBody) (past r c.behind Comma comma first) (seen_from r first) e → Refuses limit r.source.now loop_inside v (seen_from r start) e
+  pub body_refused : {e : SourceFaultOrMemory} → Refuses limit r.source.now (the LoopBody) (past r c.following Comma comma first) (seen_from r first) e → Refuses limit r.source.now loop_inside v (seen_from r start) e
   body_refused f = refuses_second c.gives (refuses_second (gives_exact {kind = Comma} m refl) f)
 
-  pub looped_got : {new : Tables} {body : Vec (Stmt F) Global} {last : ℕ} → IsGot limit (IsBody value r.source.now) (Ends r new) (the LoopBody) r first new (past r c.behind Comma comma first) body last → IsGot limit (IsLooped value r.source.now) (Ends r new) loop_inside r start new v (sets, body) last
+  pub looped_got : {new : Tables} {body : Vec (Stmt F) Global} {last : ℕ} → IsGot limit (IsBody value r.source.now) (Ends r new) (the LoopBody) r first new (past r c.following Comma comma first) body last → IsGot limit (IsLooped value r.source.now) (Ends r new) loop_inside r start new v (sets, body) last
   looped_got b = got_by (gives_both c.gives (gives_both (gives_exact {kind = Comma} m refl) b.gives)) b.leaves
       (λ sense s. ap₂ loops (c.means sense (earlier (gives_both (gives_exact {kind = Comma} m refl) b.gives) c.leaves.stays.has.holds b.leaves.holds s)) (b.means sense s)) (let e = c.further in let f = m.further in let g = b.further in omega arith)
 
@@ -117,8 +117,8 @@ module _ {reader : Reader} {at opening : ℕ} {word : Token} {old : Tables} {w :
       pub loop_unclosed : {e : SourceFaultOrMemory} → IsLacking (is RightParen) reader last e → Refuses limit reader.source.now (the LoopStatement) w (seen_from reader at) e
       loop_unclosed l = refuses_the LoopStatement (refuses_second (gives_exact {kind = Loop} n refl) (refuses_second (gives_open o loop_has) (refuses_second closed.gives (refuses_lacking l))))
 
-      pub loop_got : {close : Token} {behind : ℕ} → IsNext (is RightParen) reader last close behind → IsGot limit (IsAct value reader.source.now loop_act) (Ends reader new) (the LoopStatement) reader at new w (act.Loop x.0 x.1) behind
-      loop_got {close} {behind} r = got_by (gives_the LoopStatement (gives_both (gives_exact {kind = Loop} n refl) (gives_both (gives_open o loop_has) (gives_both closed.gives (gives_one (exact {kind = RightParen} r) refl (closing_sound limit reader.source.now closed.behind close (kind_of (seen_from reader behind)) (λ k f. let y : is Table closed.behind.keyword ≡ true = ap (is Table) k in let z = closed.leaves.tableless in cc)) refl)))))
+      pub loop_got : {close : Token} {following : ℕ} → IsNext (is RightParen) reader last close following → IsGot limit (IsAct value reader.source.now loop_act) (Ends reader new) (the LoopStatement) reader at new w (act.Loop x.0 x.1) following
+      loop_got {close} {following} r = got_by (gives_the LoopStatement (gives_both (gives_exact {kind = Loop} n refl) (gives_both (gives_open o loop_has) (gives_both closed.gives (gives_one (exact {kind = RightParen} r) refl (closing_sound limit reader.source.now closed.following close (kind_of (seen_from reader following)) (λ k f. let y : is Table closed.following.keyword ≡ true = ap (is Table) k in let z = closed.leaves.tableless in cc)) refl)))))
           (record {
             holds = record { open_count = (let x = closed.leaves.holds.open_count ∙ ap (λ (y : Reader). y.unclosed) o.inner_is in omega (arith, x)); names = closed.leaves.holds.names; labels = closed.leaves.holds.labels };
             tableless = closed.leaves.tableless;
@@ -164,10 +164,10 @@ module _ {F : Type 0} (value : F → Number) where
 -- the statements of a body read so far
 pub record Bodying {F : Type 0} (limit : ℕ) (value : F → Number) (reader : Reader) (start : ℕ) (w : ReaderState) (new : Tables) (xs : List (Stmt F)) (at : ℕ) : Type 0 where
   pub context : Derivation → Derivation
-  pub behind : ReaderState
-  pub within : Within limit reader.source.now (the LoopBody) w (seen_from reader start) (opt (token Semicolon · opt (the LoopBody))) behind (seen_from reader at) context
-  pub ends : Ends reader new behind
-  pub means : (sense : Sense) → IsSense new sense → (b : Derivation) → loop_body reader.source.now sense.names sense.labels (context b) ≡ put_before value xs (behind_semicolon reader.source.now sense.names sense.labels b)
+  pub following : ReaderState
+  pub within : Within limit reader.source.now (the LoopBody) w (seen_from reader start) (opt (token Semicolon · opt (the LoopBody))) following (seen_from reader at) context
+  pub ends : Ends reader new following
+  pub means : (sense : Sense) → IsSense new sense → (b : Derivation) → loop_body reader.source.now sense.names sense.labels (context b) ≡ put_before value xs (after_semicolon reader.source.now sense.names sense.labels b)
   pub further : start ≤ at
 
 abbrev pub inner_kinds : List Terminal
@@ -184,40 +184,40 @@ module _ {F : Type 0} (value : F → Number) {limit : ℕ} {reader : Reader} {st
   pub body_start : {new : Tables} {x : Stmt F} {at : ℕ} → IsGot limit (IsInner value reader.source.now) (Ends reader new) (the InnerStatement) reader start new w x at → (xs : List (Stmt F)) → xs ≡ x ∷ [] → Bodying limit value reader start w new xs at
   body_start {x = x} got xs one_more = record {
     context = λ b. node (pair got.tree b);
-    behind = got.behind;
+    following = got.following;
     within = within_then (within_the LoopBody) (within_second got.gives);
     ends = got.leaves;
-    means = λ sense s b. inner_view value reader.source.now sense got.tree x (behind_semicolon reader.source.now sense.names sense.labels b) (got.means sense s) ∙ ap (λ ys. put_before value ys (behind_semicolon reader.source.now sense.names sense.labels b)) (sym one_more);
+    means = λ sense s b. inner_view value reader.source.now sense got.tree x (after_semicolon reader.source.now sense.names sense.labels b) (got.means sense s) ∙ ap (λ ys. put_before value ys (after_semicolon reader.source.now sense.names sense.labels b)) (sym one_more);
     further = got.further;
   }
 
   module _ {new : Tables} {xs : List (Stmt F)} {at : ℕ} (l : Bodying limit value reader start w new xs at) where
-    module _ {t : Token} {behind : ℕ} (n : IsNext (is Semicolon) reader at t behind) where
-      semicolon_within : Within limit reader.source.now (the LoopBody) w (seen_from reader start) (opt (the LoopBody)) (past reader l.behind Semicolon t behind) (seen_from reader behind) (λ b. l.context (some (pair (leaf (Semicolon, t)) b)))
+    module _ {t : Token} {following : ℕ} (n : IsNext (is Semicolon) reader at t following) where
+      semicolon_within : Within limit reader.source.now (the LoopBody) w (seen_from reader start) (opt (the LoopBody)) (past reader l.following Semicolon t following) (seen_from reader following) (λ b. l.context (some (pair (leaf (Semicolon, t)) b)))
       semicolon_within = within_then l.within (within_then (within_some (leads_next (opt (the LoopBody)) n)) (within_second (gives_exact {kind = Semicolon} n refl)))
 
       -- the semicolon after the last statement
-      pub body_ended : leads productions look_ahead (any_of inner_kinds) (seen_from reader behind) ≡ false → (all : Vec (Stmt F) Global) → all.items ≡ xs → IsGot limit (IsBody value reader.source.now) (Ends reader new) (the LoopBody) reader start new w all behind
-      body_ended unled all same = got_by (semicolon_within.gives none _ _ (gives_none (leads_body (seen_from reader behind) ∙ unled))) (semicolon_ends l.ends.holds n)
+      pub body_ended : leads productions look_ahead (any_of inner_kinds) (seen_from reader following) ≡ false → (all : Vec (Stmt F) Global) → all.items ≡ xs → IsGot limit (IsBody value reader.source.now) (Ends reader new) (the LoopBody) reader start new w all following
+      body_ended unled all same = got_by (semicolon_within.gives none _ _ (gives_none (leads_body (seen_from reader following) ∙ unled))) (semicolon_ends l.ends.holds n)
           (λ sense s. ap (λ (ys : List (Stmt F)). statements_in_order value (map {B = Statements Number → Statements Number} (statement_view value) ys)) same ∙ in_order_is value xs ∙ sym (l.means sense s (some (pair (leaf (Semicolon, t)) none))))
           (let a = l.further in let b = n.further in omega arith)
 
-      module _ (led : leads productions look_ahead (any_of inner_kinds) (seen_from reader behind) ≡ true) where
-        pub body_on : {newer : Tables} {x : Stmt F} {after : ℕ} → IsGot limit (IsInner value reader.source.now) (Ends reader newer) (the InnerStatement) reader behind newer (past reader l.behind Semicolon t behind) x after → (now : List (Stmt F)) → now ≡ xs ++ x ∷ [] → Bodying limit value reader start w newer now after
+      module _ (led : leads productions look_ahead (any_of inner_kinds) (seen_from reader following) ≡ true) where
+        pub body_on : {newer : Tables} {x : Stmt F} {after : ℕ} → IsGot limit (IsInner value reader.source.now) (Ends reader newer) (the InnerStatement) reader following newer (past reader l.following Semicolon t following) x after → (now : List (Stmt F)) → now ≡ xs ++ x ∷ [] → Bodying limit value reader start w newer now after
         body_on {newer} {x} got now one_more = record {
           context = λ b. l.context (some (pair (leaf (Semicolon, t)) (some (node (pair got.tree b)))));
-          behind = got.behind;
-          within = within_then semicolon_within (within_then (within_some (leads_body (seen_from reader behind) ∙ led)) (within_then (within_the LoopBody) (within_second got.gives)));
+          following = got.following;
+          within = within_then semicolon_within (within_then (within_some (leads_body (seen_from reader following) ∙ led)) (within_then (within_the LoopBody) (within_second got.gives)));
           ends = got.leaves;
           means = λ sense s b.
-              let rest = behind_semicolon reader.source.now sense.names sense.labels b in
+              let rest = after_semicolon reader.source.now sense.names sense.labels b in
               l.means sense (earlier got.gives (semicolon_ends l.ends.holds n).holds got.leaves.holds s) (some (pair (leaf (Semicolon, t)) (some (node (pair got.tree b)))))
               ∙ ap (put_before value xs) (inner_view value reader.source.now sense got.tree x rest (got.means sense s)) ∙ sym (put_push value xs x rest) ∙ ap (λ ys. put_before value ys rest) (sym one_more);
           further = (let a = l.further in let b = n.further in let c = got.further in omega arith);
         }
 
-        pub body_refuses : {e : SourceFaultOrMemory} → Refuses limit reader.source.now (the InnerStatement) (past reader l.behind Semicolon t behind) (seen_from reader behind) e → Refuses limit reader.source.now (the LoopBody) w (seen_from reader start) e
-        body_refuses r = semicolon_within.refuses _ ((within_some (leads_body (seen_from reader behind) ∙ led)).refuses _ (refuses_the LoopBody (refuses_first r)))
+        pub body_refuses : {e : SourceFaultOrMemory} → Refuses limit reader.source.now (the InnerStatement) (past reader l.following Semicolon t following) (seen_from reader following) e → Refuses limit reader.source.now (the LoopBody) w (seen_from reader start) e
+        body_refuses r = semicolon_within.refuses _ ((within_some (leads_body (seen_from reader following) ∙ led)).refuses _ (refuses_the LoopBody (refuses_first r)))
 
     -- no semicolon
     pub body_got : leads productions look_ahead (token Semicolon) (seen_from reader at) ≡ false → (all : Vec (Stmt F) Global) → all.items ≡ xs → IsGot limit (IsBody value reader.source.now) (Ends reader new) (the LoopBody) reader start new w all at

@@ -60,8 +60,8 @@ record Ranges (from to : List ℕ) : Type 0 where
 
 ranges_of : (from to : List ℕ) → is_range from to ≡ true → Ranges from to
 ranges_of from to h =
-    let behind = right_and (str_eq_ignore_ascii_case (text_before_digits from) (text_before_digits to)) _ h in
-    let numbered = right_and (is_numbered from) _ behind in
+    let following = right_and (str_eq_ignore_ascii_case (text_before_digits from) (text_before_digits to)) _ h in
+    let numbered = right_and (is_numbered from) _ following in
     let last = (and_parts (is_numbered to) _ numbered).0 in
     let short = right_and (go_together (digits_of from) (digits_of to)) _ (right_and (is_numbered to) _ numbered) in
     record {

@@ -72,7 +72,7 @@ module _ {reader : Reader} {at start : ℕ} {t : Token} {w : ReaderState} (n : I
     list_named {limit} {new} {equations} {middle} {next} {e} unled got close =
         let s = plain_stays reader w Slash t start refl h in
         got_by (gives_some (list_led n) (gives_both (gives_exact n refl) (gives_both (gives_the ModelList (gives_right unled (led_both (many (any_of (Comma ∷ Break ∷ []) · name)) got.gives.reads) got.gives)) (gives_exact close refl))))
-        (stays_then s (stays_then got.leaves (plain_stays reader got.behind Slash e next refl got.leaves.has))) (λ sense m. (refl, got.means sense m)) (let a = n.further in let b = got.further in let c = close.further in omega arith)
+        (stays_then s (stays_then got.leaves (plain_stays reader got.following Slash e next refl got.leaves.has))) (λ sense m. (refl, got.means sense m)) (let a = n.further in let b = got.further in let c = close.further in omega arith)
 
   module _ {limit : ℕ} where
     list_refused : {e : SourceFaultOrMemory} → Refuses limit reader.source.now (the ModelList · token Slash) (past reader w Slash t start) (seen_from reader start) e → Refuses limit reader.source.now model_lists w (seen_from reader at) e
@@ -91,7 +91,7 @@ module _ {reader : Reader} {at start : ℕ} {t : Token} {w : ReaderState} (n : I
 -- ---- a model
 
 pub model_got : {limit : ℕ} {reader : Reader} {at middle next : ℕ} {mid new : Tables} {w : ReaderState} {named : Named} {all : Bool} {equations : Vec Named Global} (n : IsGot limit (IsNamed reader.source.now) (Stays reader mid w) name reader at mid w named middle) →
-    IsGot limit (IsModelList reader.source.now) (Stays reader new n.behind) model_lists reader middle new n.behind (all, equations) next →
+    IsGot limit (IsModelList reader.source.now) (Stays reader new n.following) model_lists reader middle new n.following (all, equations) next →
     IsGot limit (IsModel reader.source.now) (Stays reader new w) (the ModelItem) reader at new w (record { named = named; all = all; equations = equations.items }) next
 model_got n l = got_by (gives_the ModelItem (gives_both n.gives l.gives)) (stays_then n.leaves l.leaves)
     (λ sense m.

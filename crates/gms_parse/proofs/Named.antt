@@ -37,10 +37,10 @@ module _ {limit : ℕ} {source : List ℕ} where
     -- another part is read after the tokens of a target
     pub within_of : Within limit source p w ts inner v rest c
     within_of = record {
-      gives = λ a x behind h. gives_as (gives_both g h) (l.reads a behind h.reads) (sym (l.yields a));
+      gives = λ a x following h. gives_as (gives_both g h) (l.reads a following h.reads) (sym (l.yields a));
       refuses = λ e r. by_cause r
-          (λ fault s. stuck_behind g s (l.sticks s.front s.rest s.reads))
-          (λ fault s. wrong_behind g s (l.takes (s.before ++ s.token ∷ []) s.behind s.takes));
+          (λ fault s. stuck_behind g s (l.sticks s.prefix s.rest s.reads))
+          (λ fault s. wrong_behind g s (l.takes (s.before ++ s.token ∷ []) s.following s.takes));
     }
 
 -- ---- `=` or `..`
@@ -48,7 +48,7 @@ module _ {limit : ℕ} {source : List ℕ} where
 led_pair : {test : Terminal → Bool} {q : GamsPart} {ts rest : List KindedToken} {tree : Derivation} → Reads productions look_ahead (one test · q) ts (read tree rest) → leads productions look_ahead (one test · q) ts ≡ true
 led_pair {test} {q} {ts} (both (taken h) r) = led_first test q ts h
 
-stuck_pair : {test : Terminal → Bool} {q r : GamsPart} {ts front rest : List KindedToken} → leads productions look_ahead r ts ≡ false → Reads productions look_ahead (one test · q) ts (stuck front rest) → Reads productions look_ahead (one test · q ∣ r) ts (stuck front rest)
+stuck_pair : {test : Terminal → Bool} {q r : GamsPart} {ts prefix rest : List KindedToken} → leads productions look_ahead r ts ≡ false → Reads productions look_ahead (one test · q) ts (stuck prefix rest) → Reads productions look_ahead (one test · q ∣ r) ts (stuck prefix rest)
 stuck_pair {test} {q} {ts = ts} k (first_stuck (refused h)) = in_neither (unled_next test q ts h) k
 stuck_pair {test} {q} {ts = ts} k (second_stuck (taken h) s) = in_left_stuck (led_first test q ts h) (second_stuck (taken h) s)
 
@@ -66,15 +66,15 @@ module _ {F : Type 0} (value : F → Number) {limit : ℕ} {reader : Reader} {at
   plain_as : (b : Bool) → ((source : List ℕ) (s : Sense) → is_plain_target (target_in source s.names s.labels t.tree) ≡ b) → is_plain_target (shown_target value target) ≡ b
   plain_as b h = ap is_plain_target (t.means (so_far first) (is_so_far first)) ∙ h reader.source.now (so_far first)
 
-  pub condition_refused : {e : SourceFaultOrMemory} → Refuses limit reader.source.now (opt (the Condition)) t.behind (seen_from reader middle) e → Refuses limit reader.source.now (the NamedStatement) w (seen_from reader at) e
+  pub condition_refused : {e : SourceFaultOrMemory} → Refuses limit reader.source.now (opt (the Condition)) t.following (seen_from reader middle) e → Refuses limit reader.source.now (the NamedStatement) w (seen_from reader at) e
   condition_refused {e} r = elim (target_goes t.gives.reads) [
     | inl h ↦ (within_of t.gives h.leading).refuses e (refuses_the AfterHead (refuses_first r))
     | inr a ↦ (within_of t.gives a.leading).refuses e (refuses_the AfterTarget (refuses_first r))
   ]
 
-  module _ {further : ℕ} {second : Tables} {condition : Maybe (Expr F)} (c : IsGot limit (IsCondition value reader.source.now) (StaysOpen reader second t.behind) (opt (the Condition)) reader middle second t.behind condition further) where
+  module _ {further : ℕ} {second : Tables} {condition : Maybe (Expr F)} (c : IsGot limit (IsCondition value reader.source.now) (StaysOpen reader second t.following) (opt (the Condition)) reader middle second t.following condition further) where
     -- an assignment
-    module _ {new : Tables} {act : ActNode F} {next : ℕ} (r : IsGot limit (IsAssigned value reader.source.now target condition) (Stays reader new c.behind) (token Equals · the Expression) reader further new c.behind act next) where
+    module _ {new : Tables} {act : ActNode F} {next : ℕ} (r : IsGot limit (IsAssigned value reader.source.now target condition) (Stays reader new c.following) (token Equals · the Expression) reader further new c.following act next) where
       both_means : (sense : Sense) → IsSense new sense → assigned reader.source.now sense.names sense.labels (shown_target value target) (option_map (shown_tree value) condition) (second_in r.tree)
           ≡ assigned reader.source.now sense.names sense.labels (target_in reader.source.now sense.names sense.labels t.tree) (condition_in reader.source.now sense.names sense.labels c.tree) (second_in r.tree)
       both_means sense s =
@@ -91,7 +91,7 @@ module _ {F : Type 0} (value : F → Number) {limit : ℕ} {reader : Reader} {at
       ]
 
     -- it is refused, unless `..` follows a plain target
-    pub assigned_refused : {e : SourceFaultOrMemory} → (is_plain_target (shown_target value target) ≡ true → leads productions look_ahead (token DotDot) (seen_from reader further) ≡ false) → Refuses limit reader.source.now (token Equals · the Expression) c.behind (seen_from reader further) e →
+    pub assigned_refused : {e : SourceFaultOrMemory} → (is_plain_target (shown_target value target) ≡ true → leads productions look_ahead (token DotDot) (seen_from reader further) ≡ false) → Refuses limit reader.source.now (token Equals · the Expression) c.following (seen_from reader further) e →
         Refuses limit reader.source.now (the NamedStatement) w (seen_from reader at) e
     assigned_refused {e} unless r = elim (target_goes t.gives.reads) [
       | inl h ↦ (within_of t.gives h.leading).refuses e (refuses_the AfterHead (refuses_second c.gives (by_cause r (λ fault s. stuck_as s (stuck_pair (unled_next (is DotDot) (the Sides) (seen_from reader further) (unless (plain_as true h.plain))) s.reads)) (λ fault s. wrong_as s (takes_left s.takes)))))
@@ -99,17 +99,17 @@ module _ {F : Type 0} (value : F → Number) {limit : ℕ} {reader : Reader} {at
     ]
 
     -- a definition
-    module _ (plain : is_plain_target (shown_target value target) ≡ true) {dots : Token} {behind : ℕ} (n : IsNext (is DotDot) reader further dots behind) where
+    module _ (plain : is_plain_target (shown_target value target) ≡ true) {dots : Token} {following : ℕ} (n : IsNext (is DotDot) reader further dots following) where
       unled : leads productions look_ahead (token Equals · the Expression) (seen_from reader further) ≡ false
       unled = ap (leads productions look_ahead (token Equals · the Expression)) (exact {kind = DotDot} n)
 
-      pub defined_refused : {e : SourceFaultOrMemory} → Refuses limit reader.source.now (the Sides) (past reader c.behind DotDot dots behind) (seen_from reader behind) e → Refuses limit reader.source.now (the NamedStatement) w (seen_from reader at) e
+      pub defined_refused : {e : SourceFaultOrMemory} → Refuses limit reader.source.now (the Sides) (past reader c.following DotDot dots following) (seen_from reader following) e → Refuses limit reader.source.now (the NamedStatement) w (seen_from reader at) e
       defined_refused {e} r = elim (target_goes t.gives.reads) [
         | inl h ↦ (within_of t.gives h.leading).refuses e (refuses_the AfterHead (refuses_second c.gives (refuses_right unled (leads_next (the Sides) n) (refuses_second (gives_exact {kind = DotDot} n refl) r))))
         | inr a ↦ absurd (both_ways _ plain (plain_as false a.other))
       ]
 
-      pub defined_got : {new : Tables} {act : ActNode F} {next : ℕ} → IsGot limit (IsDefined value reader.source.now target condition) (Stays reader new (past reader c.behind DotDot dots behind)) (the Sides) reader behind new (past reader c.behind DotDot dots behind) act next →
+      pub defined_got : {new : Tables} {act : ActNode F} {next : ℕ} → IsGot limit (IsDefined value reader.source.now target condition) (Stays reader new (past reader c.following DotDot dots following)) (the Sides) reader following new (past reader c.following DotDot dots following) act next →
           IsGot limit (IsAct value reader.source.now named_act) (Stays reader new w) (the NamedStatement) reader at new w act next
       defined_got {new} {act} {next} d = elim (target_goes t.gives.reads) [
         | inr a ↦ absurd (both_ways _ plain (plain_as false a.other))
@@ -125,8 +125,8 @@ module _ {F : Type 0} (value : F → Number) {limit : ℕ} {reader : Reader} {at
       ]
 
 -- after `..` the left side may begin
-pub dots_starts : {reader : Reader} {at behind : ℕ} {dots : Token} {old new : Tables} {w v : ReaderState} → Starts reader old w → StaysOpen reader new w v → IsNext (is DotDot) reader at dots behind → Starts reader new (past reader v DotDot dots behind)
-dots_starts {reader} {behind = behind} {dots = dots} {v = v} s o n = plain_starts reader v DotDot dots behind refl refl o.stays.has (optionless_on o.stays.keyword s.optionless)
+pub dots_starts : {reader : Reader} {at following : ℕ} {dots : Token} {old new : Tables} {w v : ReaderState} → Starts reader old w → StaysOpen reader new w v → IsNext (is DotDot) reader at dots following → Starts reader new (past reader v DotDot dots following)
+dots_starts {reader} {following = following} {dots = dots} {v = v} s o n = plain_starts reader v DotDot dots following refl refl o.stays.has (optionless_on o.stays.keyword s.optionless)
 
-pub dots_tableless : {reader : Reader} {at behind : ℕ} {dots : Token} {new : Tables} {w v : ReaderState} → StaysOpen reader new w v → Tableless w → IsNext (is DotDot) reader at dots behind → Tableless (past reader v DotDot dots behind)
+pub dots_tableless : {reader : Reader} {at following : ℕ} {dots : Token} {new : Tables} {w v : ReaderState} → StaysOpen reader new w v → Tableless w → IsNext (is DotDot) reader at dots following → Tableless (past reader v DotDot dots following)
 dots_tableless o h n = tableless_on (kind_stays DotDot n refl o.stays.has).keyword (tableless_on o.stays.keyword h)

@@ -25,21 +25,21 @@ use Rattle.gms_parse.proofs.Steps.{got_by, gives_one, gives_both, refuses_at, re
 
 -- what a token leaves, which a reader has passed
 abbrev pub past : Reader → ReaderState → Terminal → Token → ℕ → ReaderState
-past reader w kind t behind = reader_after reader.source.now w (kind, t) (kind_of (seen_from reader behind))
+past reader w kind t following = reader_after reader.source.now w (kind, t) (kind_of (seen_from reader following))
 
 -- the next token leads into a part that it is, or that begins with it
-pub led_next : {test : Terminal → Bool} {reader : Reader} {at behind : ℕ} {t : Token} → IsNext test reader at t behind → leads productions look_ahead (one test) (seen_from reader at) ≡ true
+pub led_next : {test : Terminal → Bool} {reader : Reader} {at following : ℕ} {t : Token} → IsNext test reader at t following → leads productions look_ahead (one test) (seen_from reader at) ≡ true
 led_next {test = test} n = ap (leads productions look_ahead (one test)) n.is ∙ n.passes
 
-pub leads_next : {test : Terminal → Bool} {reader : Reader} {at behind : ℕ} {t : Token} (q : GamsPart) → IsNext test reader at t behind → leads productions look_ahead (one test · q) (seen_from reader at) ≡ true
+pub leads_next : {test : Terminal → Bool} {reader : Reader} {at following : ℕ} {t : Token} (q : GamsPart) → IsNext test reader at t following → leads productions look_ahead (one test · q) (seen_from reader at) ≡ true
 leads_next {test = test} {reader = reader} {at = at} q n = led_first test q (seen_from reader at) (led_next n)
 
 -- the next token, of a kind that is known
-pub exact_kind : {kind : Terminal} {reader : Reader} {at behind : ℕ} {t : Token} → (n : IsNext (is kind) reader at t behind) → kind ≡ n.kind
+pub exact_kind : {kind : Terminal} {reader : Reader} {at following : ℕ} {t : Token} → (n : IsNext (is kind) reader at t following) → kind ≡ n.kind
 exact_kind {kind = kind} n = same_kind kind n.kind n.passes
 
-pub exact : {kind : Terminal} {reader : Reader} {at behind : ℕ} {t : Token} → IsNext (is kind) reader at t behind → seen_from reader at ≡ (kind, t) ∷ seen_from reader behind
-exact {reader = reader} {behind = behind} {t = t} n = n.is ∙ ap (λ (k : Terminal). (k, t) ∷ seen_from reader behind) (sym (exact_kind n))
+pub exact : {kind : Terminal} {reader : Reader} {at following : ℕ} {t : Token} → IsNext (is kind) reader at t following → seen_from reader at ≡ (kind, t) ∷ seen_from reader following
+exact {reader = reader} {following = following} {t = t} n = n.is ∙ ap (λ (k : Terminal). (k, t) ∷ seen_from reader following) (sym (exact_kind n))
 
 -- another token is expected
 pub refuses_lacking : {limit : ℕ} {test : Terminal → Bool} {reader : Reader} {at : ℕ} {w : ReaderState} {e : SourceFaultOrMemory} → IsLacking test reader at e → Refuses limit reader.source.now (one test) w (seen_from reader at) e
@@ -68,62 +68,62 @@ earlier {source = source} {w = w} {v = v} {rest = rest} {tree = tree} g h k s = 
   labels = λ text n p. s.labels text n (subst (λ (x : List (List ℕ)). place_of x text ≡ Some n) k.labels (subst (λ (x : ReaderState). place_of x.labels text ≡ Some n) (sym g.leaves) (labels_kept source w (yield tree) (kind_of rest) text n (subst (λ (x : List (List ℕ)). place_of x text ≡ Some n) (sym h.labels) p))));
 }
 
-module _ (reader : Reader) (w : ReaderState) (kind : Terminal) (t : Token) (behind : ℕ) where
+module _ (reader : Reader) (w : ReaderState) (kind : Terminal) (t : Token) (following : ℕ) where
   -- after a quiet token
-  pub quiet_holds : {tables : Tables} → is_quiet kind ≡ true → Holds reader tables w → Holds reader tables (past reader w kind t behind)
+  pub quiet_holds : {tables : Tables} → is_quiet kind ≡ true → Holds reader tables w → Holds reader tables (past reader w kind t following)
   quiet_holds q h =
-      let k = quiet_after reader.source.now w kind t (kind_of (seen_from reader behind)) q in
+      let k = quiet_after reader.source.now w kind t (kind_of (seen_from reader following)) q in
       record { open_count = k.open_count ∙ h.open_count; names = k.names ∙ h.names; labels = k.labels ∙ h.labels }
 
   -- after a token within a statement that leaves the parentheses as they were
-  pub stays_by : {old new : Tables} → begins kind ≡ false → Has reader old w → open_after w.open_count kind ≡ w.open_count → (past reader w kind t behind).names ≡ new.names → (past reader w kind t behind).labels ≡ new.labels → Stays reader new w (past reader w kind t behind)
+  pub stays_by : {old new : Tables} → begins kind ≡ false → Has reader old w → open_after w.open_count kind ≡ w.open_count → (past reader w kind t following).names ≡ new.names → (past reader w kind t following).labels ≡ new.labels → Stays reader new w (past reader w kind t following)
   stays_by b h opens names labels =
-      let k = keyword_after reader.source.now w (kind, t) (kind_of (seen_from reader behind)) b in
+      let k = keyword_after reader.source.now w (kind, t) (kind_of (seen_from reader following)) b in
       let l = h.level in
       record { has = record { holds = record { open_count = opens ∙ h.holds.open_count; names = names; labels = labels }; level = omega (arith, k.1, opens, l) }; keyword = k.0; level = k.1 }
 
   -- after a plain token
-  pub plain_stays : {tables : Tables} → is_plain kind ≡ true → Has reader tables w → Stays reader tables w (past reader w kind t behind)
+  pub plain_stays : {tables : Tables} → is_plain kind ≡ true → Has reader tables w → Stays reader tables w (past reader w kind t following)
   plain_stays p h =
       let q = (and_parts (is_quiet kind) (not (begins kind)) p).0 in
-      let k = quiet_after reader.source.now w kind t (kind_of (seen_from reader behind)) q in
+      let k = quiet_after reader.source.now w kind t (kind_of (seen_from reader following)) q in
       stays_by (not-true (begins kind) (right_and (is_quiet kind) (not (begins kind)) p)) h k.open_count (k.names ∙ h.holds.names) (k.labels ∙ h.holds.labels)
 
-  pub plain_starts : {tables : Tables} → is_plain kind ≡ true → is_terminal_among (Dot ∷ Using ∷ []) kind ≡ false → Has reader tables w → Optionless w → Starts reader tables (past reader w kind t behind)
+  pub plain_starts : {tables : Tables} → is_plain kind ≡ true → is_terminal_among (Dot ∷ Using ∷ []) kind ≡ false → Has reader tables w → Optionless w → Starts reader tables (past reader w kind t following)
   plain_starts p d h o = let s = plain_stays p h in record { has = s.has; undotted = d; optionless = optionless_on s.keyword o }
 
   -- after a keyword or a semicolon
-  pub begun_has : {tables : Tables} → is_quiet kind ≡ true → begins kind ≡ true → Holds reader tables w → Has reader tables (past reader w kind t behind)
+  pub begun_has : {tables : Tables} → is_quiet kind ≡ true → begins kind ≡ true → Holds reader tables w → Has reader tables (past reader w kind t following)
   begun_has q b h =
-      let k = quiet_after reader.source.now w kind t (kind_of (seen_from reader behind)) q in
-      let l = begun_after reader.source.now w (kind, t) (kind_of (seen_from reader behind)) b in
+      let k = quiet_after reader.source.now w kind t (kind_of (seen_from reader following)) q in
+      let l = begun_after reader.source.now w (kind, t) (kind_of (seen_from reader following)) b in
       record { holds = quiet_holds q h; level = omega (arith, l.1, k.open_count) }
 
-  pub begun_keyword : begins kind ≡ true → (past reader w kind t behind).keyword ≡ kind
-  begun_keyword b = (begun_after reader.source.now w (kind, t) (kind_of (seen_from reader behind)) b).0
+  pub begun_keyword : begins kind ≡ true → (past reader w kind t following).keyword ≡ kind
+  begun_keyword b = (begun_after reader.source.now w (kind, t) (kind_of (seen_from reader following)) b).0
 
-  pub begun_starts : {tables : Tables} → is_quiet kind ≡ true → begins kind ≡ true → is Option kind ≡ false → is_terminal_among (Dot ∷ Using ∷ []) kind ≡ false → Holds reader tables w → Starts reader tables (past reader w kind t behind)
+  pub begun_starts : {tables : Tables} → is_quiet kind ≡ true → begins kind ≡ true → is Option kind ≡ false → is_terminal_among (Dot ∷ Using ∷ []) kind ≡ false → Holds reader tables w → Starts reader tables (past reader w kind t following)
   begun_starts q b o d h = record { has = begun_has q b h; undotted = d; optionless = ap (is Option) (begun_keyword b) ∙ o }
 
 -- ---- tokens that were read
 
 -- the next token, of a quiet kind
-pub gives_quiet : {limit : ℕ} {test : Terminal → Bool} {reader : Reader} {at behind : ℕ} {t : Token} {w : ReaderState} (n : IsNext test reader at t behind) → is_quiet n.kind ≡ true →
-    Gives limit reader.source.now (one test) w (seen_from reader at) (leaf (n.kind, t)) (past reader w n.kind t behind) (seen_from reader behind)
-gives_quiet {limit = limit} {reader = reader} {behind = behind} {t = t} {w = w} n q = gives_one n.is n.passes (quiet_sound limit reader.source.now w n.kind t (kind_of (seen_from reader behind)) q) refl
+pub gives_quiet : {limit : ℕ} {test : Terminal → Bool} {reader : Reader} {at following : ℕ} {t : Token} {w : ReaderState} (n : IsNext test reader at t following) → is_quiet n.kind ≡ true →
+    Gives limit reader.source.now (one test) w (seen_from reader at) (leaf (n.kind, t)) (past reader w n.kind t following) (seen_from reader following)
+gives_quiet {limit = limit} {reader = reader} {following = following} {t = t} {w = w} n q = gives_one n.is n.passes (quiet_sound limit reader.source.now w n.kind t (kind_of (seen_from reader following)) q) refl
 
 -- of one of some plain kinds
-pub gives_plain : {limit : ℕ} {test : Terminal → Bool} {reader : Reader} {at behind : ℕ} {t : Token} {w : ReaderState} (n : IsNext test reader at t behind) → implies test is_plain ≡ true →
-    Gives limit reader.source.now (one test) w (seen_from reader at) (leaf (n.kind, t)) (past reader w n.kind t behind) (seen_from reader behind)
+pub gives_plain : {limit : ℕ} {test : Terminal → Bool} {reader : Reader} {at following : ℕ} {t : Token} {w : ReaderState} (n : IsNext test reader at t following) → implies test is_plain ≡ true →
+    Gives limit reader.source.now (one test) w (seen_from reader at) (leaf (n.kind, t)) (past reader w n.kind t following) (seen_from reader following)
 gives_plain {test = test} n all = gives_quiet n ((and_parts (is_quiet n.kind) (not (begins n.kind)) (also test is_plain all n.kind n.passes)).0)
 
 -- of this quiet kind
-pub gives_exact : {limit : ℕ} {kind : Terminal} {reader : Reader} {at behind : ℕ} {t : Token} {w : ReaderState} → IsNext (is kind) reader at t behind → is_quiet kind ≡ true →
-    Gives limit reader.source.now (token kind) w (seen_from reader at) (leaf (kind, t)) (past reader w kind t behind) (seen_from reader behind)
-gives_exact {limit = limit} {kind = kind} {reader = reader} {behind = behind} {t = t} {w = w} n q = gives_one (exact n) (ap (is kind) (exact_kind n) ∙ n.passes) (quiet_sound limit reader.source.now w kind t (kind_of (seen_from reader behind)) q) refl
+pub gives_exact : {limit : ℕ} {kind : Terminal} {reader : Reader} {at following : ℕ} {t : Token} {w : ReaderState} → IsNext (is kind) reader at t following → is_quiet kind ≡ true →
+    Gives limit reader.source.now (token kind) w (seen_from reader at) (leaf (kind, t)) (past reader w kind t following) (seen_from reader following)
+gives_exact {limit = limit} {kind = kind} {reader = reader} {following = following} {t = t} {w = w} n q = gives_one (exact n) (ap (is kind) (exact_kind n) ∙ n.passes) (quiet_sound limit reader.source.now w kind t (kind_of (seen_from reader following)) q) refl
 
 -- each step of a loop over tokens leaves fewer
-pub falls : {test : Terminal → Bool} {reader : Reader} {at behind : ℕ} {t : Token} → IsNext test reader at t behind → (after : ℕ) → behind ≤ after → length reader.tokens.now - after < length reader.tokens.now - at
+pub falls : {test : Terminal → Bool} {reader : Reader} {at following : ℕ} {t : Token} → IsNext test reader at t following → (after : ℕ) → following ≤ after → length reader.tokens.now - after < length reader.tokens.now - at
 falls n after h = let w = n.within in let f = n.further in omega arith
 
 -- ---- parentheses
@@ -154,8 +154,8 @@ module _ {reader : Reader} {at start : ℕ} {inner : Reader} {old : Tables} {w :
   open_starts n = record { has = open_has; undotted = refl; optionless = n }
 
   -- after the closing parenthesis
-  pub close_stays : {new : Tables} {v : ReaderState} → Stays inner new (opened w o) v → (t : Token) (behind : ℕ) → Stays reader new w (past reader v RightParen t behind)
-  close_stays s t behind =
+  pub close_stays : {new : Tables} {v : ReaderState} → Stays inner new (opened w o) v → (t : Token) (following : ℕ) → Stays reader new w (past reader v RightParen t following)
+  close_stays s t following =
       let c = s.has.holds.open_count ∙ ap (λ (r : Reader). r.unclosed) o.inner_is in
       let k = h.holds.open_count in
       let l = h.level in
@@ -174,7 +174,7 @@ module _ {reader : Reader} {at start : ℕ} {inner : Reader} {old : Tables} {w :
     gives_open = gives_one (exact o.next) refl sound refl
       where
         sound : (fault : SourceFault) → IsFaulty limit reader.source.now w (LeftParen, o.token) (kind_of (seen_from reader start)) fault → ⊥
-        sound fault (deep e d) = let room = o.room in let c = h.holds.open_count in absurd (omega (arith, d, c, room))
+        sound fault (deep e d) = let within_bound = o.within_bound in let c = h.holds.open_count in absurd (omega (arith, d, c, within_bound))
         sound fault (out_of_range e d) = cc
         sound fault (many_names e d) = cc
         sound fault (many_labels e d) = room_for_none _ _ refl d
@@ -185,19 +185,19 @@ module _ {reader : Reader} {at start : ℕ} {inner : Reader} {old : Tables} {w :
     refuses_inside r = refuses_second gives_open (refuses_first r)
 
     module _ {new : Tables} {v : ReaderState} (s : Stays inner new (opened w o) v) where
-      pub gives_close : {next behind : ℕ} {t : Token} → IsNext (is RightParen) reader next t behind → (is Table w.keyword && ends_statement (kind_of (seen_from reader behind))) ≡ false →
-          Gives limit reader.source.now (token RightParen) v (seen_from reader next) (leaf (RightParen, t)) (past reader v RightParen t behind) (seen_from reader behind)
-      gives_close {behind = behind} {t = t} n on = gives_one (exact n) refl (closing_sound limit reader.source.now v t (kind_of (seen_from reader behind)) table_on) refl
+      pub gives_close : {next following : ℕ} {t : Token} → IsNext (is RightParen) reader next t following → (is Table w.keyword && ends_statement (kind_of (seen_from reader following))) ≡ false →
+          Gives limit reader.source.now (token RightParen) v (seen_from reader next) (leaf (RightParen, t)) (past reader v RightParen t following) (seen_from reader following)
+      gives_close {following = following} {t = t} n on = gives_one (exact n) refl (closing_sound limit reader.source.now v t (kind_of (seen_from reader following)) table_on) refl
         where
-          table_on : v.keyword ≡ Table → ends_statement (kind_of (seen_from reader behind)) ≡ true → ⊥
+          table_on : v.keyword ≡ Table → ends_statement (kind_of (seen_from reader following)) ≡ true → ⊥
           table_on k f =
-              let yes : (is Table w.keyword && ends_statement (kind_of (seen_from reader behind))) ≡ true = ap (λ x. is Table x && ends_statement (kind_of (seen_from reader behind))) (sym s.keyword ∙ k) ∙ f in
+              let yes : (is Table w.keyword && ends_statement (kind_of (seen_from reader following))) ≡ true = ap (λ x. is Table x && ends_statement (kind_of (seen_from reader following))) (sym s.keyword ∙ k) ∙ f in
               cc
 
       -- a part in parentheses
-      pub gives_bracketed : {p : GamsPart} {tree : Derivation} {next behind : ℕ} {t : Token} → Gives limit reader.source.now p (opened w o) (seen_from reader start) tree v (seen_from reader next) → IsNext (is RightParen) reader next t behind →
-          (is Table w.keyword && ends_statement (kind_of (seen_from reader behind))) ≡ false →
-          Gives limit reader.source.now (bracketed p) w (seen_from reader at) (pair (leaf (LeftParen, o.token)) (pair tree (leaf (RightParen, t)))) (past reader v RightParen t behind) (seen_from reader behind)
+      pub gives_bracketed : {p : GamsPart} {tree : Derivation} {next following : ℕ} {t : Token} → Gives limit reader.source.now p (opened w o) (seen_from reader start) tree v (seen_from reader next) → IsNext (is RightParen) reader next t following →
+          (is Table w.keyword && ends_statement (kind_of (seen_from reader following))) ≡ false →
+          Gives limit reader.source.now (bracketed p) w (seen_from reader at) (pair (leaf (LeftParen, o.token)) (pair tree (leaf (RightParen, t)))) (past reader v RightParen t following) (seen_from reader following)
       gives_bracketed g n on = gives_both gives_open (gives_both g (gives_close n on))
 
       pub refuses_unclosed : {p : GamsPart} {tree : Derivation} {next : ℕ} {e : SourceFaultOrMemory} → Gives limit reader.source.now p (opened w o) (seen_from reader start) tree v (seen_from reader next) → IsLacking (is RightParen) reader next e →
@@ -220,5 +220,5 @@ pub starts_somewhere : (reader : Reader) (tables : Tables) → Starts reader tab
 starts_somewhere reader tables = record { has = record { holds = record { open_count = refl; names = refl; labels = refl }; level = omega arith }; undotted = refl; optionless = refl }
 
 -- after a token of this plain kind
-pub kind_stays : (kind : Terminal) {reader : Reader} {at behind : ℕ} {t : Token} {tables : Tables} {w : ReaderState} → IsNext (is kind) reader at t behind → is_plain kind ≡ true → Has reader tables w → Stays reader tables w (past reader w kind t behind)
-kind_stays kind {reader} {behind = behind} {t = t} {w = w} n p h = plain_stays reader w kind t behind p h
+pub kind_stays : (kind : Terminal) {reader : Reader} {at following : ℕ} {t : Token} {tables : Tables} {w : ReaderState} → IsNext (is kind) reader at t following → is_plain kind ≡ true → Has reader tables w → Stays reader tables w (past reader w kind t following)
+kind_stays kind {reader} {following = following} {t = t} {w = w} n p h = plain_stays reader w kind t following p h

@@ -22,9 +22,9 @@ use Rattle.gms_table.specs.declared.fault.TableError.TheVariants.{NoHeading}
 use Rattle.gms_parse.specs.declared.fault.SourceFault.{SourceFault}
 use Rattle.gms_parse.specs.Faults.{lexical_fault}
 use Rattle.gms_parse.specs.Programs.{statements_of}
-use Rattle.gms_parse.specs.Outcomes.{ProgramView, HasProgram, IsProgramOf, IsSourceFault, IsNoProgram, WantsMore}
+use Rattle.gms_parse.specs.Outcomes.{ProgramView, HasProgram, IsProgramOf, IsSourceFault, IsNoProgram, RequiresMore}
 use Rattle.gms_parse.specs.Tables.{IsTableLineFault}
-use Rattle.gms_parse.specs.ReadStates.{KindedToken, ReaderState, start, kind_of, is_name, table_name, LacksRoom, lines_with, new_labels, reader_after_all, source_rule, IsFaulty, deep, out_of_range, many_names, many_labels, in_table, without_lines, AreTokensFaultless}
+use Rattle.gms_parse.specs.ReadStates.{KindedToken, ReaderState, start, kind_of, is_name, table_name, ExceedsTable, lines_with, new_labels, reader_after_all, source_rule, IsFaulty, deep, out_of_range, many_names, many_labels, in_table, without_lines, AreTokensFaultless}
 use Rattle.gms_parse.specs.InnerReadings.{Derivation}
 use Rattle.gms_parse.proofs.Alphabet.{pass_rest}
 use Rattle.gms_parse.proofs.EndTokens.{begins_other, is_other}
@@ -78,20 +78,20 @@ module _ (limit : ℕ) (source : List ℕ) where
   no_fault : (tokens : List KindedToken) (names labels : List (List ℕ)) (statements : Statements Rational) (fault : SourceFault) → IsProgramOf limit source tokens names labels statements → IsNoProgram limit source tokens fault → ⊥
   no_fault tokens names labels statements fault p none = by_cause none.cause
     where
-      front : yield p.tree ≡ none.front
-      front = stops_once productions (the Program) tokens (yield p.tree) ((End, p.end) ∷ []) none.front none.rest (program_stops p) none.stops
+      prefix : yield p.tree ≡ none.prefix
+      prefix = stops_once productions (the Program) tokens (yield p.tree) ((End, p.end) ∷ []) none.prefix none.rest (program_stops p) none.stops
 
       rest : (End, p.end) ∷ [] ≡ none.rest
-      rest = behind_same (yield p.tree) ((End, p.end) ∷ []) none.rest (sym p.tokens_are ∙ none.stops.parts ∙ ap (λ w. w ++ none.rest) (sym front))
+      rest = behind_same (yield p.tree) ((End, p.end) ∷ []) none.rest (sym p.tokens_are ∙ none.stops.parts ∙ ap (λ w. w ++ none.rest) (sym prefix))
 
       ahead : kind_of none.rest ≡ End
       ahead = ap kind_of (sym rest)
 
-      by_cause : rules.IsFirstFaulty source_rule (limit, source) start none.front (kind_of none.rest) fault ⊎ rules.IsUnexpectedByRule source_rule (limit, source) (WantsMore none.front none.rest) start none.front none.rest fault → ⊥
+      by_cause : rules.IsFirstFaulty source_rule (limit, source) start none.prefix (kind_of none.rest) fault ⊎ rules.IsUnexpectedByRule source_rule (limit, source) (RequiresMore none.prefix none.rest) start none.prefix none.rest fault → ⊥
       by_cause (inl first) =
-          no_first source_rule (limit, source) start none.front (kind_of none.rest) fault first
-          (subst (λ (k : Terminal). AreTokensFaultless limit source start none.front k) (sym ahead) (subst (λ (w : List KindedToken). AreTokensFaultless limit source start w End) front p.are_sound))
-      by_cause (inr unexpected) = unexpected.wants ahead (record { tree = p.tree; is_tree = p.is_tree; yields = front })
+          no_first source_rule (limit, source) start none.prefix (kind_of none.rest) fault first
+          (subst (λ (k : Terminal). AreTokensFaultless limit source start none.prefix k) (sym ahead) (subst (λ (w : List KindedToken). AreTokensFaultless limit source start w End) prefix p.are_sound))
+      by_cause (inr unexpected) = unexpected.needs ahead (record { tree = p.tree; is_tree = p.is_tree; yields = prefix })
 
   -- a source that has a program has no fault
   pub program_or_fault : (view : ProgramView) (fault : SourceFault) → HasProgram limit source view → IsSourceFault limit source fault → ⊥
@@ -108,44 +108,44 @@ module _ (limit : ℕ) (source : List ℕ) where
 
   -- what the fault of a token of this kind is
   abbrev Tells : ReaderState → Terminal → Token → SourceFault → Type 0
-  Tells walk LeftParen token fault = fault ≡ record { error = Syntax Depth; at = token.at }
-  Tells walk Number token fault = fault ≡ record { error = Syntax OutOfRange; at = token.at }
-  Tells walk TableLine token fault =
-      IsTableLineFault limit source (table_name walk.before) walk.labels (lines_with source walk.before (TableLine, token)) fault
-  Tells walk RightParen token fault = fault ≡ record { error = Table NoHeading; at = table_name walk.before }
-  Tells walk _ token fault = fault ≡ record { error = Syntax TooManyLabels; at = token.at }
+  Tells read_state LeftParen token fault = fault ≡ record { error = Syntax Depth; at = token.at }
+  Tells read_state Number token fault = fault ≡ record { error = Syntax OutOfRange; at = token.at }
+  Tells read_state TableLine token fault =
+      IsTableLineFault limit source (table_name read_state.before) read_state.labels (lines_with source read_state.before (TableLine, token)) fault
+  Tells read_state RightParen token fault = fault ≡ record { error = Table NoHeading; at = table_name read_state.before }
+  Tells read_state _ token fault = fault ≡ record { error = Syntax TooManyLabels; at = token.at }
 
-  names_tell : (walk : ReaderState) (kind : Terminal) (token : Token) → is_name walk kind ≡ true → Tells walk kind token (record { error = Syntax TooManyLabels; at = token.at })
-  names_tell walk LeftParen token h = absurd cc
-  names_tell walk Number token h = absurd cc
-  names_tell walk TableLine token h = absurd cc
-  names_tell walk RightParen token h = absurd cc
-  names_tell walk _ token h = refl
+  names_tell : (read_state : ReaderState) (kind : Terminal) (token : Token) → is_name read_state kind ≡ true → Tells read_state kind token (record { error = Syntax TooManyLabels; at = token.at })
+  names_tell read_state LeftParen token h = absurd cc
+  names_tell read_state Number token h = absurd cc
+  names_tell read_state TableLine token h = absurd cc
+  names_tell read_state RightParen token h = absurd cc
+  names_tell read_state _ token h = refl
 
-  labels_tell : (walk : ReaderState) (kind : Terminal) (token : Token) (ahead : Terminal) → is TableLine kind ≡ false → LacksRoom walk.labels (new_labels source walk (kind, token) ahead) → Tells walk kind token (record { error = Syntax TooManyLabels; at = token.at })
-  labels_tell walk LeftParen token ahead h l = absurd (room_for_none walk.labels (new_labels source walk (LeftParen, token) ahead) refl l)
-  labels_tell walk Number token ahead h l = absurd (room_for_none walk.labels (new_labels source walk (Number, token) ahead) refl l)
-  labels_tell walk RightParen token ahead h l = absurd (room_for_none walk.labels (new_labels source walk (RightParen, token) ahead) refl l)
-  labels_tell walk TableLine token ahead h l = absurd cc
-  labels_tell walk _ token ahead h l = refl
+  labels_tell : (read_state : ReaderState) (kind : Terminal) (token : Token) (ahead : Terminal) → is TableLine kind ≡ false → ExceedsTable read_state.labels (new_labels source read_state (kind, token) ahead) → Tells read_state kind token (record { error = Syntax TooManyLabels; at = token.at })
+  labels_tell read_state LeftParen token ahead h l = absurd (room_for_none read_state.labels (new_labels source read_state (LeftParen, token) ahead) refl l)
+  labels_tell read_state Number token ahead h l = absurd (room_for_none read_state.labels (new_labels source read_state (Number, token) ahead) refl l)
+  labels_tell read_state RightParen token ahead h l = absurd (room_for_none read_state.labels (new_labels source read_state (RightParen, token) ahead) refl l)
+  labels_tell read_state TableLine token ahead h l = absurd cc
+  labels_tell read_state _ token ahead h l = refl
 
-  tells : {fault : SourceFault} (walk : ReaderState) (kind : Terminal) (token : Token) (ahead : Terminal) → IsFaulty limit source walk (kind, token) ahead fault → Tells walk kind token fault
-  tells walk kind token ahead (deep e d) = subst (λ (k : Terminal). Tells walk k token (record { error = Syntax Depth; at = token.at })) (sym e) refl
-  tells walk kind token ahead (out_of_range e d) = subst (λ (k : Terminal). Tells walk k token (record { error = Syntax OutOfRange; at = token.at })) (sym e) refl
-  tells walk kind token ahead (many_names n d) = names_tell walk kind token n
-  tells walk kind token ahead (many_labels n d) = labels_tell walk kind token ahead n d
-  tells walk kind token ahead (in_table {fault} e d f) =
-      subst (λ (k : Terminal). Tells walk k token fault) (sym e)
-      (subst (λ (k : Terminal). IsTableLineFault limit source (table_name walk.before) walk.labels (lines_with source walk.before (k, token)) fault) e f)
-  tells walk kind token ahead (without_lines e d f) = subst (λ (k : Terminal). Tells walk k token (record { error = Table NoHeading; at = table_name walk.before })) (sym e) refl
+  tells : {fault : SourceFault} (read_state : ReaderState) (kind : Terminal) (token : Token) (ahead : Terminal) → IsFaulty limit source read_state (kind, token) ahead fault → Tells read_state kind token fault
+  tells read_state kind token ahead (deep e d) = subst (λ (k : Terminal). Tells read_state k token (record { error = Syntax Depth; at = token.at })) (sym e) refl
+  tells read_state kind token ahead (out_of_range e d) = subst (λ (k : Terminal). Tells read_state k token (record { error = Syntax OutOfRange; at = token.at })) (sym e) refl
+  tells read_state kind token ahead (many_names n d) = names_tell read_state kind token n
+  tells read_state kind token ahead (many_labels n d) = labels_tell read_state kind token ahead n d
+  tells read_state kind token ahead (in_table {fault} e d f) =
+      subst (λ (k : Terminal). Tells read_state k token fault) (sym e)
+      (subst (λ (k : Terminal). IsTableLineFault limit source (table_name read_state.before) read_state.labels (lines_with source read_state.before (k, token)) fault) e f)
+  tells read_state kind token ahead (without_lines e d f) = subst (λ (k : Terminal). Tells read_state k token (record { error = Table NoHeading; at = table_name read_state.before })) (sym e) refl
 
-  one_told : (walk : ReaderState) (kind : Terminal) (token : Token) (one other : SourceFault) → Tells walk kind token one → Tells walk kind token other → one ≡ other
-  one_told walk TableLine token one other h k =
-      one_line_fault limit source (table_name walk.before) walk.labels (lines_with source walk.before (TableLine, token)) one other h k
-  one_told walk LeftParen token one other h k = h ∙ sym k
-  one_told walk Number token one other h k = h ∙ sym k
-  one_told walk RightParen token one other h k = h ∙ sym k
-  one_told walk _ token one other h k = h ∙ sym k
+  one_told : (read_state : ReaderState) (kind : Terminal) (token : Token) (one other : SourceFault) → Tells read_state kind token one → Tells read_state kind token other → one ≡ other
+  one_told read_state TableLine token one other h k =
+      one_line_fault limit source (table_name read_state.before) read_state.labels (lines_with source read_state.before (TableLine, token)) one other h k
+  one_told read_state LeftParen token one other h k = h ∙ sym k
+  one_told read_state Number token one other h k = h ∙ sym k
+  one_told read_state RightParen token one other h k = h ∙ sym k
+  one_told read_state _ token one other h k = h ∙ sym k
 
   -- a source has one first fault
   pub one_fault : (one other : SourceFault) → IsSourceFault limit source one → IsSourceFault limit source other → one ≡ other
@@ -167,4 +167,4 @@ module _ (limit : ℕ) (source : List ℕ) where
   one_fault one other (inr (inr a)) (inr (inr b)) =
       let are : Ok a.tokens ≡ Ok b.tokens = means_only source (Ok a.tokens) (Ok b.tokens) a.are_tokens b.are_tokens in
       let same : b.tokens ≡ a.tokens = cc in
-      one_refused source_rule (limit, source) (λ walk token ahead one other h k. one_told walk token.0 token.1 one other (tells walk token.0 token.1 ahead h) (tells walk token.0 token.1 ahead k)) Program start (kinded_tokens source a.tokens) one other a.refused (subst (λ (ts : List Token). IsNoProgram limit source (kinded_tokens source ts) other) same b.refused)
+      one_refused source_rule (limit, source) (λ read_state token ahead one other h k. one_told read_state token.0 token.1 one other (tells read_state token.0 token.1 ahead h) (tells read_state token.0 token.1 ahead k)) Program start (kinded_tokens source a.tokens) one other a.refused (subst (λ (ts : List Token). IsNoProgram limit source (kinded_tokens source ts) other) same b.refused)

@@ -37,16 +37,16 @@ split (y ∷ a) b (z ∷ u) x v e = go (split a b u x v cc)
 -- the tokens that were gone over, and the rest
 abbrev front_of : Found KindedToken → List KindedToken
 front_of (read tree rest) = yield tree
-front_of (stuck front rest) = front
+front_of (stuck prefix rest) = prefix
 
 abbrev rest_of : Found KindedToken → List KindedToken
 rest_of (read tree rest) = rest
-rest_of (stuck front rest) = rest
+rest_of (stuck prefix rest) = rest
 
 -- two parts after another
 joined : {p q r : GamsPart} {ts between rest : List KindedToken} (a : Derivation) (c : List KindedToken) →
-    ((front behind : List KindedToken) → Takes productions look_ahead p ts front behind → Takes productions look_ahead r ts front behind) →
-    ((front behind : List KindedToken) → Takes productions look_ahead q between front behind → Takes productions look_ahead r ts (yield a ++ front) behind) →
+    ((prefix following : List KindedToken) → Takes productions look_ahead p ts prefix following → Takes productions look_ahead r ts prefix following) →
+    ((prefix following : List KindedToken) → Takes productions look_ahead q between prefix following → Takes productions look_ahead r ts (yield a ++ prefix) following) →
     ((u : List KindedToken) (x : KindedToken) (v : List KindedToken) → yield a ≡ u ++ (x ∷ v) → Takes productions look_ahead p ts (u ++ x ∷ []) (v ++ between)) →
     ((u : List KindedToken) (x : KindedToken) (v : List KindedToken) → c ≡ u ++ (x ∷ v) → Takes productions look_ahead q between (u ++ x ∷ []) (v ++ rest)) →
     between ≡ c ++ rest → (u : List KindedToken) (x : KindedToken) (v : List KindedToken) → yield a ++ c ≡ u ++ (x ∷ v) → Takes productions look_ahead r ts (u ++ x ∷ []) (v ++ rest)
@@ -67,9 +67,9 @@ takes_front (taken {token = token} h) (y ∷ u) x v e =
 takes_front (refused h) u x v e = absurd (some_there u x v e)
 takes_front (entered r) u x v e = takes_the (takes_front r u x v e)
 takes_front (entered_stuck r) u x v e = takes_the (takes_front r u x v e)
-takes_front (both {p = p} {q = q} {a = a} {b = b} r s) u x v e = joined {p = p} {q = q} a (yield b) (λ front behind t. takes_first t) (λ front behind t. takes_second r t) (takes_front r) (takes_front s) (sound productions look_ahead s).1 u x v e
+takes_front (both {p = p} {q = q} {a = a} {b = b} r s) u x v e = joined {p = p} {q = q} a (yield b) (λ prefix following t. takes_first t) (λ prefix following t. takes_second r t) (takes_front r) (takes_front s) (sound productions look_ahead s).1 u x v e
 takes_front (first_stuck r) u x v e = takes_first (takes_front r u x v e)
-takes_front (second_stuck {p = p} {q = q} {front = front} {a = a} r s) u x v e = joined {p = p} {q = q} a front (λ f behind t. takes_first t) (λ f behind t. takes_second r t) (takes_front r) (takes_front s) (sound productions look_ahead s) u x v e
+takes_front (second_stuck {p = p} {q = q} {prefix = prefix} {a = a} r s) u x v e = joined {p = p} {q = q} a prefix (λ f following t. takes_first t) (λ f following t. takes_second r t) (takes_front r) (takes_front s) (sound productions look_ahead s) u x v e
 takes_front (in_left h r) u x v e = takes_left (takes_front r u x v e)
 takes_front (in_left_stuck h r) u x v e = takes_left (takes_front r u x v e)
 takes_front (in_right h k r) u x v e = takes_right (takes_front r u x v e)
@@ -79,48 +79,48 @@ takes_front (left_out h) u x v e = absurd (some_there u x v e)
 takes_front (there h r) u x v e = takes_opt (takes_front r u x v e)
 takes_front (there_stuck h r) u x v e = takes_opt (takes_front r u x v e)
 takes_front (no_more h) u x v e = absurd (some_there u x v e)
-takes_front (again {p = p} {a = a} {b = b} h r s) u x v e = joined {p = p} {q = many p} a (yield b) (λ front behind t. takes_many t) (λ front behind t. takes_later r t) (takes_front r) (takes_front s) (sound productions look_ahead s).1 u x v e
+takes_front (again {p = p} {a = a} {b = b} h r s) u x v e = joined {p = p} {q = many p} a (yield b) (λ prefix following t. takes_many t) (λ prefix following t. takes_later r t) (takes_front r) (takes_front s) (sound productions look_ahead s).1 u x v e
 takes_front (again_stuck h r) u x v e = takes_many (takes_front r u x v e)
-takes_front (later_stuck {p = p} {front = front} {a = a} h r s) u x v e = joined {p = p} {q = many p} a front (λ f behind t. takes_many t) (λ f behind t. takes_later r t) (takes_front r) (takes_front s) (sound productions look_ahead s) u x v e
+takes_front (later_stuck {p = p} {prefix = prefix} {a = a} h r s) u x v e = joined {p = p} {q = many p} a prefix (λ f following t. takes_many t) (λ f following t. takes_later r t) (takes_front r) (takes_front s) (sound productions look_ahead s) u x v e
 
 -- where tokens stop, the rest is the same
-same_rest : (n : Nonterminal) (ts front rest other behind : List KindedToken) → Stops productions (the n) ts front rest → Stops productions (the n) ts other behind → (front ≡ other) × (rest ≡ behind)
-same_rest n ts front rest other behind s t =
-    let e = stops_once productions (the n) ts front rest other behind s t in
-    (e, behind_same front rest behind (sym s.parts ∙ t.parts ∙ ap (λ w. w ++ behind) (sym e)))
+same_rest : (n : Nonterminal) (ts prefix rest other following : List KindedToken) → Stops productions (the n) ts prefix rest → Stops productions (the n) ts other following → (prefix ≡ other) × (rest ≡ following)
+same_rest n ts prefix rest other following s t =
+    let e = stops_once productions (the n) ts prefix rest other following s t in
+    (e, behind_same prefix rest following (sym s.parts ∙ t.parts ∙ ap (λ w. w ++ following) (sym e)))
 
 -- a reader finds the tree of the longest part
 pub reads_of : (n : Nonterminal) (ts rest : List KindedToken) (tree : Derivation) → IsTree productions (the n) tree → Stops productions (the n) ts (yield tree) rest → Reads productions look_ahead (the n) ts (read tree rest)
 reads_of n ts rest tree k s = let f = gams_finds n ts in go f.0 f.1
   where
     go : (found : Found KindedToken) → Reads productions look_ahead (the n) ts found → Reads productions look_ahead (the n) ts (read tree rest)
-    go (read other behind) r =
-        let e = same_rest n ts (yield other) behind (yield tree) rest (gams_read_stops no_token n ts behind other r) s in
-        subst (λ (x : Derivation). Reads productions look_ahead (the n) ts (read x rest)) (gams_unique n other tree (gams_read_tree n ts behind other r) k e.0) (subst (λ (x : List KindedToken). Reads productions look_ahead (the n) ts (read other x)) e.1 r)
-    go (stuck front behind) r =
-        let e = same_rest n ts front behind (yield tree) rest (gams_stuck_stops no_token n ts front behind r) s in
-        absurd (gams_stuck_none no_token n ts front behind r (record { tree = tree; is_tree = k; yields = sym e.0 }))
+    go (read other following) r =
+        let e = same_rest n ts (yield other) following (yield tree) rest (gams_read_stops no_token n ts following other r) s in
+        subst (λ (x : Derivation). Reads productions look_ahead (the n) ts (read x rest)) (gams_unique n other tree (gams_read_tree n ts following other r) k e.0) (subst (λ (x : List KindedToken). Reads productions look_ahead (the n) ts (read other x)) e.1 r)
+    go (stuck prefix following) r =
+        let e = same_rest n ts prefix following (yield tree) rest (gams_stuck_stops no_token n ts prefix following r) s in
+        absurd (gams_stuck_none no_token n ts prefix following r (record { tree = tree; is_tree = k; yields = sym e.0 }))
 
 -- it is stuck where they are no part
-pub stuck_of : (n : Nonterminal) (ts front rest : List KindedToken) → Stops productions (the n) ts front rest → (Derives productions (the n) front → ⊥) → Reads productions look_ahead (the n) ts (stuck front rest)
-stuck_of n ts front rest s none_such = let f = gams_finds n ts in go f.0 f.1
+pub stuck_of : (n : Nonterminal) (ts prefix rest : List KindedToken) → Stops productions (the n) ts prefix rest → (Derives productions (the n) prefix → ⊥) → Reads productions look_ahead (the n) ts (stuck prefix rest)
+stuck_of n ts prefix rest s none_such = let f = gams_finds n ts in go f.0 f.1
   where
-    go : (found : Found KindedToken) → Reads productions look_ahead (the n) ts found → Reads productions look_ahead (the n) ts (stuck front rest)
-    go (read other behind) r =
-        let e = same_rest n ts (yield other) behind front rest (gams_read_stops no_token n ts behind other r) s in
-        absurd (none_such (record { tree = other; is_tree = gams_read_tree n ts behind other r; yields = e.0 }))
-    go (stuck other behind) r =
-        let e = same_rest n ts other behind front rest (gams_stuck_stops no_token n ts other behind r) s in
+    go : (found : Found KindedToken) → Reads productions look_ahead (the n) ts found → Reads productions look_ahead (the n) ts (stuck prefix rest)
+    go (read other following) r =
+        let e = same_rest n ts (yield other) following prefix rest (gams_read_stops no_token n ts following other r) s in
+        absurd (none_such (record { tree = other; is_tree = gams_read_tree n ts following other r; yields = e.0 }))
+    go (stuck other following) r =
+        let e = same_rest n ts other following prefix rest (gams_stuck_stops no_token n ts other following r) s in
         subst (λ (x : List KindedToken). Reads productions look_ahead (the n) ts (stuck x rest)) e.0 (subst (λ (x : List KindedToken). Reads productions look_ahead (the n) ts (stuck other x)) e.1 r)
 
 -- it goes over each token up to there
-pub takes_of : (n : Nonterminal) (ts front rest : List KindedToken) → Stops productions (the n) ts front rest → (u : List KindedToken) (x : KindedToken) (v : List KindedToken) → front ≡ u ++ (x ∷ v) → Takes productions look_ahead (the n) ts (u ++ x ∷ []) (v ++ rest)
-takes_of n ts front rest s u x v e = let f = gams_finds n ts in go f.0 f.1
+pub takes_of : (n : Nonterminal) (ts prefix rest : List KindedToken) → Stops productions (the n) ts prefix rest → (u : List KindedToken) (x : KindedToken) (v : List KindedToken) → prefix ≡ u ++ (x ∷ v) → Takes productions look_ahead (the n) ts (u ++ x ∷ []) (v ++ rest)
+takes_of n ts prefix rest s u x v e = let f = gams_finds n ts in go f.0 f.1
   where
     go : (found : Found KindedToken) → Reads productions look_ahead (the n) ts found → Takes productions look_ahead (the n) ts (u ++ x ∷ []) (v ++ rest)
-    go (read other behind) r =
-        let k = same_rest n ts (yield other) behind front rest (gams_read_stops no_token n ts behind other r) s in
+    go (read other following) r =
+        let k = same_rest n ts (yield other) following prefix rest (gams_read_stops no_token n ts following other r) s in
         subst (λ (z : List KindedToken). Takes productions look_ahead (the n) ts (u ++ x ∷ []) (v ++ z)) k.1 (takes_front r u x v (k.0 ∙ e))
-    go (stuck other behind) r =
-        let k = same_rest n ts other behind front rest (gams_stuck_stops no_token n ts other behind r) s in
+    go (stuck other following) r =
+        let k = same_rest n ts other following prefix rest (gams_stuck_stops no_token n ts other following r) s in
         subst (λ (z : List KindedToken). Takes productions look_ahead (the n) ts (u ++ x ∷ []) (v ++ z)) k.1 (takes_front r u x v (k.0 ∙ e))

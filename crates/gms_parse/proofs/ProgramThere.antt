@@ -29,7 +29,7 @@ use Rattle.gms_parse.specs.Faults.{lexical_fault, error_of_table}
 use Rattle.gms_parse.specs.Programs.{statements_of}
 use Rattle.gms_parse.specs.Tables.{parts_of_tokens, labels_of_lines, IsTableLineFault, AreTableItems, entries_in, items_given}
 use Rattle.gms_parse.specs.ReadStates.{KindedToken, ReaderState, start, kind_ahead, table_name, lines_with, reader_after, reader_after_all, unexpected, source_rule, IsFaulty, in_table, AreTokensFaultless}
-use Rattle.gms_parse.specs.Outcomes.{WantsMore, IsTableOf, HaveItems, HasProgram, ProgramView, IsSourceFault, IsNoProgram}
+use Rattle.gms_parse.specs.Outcomes.{RequiresMore, IsTableOf, HaveItems, HasProgram, ProgramView, IsSourceFault, IsNoProgram}
 use Rattle.gms_parse.specs.InnerReadings.{Derivation}
 use Rattle.gms_parse.proofs.TokenKinds.{same_kind}
 use Rattle.gms_parse.proofs.Alphabet.{AllPass, pass_front, pass_rest}
@@ -86,20 +86,20 @@ module _ (limit : ℕ) (source : List ℕ) (tokens : List KindedToken) (sound : 
   last_labels = (reader_after_all source start tokens End).labels
 
   module _ (lines : List KindedToken) (k : IsTableOf tokens lines) (others : List KindedToken) (line : Token) (are : lines ≡ others ++ (TableLine, line) ∷ []) where
-    abbrev front : List KindedToken
-    front = k.before ++ others
+    abbrev prefix : List KindedToken
+    prefix = k.before ++ others
 
-    tokens_are : tokens ≡ front ++ ((TableLine, line) ∷ k.behind)
+    tokens_are : tokens ≡ prefix ++ ((TableLine, line) ∷ k.following)
     tokens_are =
-        k.parts ∙ ap (λ (ls : List KindedToken). (k.before ++ ls) ++ k.behind) are ∙ ap (λ (us : List KindedToken). us ++ k.behind) (sym (append_assoc k.before others ((TableLine, line) ∷ [])))
-        ∙ append_assoc front ((TableLine, line) ∷ []) k.behind
+        k.parts ∙ ap (λ (ls : List KindedToken). (k.before ++ ls) ++ k.following) are ∙ ap (λ (us : List KindedToken). us ++ k.following) (sym (append_assoc k.before others ((TableLine, line) ∷ [])))
+        ∙ append_assoc prefix ((TableLine, line) ∷ []) k.following
 
     abbrev here : ReaderState
-    here = reader_after_all source start front TableLine
+    here = reader_after_all source start prefix TableLine
 
     run_here : run_of here.before ≡ reverse others
     run_here =
-        ap run_of (gone_over source start front TableLine ∙ append-nil (reverse front) ∙ reverse-append k.before others)
+        ap run_of (gone_over source start prefix TableLine ∙ append-nil (reverse prefix) ∙ reverse-append k.before others)
         ∙ run_all others (reverse k.before) (pass_front (is TableLine) others ((TableLine, line) ∷ []) (subst (λ (us : List KindedToken). AllPass (is TableLine) us) are (all_lines lines k.are_lines)))
         ∙ ap (λ (us : List KindedToken). reverse others ++ us) (run_none k.before k.none_before) ∙ append-nil (reverse others)
 
@@ -109,14 +109,14 @@ module _ (limit : ℕ) (source : List ℕ) (tokens : List KindedToken) (sound : 
         ∙ ap (λ (us : List KindedToken). us ++ (TableLine, line) ∷ []) (reverse-reverse others) ∙ sym are
 
     abbrev ahead : Terminal
-    ahead = kind_ahead k.behind End
+    ahead = kind_ahead k.following End
 
     no_line_ahead : is TableLine ahead ≡ false
     no_line_ahead = not_true (is TableLine ahead) (λ h. k.none_behind (sym (same_kind TableLine ahead h)))
 
     no_fault_here : (fault : SourceFault) → IsTableLineFault limit source (table_name here.before) here.labels lines fault → ⊥
     no_fault_here fault f =
-        sound_at (source_rule (limit, source)) start front (TableLine, line) k.behind End fault (subst (λ (us : List KindedToken). AreTokensFaultless limit source start us End) tokens_are sound)
+        sound_at (source_rule (limit, source)) start prefix (TableLine, line) k.following End fault (subst (λ (us : List KindedToken). AreTokensFaultless limit source start us End) tokens_are sound)
         (in_table refl no_line_ahead (subst (λ (ls : List KindedToken). IsTableLineFault limit source (table_name here.before) here.labels ls fault) (sym lines_here) f))
 
     -- the state after the last line
@@ -131,8 +131,8 @@ module _ (limit : ℕ) (source : List ℕ) (tokens : List KindedToken) (sound : 
     labels_stay : Stay past.labels last_labels
     labels_stay =
         subst (λ (w : ReaderState). Stay past.labels w.labels)
-        (sym (ap (λ (us : List KindedToken). reader_after_all source start us End) tokens_are ∙ walk_append (reader_after source) start front ((TableLine, line) ∷ k.behind) End))
-        (record { stays = λ text n h. labels_kept source past k.behind End text n h })
+        (sym (ap (λ (us : List KindedToken). reader_after_all source start us End) tokens_are ∙ walk_append (reader_after source) start prefix ((TableLine, line) ∷ k.following) End))
+        (record { stays = λ text n h. labels_kept source past k.following End text n h })
 
     placed : AreThere last_labels (label_texts (parts_of_tokens source lines))
     placed =
@@ -162,20 +162,20 @@ module _ (limit : ℕ) (source : List ℕ) (tokens : List KindedToken) (sound : 
 
 module _ (limit : ℕ) (source : List ℕ) (tokens : List KindedToken) (none : (fault : SourceFault) → IsNoProgram limit source tokens fault → ⊥) where
   -- where tokens cease to begin a program, those before are sound
-  module _ (front rest : List KindedToken) (stops : Stops productions (the Program) tokens front rest) where
-    sound_on : (before left : List KindedToken) → front ≡ before ++ left → AreTokensFaultless limit source start before (kind_ahead left (kind_ahead rest End)) →
+  module _ (prefix rest : List KindedToken) (stops : Stops productions (the Program) tokens prefix rest) where
+    sound_on : (before left : List KindedToken) → prefix ≡ before ++ left → AreTokensFaultless limit source start before (kind_ahead left (kind_ahead rest End)) →
         AreTokensFaultless limit source (reader_after_all source start before (kind_ahead left (kind_ahead rest End))) left (kind_ahead rest End)
     sound_on before [] e s = tt
     sound_on before (t ∷ left) e s =
         let ahead = kind_ahead left (kind_ahead rest End) in
         let here : (fault : SourceFault) → IsFaulty limit source (reader_after_all source start before t.0) t ahead fault → ⊥ =
-        λ fault f. none fault (record { front = front; rest = rest; stops = stops; cause = inl (record { before = before; token = t; behind = left; parts = e; are_sound = s; is_faulty = f }) }) in
+        λ fault f. none fault (record { prefix = prefix; rest = rest; stops = stops; cause = inl (record { before = before; token = t; following = left; parts = e; are_sound = s; is_faulty = f }) }) in
         let more : AreTokensFaultless limit source start (before ++ t ∷ []) ahead = sound_append (source_rule (limit, source)) start before (t ∷ []) ahead s (here, tt) in
         let others = sound_on (before ++ t ∷ []) left (e ∙ sym (append_assoc before (t ∷ []) left)) more in
         (here, subst (λ (w : ReaderState). AreTokensFaultless limit source w left (kind_ahead rest End)) (walk_append (reader_after source) start before (t ∷ []) ahead) others)
 
-    pub sound_front : AreTokensFaultless limit source start front (kind_ahead rest End)
-    sound_front = sound_on [] front refl tt
+    pub sound_front : AreTokensFaultless limit source start prefix (kind_ahead rest End)
+    sound_front = sound_on [] prefix refl tt
 
 pub record SomeProgram (limit : ℕ) (source : List ℕ) : Type 0 where
   pub view : ProgramView
@@ -186,13 +186,13 @@ module _ (limit : ℕ) (source : List ℕ) (none : (fault : SourceFault) → IsS
     refused : (fault : SourceFault) → IsNoProgram limit source (kinded_tokens source tokens) fault → ⊥
     refused fault r = none fault (inr (inr (record { short = short; tokens = tokens; are_tokens = are; refused = r })))
 
-    not_there : (front rest : List KindedToken) → Stops productions (the Program) (kinded_tokens source tokens) front rest → WantsMore front rest → ⊥
-    not_there front rest stops wants =
+    not_there : (prefix rest : List KindedToken) → Stops productions (the Program) (kinded_tokens source tokens) prefix rest → RequiresMore prefix rest → ⊥
+    not_there prefix rest stops needs =
         refused (unexpected source rest) (record {
-          front = front;
+          prefix = prefix;
           rest = rest;
           stops = stops;
-          cause = inr (record { wants = wants; are_sound = sound_front limit source (kinded_tokens source tokens) refused front rest stops; is = refl });
+          cause = inr (record { needs = needs; are_sound = sound_front limit source (kinded_tokens source tokens) refused prefix rest stops; is = refl });
         })
 
     by_end : (tree : Derivation) (rest : List KindedToken) → IsTree productions (the Program) tree → Stops productions (the Program) (kinded_tokens source tokens) (yield tree) rest → (b : Bool) → is End (kind_ahead rest End) ≡ b → SomeProgram limit source
@@ -200,9 +200,9 @@ module _ (limit : ℕ) (source : List ℕ) (none : (fault : SourceFault) → IsS
         let at_end : kind_ahead rest End ≡ End = sym (same_kind End (kind_ahead rest End) e) in
         let ended = has_end source tokens are in
         let sound : AreTokensFaultless limit source start (yield tree) End = subst (λ (t : Terminal). AreTokensFaultless limit source start (yield tree) t) at_end (sound_front limit source (kinded_tokens source tokens) refused (yield tree) rest stops) in
-        let walk = reader_after_all source start (yield tree) End in
+        let read_state = reader_after_all source start (yield tree) End in
         record {
-          view = record { names = walk.names; labels = walk.labels; statements = statements_of source walk.names walk.labels tree };
+          view = record { names = read_state.names; labels = read_state.labels; statements = statements_of source read_state.names read_state.labels tree };
           has = record {
             short = short;
             tokens = tokens;
@@ -226,8 +226,8 @@ module _ (limit : ℕ) (source : List ℕ) (none : (fault : SourceFault) → IsS
     by_found : (found : Found KindedToken) → Reads productions look_ahead (the Program) (kinded_tokens source tokens) found → SomeProgram limit source
     by_found (read tree rest) r =
         by_end tree rest (gams_read_tree Program (kinded_tokens source tokens) rest tree r) (gams_read_stops no_token Program (kinded_tokens source tokens) rest tree r) (is End (kind_ahead rest End)) refl
-    by_found (stuck front rest) r =
-        absurd (not_there front rest (gams_stuck_stops no_token Program (kinded_tokens source tokens) front rest r) (λ at_end d. gams_stuck_none no_token Program (kinded_tokens source tokens) front rest r d))
+    by_found (stuck prefix rest) r =
+        absurd (not_there prefix rest (gams_stuck_stops no_token Program (kinded_tokens source tokens) prefix rest r) (λ at_end d. gams_stuck_none no_token Program (kinded_tokens source tokens) prefix rest r d))
 
   by_meaning : length source ≤ most_source_bytes → (m : Result (List Token) LexFault) → Means source m → SomeProgram limit source
   by_meaning short (Err f) h =

@@ -34,7 +34,7 @@ use Rattle.gms_parse.specs.declared.reader.Tables.{Tables}
 use Rattle.gms_parse.specs.DataLists.{range_labels}
 use Rattle.gms_table.specs.WordLabels.{all_entered}
 use Rattle.gms_table.proofs.LabelLemmas.{Stay-all_entered, all_entered-append}
-use Rattle.gms_parse.specs.ReadStates.{KindedToken, ReaderState, last_kind, range_start, range_texts, list_labels, new_labels, LacksRoom, many_labels}
+use Rattle.gms_parse.specs.ReadStates.{KindedToken, ReaderState, last_kind, range_start, range_texts, list_labels, new_labels, ExceedsTable, many_labels}
 use Rattle.gms_parse.specs.InnerReadings.{Gives, Refuses, Sense, IsSense, IsGot, Has, Holds, Starless, Stays, IsNext, IsLacking, IsEntered, IsNotEntered, seen_from, kind_of}
 use Rattle.gms_parse.specs.InnerMeanings.{IsLabelToken, IsEnteredRange, IsNotEnteredRange, IsAdded, AreThere, text_of_label}
 use Rattle.gms_parse.proofs.TokenKinds.{leads_by_kind, unled_next}
@@ -51,27 +51,27 @@ label_spelled {source} {t} l = let s : IsSpelled token_kind.Label (token_text so
 
 -- the table is full for one more text, or was for one before it
 pub data Lacking (labels texts : List (List ℕ)) (text : List ℕ) : Type 0 where
-  earlier_one : LacksRoom labels texts → Lacking labels texts text
+  earlier_one : ExceedsTable labels texts → Lacking labels texts text
   this_one : IsFullFor (all_entered labels texts) text → Lacking labels texts text
 
-pub lacking_of : (labels texts : List (List ℕ)) (text : List ℕ) → LacksRoom labels (texts ++ text ∷ []) → Lacking labels texts text
-lacking_of labels texts text l = elim (order l.before l.text l.behind texts text [] (sym l.parts)) [
-  | earlier w e k ↦ earlier_one (record { before = l.before; text = l.text; behind = w; parts = e; full = l.full })
-  | later w e k ↦ absurd (some_there w l.text l.behind k)
+pub lacking_of : (labels texts : List (List ℕ)) (text : List ℕ) → ExceedsTable labels (texts ++ text ∷ []) → Lacking labels texts text
+lacking_of labels texts text l = elim (order l.before l.text l.following texts text [] (sym l.parts)) [
+  | earlier w e k ↦ earlier_one (record { before = l.before; text = l.text; following = w; parts = e; full = l.full })
+  | later w e k ↦ absurd (some_there w l.text l.following k)
   | at_once e same k ↦ this_one (subst (λ (x : List ℕ). IsFullFor (all_entered labels texts) x) same (subst (λ (us : List (List ℕ)). IsFullFor (all_entered labels us) l.text) e l.full))
 ]
 
-pub full_of : (labels : List (List ℕ)) (text : List ℕ) → LacksRoom labels (text ∷ []) → IsFullFor labels text
+pub full_of : (labels : List (List ℕ)) (text : List ℕ) → ExceedsTable labels (text ∷ []) → IsFullFor labels text
 full_of labels text l = elim (lacking_of labels [] text l) [ earlier_one k ↦ absurd (room_for_none _ [] refl k) | this_one f ↦ f ]
 
 -- the texts entered so far have these numbers
 pub record Entering (old now : List (List ℕ)) (texts : List (List ℕ)) (was numbers : List ℕ) : Type 0 where
   pub table : now ≡ all_entered old texts
-  pub room : LacksRoom old texts → ⊥
+  pub within_bound : ExceedsTable old texts → ⊥
   pub numbers_are : numbers ≡ was ++ map (λ text. or_0 (place_of now text)) texts
 
 pub entering_start : (old : List (List ℕ)) (was : List ℕ) → Entering old old [] was was
-entering_start old was = record { table = refl; room = λ l. room_for_none _ [] refl l; numbers_are = sym (append-nil was) }
+entering_start old was = record { table = refl; within_bound = λ l. room_for_none _ [] refl l; numbers_are = sym (append-nil was) }
 
 there_from : (labels : List (List ℕ)) (text : List ℕ) (o : Option ℕ) → place_of labels text ≡ o → is_some o ≡ true → (n : ℕ) × (place_of labels text ≡ Some n)
 there_from labels text (Some n) e h = (n, e)
@@ -95,15 +95,15 @@ entering_on old now texts was numbers e new text n f more is_more =
     let same : map (λ t. or_0 (place_of now t)) texts ≡ map (λ t. or_0 (place_of new t)) texts = same_places now (entered now text) (λ t n p. place_of-entered_kept now text t n p) texts there ∙ ap (λ (z : List (List ℕ)). map (λ t. or_0 (place_of z t)) texts) (sym f.table) in
     record {
       table = f.table ∙ ap (λ z. entered z text) e.table ∙ sym (all_entered-append old texts (text ∷ []));
-      room = λ l. elim (lacking_of old texts text l) [ earlier_one k ↦ e.room k | this_one g ↦ f.room (subst (λ (z : List (List ℕ)). IsFullFor z text) (sym e.table) g) ];
+      within_bound = λ l. elim (lacking_of old texts text l) [ earlier_one k ↦ e.within_bound k | this_one g ↦ f.within_bound (subst (λ (z : List (List ℕ)). IsFullFor z text) (sym e.table) g) ];
       numbers_are = is_more ∙ ap₂ (λ a b. a ++ b ∷ []) e.numbers_are (sym (ap or_0 f.place)) ∙ append_assoc was (map (λ t. or_0 (place_of now t)) texts) (or_0 (place_of new text) ∷ []) ∙ ap (λ u. was ++ (u ++ or_0 (place_of new text) ∷ [])) same ∙ ap (λ u. was ++ u) (sym (map_push (λ t. or_0 (place_of new t)) texts text));
     }
 
-pub lacks_append : (old texts : List (List ℕ)) (text : List ℕ) (more : List (List ℕ)) → IsFullFor (all_entered old texts) text → LacksRoom old (texts ++ text ∷ more)
-lacks_append old texts text more f = record { before = texts; text = text; behind = more; parts = refl; full = f }
+pub lacks_append : (old texts : List (List ℕ)) (text : List ℕ) (more : List (List ℕ)) → IsFullFor (all_entered old texts) text → ExceedsTable old (texts ++ text ∷ more)
+lacks_append old texts text more f = record { before = texts; text = text; following = more; parts = refl; full = f }
 
 -- the table is full for a text after others
-pub entering_full : (old now : List (List ℕ)) (texts : List (List ℕ)) (was numbers : List ℕ) → Entering old now texts was numbers → (text : List ℕ) (more : List (List ℕ)) → IsFullFor now text → LacksRoom old (texts ++ text ∷ more)
+pub entering_full : (old now : List (List ℕ)) (texts : List (List ℕ)) (was numbers : List ℕ) → Entering old now texts was numbers → (text : List ℕ) (more : List (List ℕ)) → IsFullFor now text → ExceedsTable old (texts ++ text ∷ more)
 entering_full old now texts was numbers e text more f = lacks_append old texts text more (subst (λ (z : List (List ℕ)). IsFullFor z text) e.table f)
 
 -- ---- tokens
@@ -119,20 +119,20 @@ label_new : (source : List ℕ) (w : ReaderState) (t : Token) (ahead : Terminal)
 label_new source w t ahead h = ap (λ o. list_labels source o ahead t) (no_range w.before h)
 
 -- what a label leaves, where it enters these
-label_stays : {reader : Reader} (w : ReaderState) (t : Token) (behind : ℕ) {old new : Tables} (texts : List (List ℕ)) → new_labels reader.source.now w (Label, t) (kind_of (seen_from reader behind)) ≡ texts → Has reader old w → new.names ≡ old.names → new.labels ≡ all_entered old.labels texts →
-    Stays reader new w (past reader w Label t behind)
-label_stays {reader} w t behind texts is h names labels = stays_by reader w Label t behind refl h refl (h.holds.names ∙ sym names) (ap (all_entered w.labels) is ∙ ap (λ (ls : List (List ℕ)). all_entered ls texts) h.holds.labels ∙ sym labels)
+label_stays : {reader : Reader} (w : ReaderState) (t : Token) (following : ℕ) {old new : Tables} (texts : List (List ℕ)) → new_labels reader.source.now w (Label, t) (kind_of (seen_from reader following)) ≡ texts → Has reader old w → new.names ≡ old.names → new.labels ≡ all_entered old.labels texts →
+    Stays reader new w (past reader w Label t following)
+label_stays {reader} w t following texts is h names labels = stays_by reader w Label t following refl h refl (h.holds.names ∙ sym names) (ap (all_entered w.labels) is ∙ ap (λ (ls : List (List ℕ)). all_entered ls texts) h.holds.labels ∙ sym labels)
 
 -- a label that enters these
-label_gives : {limit : ℕ} {reader : Reader} {at behind : ℕ} {t : Token} {w : ReaderState} {old : Tables} (texts : List (List ℕ)) → IsNext (is Label) reader at t behind → new_labels reader.source.now w (Label, t) (kind_of (seen_from reader behind)) ≡ texts → Holds reader old w → (LacksRoom old.labels texts → ⊥) →
-    Gives limit reader.source.now (token Label) w (seen_from reader at) (leaf (Label, t)) (past reader w Label t behind) (seen_from reader behind)
-label_gives {limit} {reader} {behind = behind} {t = t} {w = w} texts n is h room =
-    gives_one (exact {kind = Label} n) refl (free_sound limit reader.source.now w Label t (kind_of (seen_from reader behind)) refl (λ e d. cc) (λ l. room (subst (λ (ls : List (List ℕ)). LacksRoom ls texts) h.labels (subst (λ (x : List (List ℕ)). LacksRoom w.labels x) is l)))) refl
+label_gives : {limit : ℕ} {reader : Reader} {at following : ℕ} {t : Token} {w : ReaderState} {old : Tables} (texts : List (List ℕ)) → IsNext (is Label) reader at t following → new_labels reader.source.now w (Label, t) (kind_of (seen_from reader following)) ≡ texts → Holds reader old w → (ExceedsTable old.labels texts → ⊥) →
+    Gives limit reader.source.now (token Label) w (seen_from reader at) (leaf (Label, t)) (past reader w Label t following) (seen_from reader following)
+label_gives {limit} {reader} {following = following} {t = t} {w = w} texts n is h within_bound =
+    gives_one (exact {kind = Label} n) refl (free_sound limit reader.source.now w Label t (kind_of (seen_from reader following)) refl (λ e d. cc) (λ l. within_bound (subst (λ (ls : List (List ℕ)). ExceedsTable ls texts) h.labels (subst (λ (x : List (List ℕ)). ExceedsTable w.labels x) is l)))) refl
 
-label_refuses : {limit : ℕ} {reader : Reader} {at behind : ℕ} {t : Token} {w : ReaderState} {old : Tables} (texts : List (List ℕ)) {e : SourceFaultOrMemory} → IsNext (is Label) reader at t behind → new_labels reader.source.now w (Label, t) (kind_of (seen_from reader behind)) ≡ texts → Holds reader old w → LacksRoom old.labels texts →
+label_refuses : {limit : ℕ} {reader : Reader} {at following : ℕ} {t : Token} {w : ReaderState} {old : Tables} (texts : List (List ℕ)) {e : SourceFaultOrMemory} → IsNext (is Label) reader at t following → new_labels reader.source.now w (Label, t) (kind_of (seen_from reader following)) ≡ texts → Holds reader old w → ExceedsTable old.labels texts →
     e ≡ Fault (record { error = Syntax TooManyLabels; at = t.at }) → Refuses limit reader.source.now (token Label) w (seen_from reader at) e
 label_refuses {w = w} texts n is h lacks e =
-    refuses_token (takes_next (exact {kind = Label} n) refl) (many_labels refl (subst (λ (x : List (List ℕ)). LacksRoom w.labels x) (sym is) (subst (λ (ls : List (List ℕ)). LacksRoom ls texts) (sym h.labels) lacks))) e
+    refuses_token (takes_next (exact {kind = Label} n) refl) (many_labels refl (subst (λ (x : List (List ℕ)). ExceedsTable w.labels x) (sym is) (subst (λ (ls : List (List ℕ)). ExceedsTable ls texts) (sym h.labels) lacks))) e
 
 -- ---- a label, or a range
 
@@ -144,7 +144,7 @@ module _ {reader : Reader} {at : ℕ} {old : Tables} {w : ReaderState} {first : 
   pub label_got : {limit : ℕ} (was now : Position) (new : Tables) (number : ℕ) (labels : List (List ℕ)) → leads productions look_ahead (token Star) (seen_from reader next) ≡ false → (text : List ℕ) → text ≡ text_of_label reader.source.now first → IsEntered old.labels labels text number → new.names ≡ old.names → new.labels ≡ labels →
       now.labels.items ≡ was.labels.items ++ number ∷ [] → now.bad_range ≡ was.bad_range → IsGot limit (λ sense tree x. IsAdded reader.source.now sense tree was x) (Stays reader new w) (the Range) reader at new w now next
   label_got was now new number labels unled text spelled given names same items bad = let e = subst (λ (x : List ℕ). IsEntered old.labels labels x number) spelled given in got_by
-      (gives_the Range (gives_both (label_gives (text_of_label reader.source.now first ∷ []) n (alone_new unled) h.holds (λ l. e.room (full_of old.labels (text_of_label reader.source.now first) l))) (gives_none (unled_next (is Star) (token Label) (seen_from reader next) unled))))
+      (gives_the Range (gives_both (label_gives (text_of_label reader.source.now first ∷ []) n (alone_new unled) h.holds (λ l. e.within_bound (full_of old.labels (text_of_label reader.source.now first) l))) (gives_none (unled_next (is Star) (token Label) (seen_from reader next) unled))))
       (label_stays w first next (text_of_label reader.source.now first ∷ []) (alone_new unled) h names (same ∙ e.table))
       (λ sense m. (items ∙ ap (λ k. was.labels.items ++ k ∷ []) (sym (ap or_0 (m.labels (text_of_label reader.source.now first) number (ap (λ (z : List (List ℕ)). place_of z (text_of_label reader.source.now first)) same ∙ e.place)))), bad ∙ sym (or-false was.bad_range)))
       (let g = n.further in omega arith)
@@ -172,10 +172,10 @@ module _ {reader : Reader} {at : ℕ} {old : Tables} {w : ReaderState} {first : 
     pub range_unfinished : {limit : ℕ} {e : SourceFaultOrMemory} → IsLacking (is Label) reader middle e → Refuses limit reader.source.now (the Range) w (seen_from reader at) e
     range_unfinished l = refuses_the Range (refuses_second begun_gives (refuses_some (leads_next (token Label) m) (refuses_second (gives_exact {kind = Star} m refl) (refuses_lacking l))))
 
-    module _ {last : Token} {behind : ℕ} (k : IsNext (is Label) reader middle last behind) where
-      pub range_got : {limit : ℕ} (was now : Position) (new : Tables) → IsEnteredRange reader.source.now old new was now first last → new.names ≡ old.names → IsGot limit (λ sense tree x. IsAdded reader.source.now sense tree was x) (Stays reader new w) (the Range) reader at new w now behind
-      range_got was now new e names = got_by (gives_the Range (gives_both begun_gives (gives_some (leads_next (token Label) m) (gives_both (gives_exact {kind = Star} m refl) (label_gives texts k refl star_stays.has.holds e.room)))))
-          (stays_then star_stays (label_stays (past reader (past reader w Label first next) Star star middle) last behind texts refl star_stays.has names e.table))
+    module _ {last : Token} {following : ℕ} (k : IsNext (is Label) reader middle last following) where
+      pub range_got : {limit : ℕ} (was now : Position) (new : Tables) → IsEnteredRange reader.source.now old new was now first last → new.names ≡ old.names → IsGot limit (λ sense tree x. IsAdded reader.source.now sense tree was x) (Stays reader new w) (the Range) reader at new w now following
+      range_got was now new e names = got_by (gives_the Range (gives_both begun_gives (gives_some (leads_next (token Label) m) (gives_both (gives_exact {kind = Star} m refl) (label_gives texts k refl star_stays.has.holds e.within_bound)))))
+          (stays_then star_stays (label_stays (past reader (past reader w Label first next) Star star middle) last following texts refl star_stays.has names e.table))
           (λ sense s. (e.labels ∙ ap (λ u. was.labels.items ++ u) (places sense s), e.bad_range)) (let a = n.further in let b = m.further in let c = k.further in omega arith)
         where
           from : List ℕ
@@ -223,7 +223,7 @@ members_entered source old new was now first last all i e done texts bad range =
     let whole : Entering old.labels new.labels (range_texts source (text_of_label source first) (text_of_label source last)) was.labels.items now.labels.items = subst (λ (z : List (List ℕ)). Entering old.labels new.labels z was.labels.items now.labels.items) (take_all i all done ∙ sym texts) e in
     record {
       table = whole.table;
-      room = whole.room;
+      within_bound = whole.within_bound;
       labels = whole.numbers_are;
       are_there = subst (λ (z : List (List ℕ)). AreThere z (range_texts source (text_of_label source first) (text_of_label source last))) (sym whole.table) (entered_there old.labels (range_texts source (text_of_label source first) (text_of_label source last)));
       bad_range = bad ∙ sym (or-false was.bad_range) ∙ ap (λ b. was.bad_range || not b) (sym range);
@@ -235,7 +235,7 @@ no_members source tables was now first last lacking items bad =
     let texts : range_texts source (text_of_label source first) (text_of_label source last) ≡ [] = ap (λ c. cond c (members (text_of_label source first) (text_of_label source last)) []) lacking in
     record {
       table = ap (all_entered tables.labels) (sym texts);
-      room = room_for_none tables.labels (range_texts source (text_of_label source first) (text_of_label source last)) texts;
+      within_bound = room_for_none tables.labels (range_texts source (text_of_label source first) (text_of_label source last)) texts;
       labels = items ∙ sym (append-nil was.labels.items) ∙ ap (λ us. was.labels.items ++ map (λ text. or_0 (place_of tables.labels text)) us) (sym texts);
       are_there = subst (λ (us : List (List ℕ)). AreThere tables.labels us) (sym texts) tt;
       bad_range = bad ∙ sym (ap (λ b. was.bad_range || not b) lacking ∙ or-true was.bad_range);
@@ -246,10 +246,10 @@ pub member_refused : (source : List ℕ) (old : Tables) (first last : Token) (no
     (e : SourceFaultOrMemory) → IsNotEntered now text last.at e → IsNotEnteredRange source old first last e
 member_refused source old first last now all i was numbers g within texts text is e r = record { why = elim r.why [ inl m ↦ inl m | inr f ↦ inr (f.0, lacks f.1) ] }
   where
-    lacks : IsFullFor now text → LacksRoom old.labels (range_texts source (text_of_label source first) (text_of_label source last))
+    lacks : IsFullFor now text → ExceedsTable old.labels (range_texts source (text_of_label source first) (text_of_label source last))
     lacks f =
         let p = parted_at all i [] within in
-        subst (λ (z : List (List ℕ)). LacksRoom old.labels z) (sym (texts ∙ p.1 ∙ ap (λ t. take i all ++ t ∷ p.0) (sym is))) (entering_full old.labels now (take i all) was numbers g text p.0 f)
+        subst (λ (z : List (List ℕ)). ExceedsTable old.labels z) (sym (texts ∙ p.1 ∙ ap (λ t. take i all ++ t ∷ p.0) (sym is))) (entering_full old.labels now (take i all) was numbers g text p.0 f)
 
 -- the error of a range says that it is none
 pub range_error : (range : Bool) (e : SetFaultOrMemory) (fault : SetFault) → IsRangeError range e → e ≡ set_fault.Fault fault → range ≡ false

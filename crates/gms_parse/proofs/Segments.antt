@@ -107,9 +107,9 @@ SegmentMeans {F} value source context old xs sense =
 -- the statements of a segment read so far
 pub record Segmenting {F : Type 0} (limit : ℕ) (value : F → Number) (reader : Reader) (start : ℕ) (w : ReaderState) (old : List (Stmt F)) (new : Tables) (xs : List (Stmt F)) (at : ℕ) : Type 0 where
   pub context : Derivation → Derivation
-  pub behind : ReaderState
-  pub within : Within limit reader.source.now (the Segment) w (seen_from reader start) (many (the KeywordStatement)) behind (seen_from reader at) context
-  pub holds : Holds reader new behind
+  pub following : ReaderState
+  pub within : Within limit reader.source.now (the Segment) w (seen_from reader start) (many (the KeywordStatement)) following (seen_from reader at) context
+  pub holds : Holds reader new following
   pub means : (sense : Sense) → IsSense new sense → SegmentMeans value reader.source.now context old xs sense
   pub further : start ≤ at
 
@@ -117,7 +117,7 @@ module _ {F : Type 0} (value : F → Number) {limit : ℕ} {reader : Reader} {st
   pub segment_start : {new : Tables} (old : Vec (Stmt F) Global) {now : Vec (Stmt F) Global} {at : ℕ} → IsGot limit (IsNamedFirst value reader.source.now old) (Holds reader new) (opt (the NamedStatement)) reader start new w now at → Segmenting limit value reader start w old.items new now.items at
   segment_start old got = record {
     context = λ b. node (pair got.tree b);
-    behind = got.behind;
+    following = got.following;
     within = within_then (within_the Segment) (within_second got.gives);
     holds = got.leaves;
     means = λ sense s. let m = got.means sense s in (m.0, m.1, λ b. sym (m.2 (keyword_statements reader.source.now sense.names sense.labels b)));
@@ -129,15 +129,15 @@ module _ {F : Type 0} (value : F → Number) {limit : ℕ} {reader : Reader} {st
       led_statement : leads productions look_ahead (the KeywordStatement) (seen_from reader at) ≡ true
       led_statement = leads_keyword (seen_from reader at) ∙ led
 
-      pub segment_refuses : {e : SourceFaultOrMemory} → Refuses limit reader.source.now (the KeywordStatement) l.behind (seen_from reader at) e → Refuses limit reader.source.now (the Segment) w (seen_from reader start) e
+      pub segment_refuses : {e : SourceFaultOrMemory} → Refuses limit reader.source.now (the KeywordStatement) l.following (seen_from reader at) e → Refuses limit reader.source.now (the Segment) w (seen_from reader start) e
       segment_refuses r = l.within.refuses _ (refuses_again led_statement r)
 
       -- one more
-      pub segment_on : {newer : Tables} {act : ActNode F} {after : ℕ} → IsGot limit (IsAct value reader.source.now keyword_act) (Holds reader newer) (the KeywordStatement) reader at newer l.behind act after →
+      pub segment_on : {newer : Tables} {act : ActNode F} {after : ℕ} → IsGot limit (IsAct value reader.source.now keyword_act) (Holds reader newer) (the KeywordStatement) reader at newer l.following act after →
           (x : Stmt F) → x.at ≡ next_place reader.source.now (seen_from reader at) → act_view value x.act ≡ act_view value act → (now : List (Stmt F)) → now ≡ xs ++ x ∷ [] → Segmenting limit value reader start w old newer now after
       segment_on got x placed same now one_more = record {
         context = λ b. l.context (more got.tree b);
-        behind = got.behind;
+        following = got.following;
         within = within_then l.within (within_again led_statement got.gives);
         holds = got.leaves;
         means = λ sense s.

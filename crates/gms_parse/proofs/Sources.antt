@@ -23,7 +23,7 @@ use Rattle.gms_parse.specs.declared.fault.SourceFaultOrMemory.{SourceFaultOrMemo
 use Rattle.gms_parse.specs.declared.fault.SourceFaultOrMemory.TheVariants.{Fault, Memory}
 use Rattle.gms_parse.specs.declared.reader.Reader.{Reader}
 use Rattle.gms_parse.specs.declared.reader.Tables.{Tables}
-use Rattle.gms_parse.specs.Outcomes.{HaveItems, IsProgramOf, IsNoProgram, WantsMore, IsSourceRefusal}
+use Rattle.gms_parse.specs.Outcomes.{HaveItems, IsProgramOf, IsNoProgram, RequiresMore, IsSourceRefusal}
 use Rattle.gms_parse.specs.ReadStates.{KindedToken, ReaderState, start, reader_after_all, AreTokensFaultless}
 use Rattle.gms_parse.specs.InnerReadings.{IsStuck, IsWrong, IsOver, IsWhole, RefusesWhole, IsReady, seen_from}
 use Rattle.gms_parse.specs.InnerMeanings.{AreStatements}
@@ -36,15 +36,15 @@ use Rattle.gms_parse.proofs.ProgramThere.{tables_have}
 module _ {limit : ℕ} {source : List ℕ} {ts : List KindedToken} {fault : SourceFault} where
   over_none : IsOver limit source ts fault → IsNoProgram limit source ts fault
   over_none o = record {
-    front = yield o.tree;
+    prefix = yield o.tree;
     rest = o.rest;
     stops = gams_read_stops no_token Program ts o.rest o.tree o.gives.reads;
-    cause = inr (record { wants = λ e d. o.other e; are_sound = o.gives.are_sound; is = o.is });
+    cause = inr (record { needs = λ e d. o.other e; are_sound = o.gives.are_sound; is = o.is });
   }
 
   none_of : (IsStuck limit source (the Program) start ts fault ⊎ IsWrong limit source (the Program) start ts fault) ⊎ IsOver limit source ts fault → IsNoProgram limit source ts fault
-  none_of (inl (inl s)) = stuck_refused no_token WantsMore s (λ h e. h)
-  none_of (inl (inr s)) = wrong_refused no_token WantsMore s
+  none_of (inl (inl s)) = stuck_refused no_token RequiresMore s (λ h e. h)
+  none_of (inl (inr s)) = wrong_refused no_token RequiresMore s
   none_of (inr o) = over_none o
 
 -- what is refused is no program
@@ -72,16 +72,16 @@ program_of value {limit} {reader} {new} {statements} ready whole =
     let got = whole.got in
     let read = sound productions look_ahead got.gives.reads in
     let ended = has_end reader.source.now reader.tokens.now ready.tokens in
-    let behind = got.gives.leaves ∙ ap (reader_after_all reader.source.now start (yield got.tree)) whole.at_end in
+    let following = got.gives.leaves ∙ ap (reader_after_all reader.source.now start (yield got.tree)) whole.at_end in
     let are_sound = subst (λ (k : Terminal). AreTokensFaultless limit reader.source.now start (yield got.tree) k) whole.at_end got.gives.are_sound in
-    let labels_are : new.labels ≡ (reader_after_all reader.source.now start (yield got.tree) End).labels = sym got.leaves.labels ∙ ap (λ (w : ReaderState). w.labels) behind in
+    let labels_are : new.labels ≡ (reader_after_all reader.source.now start (yield got.tree) End).labels = sym got.leaves.labels ∙ ap (λ (w : ReaderState). w.labels) following in
     record {
       tree = got.tree;
       end = ended.end;
       tokens_are = read.1 ∙ ap (λ w. yield got.tree ++ w) (end_alone ended got.tree (seen_from reader whole.next) read.0 read.1 whole.at_end);
       is_tree = read.0;
       are_sound = are_sound;
-      names_are = sym got.leaves.names ∙ ap (λ (w : ReaderState). w.names) behind;
+      names_are = sym got.leaves.names ∙ ap (λ (w : ReaderState). w.names) following;
       labels_are = labels_are;
       tables = subst (λ (ls : List (List ℕ)). HaveItems limit reader.source.now ls (yield got.tree)) (sym labels_are) (tables_have limit reader.source.now (yield got.tree) are_sound);
       statements_are = got.means (so_far new) (is_so_far new);

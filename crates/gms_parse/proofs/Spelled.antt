@@ -23,7 +23,7 @@ use Rattle.gms_expressions.proofs.TokenKinds.{same_number}
 use Rattle.gms_expressions.proofs.Spelled.{is_named, named_spelled}
 
 -- a name is of ASCII and has at most 63 bytes
-pub name_spelled : {reader : Reader} {at behind : ℕ} {t : Token} → IsNext is_named reader at t behind → IsAscii (token_text reader.source.now t) × (length (token_text reader.source.now t) ≤ 63)
+pub name_spelled : {reader : Reader} {at following : ℕ} {t : Token} → IsNext is_named reader at t following → IsAscii (token_text reader.source.now t) × (length (token_text reader.source.now t) ≤ 63)
 name_spelled {reader = reader} {t = t} n = named_spelled t.kind (token_text reader.source.now t) (ap is_named (sym n.kind_is) ∙ n.passes) n.placed.spelled
 
 -- the kinds of the grammar that tokens of one kind alone have
@@ -91,6 +91,6 @@ only_kind _ text h = refl
 pub lone_as : (x : Terminal) → is_lone x ≡ true → (k : Kind) (text : List ℕ) → terminal_of k text ≡ x → k ≡ lone_kind x
 lone_as x lone k text e = only_kind k text (ap is_lone e ∙ lone) ∙ ap lone_kind e
 
-pub label_token : {reader : Reader} {at behind : ℕ} {t : Token} → IsNext (is Label) reader at t behind → IsLabelToken reader.source.now t
+pub label_token : {reader : Reader} {at following : ℕ} {t : Token} → IsNext (is Label) reader at t following → IsLabelToken reader.source.now t
 label_token {reader = reader} {t = t} n =
     record { placed = n.placed; is = lone_as Label refl t.kind (token_text reader.source.now t) (sym n.kind_is ∙ sym (same_number Label n.kind (eqb-true (terminal_number Label) (terminal_number n.kind) n.passes))) }

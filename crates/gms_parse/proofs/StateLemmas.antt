@@ -15,7 +15,7 @@ use Rattle.gms_expressions.proofs.ReadStates.{kept_by}
 use Rattle.gms_parse.specs.declared.fault.SourceFault.{SourceFault}
 use Rattle.gms_table.specs.WordLabels.{all_entered}
 use Rattle.gms_table.proofs.LabelLemmas.{Stay-all_entered}
-use Rattle.gms_parse.specs.ReadStates.{KindedToken, ReaderState, is_name, last_kind, ends_statement, LacksRoom, new_labels, reader_after, reader_after_all, IsFaulty, deep, out_of_range, many_names, many_labels, in_table, without_lines}
+use Rattle.gms_parse.specs.ReadStates.{KindedToken, ReaderState, is_name, last_kind, ends_statement, ExceedsTable, new_labels, reader_after, reader_after_all, IsFaulty, deep, out_of_range, many_names, many_labels, in_table, without_lines}
 use Rattle.gms_parse.proofs.TokenKinds.{begins, is_quiet}
 
 -- texts that are entered keep the places of others
@@ -70,22 +70,22 @@ pub begun_after : (source : List ℕ) (w : ReaderState) (token : KindedToken) (a
 begun_after source w token ahead h = (ap (λ c. cond c token.0 w.keyword) h, ap (λ c. cond c w.open_count w.level) h)
 
 -- no texts always fit into the table
-pub room_for_none : (labels texts : List (List ℕ)) → texts ≡ [] → LacksRoom labels texts → ⊥
-room_for_none labels texts e l = some_there l.before l.text l.behind (sym e ∙ l.parts)
+pub room_for_none : (labels texts : List (List ℕ)) → texts ≡ [] → ExceedsTable labels texts → ⊥
+room_for_none labels texts e l = some_there l.before l.text l.following (sym e ∙ l.parts)
 
 -- a token of the kind is no parenthesis, no number and no line of a table
 abbrev pub is_free : Terminal → Bool
 is_free kind = not (is_terminal_among (LeftParen ∷ RightParen ∷ Number ∷ TableLine ∷ []) kind)
 
 -- it has no fault, if the tables have space for the name and the labels that it enters
-pub free_sound : (limit : ℕ) (source : List ℕ) (w : ReaderState) (kind : Terminal) (token : Token) (ahead : Terminal) → is_free kind ≡ true → (is_name w kind ≡ true → IsFullFor w.names (token_text source token) → ⊥) → (LacksRoom w.labels (new_labels source w (kind, token) ahead) → ⊥) →
+pub free_sound : (limit : ℕ) (source : List ℕ) (w : ReaderState) (kind : Terminal) (token : Token) (ahead : Terminal) → is_free kind ≡ true → (is_name w kind ≡ true → IsFullFor w.names (token_text source token) → ⊥) → (ExceedsTable w.labels (new_labels source w (kind, token) ahead) → ⊥) →
     (fault : SourceFault) → IsFaulty limit source w (kind, token) ahead fault → ⊥
-free_sound limit source w kind token ahead h named room fault (deep e d) = let f : is_free kind ≡ false = ap is_free e in cc
-free_sound limit source w kind token ahead h named room fault (out_of_range e d) = let f : is_free kind ≡ false = ap is_free e in cc
-free_sound limit source w kind token ahead h named room fault (many_names e d) = named e d
-free_sound limit source w kind token ahead h named room fault (many_labels e d) = room d
-free_sound limit source w kind token ahead h named room fault (in_table e d f) = let f : is_free kind ≡ false = ap is_free e in cc
-free_sound limit source w kind token ahead h named room fault (without_lines e d f) = let f : is_free kind ≡ false = ap is_free e in cc
+free_sound limit source w kind token ahead h named within_bound fault (deep e d) = let f : is_free kind ≡ false = ap is_free e in cc
+free_sound limit source w kind token ahead h named within_bound fault (out_of_range e d) = let f : is_free kind ≡ false = ap is_free e in cc
+free_sound limit source w kind token ahead h named within_bound fault (many_names e d) = named e d
+free_sound limit source w kind token ahead h named within_bound fault (many_labels e d) = within_bound d
+free_sound limit source w kind token ahead h named within_bound fault (in_table e d f) = let f : is_free kind ≡ false = ap is_free e in cc
+free_sound limit source w kind token ahead h named within_bound fault (without_lines e d f) = let f : is_free kind ≡ false = ap is_free e in cc
 
 -- a quiet token has no fault
 pub quiet_sound : (limit : ℕ) (source : List ℕ) (w : ReaderState) (kind : Terminal) (token : Token) (ahead : Terminal) → is_quiet kind ≡ true → (fault : SourceFault) → IsFaulty limit source w (kind, token) ahead fault → ⊥

@@ -48,4 +48,4 @@ module _ {limit : ℕ} {source : List ℕ} where
 -- place after it.
 pub got_by : {T : Type 0} {limit : ℕ} {Means : Sense → Derivation → T → Type 0} {Leaves : ReaderState → Type 0} {part : GamsPart} {reader : Reader} {at : ℕ} {new : Tables} {w v : ReaderState} {x : T} {next : ℕ} {tree : Derivation} →
     Gives limit reader.source.now part w (seen_from reader at) tree v (seen_from reader next) → Leaves v → ((sense : Sense) → IsSense new sense → Means sense tree x) → at ≤ next → IsGot limit Means Leaves part reader at new w x next
-got_by {v = v} {tree = tree} gives leaves means further = record { tree = tree; behind = v; gives = gives; leaves = leaves; means = means; further = further }
+got_by {v = v} {tree = tree} gives leaves means further = record { tree = tree; following = v; gives = gives; leaves = leaves; means = means; further = further }

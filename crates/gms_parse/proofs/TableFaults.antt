@@ -27,21 +27,21 @@ error_is Labels = refl
 
 module _ (limit : ℕ) (labels : List (List ℕ)) where
   -- a sound part has no error
-  pub stands_not : (done before : List TablePart) (part : TablePart) (behind : List TablePart) (error : TableError) → ArePartsFaultless limit labels done (before ++ (part ∷ behind)) → IsPartFault limit labels (done ++ before) part error → ⊥
-  stands_not done [] part behind error sound h = sound.0 error (subst (λ (ps : List TablePart). IsPartFault limit labels ps part error) (append-nil done) h)
-  stands_not done (p ∷ before) part behind error sound h =
-      stands_not (done ++ p ∷ []) before part behind error sound.1 (subst (λ (ps : List TablePart). IsPartFault limit labels ps part error) (sym (append_assoc done (p ∷ []) before)) h)
+  pub stands_not : (done before : List TablePart) (part : TablePart) (following : List TablePart) (error : TableError) → ArePartsFaultless limit labels done (before ++ (part ∷ following)) → IsPartFault limit labels (done ++ before) part error → ⊥
+  stands_not done [] part following error sound h = sound.0 error (subst (λ (ps : List TablePart). IsPartFault limit labels ps part error) (append-nil done) h)
+  stands_not done (p ∷ before) part following error sound h =
+      stands_not (done ++ p ∷ []) before part following error sound.1 (subst (λ (ps : List TablePart). IsPartFault limit labels ps part error) (sym (append_assoc done (p ∷ []) before)) h)
 
   -- two first faults of a table are one
   one_first : (parts : List TablePart) (one other : TableFault) → IsFirstPartFault limit labels parts one → IsFirstPartFault limit labels parts other → one ≡ other
-  one_first parts one other f g = by (order f.before f.part f.behind g.before g.part g.behind (sym f.parts_are ∙ g.parts_are))
+  one_first parts one other f g = by (order f.before f.part f.following g.before g.part g.following (sym f.parts_are ∙ g.parts_are))
     where
-      by : Order f.before f.part f.behind g.before g.part g.behind → one ≡ other
+      by : Order f.before f.part f.following g.before g.part g.following → one ≡ other
       by (earlier w e k) = absurd (stands_not [] f.before f.part w one.error (subst (λ (ps : List TablePart). ArePartsFaultless limit labels [] ps) e g.sound) f.stands)
       by (later w e k) = absurd (stands_not [] g.before g.part w other.error (subst (λ (ps : List TablePart). ArePartsFaultless limit labels [] ps) e f.sound) g.stands)
-      by (at_once front part rest) =
-          let there : IsPartFault limit labels f.before f.part other.error = subst (λ (ps : List TablePart). IsPartFault limit labels ps f.part other.error) (sym front) (subst (λ (p : TablePart). IsPartFault limit labels g.before p other.error) (sym part) g.stands) in
-          let here : IsPartFault limit labels g.before g.part one.error = subst (λ (ps : List TablePart). IsPartFault limit labels ps g.part one.error) front (subst (λ (p : TablePart). IsPartFault limit labels f.before p one.error) part f.stands) in
+      by (at_once prefix part rest) =
+          let there : IsPartFault limit labels f.before f.part other.error = subst (λ (ps : List TablePart). IsPartFault limit labels ps f.part other.error) (sym prefix) (subst (λ (p : TablePart). IsPartFault limit labels g.before p other.error) (sym part) g.stands) in
+          let here : IsPartFault limit labels g.before g.part one.error = subst (λ (ps : List TablePart). IsPartFault limit labels ps g.part one.error) prefix (subst (λ (p : TablePart). IsPartFault limit labels f.before p one.error) part f.stands) in
           let less : table_error_code one.error ≤ table_error_code other.error = f.least other.error there in
           let more : table_error_code other.error ≤ table_error_code one.error = g.least one.error here in
           let codes : table_error_code one.error ≡ table_error_code other.error = omega (arith, less, more) in
@@ -54,8 +54,8 @@ told_of fault = record { error = error_of_table fault.error; at = fault.at }
 -- two faults of the lines of a table are one
 pub one_line_fault : (limit : ℕ) (source : List ℕ) (name : Place) (labels : List (List ℕ)) (lines : List KindedToken) (one other : SourceFault) → IsTableLineFault limit source name labels lines one → IsTableLineFault limit source name labels lines other → one ≡ other
 one_line_fault limit source name labels lines one other (inl a) (inl b) = a.1 ∙ sym b.1
-one_line_fault limit source name labels lines one other (inl a) (inr b) = absurd (some_there b.1.before b.1.part b.1.behind (sym a.0 ∙ b.1.parts_are))
-one_line_fault limit source name labels lines one other (inr a) (inl b) = absurd (some_there a.1.before a.1.part a.1.behind (sym b.0 ∙ a.1.parts_are))
+one_line_fault limit source name labels lines one other (inl a) (inr b) = absurd (some_there b.1.before b.1.part b.1.following (sym a.0 ∙ b.1.parts_are))
+one_line_fault limit source name labels lines one other (inr a) (inl b) = absurd (some_there a.1.before a.1.part a.1.following (sym b.0 ∙ a.1.parts_are))
 one_line_fault limit source name labels lines one other (inr a) (inr b) =
     let same = one_first limit labels (parts_of_tokens source lines) a.0 b.0 a.1 b.1 in
     a.2 ∙ ap told_of same ∙ sym b.2

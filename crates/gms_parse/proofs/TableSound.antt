@@ -21,18 +21,18 @@ use Rattle.gms_parse.proofs.Decided.{value_told}
 -- ---- a table without a fault is sound
 
 module _ (limit : ℕ) (labels : List (List ℕ)) (parts : List TablePart) (none : (fault : TableFault) → IsFirstPartFault limit labels parts fault → ⊥) where
-  standing : (before : List TablePart) (part : TablePart) (left : List TablePart) → parts ≡ before ++ (part ∷ left) → ArePartsFaultless limit labels [] before → (n : ℕ) (error : TableError) → table_error_code error < n → IsPartFault limit labels before part error → ⊥
-  standing before part left e sound zero error l h = omega (arith, l)
-  standing before part left e sound (suc n) error l h = none (record { error = error; at = place_of_part part }) (record {
+  valid : (before : List TablePart) (part : TablePart) (left : List TablePart) → parts ≡ before ++ (part ∷ left) → ArePartsFaultless limit labels [] before → (n : ℕ) (error : TableError) → table_error_code error < n → IsPartFault limit labels before part error → ⊥
+  valid before part left e sound zero error l h = omega (arith, l)
+  valid before part left e sound (suc n) error l h = none (record { error = error; at = place_of_part part }) (record {
     before = before;
     part = part;
-    behind = left;
+    following = left;
     parts_are = e;
     sound = sound;
     at = refl;
     stands = h;
     least = λ other k. elim (cases_lt (table_error_code other) (table_error_code error)) [
-      | inl less ↦ absurd (standing before part left e sound n other (omega (arith, l, less)) k)
+      | inl less ↦ absurd (valid before part left e sound n other (omega (arith, l, less)) k)
       | inr more ↦ more
     ];
   })
@@ -40,7 +40,7 @@ module _ (limit : ℕ) (labels : List (List ℕ)) (parts : List TablePart) (none
   sound_from : (before left : List TablePart) → parts ≡ before ++ left → ArePartsFaultless limit labels [] before → ArePartsFaultless limit labels before left
   sound_from before [] e sound = tt
   sound_from before (part ∷ left) e sound =
-      let here : (error : TableError) → IsPartFault limit labels before part error → ⊥ = λ error h. standing before part left e sound (suc (table_error_code error)) error (omega arith) h in
+      let here : (error : TableError) → IsPartFault limit labels before part error → ⊥ = λ error h. valid before part left e sound (suc (table_error_code error)) error (omega arith) h in
       (here, sound_from (before ++ part ∷ []) left (e ∙ sym (append_assoc before (part ∷ []) left)) (AreSound-push limit labels [] before part sound here))
 
   pub sound_table : ArePartsFaultless limit labels [] parts

@@ -66,7 +66,7 @@ use Rattle.gms_parse.proofs.Views.{view-Declare}
 -- ---- how lines are spelled
 
 -- a line is of ASCII, and short
-pub line_spelled : {reader : Reader} {at behind : ℕ} {t : Token} → IsNext (is TableLine) reader at t behind → IsAscii (token_text reader.source.now t) × (length (token_text reader.source.now t) ≤ 32768)
+pub line_spelled : {reader : Reader} {at following : ℕ} {t : Token} → IsNext (is TableLine) reader at t following → IsAscii (token_text reader.source.now t) × (length (token_text reader.source.now t) ≤ 32768)
 line_spelled {reader = reader} {t = t} n =
     let text = token_text reader.source.now t in
     let k = lone_as TableLine refl t.kind text (sym n.kind_is ∙ sym (same_kind TableLine n.kind n.passes)) in
@@ -92,12 +92,12 @@ lines_start reader at lines e = record {
   further = omega arith;
 }
 
-pub lines_more : {reader : Reader} {at next behind : ℕ} {t : Token} {lines : List Line} → SomeLines reader at lines next → IsNext (is TableLine) reader next t behind → (line : Line) → line.line ≡ t.at.line → string_bytes line.text ≡ token_text reader.source.now t → string_len line.text ≤ 32768 →
-    (now : List Line) → now ≡ lines ++ line ∷ [] → SomeLines reader at now behind
-lines_more {reader} {at} {next} {behind} {t} {lines} s n line number bytes few now is = record {
+pub lines_more : {reader : Reader} {at next following : ℕ} {t : Token} {lines : List Line} → SomeLines reader at lines next → IsNext (is TableLine) reader next t following → (line : Line) → line.line ≡ t.at.line → string_bytes line.text ≡ token_text reader.source.now t → string_len line.text ≤ 32768 →
+    (now : List Line) → now ≡ lines ++ line ∷ [] → SomeLines reader at now following
+lines_more {reader} {at} {next} {following} {t} {lines} s n line number bytes few now is = record {
   seen_lines = s.seen_lines ++ (TableLine, t) ∷ [];
   are_lines = All-append (λ line. line.0 ≡ TableLine) s.seen_lines ((TableLine, t) ∷ []) s.are_lines (All-cons (λ line. line.0 ≡ TableLine) (TableLine, t) [] refl (All-nil (λ line. line.0 ≡ TableLine)));
-  is = s.is ∙ ap (λ us. s.seen_lines ++ us) (exact {kind = TableLine} n) ∙ sym (append_assoc s.seen_lines ((TableLine, t) ∷ []) (seen_from reader behind));
+  is = s.is ∙ ap (λ us. s.seen_lines ++ us) (exact {kind = TableLine} n) ∙ sym (append_assoc s.seen_lines ((TableLine, t) ∷ []) (seen_from reader following));
   texts =
       let shown : Line → ℕ × List ℕ = (λ line. (line.line, string_bytes line.text)) in
       let seen : KindedToken → ℕ × List ℕ = (λ line. (line.1.at.line, token_text reader.source.now line.1)) in
@@ -151,10 +151,10 @@ run_other x before h = ap (λ b. take (cond b (1 + prefix_len (λ (token : Kinde
 record AtLines (w : ReaderState) (run : List KindedToken) (at : Place) : Type 0 where
   run_is : run_of w.before ≡ run
   named : table_name w.before ≡ at
-  behind : is Table (last_kind w.before) ≡ false
+  following : is Table (last_kind w.before) ≡ false
 
 lines_on : (source : List ℕ) {w : ReaderState} (t : Token) {run : List KindedToken} {at : Place} → AtLines w run at → AtLines (reader_after source w (lined t) TableLine) (lined t ∷ run) at
-lines_on source {w} t a = record { run_is = run_one (lined t) w.before refl ∙ ap (λ us. lined t ∷ us) a.run_is; named = name_pushed (lined t) w.before a.behind ∙ a.named; behind = refl }
+lines_on source {w} t a = record { run_is = run_one (lined t) w.before refl ∙ ap (λ us. lined t ∷ us) a.run_is; named = name_pushed (lined t) w.before a.following ∙ a.named; following = refl }
 
 -- a line has no fault but the last one that of the table
 line_sound : (limit : ℕ) (source : List ℕ) (w : ReaderState) (t : Token) (ahead : Terminal) → (is TableLine ahead ≡ false → (fault : SourceFault) → IsTableLineFault limit source (table_name w.before) w.labels (lines_with source w.before (lined t)) fault → ⊥) → (fault : SourceFault) → IsFaulty limit source w (lined t) ahead fault → ⊥
@@ -182,16 +182,16 @@ told_at limit source labels fault {p} {q} {ls} e k f = subst (λ (us : List Kind
 
 -- what lines leave
 record LinesGive (limit : ℕ) (source : List ℕ) (w : ReaderState) (ts : List Token) (rest lines : List KindedToken) : Type 0 where
-  behind : ReaderState
-  gives : Gives limit source (many (token TableLine)) w (map lined ts ++ rest) (lines_tree ts) behind rest
-  open_count : behind.open_count ≡ w.open_count
-  names : behind.names ≡ w.names
-  labels : behind.labels ≡ all_entered w.labels (labels_of_lines source lines)
+  following : ReaderState
+  gives : Gives limit source (many (token TableLine)) w (map lined ts ++ rest) (lines_tree ts) following rest
+  open_count : following.open_count ≡ w.open_count
+  names : following.names ≡ w.names
+  labels : following.labels ≡ all_entered w.labels (labels_of_lines source lines)
 
 module _ (limit : ℕ) (source : List ℕ) (rest : List KindedToken) (unled : leads productions look_ahead (token TableLine) rest ≡ false) where
   lines_give : (t : Token) (ts : List Token) (w : ReaderState) (run : List KindedToken) (at : Place) → AtLines w run at → ((fault : SourceFault) → IsTableLineFault limit source at w.labels (reverse run ++ map lined (t ∷ ts)) fault → ⊥) → LinesGive limit source w (t ∷ ts) rest (reverse run ++ map lined (t ∷ ts))
   lines_give t [] w run at a none_there = record {
-    behind = reader_after source w (lined t) (kind_of rest);
+    following = reader_after source w (lined t) (kind_of rest);
     gives = gives_again refl (gives_one refl refl (line_sound limit source w t (kind_of rest) (λ d fault f. none_there fault (told_at limit source w.labels fault a.named (last_lines source w run t a.run_is) f))) refl) (gives_no_more unled);
     open_count = refl;
     names = refl;
@@ -202,7 +202,7 @@ module _ (limit : ℕ) (source : List ℕ) (rest : List KindedToken) (unled : le
       let again = turned (lined t) run (map lined (u ∷ ts)) in
       let g = lines_give u ts v (lined t ∷ run) at (lines_on source t a) (λ fault f. none_there fault (subst (λ (ls : List KindedToken). IsTableLineFault limit source at w.labels ls fault) again f)) in
       record {
-        behind = g.behind;
+        following = g.following;
         gives = gives_again refl (gives_one refl refl (line_sound limit source w t TableLine (λ d fault f. cc)) refl) g.gives;
         open_count = g.open_count;
         names = g.names;
@@ -302,38 +302,38 @@ module _ {reader : Reader} {at start : ℕ} {t : Token} {old : Tables} {w : Read
 
 -- what an answer of a domain is
 abbrev DomainAnswer : ℕ → Reader → Tables → ReaderState → ℕ → Vec (Maybe Named) Global → ℕ → Type 0
-DomainAnswer limit reader new walk at domain after =
-    (ends_head walk (seen_from reader after) ≡ false → IsGot limit (IsDomain reader.source.now) (Stays reader new walk) (the Domain) reader at new walk domain after) × (ends_head walk (seen_from reader after) ≡ true → is Table (last_kind walk.before) ≡ false → Refuses limit reader.source.now (the Domain) walk (seen_from reader at) (Fault (record { error = source_error.Table NoHeading; at = table_name walk.before })))
+DomainAnswer limit reader new read_state at domain after =
+    (ends_head read_state (seen_from reader after) ≡ false → IsGot limit (IsDomain reader.source.now) (Stays reader new read_state) (the Domain) reader at new read_state domain after) × (ends_head read_state (seen_from reader after) ≡ true → is Table (last_kind read_state.before) ≡ false → Refuses limit reader.source.now (the Domain) read_state (seen_from reader at) (Fault (record { error = source_error.Table NoHeading; at = table_name read_state.before })))
 
 module _ {limit : ℕ} {reader : Reader} {at start : ℕ} {t : Token} (w : ReaderState) (n : IsNext (is Table) reader at t start) {mid : Tables} {named : Named} {middle : ℕ} (m : IsGot limit (IsNamed reader.source.now) (Stays reader mid (past reader w Table t start)) name reader start mid (past reader w Table t start) named middle) where
-  pub table_refused : {e : SourceFaultOrMemory} → Refuses limit reader.source.now (the Domain · many (token TableLine)) m.behind (seen_from reader middle) e → Refuses limit reader.source.now (the TableStatement) w (seen_from reader at) e
+  pub table_refused : {e : SourceFaultOrMemory} → Refuses limit reader.source.now (the Domain · many (token TableLine)) m.following (seen_from reader middle) e → Refuses limit reader.source.now (the TableStatement) w (seen_from reader at) e
   table_refused r = refuses_the TableStatement (refuses_second (gives_exact n refl) (refuses_second m.gives r))
 
-  there : NameThere reader start ((Table, t) ∷ w.before) m.behind
-  there = name_read reader start (past reader w Table t start) m.behind (seen_from reader middle) refl m.gives.reads m.gives.leaves
+  there : NameThere reader start ((Table, t) ∷ w.before) m.following
+  there = name_read reader start (past reader w Table t start) m.following (seen_from reader middle) refl m.gives.reads m.gives.leaves
 
-  not_table : is Table (last_kind m.behind.before) ≡ false
+  not_table : is Table (last_kind m.following.before) ≡ false
   not_table = ap (λ us. is Table (last_kind us)) there.before_is ∙ (named_other there.token.0 there.named).0
 
-  named_at : table_name m.behind.before ≡ next_place reader.source.now (seen_from reader start)
+  named_at : table_name m.following.before ≡ next_place reader.source.now (seen_from reader start)
   named_at = ap table_name there.before_is ∙ sym there.place
 
-  ends_is : (rest : List KindedToken) → ends_head m.behind rest ≡ ends_statement (kind_of rest)
+  ends_is : (rest : List KindedToken) → ends_head m.following rest ≡ ends_statement (kind_of rest)
   ends_is rest = ap (λ k. is Table k && ends_statement (kind_of rest)) m.leaves.keyword
 
-  module _ {after : ℕ} {new : Tables} {domain : Vec (Maybe Named) Global} (d : IsGot limit (IsDomain reader.source.now) (Stays reader new m.behind) (the Domain) reader middle new m.behind domain after) where
+  module _ {after : ℕ} {new : Tables} {domain : Vec (Maybe Named) Global} (d : IsGot limit (IsDomain reader.source.now) (Stays reader new m.following) (the Domain) reader middle new m.following domain after) where
     domain_lineless : AllPass no_line (yield d.tree)
     domain_lineless = all_pass in_domain no_line domains_no_line (the Domain) d.tree (sound productions look_ahead d.gives.reads).0 refl
 
     domain_tableless : AllPass no_table (yield d.tree)
     domain_tableless = all_pass in_domain no_table domains_no_table (the Domain) d.tree (sound productions look_ahead d.gives.reads).0 refl
 
-    at_lines : AtLines d.behind [] (next_place reader.source.now (seen_from reader start))
+    at_lines : AtLines d.following [] (next_place reader.source.now (seen_from reader start))
     at_lines = record {
-      run_is = ap (λ (x : ReaderState). run_of x.before) d.gives.leaves ∙ no_run reader.source.now m.behind (yield d.tree) (kind_of (seen_from reader after)) domain_lineless
+      run_is = ap (λ (x : ReaderState). run_of x.before) d.gives.leaves ∙ no_run reader.source.now m.following (yield d.tree) (kind_of (seen_from reader after)) domain_lineless
           (ap run_of there.before_is ∙ run_other there.token ((Table, t) ∷ w.before) (named_other there.token.0 there.named).1);
-      named = ap (λ (x : ReaderState). table_name x.before) d.gives.leaves ∙ name_kept reader.source.now m.behind (yield d.tree) (kind_of (seen_from reader after)) domain_tableless not_table ∙ named_at;
-      behind = ap (λ (x : ReaderState). is Table (last_kind x.before)) d.gives.leaves ∙ last_kept reader.source.now m.behind (yield d.tree) (kind_of (seen_from reader after)) domain_tableless not_table;
+      named = ap (λ (x : ReaderState). table_name x.before) d.gives.leaves ∙ name_kept reader.source.now m.following (yield d.tree) (kind_of (seen_from reader after)) domain_tableless not_table ∙ named_at;
+      following = ap (λ (x : ReaderState). is Table (last_kind x.before)) d.gives.leaves ∙ last_kept reader.source.now m.following (yield d.tree) (kind_of (seen_from reader after)) domain_tableless not_table;
     }
 
     abbrev statement_tree : List Token → Derivation
@@ -341,7 +341,7 @@ module _ {limit : ℕ} {reader : Reader} {at start : ℕ} {t : Token} (w : Reade
 
     module _ {F : Type 0} (value : F → Rational) where
       -- the statement, by what its lines give
-      table_got : (ts : List Token) {v : ReaderState} {next : ℕ} → Gives limit reader.source.now (many (token TableLine)) d.behind (seen_from reader after) (lines_tree ts) v (seen_from reader next) → {last : Tables} → Holds reader last v → after ≤ next → (items : List (Item F)) →
+      table_got : (ts : List Token) {v : ReaderState} {next : ℕ} → Gives limit reader.source.now (many (token TableLine)) d.following (seen_from reader after) (lines_tree ts) v (seen_from reader next) → {last : Tables} → Holds reader last v → after ≤ next → (items : List (Item F)) →
           ((sense : Sense) → IsSense last sense → map (item_in value) items ≡ items_given reader.source.now sense.labels (map lined ts)) →
           IsGot limit (IsAct value reader.source.now table_act) (Holds reader last) (the TableStatement) reader at last w (act.Declare kind.Table (record { named = named; domain = domain.items; items = items } ∷ [])) next
       table_got ts {v} {next} g {last} holds ahead items shown = got_by (gives_the TableStatement (gives_both (gives_exact n refl) (gives_both m.gives (gives_both d.gives g)))) holds
@@ -358,7 +358,7 @@ module _ {limit : ℕ} {reader : Reader} {at start : ℕ} {t : Token} (w : Reade
           IsGot limit (IsAct value reader.source.now table_act) (Holds reader last) (the TableStatement) reader at last w (act.Declare kind.Table (record { named = named; domain = domain.items; items = items } ∷ [])) next
       table_empty {next} same unled ahead {last} names labels items none_there =
           let holds = d.leaves.has.holds in
-          table_got [] (subst (λ (us : List KindedToken). Gives limit reader.source.now (many (token TableLine)) d.behind us none d.behind (seen_from reader next)) (sym same) (gives_no_more unled)) (record { open_count = holds.open_count; names = holds.names ∙ sym names; labels = holds.labels ∙ sym labels }) ahead items
+          table_got [] (subst (λ (us : List KindedToken). Gives limit reader.source.now (many (token TableLine)) d.following us none d.following (seen_from reader next)) (sym same) (gives_no_more unled)) (record { open_count = holds.open_count; names = holds.names ∙ sym names; labels = holds.labels ∙ sym labels }) ahead items
           (λ sense s. ap (map (item_in value)) none_there)
 
       -- the items that its lines give
@@ -370,9 +370,9 @@ module _ {limit : ℕ} {reader : Reader} {at start : ℕ} {t : Token} (w : Reade
           let ls = map lined (u ∷ us) in
           let parts : table_parts lines ≡ parts_of_tokens source ls = same_parts k ∙ ap (parts_of_tokens source) are in
           let same : seen_from reader after ≡ ls ++ seen_from reader next = k.is ∙ ap (λ vs. vs ++ seen_from reader next) are in
-          let g = lines_give limit source (seen_from reader next) k.none_behind u us d.behind [] (next_place source (seen_from reader start)) at_lines (λ fault f. fault_none parts holds.labels tb.headed tb.sound fault f) in
-          let labels : g.behind.labels ≡ last.labels = g.labels ∙ ap₂ (λ a b. all_entered a (entries.label_texts b)) holds.labels (sym parts) ∙ sym tb.labels_are in
-          table_got (u ∷ us) (subst (λ (vs : List KindedToken). Gives limit source (many (token TableLine)) d.behind vs (lines_tree (u ∷ us)) g.behind (seen_from reader next)) (sym same) g.gives)
+          let g = lines_give limit source (seen_from reader next) k.none_behind u us d.following [] (next_place source (seen_from reader start)) at_lines (λ fault f. fault_none parts holds.labels tb.headed tb.sound fault f) in
+          let labels : g.following.labels ≡ last.labels = g.labels ∙ ap₂ (λ a b. all_entered a (entries.label_texts b)) holds.labels (sym parts) ∙ sym tb.labels_are in
+          table_got (u ∷ us) (subst (λ (vs : List KindedToken). Gives limit source (many (token TableLine)) d.following vs (lines_tree (u ∷ us)) g.following (seen_from reader next)) (sym same) g.gives)
           (record { open_count = g.open_count ∙ holds.open_count; names = g.names ∙ holds.names ∙ sym names; labels = labels }) k.further items
           (λ sense s.
           ap (map (item_in value)) items_are ∙ items_only limit value last.labels sense.labels (λ text i p. s.labels text i p) (table_parts lines) es tb.entries_are
@@ -383,15 +383,15 @@ module _ {limit : ℕ} {reader : Reader} {at start : ℕ} {t : Token} (w : Reade
           fault_none parts labels headed clean fault (inl f) = headed (parts ∙ f.0)
           fault_none {ps} {ls} parts labels headed clean fault (inr f) =
               let first : IsFirstPartFault limit new.labels ps f.0 = subst (λ (x : List (List ℕ)). IsFirstPartFault limit x ps f.0) labels f.1 in
-              stands_not limit new.labels [] first.before first.part first.behind f.0.error (subst (λ (x : List TablePart). entries.ArePartsFaultless limit new.labels [] x) (parts ∙ first.parts_are) clean) first.stands
+              stands_not limit new.labels [] first.before first.part first.following f.0.error (subst (λ (x : List TablePart). entries.ArePartsFaultless limit new.labels [] x) (parts ∙ first.parts_are) clean) first.stands
 
   -- ---- a table that is refused, and one that is read
 
-  module _ (new : Tables) (domain : Vec (Maybe Named) Global) {after : ℕ} (dd : DomainAnswer limit reader new m.behind middle domain after) {next : ℕ} {lines : List Line} (k : IsLines reader after lines next) where
+  module _ (new : Tables) (domain : Vec (Maybe Named) Global) {after : ℕ} (dd : DomainAnswer limit reader new m.following middle domain after) {next : ℕ} {lines : List Line} (k : IsLines reader after lines next) where
     no_seen : k.seen_lines ≡ [] → lines ≡ []
     no_seen are = no_texts reader lines (k.texts ∙ ap (map {B = ℕ × List ℕ} (λ line. (line.1.at.line, token_text reader.source.now line.1))) are)
 
-    headed : (u : Token) (us : List Token) → k.seen_lines ≡ map lined (u ∷ us) → IsGot limit (IsDomain reader.source.now) (Stays reader new m.behind) (the Domain) reader middle new m.behind domain after
+    headed : (u : Token) (us : List Token) → k.seen_lines ≡ map lined (u ∷ us) → IsGot limit (IsDomain reader.source.now) (Stays reader new m.following) (the Domain) reader middle new m.following domain after
     headed u us are = dd.0 (ends_is (seen_from reader after) ∙ ap (λ ts. ends_statement (kind_of ts)) (k.is ∙ ap (λ vs. vs ++ seen_from reader next) are))
 
     refused_empty : k.seen_lines ≡ [] → {e : SourceFaultOrMemory} → ends_statement (kind_of (seen_from reader next)) ≡ true → (found : TableFaultOrMemory) → IsTableRefusal limit lines new.labels found → e ≡ fault_of_table found (next_place reader.source.now (seen_from reader start)) → Refuses limit reader.source.now (the TableStatement) w (seen_from reader at) e
@@ -401,8 +401,8 @@ module _ {limit : ℕ} {reader : Reader} {at start : ℕ} {t : Token} (w : Reade
         let place = next_place reader.source.now (seen_from reader start) in
         let told_is : e ≡ fault_at (source_error.Table NoHeading) place = is ∙ ap (λ (f : TableFault). table_fault_at f.error f.at place) r.1 in
         let refuses = dd.1 (ends_is (seen_from reader after) ∙ ap (λ ts. ends_statement (kind_of ts)) same ∙ ends) not_table in
-        table_refused (refuses_first (subst (λ (x : SourceFaultOrMemory). Refuses limit reader.source.now (the Domain) m.behind (seen_from reader middle) x) (ap (λ (p : Place). Fault (record { error = source_error.Table NoHeading; at = p })) named_at ∙ sym told_is) refuses))
-    refused_empty are ends (answer.Fault fault) (inr r) is = absurd (some_there r.before r.part r.behind (sym (ap table_parts (no_seen are)) ∙ r.parts_are))
+        table_refused (refuses_first (subst (λ (x : SourceFaultOrMemory). Refuses limit reader.source.now (the Domain) m.following (seen_from reader middle) x) (ap (λ (p : Place). Fault (record { error = source_error.Table NoHeading; at = p })) named_at ∙ sym told_is) refuses))
+    refused_empty are ends (answer.Fault fault) (inr r) is = absurd (some_there r.before r.part r.following (sym (ap table_parts (no_seen are)) ∙ r.parts_are))
 
     refused_full : (u : Token) (us : List Token) → k.seen_lines ≡ map lined (u ∷ us) → {e : SourceFaultOrMemory} → (found : TableFaultOrMemory) → IsTableRefusal limit lines new.labels found → e ≡ fault_of_table found (next_place reader.source.now (seen_from reader start)) → Refuses limit reader.source.now (the TableStatement) w (seen_from reader at) e
     refused_full u us are answer.Memory r is = table_refused (refuses_memory is)
@@ -413,8 +413,8 @@ module _ {limit : ℕ} {reader : Reader} {at start : ℕ} {t : Token} (w : Reade
         let parts : table_parts lines ≡ parts_of_tokens reader.source.now ls = same_parts k ∙ ap (parts_of_tokens reader.source.now) are in
         let same : seen_from reader after ≡ ls ++ seen_from reader next = k.is ∙ ap (λ vs. vs ++ seen_from reader next) are in
         let f = line_fault parts d.leaves.has.holds.labels r is in
-        table_refused (refuses_second d.gives (subst (λ (vs : List KindedToken). Refuses limit reader.source.now (many (token TableLine)) d.behind vs e) (sym same)
-        (lines_wrong limit reader.source.now (seen_from reader next) k.none_behind u us d.behind [] place (at_lines d) f.0 f.1 e f.2)))
+        table_refused (refuses_second d.gives (subst (λ (vs : List KindedToken). Refuses limit reader.source.now (many (token TableLine)) d.following vs e) (sym same)
+        (lines_wrong limit reader.source.now (seen_from reader next) k.none_behind u us d.following [] place (at_lines d) f.0 f.1 e f.2)))
       where
         line_fault : {ps : List TablePart} {labels : List (List ℕ)} → table_parts lines ≡ ps → labels ≡ new.labels → ((table_parts lines ≡ []) × (fault ≡ record { error = error.NoHeading; at = entries.nowhere })) ⊎ IsFirstPartFault limit new.labels (table_parts lines) fault → e ≡ table_fault_at fault.error fault.at (next_place reader.source.now (seen_from reader start)) →
             (told_of : SourceFault) × (((ps ≡ []) × (told_of ≡ record { error = source_error.Table NoHeading; at = next_place reader.source.now (seen_from reader start) })) ⊎ ((found : TableFault) × IsFirstPartFault limit labels ps found × (told_of ≡ record { error = error_of_table found.error; at = found.at }))) × (e ≡ Fault told_of)

@@ -34,14 +34,14 @@ use Rattle.gms_parse.proofs.Nexts.{past, exact, led_next, leads_next, gives_exac
 use Rattle.gms_parse.proofs.Entering.{number_gives, number_stays}
 
 -- an infinity
-pub infinity_got : {F : Type 0} (value : F → Rational) {limit : ℕ} {reader : Reader} {at behind : ℕ} {t : Token} {tables : Tables} {w : ReaderState} → IsNext (is Infinity) reader at t behind → Has reader tables w → IsGot limit (IsUnsigned {F = F} value reader.source.now) (Stays reader tables w) (any_of (Number ∷ Infinity ∷ [])) reader at tables w ext.PlusInf behind
-infinity_got value {limit = limit} {reader = reader} {behind = behind} {t = t} {w = w} n h = got_by (gives_one (exact {kind = Infinity} n) refl (quiet_sound limit reader.source.now w Infinity t (kind_of (seen_from reader behind)) refl) refl) (plain_stays reader w Infinity t behind refl h) (λ sense s. refl)
+pub infinity_got : {F : Type 0} (value : F → Rational) {limit : ℕ} {reader : Reader} {at following : ℕ} {t : Token} {tables : Tables} {w : ReaderState} → IsNext (is Infinity) reader at t following → Has reader tables w → IsGot limit (IsUnsigned {F = F} value reader.source.now) (Stays reader tables w) (any_of (Number ∷ Infinity ∷ [])) reader at tables w ext.PlusInf following
+infinity_got value {limit = limit} {reader = reader} {following = following} {t = t} {w = w} n h = got_by (gives_one (exact {kind = Infinity} n) refl (quiet_sound limit reader.source.now w Infinity t (kind_of (seen_from reader following)) refl) refl) (plain_stays reader w Infinity t following refl h) (λ sense s. refl)
     (let g = n.further in omega arith)
 
 -- a number
-pub numeral_got : {F : Type 0} (value : F → Rational) {limit : ℕ} {reader : Reader} {at behind : ℕ} {t : Token} {tables : Tables} {w : ReaderState} (v : F) → IsNext (is Number) reader at t behind → IsValue limit value (token_text reader.source.now t) v → Has reader tables w →
-    IsGot limit (IsUnsigned {F = F} value reader.source.now) (Stays reader tables w) (any_of (Number ∷ Infinity ∷ [])) reader at tables w (ext.Number v) behind
-numeral_got value {reader = reader} {behind = behind} {t = t} {w = w} v n within h = got_by (number_gives (value v) n refl within.0 within.1) (number_stays behind h)
+pub numeral_got : {F : Type 0} (value : F → Rational) {limit : ℕ} {reader : Reader} {at following : ℕ} {t : Token} {tables : Tables} {w : ReaderState} (v : F) → IsNext (is Number) reader at t following → IsValue limit value (token_text reader.source.now t) v → Has reader tables w →
+    IsGot limit (IsUnsigned {F = F} value reader.source.now) (Stays reader tables w) (any_of (Number ∷ Infinity ∷ [])) reader at tables w (ext.Number v) following
+numeral_got value {reader = reader} {following = following} {t = t} {w = w} v n within h = got_by (number_gives (value v) n refl within.0 within.1) (number_stays following h)
     (λ sense s. ap ext.Number (sym (number_in_is (token_text reader.source.now t) (value v) within.0))) (let g = n.further in omega arith)
 
 pub neither_led : (ts : List KindedToken) → leads productions look_ahead (token Infinity) ts ≡ false → leads productions look_ahead (token Number) ts ≡ false → leads productions look_ahead (any_of (Number ∷ Infinity ∷ [])) ts ≡ false
@@ -64,7 +64,7 @@ led_signed : {f g : Terminal → Bool} {ts between rest : List KindedToken} {a b
 led_signed {f} {g} (left_out h) (taken {token = t} k) = or_right (f t.0) _ k
 led_signed {f} {g} (there (h) (taken {token = t} r)) k = or_left (f t.0) _ r
 
-stuck_signed : {p : GamsPart} {f g : Terminal → Bool} {ts front rest : List KindedToken} → leads productions look_ahead p ts ≡ false → Reads productions look_ahead (opt (one f) · one g) ts (stuck front rest) → Reads productions look_ahead (p ∣ opt (one f) · one g) ts (stuck front rest)
+stuck_signed : {p : GamsPart} {f g : Terminal → Bool} {ts prefix rest : List KindedToken} → leads productions look_ahead p ts ≡ false → Reads productions look_ahead (opt (one f) · one g) ts (stuck prefix rest) → Reads productions look_ahead (p ∣ opt (one f) · one g) ts (stuck prefix rest)
 stuck_signed {f = f} {g = g} no_first (first_stuck (there_stuck h (refused k))) = cc
 stuck_signed {f = f} {g = g} no_first (second_stuck (left_out {tokens = []} h) (refused k)) = in_neither no_first refl
 stuck_signed {f = f} {g = g} no_first (second_stuck (left_out {tokens = t ∷ ts} h) (refused k)) = in_neither no_first (or_both (f t.0) _ h k)
@@ -72,7 +72,7 @@ stuck_signed {f = f} {g = g} no_first (second_stuck (there h (taken {token = t} 
 
 -- a value with its sign
 pub value_got : {F : Type 0} (value : F → Rational) {limit : ℕ} {reader : Reader} {at start next : ℕ} {tables : Tables} {w : ReaderState} {minus : Bool} {v found : Ext F} → leads productions look_ahead (token NotAvailable) (seen_from reader at) ≡ false →
-    (s : IsGot limit IsSign (Stays reader tables w) (opt (token Sign)) reader at tables w minus start) → IsGot limit (IsUnsigned value reader.source.now) (Stays reader tables s.behind) (any_of (Number ∷ Infinity ∷ [])) reader start tables s.behind v next →
+    (s : IsGot limit IsSign (Stays reader tables w) (opt (token Sign)) reader at tables w minus start) → IsGot limit (IsUnsigned value reader.source.now) (Stays reader tables s.following) (any_of (Number ∷ Infinity ∷ [])) reader start tables s.following v next →
     extended_in value found ≡ cond minus (opposed (extended_in value v)) (extended_in value v) → IsGot limit (IsGiven value reader.source.now) (Stays reader tables w) (the Value) reader at tables w found next
 value_got value {reader = reader} {v = v} unled s u shown = got_by (gives_the Value (gives_right unled (led_signed s.gives.reads u.gives.reads) (gives_both s.gives u.gives))) (stays_then s.leaves u.leaves)
     (λ sense m. shown ∙ sym (s.means sense (earlier u.gives s.leaves.has.holds u.leaves.has.holds m) (extended_in value v)) ∙ ap (signed_value s.tree) (u.means sense m)) (let a = s.further in let b = u.further in omega arith)
@@ -81,19 +81,19 @@ pub value_refused : {limit : ℕ} {source : List ℕ} {w v : ReaderState} {ts be
 value_refused unled g r = refuses_the Value (by_cause (refuses_second g r) (λ fault s. stuck_as s (stuck_signed unled s.reads)) (λ fault s. wrong_as s (takes_right s.takes)))
 
 -- NA
-pub not_available_got : {F : Type 0} (value : F → Rational) {limit : ℕ} {reader : Reader} {at behind : ℕ} {t : Token} {tables : Tables} {w : ReaderState} → IsNext (is NotAvailable) reader at t behind → Has reader tables w → IsGot limit (IsGiven {F = F} value reader.source.now) (Stays reader tables w) (the Value) reader at tables w ext.Na behind
-not_available_got value {reader = reader} {behind = behind} {t = t} {w = w} n h = got_by (gives_the Value (gives_left (led_next n) (gives_exact {kind = NotAvailable} n refl))) (plain_stays reader w NotAvailable t behind refl h) (λ sense s. refl)
+pub not_available_got : {F : Type 0} (value : F → Rational) {limit : ℕ} {reader : Reader} {at following : ℕ} {t : Token} {tables : Tables} {w : ReaderState} → IsNext (is NotAvailable) reader at t following → Has reader tables w → IsGot limit (IsGiven {F = F} value reader.source.now) (Stays reader tables w) (the Value) reader at tables w ext.Na following
+not_available_got value {reader = reader} {following = following} {t = t} {w = w} n h = got_by (gives_the Value (gives_left (led_next n) (gives_exact {kind = NotAvailable} n refl))) (plain_stays reader w NotAvailable t following refl h) (λ sense s. refl)
     (let g = n.further in omega arith)
 
 -- ---- values of entries, perhaps after `=`
 
-pub equals_got : {F : Type 0} (value : F → Rational) {limit : ℕ} {reader : Reader} {at behind next : ℕ} {t : Token} {tables : Tables} {w : ReaderState} {v : Ext F} → Has reader tables w → IsNext (is Equals) reader at t behind →
-    IsGot limit (IsGiven value reader.source.now) (Stays reader tables (past reader w Equals t behind)) (the Value) reader behind tables (past reader w Equals t behind) v next →
+pub equals_got : {F : Type 0} (value : F → Rational) {limit : ℕ} {reader : Reader} {at following next : ℕ} {t : Token} {tables : Tables} {w : ReaderState} {v : Ext F} → Has reader tables w → IsNext (is Equals) reader at t following →
+    IsGot limit (IsGiven value reader.source.now) (Stays reader tables (past reader w Equals t following)) (the Value) reader following tables (past reader w Equals t following) v next →
     IsGot limit (λ sense tree v. IsGiven value reader.source.now sense (second_in tree) v) (Stays reader tables w) (opt (token Equals) · the Value) reader at tables w v next
-equals_got value {reader = reader} {behind = behind} {t = t} {w = w} h n got = got_by (gives_both (gives_some (led_next n) (gives_exact {kind = Equals} n refl)) got.gives) (stays_then (plain_stays reader w Equals t behind refl h) got.leaves)
+equals_got value {reader = reader} {following = following} {t = t} {w = w} h n got = got_by (gives_both (gives_some (led_next n) (gives_exact {kind = Equals} n refl)) got.gives) (stays_then (plain_stays reader w Equals t following refl h) got.leaves)
     got.means (let a = n.further in let b = got.further in omega arith)
 
-pub equals_refused : {limit : ℕ} {reader : Reader} {at behind : ℕ} {t : Token} {w : ReaderState} {e : SourceFaultOrMemory} → IsNext (is Equals) reader at t behind → Refuses limit reader.source.now (the Value) (past reader w Equals t behind) (seen_from reader behind) e → Refuses limit reader.source.now (opt (token Equals) · the Value) w (seen_from reader at) e
+pub equals_refused : {limit : ℕ} {reader : Reader} {at following : ℕ} {t : Token} {w : ReaderState} {e : SourceFaultOrMemory} → IsNext (is Equals) reader at t following → Refuses limit reader.source.now (the Value) (past reader w Equals t following) (seen_from reader following) e → Refuses limit reader.source.now (opt (token Equals) · the Value) w (seen_from reader at) e
 equals_refused n r = refuses_second (gives_some (led_next n) (gives_exact {kind = Equals} n refl)) r
 
 pub no_equals_got : {F : Type 0} (value : F → Rational) {limit : ℕ} {reader : Reader} {at next : ℕ} {tables : Tables} {w : ReaderState} {v : Ext F} → leads productions look_ahead (token Equals) (seen_from reader at) ≡ false →
@@ -109,22 +109,22 @@ pub no_value : {F : Type 0} (value : F → Rational) {limit : ℕ} {reader : Rea
     IsGot limit (IsScalarValue value reader.source.now) (Stays reader tables w) (opt (token Slash · the Value · token Slash)) reader at tables w items at
 no_value value {reader = reader} {at = at} {w = w} items none_yet unled h = got_by (gives_none (unled_next (is Slash) (the Value · token Slash) (seen_from reader at) unled)) (stays_same h) (λ sense s. ap (map (item_in value)) none_yet) (omega arith)
 
-pub slash_stays : {reader : Reader} {at behind : ℕ} {t : Token} {tables : Tables} {w : ReaderState} → Has reader tables w → IsNext (is Slash) reader at t behind → Stays reader tables w (past reader w Slash t behind)
-slash_stays {reader} {behind = behind} {t = t} {w = w} h n = plain_stays reader w Slash t behind refl h
+pub slash_stays : {reader : Reader} {at following : ℕ} {t : Token} {tables : Tables} {w : ReaderState} → Has reader tables w → IsNext (is Slash) reader at t following → Stays reader tables w (past reader w Slash t following)
+slash_stays {reader} {following = following} {t = t} {w = w} h n = plain_stays reader w Slash t following refl h
 
-module _ {limit : ℕ} {reader : Reader} {at behind : ℕ} {t : Token} {tables : Tables} {w : ReaderState} (h : Has reader tables w) (n : IsNext (is Slash) reader at t behind) where
-  pub some_value : {F : Type 0} (value : F → Rational) {v : Ext F} {next after : ℕ} {end : Token} (items : Vec (Item F) Global) (item : Item F) → items.items ≡ item ∷ [] → item_in value item ≡ record { at = next_place reader.source.now (seen_from reader behind); parts = []; value = Some (extended_in value v); bad_range = false } →
-      IsGot limit (IsGiven value reader.source.now) (Stays reader tables (past reader w Slash t behind)) (the Value) reader behind tables (past reader w Slash t behind) v next → IsNext (is Slash) reader next end after →
+module _ {limit : ℕ} {reader : Reader} {at following : ℕ} {t : Token} {tables : Tables} {w : ReaderState} (h : Has reader tables w) (n : IsNext (is Slash) reader at t following) where
+  pub some_value : {F : Type 0} (value : F → Rational) {v : Ext F} {next after : ℕ} {end : Token} (items : Vec (Item F) Global) (item : Item F) → items.items ≡ item ∷ [] → item_in value item ≡ record { at = next_place reader.source.now (seen_from reader following); parts = []; value = Some (extended_in value v); bad_range = false } →
+      IsGot limit (IsGiven value reader.source.now) (Stays reader tables (past reader w Slash t following)) (the Value) reader following tables (past reader w Slash t following) v next → IsNext (is Slash) reader next end after →
       IsGot limit (IsScalarValue value reader.source.now) (Stays reader tables w) (opt (token Slash · the Value · token Slash)) reader at tables w items after
   some_value value {v} {after = after} {end = end} items item one_item shown got m = got_by
       (gives_some (leads_next (the Value · token Slash) n) (gives_both (gives_exact {kind = Slash} n refl) (gives_both got.gives (gives_exact {kind = Slash} m refl))))
-      (stays_then (slash_stays h n) (stays_then got.leaves (plain_stays reader got.behind Slash end after refl got.leaves.has)))
+      (stays_then (slash_stays h n) (stays_then got.leaves (plain_stays reader got.following Slash end after refl got.leaves.has)))
       (λ sense s. ap (map (item_in value)) one_item ∙ ap (λ x. x ∷ []) (shown ∙ ap₂ (λ p x. record { at = p; parts = []; value = Some x; bad_range = false }) (sym (place_read (the Value) refl got.gives)) (got.means sense s)))
       (let a = n.further in let b = got.further in let c = m.further in omega arith)
 
-  pub value_unclosed : {F : Type 0} (value : F → Rational) {v : Ext F} {next : ℕ} {e : SourceFaultOrMemory} → IsGot limit (IsGiven value reader.source.now) (Stays reader tables (past reader w Slash t behind)) (the Value) reader behind tables (past reader w Slash t behind) v next → IsLacking (is Slash) reader next e →
+  pub value_unclosed : {F : Type 0} (value : F → Rational) {v : Ext F} {next : ℕ} {e : SourceFaultOrMemory} → IsGot limit (IsGiven value reader.source.now) (Stays reader tables (past reader w Slash t following)) (the Value) reader following tables (past reader w Slash t following) v next → IsLacking (is Slash) reader next e →
       Refuses limit reader.source.now (opt (token Slash · the Value · token Slash)) w (seen_from reader at) e
   value_unclosed value got l = refuses_some (leads_next (the Value · token Slash) n) (refuses_second (gives_exact {kind = Slash} n refl) (refuses_second got.gives (refuses_lacking l)))
 
-pub slashed_refused : {limit : ℕ} {reader : Reader} {at behind : ℕ} {t : Token} {w : ReaderState} {e : SourceFaultOrMemory} → IsNext (is Slash) reader at t behind → Refuses limit reader.source.now (the Value) (past reader w Slash t behind) (seen_from reader behind) e → Refuses limit reader.source.now (opt (token Slash · the Value · token Slash)) w (seen_from reader at) e
+pub slashed_refused : {limit : ℕ} {reader : Reader} {at following : ℕ} {t : Token} {w : ReaderState} {e : SourceFaultOrMemory} → IsNext (is Slash) reader at t following → Refuses limit reader.source.now (the Value) (past reader w Slash t following) (seen_from reader following) e → Refuses limit reader.source.now (opt (token Slash · the Value · token Slash)) w (seen_from reader at) e
 slashed_refused n r = refuses_some (leads_next (the Value · token Slash) n) (refuses_second (gives_exact {kind = Slash} n refl) (refuses_first r))

@@ -50,9 +50,9 @@ module _ {F : Type 0} (value : F → Number) where
 -- the segments of a program read so far, and the statements that they mean
 pub record Whole {F : Type 0} (limit : ℕ) (value : F → Number) (reader : Reader) (new : Tables) (xs : List (Stmt F)) (at : ℕ) : Type 0 where
   pub context : Derivation → Derivation
-  pub behind : ReaderState
-  pub within : Within limit reader.source.now (the Program) start (seen_from reader 0) (many (token Semicolon · the Segment)) behind (seen_from reader at) context
-  pub holds : Holds reader new behind
+  pub following : ReaderState
+  pub within : Within limit reader.source.now (the Program) start (seen_from reader 0) (many (token Semicolon · the Segment)) following (seen_from reader at) context
+  pub holds : Holds reader new following
   pub means : (sense : Sense) → IsSense new sense → (b : Derivation) → statements_of reader.source.now sense.names sense.labels (context b) ≡ put_before value xs (segments reader.source.now sense.names sense.labels b)
 
 -- why a part of the program is refused is why the program is
@@ -63,7 +63,7 @@ module _ {F : Type 0} (value : F → Number) {limit : ℕ} {reader : Reader} whe
   pub whole_start : {new : Tables} (old : Vec (Stmt F) Global) {now : Vec (Stmt F) Global} {at : ℕ} → old.items ≡ [] → IsGot limit (IsSegment value reader.source.now old) (Holds reader new) (the Segment) reader 0 new start now at → Whole limit value reader new now.items at
   whole_start old {now = now} none_before got = record {
     context = λ b. node (pair got.tree b);
-    behind = got.behind;
+    following = got.following;
     within = within_then (within_the Program) (within_second got.gives);
     holds = got.leaves;
     means = λ sense s b.
@@ -72,16 +72,16 @@ module _ {F : Type 0} (value : F → Number) {limit : ℕ} {reader : Reader} whe
         ap (λ ys. followed_by ys rest) (sym m.2 ∙ in_order_is value m.0) ∙ followed value m.0 rest ∙ ap (λ ys. put_before value ys rest) (sym (m.1 ∙ ap (λ ys. ys ++ m.0) none_before));
   }
 
-  module _ {new : Tables} {xs : List (Stmt F)} {at : ℕ} (l : Whole limit value reader new xs at) {t : Token} {behind : ℕ} (n : IsNext (is Semicolon) reader at t behind) where
-    pub whole_refuses : {e : SourceFaultOrMemory} → Refuses limit reader.source.now (the Segment) (past reader l.behind Semicolon t behind) (seen_from reader behind) e → RefusesWhole limit reader e
+  module _ {new : Tables} {xs : List (Stmt F)} {at : ℕ} (l : Whole limit value reader new xs at) {t : Token} {following : ℕ} (n : IsNext (is Semicolon) reader at t following) where
+    pub whole_refuses : {e : SourceFaultOrMemory} → Refuses limit reader.source.now (the Segment) (past reader l.following Semicolon t following) (seen_from reader following) e → RefusesWhole limit reader e
     whole_refuses r = refuses_whole (l.within.refuses _ (refuses_again (leads_next (the Segment) n) (refuses_second (gives_exact {kind = Semicolon} n refl) r)))
 
     -- one more
-    pub whole_on : {newer : Tables} (old : Vec (Stmt F) Global) {now : Vec (Stmt F) Global} {after : ℕ} → old.items ≡ xs → IsGot limit (IsSegment value reader.source.now old) (Holds reader newer) (the Segment) reader behind newer (past reader l.behind Semicolon t behind) now after →
+    pub whole_on : {newer : Tables} (old : Vec (Stmt F) Global) {now : Vec (Stmt F) Global} {after : ℕ} → old.items ≡ xs → IsGot limit (IsSegment value reader.source.now old) (Holds reader newer) (the Segment) reader following newer (past reader l.following Semicolon t following) now after →
         Whole limit value reader newer now.items after
     whole_on old {after = after} was got = record {
       context = λ b. l.context (more (pair (leaf (Semicolon, t)) got.tree) b);
-      behind = got.behind;
+      following = got.following;
       within = within_then l.within (within_again (leads_next (the Segment) n) gives);
       holds = got.leaves;
       means = λ sense s b.
@@ -91,7 +91,7 @@ module _ {F : Type 0} (value : F → Number) {limit : ℕ} {reader : Reader} whe
           ∙ ap (put_before value xs) (ap (λ ys. followed_by ys rest) (sym m.2 ∙ in_order_is value m.0) ∙ followed value m.0 rest) ∙ sym (put_append value xs m.0 rest) ∙ ap (λ ys. put_before value ys rest) (sym (m.1 ∙ ap (λ ys. ys ++ m.0) was));
     }
       where
-        gives : Gives limit reader.source.now (token Semicolon · the Segment) l.behind (seen_from reader at) (pair (leaf (Semicolon, t)) got.tree) got.behind (seen_from reader after)
+        gives : Gives limit reader.source.now (token Semicolon · the Segment) l.following (seen_from reader at) (pair (leaf (Semicolon, t)) got.tree) got.following (seen_from reader after)
         gives = gives_both (gives_exact {kind = Semicolon} n refl) got.gives
 
 -- ---- the end
@@ -113,10 +113,10 @@ endless _ = refl
 -- the end of the source is among its tokens
 ends : {reader : Reader} → IsReady reader → AllPass no_end (seen_from reader 0) → ⊥
 ends {reader} ready pass =
-    let front = tokens_of reader.source.now 0 ready.tokens.has.pieces in
+    let prefix = tokens_of reader.source.now 0 ready.tokens.has.pieces in
     let last = end_token reader.source.now in
-    let all : seen_from reader 0 ≡ map (seen_token reader) front ++ map (seen_token reader) (last ∷ []) = ap (map (seen_token reader)) ready.tokens.has.tokens_are ∙ map-append (seen_token reader) front (last ∷ []) in
-    let p = pass_rest no_end (map (seen_token reader) front) (map (seen_token reader) (last ∷ [])) (subst (λ (us : List KindedToken). AllPass no_end us) all pass) in
+    let all : seen_from reader 0 ≡ map (seen_token reader) prefix ++ map (seen_token reader) (last ∷ []) = ap (map (seen_token reader)) ready.tokens.has.tokens_are ∙ map-append (seen_token reader) prefix (last ∷ []) in
+    let p = pass_rest no_end (map (seen_token reader) prefix) (map (seen_token reader) (last ∷ [])) (subst (λ (us : List KindedToken). AllPass no_end us) all pass) in
     let q : no_end (seen_token reader last).0 ≡ true = p.0 in
     cc
 
@@ -128,7 +128,7 @@ not_ended {tree = tree} [] ready g unled e =
 not_ended (t ∷ rest) ready g unled e = let k : is End t.0 ≡ true = ap (is End) e in cc
 
 module _ {F : Type 0} (value : F → Number) {limit : ℕ} {reader : Reader} {new : Tables} {xs : List (Stmt F)} {at : ℕ} (l : Whole limit value reader new xs at) (unled : leads productions look_ahead (token Semicolon) (seen_from reader at) ≡ false) where
-  gives_whole : Gives limit reader.source.now (the Program) start (seen_from reader 0) (l.context none) l.behind (seen_from reader at)
+  gives_whole : Gives limit reader.source.now (the Program) start (seen_from reader 0) (l.context none) l.following (seen_from reader at)
   gives_whole = l.within.gives none _ _ (gives_no_more (unled_next (is Semicolon) (the Segment) (seen_from reader at) unled))
 
   pub whole_got : leads productions look_ahead (token End) (seen_from reader at) ≡ true → (all : Vec (Stmt F) Global) → all.items ≡ xs → IsWhole limit (AreStatements value reader.source.now) reader new all
@@ -143,5 +143,5 @@ module _ {F : Type 0} (value : F → Number) {limit : ℕ} {reader : Reader} {ne
   whole_over ready not_end is = record {
     why = λ fault k.
         let same : fault ≡ unexpected reader.source.now (seen_from reader at) = cc in
-        inr (record { tree = l.context none; behind = l.behind; rest = seen_from reader at; gives = gives_whole; other = not_ended (seen_from reader at) ready gives_whole not_end; is = same });
+        inr (record { tree = l.context none; following = l.following; rest = seen_from reader at; gives = gives_whole; other = not_ended (seen_from reader at) ready gives_whole not_end; is = same });
   }

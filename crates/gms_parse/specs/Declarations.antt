@@ -140,9 +140,9 @@ module _ (source : List ℕ) (names labels : List (List ℕ)) where
   -- the statement of a table: its name, its domain, and the items that its lines give
   abbrev pub table_act : DerivationTree (Terminal × Token) → Act Number
   table_act statement =
-      let behind = second_in (inside statement) in
+      let following = second_in (inside statement) in
       declares kind.Table (record {
-        named = named_in source names labels (first_in behind);
-        domain = domain_in source names labels (between behind);
-        items = items_given source labels (yield (second_in (second_in behind)));
+        named = named_in source names labels (first_in following);
+        domain = domain_in source names labels (between following);
+        items = items_given source labels (yield (second_in (second_in following)));
       } ∷ [])

@@ -52,7 +52,7 @@ use Rattle.gms_parse.specs.Declarations.{variable_kind, items_in, named_in, posi
 use Rattle.gms_parse.specs.Statements.{bytes_in, word_in, parsed_shown, shown_list, parsed_setting as setting_of, condition_in, target_in, side_of, sides_in, is_maximizing}
 use Rattle.gms_parse.specs.Programs.{loop_body, inner_act, named_first, segment, statements_of}
 use Rattle.gms_table.specs.WordLabels.{all_entered}
-use Rattle.gms_parse.specs.ReadStates.{LacksRoom, range_texts}
+use Rattle.gms_parse.specs.ReadStates.{ExceedsTable, range_texts}
 use Rattle.gms_parse.specs.InnerReadings.{Derivation, GamsPart, Sense}
 
 module _ (source : List ℕ) (sense : Sense) (tree : Derivation) where
@@ -136,14 +136,14 @@ AreThere labels (text ∷ texts) = ((n : ℕ) × (place_of labels text ≡ Some 
 -- invalid
 pub record IsEnteredRange (source : List ℕ) (old new : Tables) (was now : Position) (first last : Token) : Type 0 where
   pub table : new.labels ≡ all_entered old.labels (range_texts source (text_of_label source first) (text_of_label source last))
-  pub room : LacksRoom old.labels (range_texts source (text_of_label source first) (text_of_label source last)) → ⊥
+  pub within_bound : ExceedsTable old.labels (range_texts source (text_of_label source first) (text_of_label source last)) → ⊥
   pub labels : now.labels.items ≡ was.labels.items ++ map (λ text. or_0 (place_of new.labels text)) (range_texts source (text_of_label source first) (text_of_label source last))
   pub are_there : AreThere new.labels (range_texts source (text_of_label source first) (text_of_label source last))
   pub bad_range : now.bad_range ≡ (was.bad_range || not (is_range (text_of_label source first) (text_of_label source last)))
 
 -- the table is full for a member of a range, or out of memory
 pub record IsNotEnteredRange (source : List ℕ) (old : Tables) (first last : Token) (refusal : SourceFaultOrMemory) : Type 0 where
-  pub why : (refusal ≡ Memory) ⊎ ((refusal ≡ Fault (record { error = in_syntax TooManyLabels; at = last.at })) × LacksRoom old.labels (range_texts source (text_of_label source first) (text_of_label source last)))
+  pub why : (refusal ≡ Memory) ⊎ ((refusal ≡ Fault (record { error = in_syntax TooManyLabels; at = last.at })) × ExceedsTable old.labels (range_texts source (text_of_label source first) (text_of_label source last)))
 
 -- a sign, if any
 abbrev pub IsSign : Sense → Derivation → Bool → Type 0

@@ -43,19 +43,19 @@ GamsPart = Part Terminal Nonterminal
 
 -- a part was read: its tree, and the state after its tokens
 abbrev pub Gives : ℕ → List ℕ → GamsPart → ReaderState → List KindedToken → Derivation → ReaderState → List KindedToken → Type 0
-Gives limit source part walk tokens tree behind rest = rules.IsPartRead source_rule (limit, source) part walk tokens tree behind rest
+Gives limit source part read_state tokens tree following rest = rules.IsPartRead source_rule (limit, source) part read_state tokens tree following rest
 
 -- within a part the next token is unexpected, and none before it has a fault
 abbrev pub IsStuck : ℕ → List ℕ → GamsPart → ReaderState → List KindedToken → SourceFault → Type 0
-IsStuck limit source part walk tokens fault = rules.IsStuck source_rule (limit, source) part walk tokens fault
+IsStuck limit source part read_state tokens fault = rules.IsStuck source_rule (limit, source) part read_state tokens fault
 
 -- within a part a token has a fault, and none before it has one
 abbrev pub IsWrong : ℕ → List ℕ → GamsPart → ReaderState → List KindedToken → SourceFault → Type 0
-IsWrong limit source part walk tokens fault = rules.IsWrong source_rule (limit, source) part walk tokens fault
+IsWrong limit source part read_state tokens fault = rules.IsWrong source_rule (limit, source) part read_state tokens fault
 
 -- why a part was not read; out of memory has no cause in it
 abbrev pub Refuses : ℕ → List ℕ → GamsPart → ReaderState → List KindedToken → SourceFaultOrMemory → Type 0
-Refuses limit source part walk tokens refusal = rules.Refuses source_rule (limit, source) part walk tokens refusal
+Refuses limit source part read_state tokens refusal = rules.Refuses source_rule (limit, source) part read_state tokens refusal
 
 -- the names, the labels and the numbers of the whole program
 pub record Sense : Type 0 where
@@ -82,154 +82,154 @@ pub record IsReady (reader : Reader) : Type 0 where
 
 -- a reader's tables and its count of open parentheses are those of the state after the tokens so
 -- far
-pub record Holds (reader : Reader) (tables : Tables) (walk : ReaderState) : Type 0 where
-  pub open_count : walk.open_count ≡ reader.unclosed
-  pub names : walk.names ≡ tables.names
-  pub labels : walk.labels ≡ tables.labels
+pub record Holds (reader : Reader) (tables : Tables) (read_state : ReaderState) : Type 0 where
+  pub open_count : read_state.open_count ≡ reader.unclosed
+  pub names : read_state.names ≡ tables.names
+  pub labels : read_state.labels ≡ tables.labels
 
 -- a reader agrees with the state within a statement: no parenthesis of an outer statement was
 -- closed
-pub record Has (reader : Reader) (tables : Tables) (walk : ReaderState) : Type 0 where
-  pub holds : Holds reader tables walk
-  pub level : walk.level ≤ walk.open_count
+pub record Has (reader : Reader) (tables : Tables) (read_state : ReaderState) : Type 0 where
+  pub holds : Holds reader tables read_state
+  pub level : read_state.level ≤ read_state.open_count
 
 -- the last token is no dot and no `using`
 abbrev pub Undotted : ReaderState → Type 0
-Undotted walk = is_terminal_among (terminal.Dot ∷ terminal.Using ∷ []) (last_kind walk.before) ≡ false
+Undotted read_state = is_terminal_among (terminal.Dot ∷ terminal.Using ∷ []) (last_kind read_state.before) ≡ false
 
 -- the last token is no `*`
 abbrev pub Starless : ReaderState → Type 0
-Starless walk = is terminal.Star (last_kind walk.before) ≡ false
+Starless read_state = is terminal.Star (last_kind read_state.before) ≡ false
 
 -- a word that comes next is no name of the program: the word after `using`, or a word of options
 abbrev pub Nameless : ReaderState → Type 0
-Nameless walk = (is_terminal_among (terminal.Dot ∷ terminal.Using ∷ []) (last_kind walk.before) || is terminal.Option walk.keyword) ≡ true
+Nameless read_state = (is_terminal_among (terminal.Dot ∷ terminal.Using ∷ []) (last_kind read_state.before) || is terminal.Option read_state.keyword) ≡ true
 
 -- the statement changes no options
 abbrev pub Optionless : ReaderState → Type 0
-Optionless walk = is terminal.Option walk.keyword ≡ false
+Optionless read_state = is terminal.Option read_state.keyword ≡ false
 
 -- the statement is no table
 abbrev pub Tableless : ReaderState → Type 0
-Tableless walk = is terminal.Table walk.keyword ≡ false
+Tableless read_state = is terminal.Table read_state.keyword ≡ false
 
 -- a name may begin here
-pub record Starts (reader : Reader) (tables : Tables) (walk : ReaderState) : Type 0 where
-  pub has : Has reader tables walk
-  pub undotted : Undotted walk
-  pub optionless : Optionless walk
+pub record Starts (reader : Reader) (tables : Tables) (read_state : ReaderState) : Type 0 where
+  pub has : Has reader tables read_state
+  pub undotted : Undotted read_state
+  pub optionless : Optionless read_state
 
 -- within a statement, after a part that keeps the parentheses
-pub record Stays (reader : Reader) (tables : Tables) (walk behind : ReaderState) : Type 0 where
-  pub has : Has reader tables behind
-  pub keyword : behind.keyword ≡ walk.keyword
-  pub level : behind.level ≡ walk.level
+pub record Stays (reader : Reader) (tables : Tables) (read_state following : ReaderState) : Type 0 where
+  pub has : Has reader tables following
+  pub keyword : following.keyword ≡ read_state.keyword
+  pub level : following.level ≡ read_state.level
 
 -- such a state, where a name may come next
-pub record StaysOpen (reader : Reader) (tables : Tables) (walk behind : ReaderState) : Type 0 where
-  pub stays : Stays reader tables walk behind
-  pub undotted : Undotted behind
+pub record StaysOpen (reader : Reader) (tables : Tables) (read_state following : ReaderState) : Type 0 where
+  pub stays : Stays reader tables read_state following
+  pub undotted : Undotted following
 
 -- after a statement of a loop
-pub record Ends (reader : Reader) (tables : Tables) (behind : ReaderState) : Type 0 where
-  pub holds : Holds reader tables behind
-  pub tableless : Tableless behind
+pub record Ends (reader : Reader) (tables : Tables) (following : ReaderState) : Type 0 where
+  pub holds : Holds reader tables following
+  pub tableless : Tableless following
 
 -- ---- what a reader answers
 
 -- a part was read at a place, and the result is what its derivation means
-pub record IsGot {T : Type 0} (limit : ℕ) (Means : Sense → Derivation → T → Type 0) (Leaves : ReaderState → Type 0) (part : GamsPart) (reader : Reader) (at : ℕ) (new : Tables) (walk : ReaderState) (x : T) (next : ℕ) : Type 0 where
+pub record IsGot {T : Type 0} (limit : ℕ) (Means : Sense → Derivation → T → Type 0) (Leaves : ReaderState → Type 0) (part : GamsPart) (reader : Reader) (at : ℕ) (new : Tables) (read_state : ReaderState) (x : T) (next : ℕ) : Type 0 where
   pub tree : Derivation
-  pub behind : ReaderState
-  pub gives : Gives limit reader.source.now part walk (seen_from reader at) tree behind (seen_from reader next)
-  pub leaves : Leaves behind
+  pub following : ReaderState
+  pub gives : Gives limit reader.source.now part read_state (seen_from reader at) tree following (seen_from reader next)
+  pub leaves : Leaves following
   pub means : (sense : Sense) → IsSense new sense → Means sense tree x
   pub further : at ≤ next
 
 -- a part was read at a place, or was refused
 abbrev pub IsAnswer : {T : Type 0} → ℕ → (Sense → Derivation → T → Type 0) → (ReaderState → Type 0) → GamsPart → Reader → ℕ → Tables → ReaderState → Result (T × ℕ) SourceFaultOrMemory → Type 0
-IsAnswer limit Means Leaves part reader at new walk result =
-    MatchResult result (λ r. IsGot limit Means Leaves part reader at new walk r.0 r.1)
-    (λ e. Refuses limit reader.source.now part walk (seen_from reader at) e)
+IsAnswer limit Means Leaves part reader at new read_state result =
+    MatchResult result (λ r. IsGot limit Means Leaves part reader at new read_state r.0 r.1)
+    (λ e. Refuses limit reader.source.now part read_state (seen_from reader at) e)
 
 -- of a part that begins with a name
 abbrev pub AnswersName : {T : Type 0} → ℕ → (Sense → Derivation → T → Type 0) → GamsPart → Reader → ℕ → Tables → Tables → Result (T × ℕ) SourceFaultOrMemory → Type 0
 AnswersName limit Means part reader at old new result =
-    (walk : ReaderState) → Starts reader old walk → IsAnswer limit Means (Stays reader new walk) part reader at new walk result
+    (read_state : ReaderState) → Starts reader old read_state → IsAnswer limit Means (Stays reader new read_state) part reader at new read_state result
 
 -- of a part that may have parentheses, in a statement that is no table
 abbrev pub AnswersPart : {T : Type 0} → ℕ → (Sense → Derivation → T → Type 0) → GamsPart → Reader → ℕ → Tables → Tables → Result (T × ℕ) SourceFaultOrMemory → Type 0
 AnswersPart limit Means part reader at old new result =
-    (walk : ReaderState) → Starts reader old walk → Tableless walk → IsAnswer limit Means (Stays reader new walk) part reader at new walk result
+    (read_state : ReaderState) → Starts reader old read_state → Tableless read_state → IsAnswer limit Means (Stays reader new read_state) part reader at new read_state result
 
 -- of an expression or a part of one
 abbrev pub AnswersFormula : {T : Type 0} → ℕ → (Sense → Derivation → T → Type 0) → GamsPart → Reader → ℕ → Tables → Tables → Result (T × ℕ) SourceFaultOrMemory → Type 0
 AnswersFormula limit Means part reader at old new result =
-    (walk : ReaderState) → Starts reader old walk → Tableless walk → IsAnswer limit Means (StaysOpen reader new walk) part reader at new walk result
+    (read_state : ReaderState) → Starts reader old read_state → Tableless read_state → IsAnswer limit Means (StaysOpen reader new read_state) part reader at new read_state result
 
 -- of a part of a list of data
 abbrev pub AnswersData : {T : Type 0} → ℕ → (Sense → Derivation → T → Type 0) → GamsPart → Reader → ℕ → Tables → Tables → Result (T × ℕ) SourceFaultOrMemory → Type 0
 AnswersData limit Means part reader at old new result =
-    (walk : ReaderState) → Has reader old walk → Starless walk → Tableless walk → IsAnswer limit Means (Stays reader new walk) part reader at new walk result
+    (read_state : ReaderState) → Has reader old read_state → Starless read_state → Tableless read_state → IsAnswer limit Means (Stays reader new read_state) part reader at new read_state result
 
 -- of a part without names, labels and parentheses
 abbrev pub AnswersPlain : {T : Type 0} → ℕ → (Sense → Derivation → T → Type 0) → GamsPart → Reader → ℕ → Result (T × ℕ) SourceFaultOrMemory → Type 0
 AnswersPlain limit Means part reader at result =
-    (tables : Tables) (walk : ReaderState) → Has reader tables walk → IsAnswer limit Means (Stays reader tables walk) part reader at tables walk result
+    (tables : Tables) (read_state : ReaderState) → Has reader tables read_state → IsAnswer limit Means (Stays reader tables read_state) part reader at tables read_state result
 
 -- of a word, or what an option is set to, which is no name
 abbrev pub AnswersWord : {T : Type 0} → ℕ → (Sense → Derivation → T → Type 0) → GamsPart → Reader → ℕ → Result (T × ℕ) SourceFaultOrMemory → Type 0
 AnswersWord limit Means part reader at result =
-    (tables : Tables) (walk : ReaderState) → Has reader tables walk → Nameless walk → IsAnswer limit Means (Stays reader tables walk) part reader at tables walk result
+    (tables : Tables) (read_state : ReaderState) → Has reader tables read_state → Nameless read_state → IsAnswer limit Means (Stays reader tables read_state) part reader at tables read_state result
 
 -- of a text or symbol that is shown
 abbrev pub AnswersShown : {T : Type 0} → ℕ → (Sense → Derivation → T → Type 0) → GamsPart → Reader → ℕ → Tables → Tables → Result (T × ℕ) SourceFaultOrMemory → Type 0
 AnswersShown limit Means part reader at old new result =
-    (walk : ReaderState) → Starts reader old walk → is_terminal_among (terminal.Display ∷ terminal.Abort ∷ []) walk.keyword ≡ true → walk.level ≡ walk.open_count →
-    IsAnswer limit Means (Stays reader new walk) part reader at new walk result
+    (read_state : ReaderState) → Starts reader old read_state → is_terminal_among (terminal.Display ∷ terminal.Abort ∷ []) read_state.keyword ≡ true → read_state.level ≡ read_state.open_count →
+    IsAnswer limit Means (Stays reader new read_state) part reader at new read_state result
 
 -- of a statement that a loop may have, which begins with a keyword
 abbrev pub AnswersAct : {T : Type 0} → ℕ → (Sense → Derivation → T → Type 0) → GamsPart → Reader → ℕ → Tables → Tables → Result (T × ℕ) SourceFaultOrMemory → Type 0
 AnswersAct limit Means part reader at old new result =
-    (walk : ReaderState) → Holds reader old walk → IsAnswer limit Means (Ends reader new) part reader at new walk result
+    (read_state : ReaderState) → Holds reader old read_state → IsAnswer limit Means (Ends reader new) part reader at new read_state result
 
 -- of the statements of a loop
 abbrev pub AnswersInner : {T : Type 0} → ℕ → (Sense → Derivation → T → Type 0) → GamsPart → Reader → ℕ → Tables → Tables → Result (T × ℕ) SourceFaultOrMemory → Type 0
 AnswersInner limit Means part reader at old new result =
-    (walk : ReaderState) → Starts reader old walk → Tableless walk → IsAnswer limit Means (Ends reader new) part reader at new walk result
+    (read_state : ReaderState) → Starts reader old read_state → Tableless read_state → IsAnswer limit Means (Ends reader new) part reader at new read_state result
 
 -- of a statement that begins with a keyword
 abbrev pub AnswersStatement : {T : Type 0} → ℕ → (Sense → Derivation → T → Type 0) → GamsPart → Reader → ℕ → Tables → Tables → Result (T × ℕ) SourceFaultOrMemory → Type 0
 AnswersStatement limit Means part reader at old new result =
-    (walk : ReaderState) → Holds reader old walk → IsAnswer limit Means (Holds reader new) part reader at new walk result
+    (read_state : ReaderState) → Holds reader old read_state → IsAnswer limit Means (Holds reader new) part reader at new read_state result
 
 -- of a part that has names after its first token
 abbrev pub AnswersNamed : {T : Type 0} → ℕ → (Sense → Derivation → T → Type 0) → GamsPart → Reader → ℕ → Tables → Tables → Result (T × ℕ) SourceFaultOrMemory → Type 0
 AnswersNamed limit Means part reader at old new result =
-    (walk : ReaderState) → Has reader old walk → Optionless walk → IsAnswer limit Means (Stays reader new walk) part reader at new walk result
+    (read_state : ReaderState) → Has reader old read_state → Optionless read_state → IsAnswer limit Means (Stays reader new read_state) part reader at new read_state result
 
 -- of a part that may have parentheses and follows a name, in a statement that is no table
-abbrev pub AnswersBehind : {T : Type 0} → ℕ → (Sense → Derivation → T → Type 0) → GamsPart → Reader → ℕ → Tables → Tables → Result (T × ℕ) SourceFaultOrMemory → Type 0
-AnswersBehind limit Means part reader at old new result =
-    (walk : ReaderState) → Has reader old walk → Optionless walk → Tableless walk → IsAnswer limit Means (Stays reader new walk) part reader at new walk result
+abbrev pub AnswersAfter : {T : Type 0} → ℕ → (Sense → Derivation → T → Type 0) → GamsPart → Reader → ℕ → Tables → Tables → Result (T × ℕ) SourceFaultOrMemory → Type 0
+AnswersAfter limit Means part reader at old new result =
+    (read_state : ReaderState) → Has reader old read_state → Optionless read_state → Tableless read_state → IsAnswer limit Means (Stays reader new read_state) part reader at new read_state result
 
 -- of a list of data, if any
 abbrev pub AnswersList : {T : Type 0} → ℕ → (Sense → Derivation → T → Type 0) → GamsPart → Reader → ℕ → Tables → Tables → Result (T × ℕ) SourceFaultOrMemory → Type 0
 AnswersList limit Means part reader at old new result =
-    (walk : ReaderState) → Has reader old walk → Tableless walk → IsAnswer limit Means (Stays reader new walk) part reader at new walk result
+    (read_state : ReaderState) → Has reader old read_state → Tableless read_state → IsAnswer limit Means (Stays reader new read_state) part reader at new read_state result
 
 -- a table ends after its domain
 abbrev pub ends_head : ReaderState → List KindedToken → Bool
-ends_head walk rest = is terminal.Table walk.keyword && ends_statement (kind_of rest)
+ends_head read_state rest = is terminal.Table read_state.keyword && ends_statement (kind_of rest)
 
 -- of a domain: it has a fault if it ends the head of a table without lines
 abbrev pub AnswersDomain : {T : Type 0} → ℕ → (Sense → Derivation → T → Type 0) → GamsPart → Reader → ℕ → Tables → Tables → Result (T × ℕ) SourceFaultOrMemory → Type 0
 AnswersDomain limit Means part reader at old new result =
-    (walk : ReaderState) → Has reader old walk → Optionless walk →
+    (read_state : ReaderState) → Has reader old read_state → Optionless read_state →
     MatchResult result
-    (λ r. (ends_head walk (seen_from reader r.1) ≡ false → IsGot limit Means (Stays reader new walk) part reader at new walk r.0 r.1)
-    × (ends_head walk (seen_from reader r.1) ≡ true → is terminal.Table (last_kind walk.before) ≡ false → Refuses limit reader.source.now part walk (seen_from reader at) (Fault (record { error = Table NoHeading; at = table_name walk.before }))))
-    (λ e. Refuses limit reader.source.now part walk (seen_from reader at) e)
+    (λ r. (ends_head read_state (seen_from reader r.1) ≡ false → IsGot limit Means (Stays reader new read_state) part reader at new read_state r.0 r.1)
+    × (ends_head read_state (seen_from reader r.1) ≡ true → is terminal.Table (last_kind read_state.before) ≡ false → Refuses limit reader.source.now part read_state (seen_from reader at) (Fault (record { error = Table NoHeading; at = table_name read_state.before }))))
+    (λ e. Refuses limit reader.source.now part read_state (seen_from reader at) e)
 
 -- of a declaration that begins with this keyword
 abbrev pub AnswersDeclaration : {T : Type 0} → Terminal → ℕ → (Sense → Derivation → T → Type 0) → GamsPart → Reader → ℕ → Tables → Tables → Result (T × ℕ) SourceFaultOrMemory → Type 0
@@ -245,9 +245,9 @@ pub record IsWhole {T : Type 0} (limit : ℕ) (Means : Sense → Derivation → 
 -- a token other than the end follows a program, and is unexpected
 pub record IsOver (limit : ℕ) (source : List ℕ) (tokens : List KindedToken) (fault : SourceFault) : Type 0 where
   pub tree : Derivation
-  pub behind : ReaderState
+  pub following : ReaderState
   pub rest : List KindedToken
-  pub gives : Gives limit source (the Program) start tokens tree behind rest
+  pub gives : Gives limit source (the Program) start tokens tree following rest
   pub other : kind_of rest ≡ terminal.End → ⊥
   pub is : fault ≡ unexpected source rest
 
@@ -264,15 +264,15 @@ pub record IsAt (reader : Reader) (at : ℕ) (token : Token) : Type 0 where
   pub placed : IsPlaced reader.source.now token
   pub within : at < length reader.tokens.now
 
--- the next token passes a test, and `behind` is the place after it
-pub record IsNext (test : Terminal → Bool) (reader : Reader) (at : ℕ) (token : Token) (behind : ℕ) : Type 0 where
+-- the next token passes a test, and `following` is the place after it
+pub record IsNext (test : Terminal → Bool) (reader : Reader) (at : ℕ) (token : Token) (following : ℕ) : Type 0 where
   pub kind : Terminal
   pub passes : test kind ≡ true
   pub kind_is : kind ≡ terminal_of token.kind (token_text reader.source.now token)
-  pub is : seen_from reader at ≡ (kind, token) ∷ seen_from reader behind
+  pub is : seen_from reader at ≡ (kind, token) ∷ seen_from reader following
   pub placed : IsPlaced reader.source.now token
   pub within : at < length reader.tokens.now
-  pub further : at < behind
+  pub further : at < following
 
 -- the refusal of an unexpected token
 abbrev pub unexpected_at : Reader → ℕ → SourceFaultOrMemory
@@ -284,29 +284,29 @@ pub record IsLacking (test : Terminal → Bool) (reader : Reader) (at : ℕ) (re
   pub is : refusal ≡ unexpected_at reader at
 
 -- the next token is of this kind, and this is the place after it
-pub record IsPassed (kind : Terminal) (reader : Reader) (at : ℕ) (behind : ℕ) : Type 0 where
+pub record IsPassed (kind : Terminal) (reader : Reader) (at : ℕ) (following : ℕ) : Type 0 where
   pub token : Token
-  pub next : IsNext (is kind) reader at token behind
+  pub next : IsNext (is kind) reader at token following
 
 -- the next token is of one of these kinds, and this is the place after it
-pub record IsPassedAny (kinds : List Terminal) (reader : Reader) (at : ℕ) (behind : ℕ) : Type 0 where
+pub record IsPassedAny (kinds : List Terminal) (reader : Reader) (at : ℕ) (following : ℕ) : Type 0 where
   pub token : Token
-  pub next : IsNext (is_terminal_among kinds) reader at token behind
+  pub next : IsNext (is_terminal_among kinds) reader at token following
 
 -- a further item of a declaration is next: after a comma, or after a line end that a name follows
 abbrev pub IsFurther : Reader → ℕ → ℕ → Type 0
-IsFurther reader at behind =
-    IsPassed terminal.Comma reader at behind ⊎ (IsPassed terminal.Break reader at behind × (leads productions look_ahead name (seen_from reader behind) ≡ true))
+IsFurther reader at following =
+    IsPassed terminal.Comma reader at following ⊎ (IsPassed terminal.Break reader at following × (leads productions look_ahead name (seen_from reader following) ≡ true))
 
 -- no further item is next
 abbrev pub IsNotFurther : Reader → ℕ → Type 0
 IsNotFurther reader at =
-    (leads productions look_ahead (token terminal.Comma) (seen_from reader at) ≡ false) × ((leads productions look_ahead (token terminal.Break) (seen_from reader at) ≡ false) ⊎ ((behind : ℕ) × IsPassed terminal.Break reader at behind × (leads productions look_ahead name (seen_from reader behind) ≡ false)))
+    (leads productions look_ahead (token terminal.Comma) (seen_from reader at) ≡ false) × ((leads productions look_ahead (token terminal.Break) (seen_from reader at) ≡ false) ⊎ ((following : ℕ) × IsPassed terminal.Break reader at following × (leads productions look_ahead name (seen_from reader following) ≡ false)))
 
 -- the place after the last item, and after the line end there
-abbrev pub IsBehindLast : Reader → ℕ → ℕ → Type 0
-IsBehindLast reader at behind =
-    ((leads productions look_ahead (token terminal.Break) (seen_from reader at) ≡ false) × (behind ≡ at)) ⊎ (IsPassed terminal.Break reader at behind × (leads productions look_ahead name (seen_from reader behind) ≡ false))
+abbrev pub IsAfterLast : Reader → ℕ → ℕ → Type 0
+IsAfterLast reader at following =
+    ((leads productions look_ahead (token terminal.Break) (seen_from reader at) ≡ false) × (following ≡ at)) ⊎ (IsPassed terminal.Break reader at following × (leads productions look_ahead name (seen_from reader following) ≡ false))
 
 -- the lines of a table, each with its number and its text
 pub record IsLines (reader : Reader) (at : ℕ) (lines : List TableLine) (next : ℕ) : Type 0 where
@@ -323,21 +323,21 @@ abbrev pub inside : Reader → ℕ → Reader
 inside reader unclosed = record reader { unclosed = unclosed }
 
 -- a parenthesis opens, and this reader continues inside it from here
-pub record IsOpened (reader : Reader) (at : ℕ) (inner : Reader) (behind : ℕ) : Type 0 where
+pub record IsOpened (reader : Reader) (at : ℕ) (inner : Reader) (following : ℕ) : Type 0 where
   pub token : Token
-  pub next : IsNext (is terminal.LeftParen) reader at token behind
-  pub room : reader.unclosed < 100
+  pub next : IsNext (is terminal.LeftParen) reader at token following
+  pub within_bound : reader.unclosed < 100
   pub inner_is : inner ≡ inside reader (reader.unclosed + 1)
 
 -- no parenthesis opens, or one too many does
 pub record IsUnopened (reader : Reader) (at : ℕ) (refusal : SourceFaultOrMemory) : Type 0 where
-  pub refuses : (limit : ℕ) (tables : Tables) (walk : ReaderState) → Holds reader tables walk →
-      Refuses limit reader.source.now (token terminal.LeftParen) walk (seen_from reader at) refusal
+  pub refuses : (limit : ℕ) (tables : Tables) (read_state : ReaderState) → Holds reader tables read_state →
+      Refuses limit reader.source.now (token terminal.LeftParen) read_state (seen_from reader at) refusal
 
 -- a text was entered in a table, and has this number
 pub record IsEntered (old new : List (List ℕ)) (text : List ℕ) (n : ℕ) : Type 0 where
   pub table : new ≡ entered old text
-  pub room : IsFullFor old text → ⊥
+  pub within_bound : IsFullFor old text → ⊥
   pub place : place_of new text ≡ Some n
 
 -- the table is full for a text, or out of memory

@@ -38,17 +38,17 @@ program_view value_of program =
 -- or after them.
 pub record IsTableOf (tokens lines : List KindedToken) : Type 0 where
   pub before : List KindedToken
-  pub behind : List KindedToken
-  pub parts : tokens ≡ before ++ lines ++ behind
+  pub following : List KindedToken
+  pub parts : tokens ≡ before ++ lines ++ following
   pub are_lines : All (λ token. token.0 ≡ terminal.TableLine) lines
   pub some : lines ≢ []
   pub none_before : (others : List KindedToken) (token : KindedToken) → before ≡ others ++ token ∷ [] → token.0 ≢ terminal.TableLine
-  pub none_behind : kind_ahead behind terminal.End ≢ terminal.TableLine
+  pub none_behind : kind_ahead following terminal.End ≢ terminal.TableLine
 
 -- Another token is required after this prefix of a source: if only the end remains, the prefix is
 -- no program.
-abbrev pub WantsMore : List KindedToken → List KindedToken → Type 0
-WantsMore front rest = kind_of rest ≡ terminal.End → Derives productions (the Program) front → ⊥
+abbrev pub RequiresMore : List KindedToken → List KindedToken → Type 0
+RequiresMore prefix rest = kind_of rest ≡ terminal.End → Derives productions (the Program) prefix → ⊥
 
 module _ (limit : ℕ) (source : List ℕ) where
   -- each table among the tokens has items, which are those that its lines give
@@ -74,7 +74,7 @@ module _ (limit : ℕ) (source : List ℕ) where
   -- that begins a program the next token is unexpected; the end of the source only if the prefix is
   -- no program.
   abbrev pub IsNoProgram : List KindedToken → SourceFault → Type 0
-  IsNoProgram tokens fault = rules.IsRefusedByRule source_rule (limit, source) WantsMore Program start tokens fault
+  IsNoProgram tokens fault = rules.IsRefusedByRule source_rule (limit, source) RequiresMore Program start tokens fault
 
   -- A source of too many bytes has a fault at its start, and no other.
   abbrev pub IsTooLong : SourceFault → Type 0

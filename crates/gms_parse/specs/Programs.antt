@@ -26,12 +26,12 @@ module _ (source : List ℕ) (names labels : List (List ℕ)) where
 
     -- the statements of a loop's body
     pub loop_body : DerivationTree (Terminal × Token) → Statements Number
-    loop_body (node (pair first others)) = statement (place_in first) (inner_act first) (behind_semicolon others)
+    loop_body (node (pair first others)) = statement (place_in first) (inner_act first) (after_semicolon others)
     loop_body _ = no_statement
 
-    pub behind_semicolon : DerivationTree (Terminal × Token) → Statements Number
-    behind_semicolon (some (pair _ (some tree))) = loop_body tree
-    behind_semicolon _ = no_statement
+    pub after_semicolon : DerivationTree (Terminal × Token) → Statements Number
+    after_semicolon (some (pair _ (some tree))) = loop_body tree
+    after_semicolon _ = no_statement
 
     -- a statement in a loop: an assignment, or another
     pub inner_act : DerivationTree (Terminal × Token) → Act Number

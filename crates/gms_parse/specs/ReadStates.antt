@@ -62,14 +62,14 @@ is_keyword kind = is_terminal_among (map (λ words. words.0) statement_words) ki
 
 -- A name: no suffix after a dot, no word of an option, and not the word after `using`.
 abbrev pub is_name : ReaderState → Terminal → Bool
-is_name walk kind =
-    is_terminal_among (terminal.Name ∷ terminal.Suffix ∷ []) kind && not (is_terminal_among (terminal.Dot ∷ terminal.Using ∷ []) (last_kind walk.before) || is terminal.Option walk.keyword)
+is_name read_state kind =
+    is_terminal_among (terminal.Name ∷ terminal.Suffix ∷ []) kind && not (is_terminal_among (terminal.Dot ∷ terminal.Using ∷ []) (last_kind read_state.before) || is terminal.Option read_state.keyword)
 
 -- a text that is an index: not one that a display or an abort shows, which is inside no parentheses
 -- of its statement
 abbrev pub is_index : ReaderState → Terminal → Bool
-is_index walk kind =
-    is terminal.Text kind && not (is_terminal_among (terminal.Display ∷ terminal.Abort ∷ []) walk.keyword && walk.open_count == walk.level)
+is_index read_state kind =
+    is terminal.Text kind && not (is_terminal_among (terminal.Display ∷ terminal.Abort ∷ []) read_state.keyword && read_state.open_count == read_state.level)
 
 -- the first label of a range that the tokens so far end in: a label and a `*`
 abbrev pub range_start : List KindedToken → Option Token
@@ -88,11 +88,11 @@ abbrev pub ends_statement : Terminal → Bool
 ends_statement kind = is_terminal_among (terminal.Semicolon ∷ terminal.End ∷ []) kind || is_keyword kind
 
 -- the table is full for one of these texts, as they are entered in order
-pub record LacksRoom (labels texts : List (List ℕ)) : Type 0 where
+pub record ExceedsTable (labels texts : List (List ℕ)) : Type 0 where
   pub before : List (List ℕ)
   pub text : List ℕ
-  pub behind : List (List ℕ)
-  pub parts : texts ≡ before ++ text ∷ behind
+  pub following : List (List ℕ)
+  pub parts : texts ≡ before ++ text ∷ following
   pub full : IsFullFor (all_entered labels before) text
 
 -- In a source.
@@ -114,25 +114,25 @@ module _ (source : List ℕ) where
   -- the labels that a token enters, if one of kind `ahead` follows it: the last line of a table
   -- enters those of the table
   abbrev pub new_labels : ReaderState → KindedToken → Terminal → List (List ℕ)
-  new_labels walk token ahead =
-      if is_index walk token.0 then unquoted (token_text source token.1) ∷ [] else (if is terminal.Label token.0 then list_labels (range_start walk.before) ahead token.1 else (if is terminal.TableLine token.0 && not (is terminal.TableLine ahead) then labels_of_lines source (lines_with walk.before token) else []))
+  new_labels read_state token ahead =
+      if is_index read_state token.0 then unquoted (token_text source token.1) ∷ [] else (if is terminal.Label token.0 then list_labels (range_start read_state.before) ahead token.1 else (if is terminal.TableLine token.0 && not (is terminal.TableLine ahead) then labels_of_lines source (lines_with read_state.before token) else []))
 
   -- the state after a token, if one of kind `ahead` follows it
   abbrev pub reader_after : ReaderState → KindedToken → Terminal → ReaderState
-  reader_after walk token ahead =
+  reader_after read_state token ahead =
       let begins = is_keyword token.0 || is terminal.Semicolon token.0 in
       record {
-        open_count = open_after walk.open_count token.0;
-        names = if is_name walk token.0 then entered walk.names (token_text source token.1) else walk.names;
-        labels = all_entered walk.labels (new_labels walk token ahead);
-        before = token ∷ walk.before;
-        keyword = if begins then token.0 else walk.keyword;
-        level = if begins then walk.open_count else walk.level;
+        open_count = open_after read_state.open_count token.0;
+        names = if is_name read_state token.0 then entered read_state.names (token_text source token.1) else read_state.names;
+        labels = all_entered read_state.labels (new_labels read_state token ahead);
+        before = token ∷ read_state.before;
+        keyword = if begins then token.0 else read_state.keyword;
+        level = if begins then read_state.open_count else read_state.level;
       }
 
   -- the state after tokens, if one of kind `ahead` follows them
   abbrev pub reader_after_all : ReaderState → List KindedToken → Terminal → ReaderState
-  reader_after_all walk tokens ahead = left_by reader_after walk tokens ahead
+  reader_after_all read_state tokens ahead = left_by reader_after read_state tokens ahead
 
   -- the fault of an unexpected token
   abbrev pub unexpected : List KindedToken → SourceFault
@@ -147,27 +147,27 @@ module _ (limit : ℕ) (source : List ℕ) where
   -- follows, has a fault: it opens a parenthesis while 100 are open; it is a number out of range;
   -- it is a new name after 65,536 others, or enters a new label after as many others; it is the
   -- last line of a table that has a fault; or it ends the head of a table without lines.
-  pub data IsFaulty (walk : ReaderState) (token : KindedToken) (ahead : Terminal) : SourceFault → Type 0 where
-    deep : token.0 ≡ terminal.LeftParen → 100 ≤ walk.open_count → IsFaulty walk token ahead (record { error = Syntax Depth; at = token.1.at })
-    out_of_range : token.0 ≡ terminal.Number → IsOutOfRange token.1 → IsFaulty walk token ahead (record { error = Syntax OutOfRange; at = token.1.at })
-    many_names : is_name walk token.0 ≡ true → IsFullFor walk.names (token_text source token.1) →
-        IsFaulty walk token ahead (record { error = Syntax TooManyLabels; at = token.1.at })
-    many_labels : is terminal.TableLine token.0 ≡ false → LacksRoom walk.labels (new_labels source walk token ahead) →
-        IsFaulty walk token ahead (record { error = Syntax TooManyLabels; at = token.1.at })
+  pub data IsFaulty (read_state : ReaderState) (token : KindedToken) (ahead : Terminal) : SourceFault → Type 0 where
+    deep : token.0 ≡ terminal.LeftParen → 100 ≤ read_state.open_count → IsFaulty read_state token ahead (record { error = Syntax Depth; at = token.1.at })
+    out_of_range : token.0 ≡ terminal.Number → IsOutOfRange token.1 → IsFaulty read_state token ahead (record { error = Syntax OutOfRange; at = token.1.at })
+    many_names : is_name read_state token.0 ≡ true → IsFullFor read_state.names (token_text source token.1) →
+        IsFaulty read_state token ahead (record { error = Syntax TooManyLabels; at = token.1.at })
+    many_labels : is terminal.TableLine token.0 ≡ false → ExceedsTable read_state.labels (new_labels source read_state token ahead) →
+        IsFaulty read_state token ahead (record { error = Syntax TooManyLabels; at = token.1.at })
     in_table : {fault : SourceFault} → token.0 ≡ terminal.TableLine → is terminal.TableLine ahead ≡ false →
-        IsTableLineFault limit source (table_name walk.before) walk.labels (lines_with source walk.before token) fault → IsFaulty walk token ahead fault
-    without_lines : token.0 ≡ terminal.RightParen → walk.keyword ≡ terminal.Table → ends_statement ahead ≡ true →
-        IsFaulty walk token ahead (record { error = Table NoHeading; at = table_name walk.before })
+        IsTableLineFault limit source (table_name read_state.before) read_state.labels (lines_with source read_state.before token) fault → IsFaulty read_state token ahead fault
+    without_lines : token.0 ≡ terminal.RightParen → read_state.keyword ≡ terminal.Table → ends_statement ahead ≡ true →
+        IsFaulty read_state token ahead (record { error = Table NoHeading; at = table_name read_state.before })
 
 -- the rule of faults in a source, by the limit of its numbers
 abbrev pub source_rule : ℕ × List ℕ → Rule Token ReaderState SourceFault SourceFaultOrMemory
 source_rule key = record {
   after = reader_after key.1;
-  Faulty = λ walk token ahead fault. IsFaulty key.0 key.1 walk token ahead fault;
+  Faulty = λ read_state token ahead fault. IsFaulty key.0 key.1 read_state token ahead fault;
   unexpected = unexpected key.1;
   told = Fault;
 }
 
 -- none of the tokens has a fault, if one of kind `ahead` follows them
 abbrev pub AreTokensFaultless : ℕ → List ℕ → ReaderState → List KindedToken → Terminal → Type 0
-AreTokensFaultless limit source walk tokens ahead = rules.AreFaultless (source_rule (limit, source)) walk tokens ahead
+AreTokensFaultless limit source read_state tokens ahead = rules.AreFaultless (source_rule (limit, source)) read_state tokens ahead

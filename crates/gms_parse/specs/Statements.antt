@@ -92,15 +92,15 @@ module _ (source : List ℕ) (names labels : List (List ℕ)) where
     -- the indices of a head, which the grammar nests as they come; from the first lag on they are a
     -- plain list
     pub head_indices : DerivationTree (Terminal × Token) → trees.Indices Number
-    head_indices (node (left (pair text tree))) = trees.label (label_in source names labels text) (indices_behind tree)
+    head_indices (node (left (pair text tree))) = trees.label (label_in source names labels text) (following_indices tree)
     head_indices (node (right (pair name (node (left (pair amount (node (pair others _)))))))) =
         lag source names labels (name_in source names labels name) amount (more_indices source names labels others)
-    head_indices (node (right (pair name (node (right tree))))) = trees.set (name_in source names labels name) (indices_behind tree)
+    head_indices (node (right (pair name (node (right tree))))) = trees.set (name_in source names labels name) (following_indices tree)
     head_indices _ = trees.no_index
 
-    indices_behind : DerivationTree (Terminal × Token) → trees.Indices Number
-    indices_behind (node (left (pair _ tree))) = head_indices tree
-    indices_behind _ = trees.no_index
+    following_indices : DerivationTree (Terminal × Token) → trees.Indices Number
+    following_indices (node (left (pair _ tree))) = head_indices tree
+    following_indices _ = trees.no_index
 
   abbrev mutual
     -- what follows the closing parenthesis of a head: with a lag among the indices it is an

@@ -74,14 +74,14 @@ impl<'s> Reader<'s> {
         requires { IsReady self.now }
         ensures { AnswersAct F.limit (IsAct F.value self.now.source.now alias_act) (the AliasStatement) self.now at tables.old tables.new result }
     {
-        let next = self.behind(Terminal::Alias, at)?;
+        let next = self.following(Terminal::Alias, at)?;
         let (inner, next) = self.enter(next)?;
         let (first, next) = inner.name(tables, next)?;
-        let next = inner.behind(Terminal::Comma, next)?;
+        let next = inner.following(Terminal::Comma, next)?;
         let (second, next) = inner.name(tables, next)?;
         Ok((
             Act::Alias { first, second },
-            self.behind(Terminal::RightParen, next)?,
+            self.following(Terminal::RightParen, next)?,
         ))
     }
 
@@ -90,10 +90,10 @@ impl<'s> Reader<'s> {
         requires { IsReady self.now }
         ensures { (limit : ℕ) → AnswersPlain limit (IsSuffix self.now.source.now) (opt (the Attribute)) self.now at result }
     {
-        let Some((_, behind)) = self.take_if(Terminal::Dot, at) else {
+        let Some((_, following)) = self.take_if(Terminal::Dot, at) else {
             return Ok((Suffix::None, at));
         };
-        let (word, next) = self.take(Terminal::Suffix, behind)?;
+        let (word, next) = self.take(Terminal::Suffix, following)?;
         Ok((suffix_of(self.text(word)), next))
     }
 
@@ -119,8 +119,8 @@ impl<'s> Reader<'s> {
         let mut items = Vec::new(self.alloc);
         let (first, mut next) = self.shown(tables, at)?;
         items.push(first)?;
-        while let Some((_, behind)) = self.take_if(Terminal::Comma, next) {
-            let (item, after) = self.shown(tables, behind)?;
+        while let Some((_, following)) = self.take_if(Terminal::Comma, next) {
+            let (item, after) = self.shown(tables, following)?;
             items.push(item)?;
             next = after;
         }
@@ -132,7 +132,7 @@ impl<'s> Reader<'s> {
         requires { IsReady self.now }
         ensures { AnswersAct F.limit (IsAct F.value self.now.source.now display_act) (the DisplayStatement) self.now at tables.old tables.new result }
     {
-        let next = self.behind(Terminal::Display, at)?;
+        let next = self.following(Terminal::Display, at)?;
         let (items, next) = self.shown_list(tables, next)?;
         Ok((Act::Display { items }, next))
     }
@@ -142,7 +142,7 @@ impl<'s> Reader<'s> {
         requires { IsReady self.now }
         ensures { AnswersAct F.limit (IsAct F.value self.now.source.now abort_act) (the AbortStatement) self.now at tables.old tables.new result }
     {
-        let next = self.behind(Terminal::Abort, at)?;
+        let next = self.following(Terminal::Abort, at)?;
         let (condition, next) = self.condition(tables, next)?;
         if self.is_any_next(&SHOWN, next) {
             let (items, next) = self.shown_list(tables, next)?;
@@ -155,11 +155,11 @@ impl<'s> Reader<'s> {
     /// Reads the word of an option, and the number or word that it is set to.
     fn setting<F: ExactField>(&self, at: usize) -> Read<(Word, Setting<F>)>
         requires { IsReady self.now }
-        ensures { (tables : Tables) (walk : ReaderState) → Has self.now tables walk → is Option walk.keyword ≡ true →
-            IsAnswer F.limit (IsSetting F.value self.now.source.now) (Stays self.now tables walk) (the SettingPart) self.now at tables walk result }
+        ensures { (tables : Tables) (read_state : ReaderState) → Has self.now tables read_state → is Option read_state.keyword ≡ true →
+            IsAnswer F.limit (IsSetting F.value self.now.source.now) (Stays self.now tables read_state) (the SettingPart) self.now at tables read_state result }
     {
         let (option, next) = self.word(at)?;
-        let next = self.behind(Terminal::Equals, next)?;
+        let next = self.following(Terminal::Equals, next)?;
         if let Some((token, next)) = self.take_if(Terminal::Number, next) {
             let value = self.number(token)?;
             return Ok((
@@ -182,12 +182,12 @@ impl<'s> Reader<'s> {
         requires { IsReady self.now }
         ensures { (tables : Tables) → AnswersAct F.limit (IsAct F.value self.now.source.now option_act) (the OptionStatement) self.now at tables tables result }
     {
-        let start = self.behind(Terminal::Option, at)?;
+        let start = self.following(Terminal::Option, at)?;
         let mut settings = Vec::new(self.alloc);
         let (first, mut next) = self.setting(start)?;
         settings.push(first)?;
-        while let Some((_, behind)) = self.take_if(Terminal::Comma, next) {
-            let (setting, after) = self.setting(behind)?;
+        while let Some((_, following)) = self.take_if(Terminal::Comma, next) {
+            let (setting, after) = self.setting(following)?;
             settings.push(setting)?;
             next = after;
         }
@@ -200,7 +200,7 @@ impl<'s> Reader<'s> {
         requires { IsReady self.now }
         ensures { (limit : ℕ) → AnswersPlain limit (IsMethod self.now.source.now) (token Using · word) self.now at result }
     {
-        let next = self.behind(Terminal::Using, at)?;
+        let next = self.following(Terminal::Using, at)?;
         self.word(next)
     }
 
@@ -219,7 +219,7 @@ impl<'s> Reader<'s> {
         requires { IsReady self.now }
         ensures { AnswersAct F.limit (IsAct F.value self.now.source.now solve_act) (the SolveStatement) self.now at tables.old tables.new result }
     {
-        let next = self.behind(Terminal::Solve, at)?;
+        let next = self.following(Terminal::Solve, at)?;
         let (model, next) = self.name(tables, next)?;
         if self.is_next(Terminal::Using, next) {
             let (method, next) = self.method(next)?;

@@ -58,7 +58,7 @@ impl<'s> Reader<'s> {
         requires { IsReady self.now }
         ensures { AnswersPart F.limit (IsRightSide F.value self.now.source.now) (token Equals · the Expression) self.now at tables.old tables.new result }
     {
-        let right = self.behind(Terminal::Equals, at)?;
+        let right = self.following(Terminal::Equals, at)?;
         let (value, next) = self.expression(tables, right)?;
         Ok(((self.place(right), value), next))
     }
@@ -91,9 +91,9 @@ impl<'s> Reader<'s> {
         requires { IsReady self.now }
         ensures { AnswersPart F.limit (IsRelated F.value self.now.source.now) (token Sense · the Expression) self.now at tables.old tables.new result }
     {
-        let (sense, behind) = self.take(Terminal::Sense, at)?;
-        let (right, next) = self.expression(tables, behind)?;
-        Ok(((side_of(sense.kind), self.place(behind), right), next))
+        let (sense, following) = self.take(Terminal::Sense, at)?;
+        let (right, next) = self.expression(tables, following)?;
+        Ok(((side_of(sense.kind), self.place(following), right), next))
     }
 
     /// Reads two sides, and how they relate.
@@ -174,7 +174,7 @@ impl<'s> Reader<'s> {
         let (target, next) = self.target(tables, at)?;
         let (condition, next) = self.condition(tables, next)?;
         match self.take_if(Terminal::DotDot, next) {
-            Some((_, behind)) if is_plain(&target) => self.sides(tables, target, condition, behind),
+            Some((_, following)) if is_plain(&target) => self.sides(tables, target, condition, following),
             _ => self.right_side(tables, target, condition, next),
         }
     }

@@ -129,19 +129,19 @@ impl<'s> Reader<'s> {
         at: usize,
     ) -> Result<usize, SourceFaultOrMemory>
         requires { IsReady self.now }
-        ensures { (limit : ℕ) (walk : ReaderState) → Has self.now tables.old walk → Starless walk → Tableless walk →
+        ensures { (limit : ℕ) (read_state : ReaderState) → Has self.now tables.old read_state → Starless read_state → Tableless read_state →
             MatchResult result
-            (λ next. IsGot limit (λ sense tree x. IsAdded self.now.source.now sense tree part.old x) (Stays self.now tables.new walk) (the RangePart) self.now at tables.new walk part.new next)
-            (λ e. Refuses limit self.now.source.now (the RangePart) walk (seen_from self.now at) e) }
+            (λ next. IsGot limit (λ sense tree x. IsAdded self.now.source.now sense tree part.old x) (Stays self.now tables.new read_state) (the RangePart) self.now at tables.new read_state part.new next)
+            (λ e. Refuses limit self.now.source.now (the RangePart) read_state (seen_from self.now at) e) }
     {
         let (first, next) = self.take(Terminal::Label, at)?;
-        let Some((_, behind)) = self.take_if(Terminal::Star, next) else {
+        let Some((_, following)) = self.take_if(Terminal::Star, next) else {
             let text = self.label_text(first)?;
             part.labels
                 .push(self.entered(&mut tables.labels, first, text)?)?;
             return Ok(next);
         };
-        let (last, next) = self.take(Terminal::Label, behind)?;
+        let (last, next) = self.take(Terminal::Label, following)?;
         self.add_members(tables, part, first, last)?;
         Ok(next)
     }
@@ -161,10 +161,10 @@ impl<'s> Reader<'s> {
         }
         let (inner, start) = self.enter(at)?;
         let mut next = inner.add_range(tables, &mut part, start)?;
-        while let Some((_, behind)) = inner.take_if(Terminal::Comma, next) {
-            next = inner.add_range(tables, &mut part, behind)?;
+        while let Some((_, following)) = inner.take_if(Terminal::Comma, next) {
+            next = inner.add_range(tables, &mut part, following)?;
         }
-        Ok((part, self.behind(Terminal::RightParen, next)?))
+        Ok((part, self.following(Terminal::RightParen, next)?))
     }
 
     /// Reads an element.
@@ -176,8 +176,8 @@ impl<'s> Reader<'s> {
         let (first, mut next) = self.element_part(tables, at)?;
         let mut bad_range = first.bad_range;
         parts.push(Sequence::new(first.labels))?;
-        while let Some((_, behind)) = self.take_if(Terminal::Dot, next) {
-            let (part, after) = self.element_part(tables, behind)?;
+        while let Some((_, following)) = self.take_if(Terminal::Dot, next) {
+            let (part, after) = self.element_part(tables, following)?;
             bad_range |= part.bad_range;
             parts.push(Sequence::new(part.labels))?;
             next = after;
@@ -222,7 +222,7 @@ impl<'s> Reader<'s> {
         ensures { AnswersPlain F.limit (λ sense tree v. IsGiven F.value self.now.source.now sense (second_in tree) v) (opt (token Equals) · the Value) self.now at result }
     {
         match self.take_if(Terminal::Equals, at) {
-            Some((_, behind)) => self.value(behind),
+            Some((_, following)) => self.value(following),
             None => self.value(at),
         }
     }
@@ -278,12 +278,12 @@ impl<'s> Reader<'s> {
         };
         let (first, mut next) = self.listed_item(tables, list, start)?;
         items.push(first)?;
-        while let Some(behind) = self.behind_separator(next) {
-            let (item, after) = self.listed_item(tables, list, behind)?;
+        while let Some(following) = self.behind_separator(next) {
+            let (item, after) = self.listed_item(tables, list, following)?;
             items.push(item)?;
             next = after;
         }
-        Ok((items, self.behind(Terminal::Slash, next)?))
+        Ok((items, self.following(Terminal::Slash, next)?))
     }
 
     /// Reads a value between slashes, if any: an item without positions.
@@ -292,16 +292,16 @@ impl<'s> Reader<'s> {
         ensures { AnswersPlain F.limit (IsScalarValue F.value self.now.source.now) (opt (token Slash · the Value · token Slash)) self.now at result }
     {
         let mut items = Vec::new(self.alloc);
-        let Some((_, behind)) = self.take_if(Terminal::Slash, at) else {
+        let Some((_, following)) = self.take_if(Terminal::Slash, at) else {
             return Ok((items, at));
         };
-        let (value, next) = self.value(behind)?;
+        let (value, next) = self.value(following)?;
         items.push(Item {
-            at: self.place(behind),
+            at: self.place(following),
             parts: Sequence::new(Vec::new(self.alloc)),
             value: Some(value),
             bad_range: false,
         })?;
-        Ok((items, self.behind(Terminal::Slash, next)?))
+        Ok((items, self.following(Terminal::Slash, next)?))
     }
 }

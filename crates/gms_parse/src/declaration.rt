@@ -8,7 +8,7 @@ ghost use Rattle.gms_parse.specs.ReadStates.{ReaderState};
 ghost use Rattle.gms_grammar.specs.Grammar.{the, opt, ◌·◌};
 ghost use Rattle.gms_grammar.specs.GamsGrammar.{Domain, DomainPosition, ScalarItem, PlainItem, VariableStatement, token};
 ghost use Rattle.gms_parse.specs.Declarations.{variable_kind, variable_act};
-ghost use Rattle.gms_parse.specs.InnerReadings.{IsReady, Holds, IsGot, IsFurther, IsNotFurther, IsBehindLast, AnswersName, AnswersPart, AnswersDomain, AnswersBehind, AnswersDeclaration, AnswersAct};
+ghost use Rattle.gms_parse.specs.InnerReadings.{IsReady, Holds, IsGot, IsFurther, IsNotFurther, IsAfterLast, AnswersName, AnswersPart, AnswersDomain, AnswersAfter, AnswersDeclaration, AnswersAct};
 ghost use Rattle.gms_parse.specs.InnerMeanings.{IsPosition, IsDomain, IsOptionalDomain, IsDeclared, AreDeclared, IsDeclaration, IsAct, IsVariableType, form_of, item_part, items_part};
 
 use crate::data::ListOf;
@@ -67,18 +67,18 @@ impl<'s> Reader<'s> {
         let (inner, start) = self.enter(at)?;
         let (first, mut next) = inner.domain_position(tables, start)?;
         positions.push(first)?;
-        while let Some((_, behind)) = inner.take_if(Terminal::Comma, next) {
-            let (position, after) = inner.domain_position(tables, behind)?;
+        while let Some((_, following)) = inner.take_if(Terminal::Comma, next) {
+            let (position, after) = inner.domain_position(tables, following)?;
             positions.push(position)?;
             next = after;
         }
-        Ok((positions, self.behind(Terminal::RightParen, next)?))
+        Ok((positions, self.following(Terminal::RightParen, next)?))
     }
 
     /// Reads a domain, or one without positions.
     fn optional_domain(&self, tables: &mut Tables, at: usize) -> Read<Vec<Option<Named>>>
         requires { IsReady self.now }
-        ensures { (limit : ℕ) → AnswersBehind limit (IsOptionalDomain self.now.source.now) (opt (the Domain)) self.now at tables.old tables.new result }
+        ensures { (limit : ℕ) → AnswersAfter limit (IsOptionalDomain self.now.source.now) (opt (the Domain)) self.now at tables.old tables.new result }
     {
         if self.is_next(Terminal::LeftParen, at) {
             return self.domain(tables, at);
@@ -140,14 +140,14 @@ impl<'s> Reader<'s> {
     /// follows.
     pub(crate) fn further_item(&self, at: usize) -> Option<usize>
         requires { IsReady self.now }
-        ensures { MatchOption result (IsNotFurther self.now at) (λ behind. IsFurther self.now at behind) }
+        ensures { MatchOption result (IsNotFurther self.now at) (λ following. IsFurther self.now at following) }
     {
-        if let Some((_, behind)) = self.take_if(Terminal::Comma, at) {
-            return Some(behind);
+        if let Some((_, following)) = self.take_if(Terminal::Comma, at) {
+            return Some(following);
         }
-        let (_, behind) = self.take_if(Terminal::Break, at)?;
-        if self.is_any_next(&NAMES, behind) {
-            return Some(behind);
+        let (_, following) = self.take_if(Terminal::Break, at)?;
+        if self.is_any_next(&NAMES, following) {
+            return Some(following);
         }
         None
     }
@@ -155,10 +155,10 @@ impl<'s> Reader<'s> {
     /// The place after the line end that may follow the last item of a declaration.
     pub(crate) fn behind_last_item(&self, at: usize) -> usize
         requires { IsReady self.now }
-        ensures { IsNotFurther self.now at → IsBehindLast self.now at result }
+        ensures { IsNotFurther self.now at → IsAfterLast self.now at result }
     {
         match self.take_if(Terminal::Break, at) {
-            Some((_, behind)) => behind,
+            Some((_, following)) => following,
             None => at,
         }
     }
@@ -176,8 +176,8 @@ impl<'s> Reader<'s> {
         let mut items = Vec::new(self.alloc);
         let (first, mut next) = self.item(tables, form, at)?;
         items.push(first)?;
-        while let Some(behind) = self.further_item(next) {
-            let (item, after) = self.item(tables, form, behind)?;
+        while let Some(following) = self.further_item(next) {
+            let (item, after) = self.item(tables, form, following)?;
             items.push(item)?;
             next = after;
         }
@@ -196,7 +196,7 @@ impl<'s> Reader<'s> {
         requires { IsReady self.now }
         ensures { AnswersDeclaration keyword F.limit (IsDeclaration F.value self.now.source.now kind form) (token keyword · the (items_part form)) self.now at tables.old tables.new result }
     {
-        let start = self.behind(keyword, at)?;
+        let start = self.following(keyword, at)?;
         let (items, next) = self.items(tables, form, start)?;
         Ok((Act::Declare { kind, items }, next))
     }
@@ -213,8 +213,8 @@ impl<'s> Reader<'s> {
     /// Reads a type, if any: what `variable` declares after it.
     fn variable_type(&self, at: usize) -> (DeclKind, usize)
         requires { IsReady self.now }
-        ensures { (limit : ℕ) (tables : Tables) (walk : ReaderState) → Holds self.now tables walk →
-            IsGot limit (IsVariableType self.now.source.now) (Holds self.now tables) (opt (token VariableType)) self.now at tables walk result.0 result.1 }
+        ensures { (limit : ℕ) (tables : Tables) (read_state : ReaderState) → Holds self.now tables read_state →
+            IsGot limit (IsVariableType self.now.source.now) (Holds self.now tables) (opt (token VariableType)) self.now at tables read_state result.0 result.1 }
     {
         match self.take_if(Terminal::VariableType, at) {
             Some((word, next)) => (variable_kind(self.text(word)), next),

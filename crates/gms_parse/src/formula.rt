@@ -96,10 +96,10 @@ impl<'s> Reader<'s> {
         requires { IsReady self.now }
         ensures { AnswersFormula F.limit (IsCondition F.value self.now.source.now) (opt (the Condition)) self.now at tables.old tables.new result }
     {
-        let Some((_, behind)) = self.take_if(Terminal::Dollar, at) else {
+        let Some((_, following)) = self.take_if(Terminal::Dollar, at) else {
             return Ok((None, at));
         };
-        let (operand, next) = self.guard(tables, behind)?;
+        let (operand, next) = self.guard(tables, following)?;
         Ok((Some(operand), next))
     }
 
@@ -119,11 +119,11 @@ impl<'s> Reader<'s> {
         requires ready { IsReady self.now }
         requires within { at < length self.now.tokens.now }
         ensures within { result.1 < length self.now.tokens.now }
-        ensures read { (limit : ℕ) (tables : Tables) (walk : ReaderState) → Starts self.now tables walk →
-            IsGot limit IsNot (StaysOpen self.now tables walk) (opt (token Not)) self.now at tables walk result.0 result.1 }
+        ensures read { (limit : ℕ) (tables : Tables) (read_state : ReaderState) → Starts self.now tables read_state →
+            IsGot limit IsNot (StaysOpen self.now tables read_state) (opt (token Not)) self.now at tables read_state result.0 result.1 }
     {
         match self.take_if(Terminal::Not, at) {
-            Some((_, behind)) => (true, behind),
+            Some((_, following)) => (true, following),
             None => (false, at),
         }
     }

@@ -21,8 +21,8 @@ impl<'s> Reader<'s> {
         let mut equations = Vec::new(self.alloc);
         let (first, mut next) = self.name(tables, at)?;
         equations.push(first)?;
-        while let Some(behind) = self.behind_separator(next) {
-            let (equation, after) = self.name(tables, behind)?;
+        while let Some(following) = self.behind_separator(next) {
+            let (equation, after) = self.name(tables, following)?;
             equations.push(equation)?;
             next = after;
         }
@@ -36,14 +36,14 @@ impl<'s> Reader<'s> {
         ensures { (limit : ℕ) → AnswersNamed limit (IsModelList self.now.source.now) (opt (token Slash · the ModelList · token Slash)) self.now at tables.old tables.new result }
     {
         let none = Vec::new(self.alloc);
-        let Some((_, behind)) = self.take_if(Terminal::Slash, at) else {
+        let Some((_, following)) = self.take_if(Terminal::Slash, at) else {
             return Ok(((false, none), at));
         };
-        if let Some((_, next)) = self.take_if(Terminal::All, behind) {
-            return Ok(((true, none), self.behind(Terminal::Slash, next)?));
+        if let Some((_, next)) = self.take_if(Terminal::All, following) {
+            return Ok(((true, none), self.following(Terminal::Slash, next)?));
         }
-        let (equations, next) = self.equations(tables, behind)?;
-        Ok(((false, equations), self.behind(Terminal::Slash, next)?))
+        let (equations, next) = self.equations(tables, following)?;
+        Ok(((false, equations), self.following(Terminal::Slash, next)?))
     }
 
     /// Reads a model with its equations.
@@ -66,12 +66,12 @@ impl<'s> Reader<'s> {
         requires { IsReady self.now }
         ensures { AnswersAct F.limit (IsAct F.value self.now.source.now model_act) (the ModelStatement) self.now at tables.old tables.new result }
     {
-        let start = self.behind(Terminal::Model, at)?;
+        let start = self.following(Terminal::Model, at)?;
         let mut models = Vec::new(self.alloc);
         let (first, mut next) = self.model(tables, start)?;
         models.push(first)?;
-        while let Some(behind) = self.further_item(next) {
-            let (model, after) = self.model(tables, behind)?;
+        while let Some(following) = self.further_item(next) {
+            let (model, after) = self.model(tables, following)?;
             models.push(model)?;
             next = after;
         }

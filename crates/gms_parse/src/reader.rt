@@ -158,14 +158,14 @@ impl<'s> Reader<'s> {
     }
 
     /// The place after the next token, which must be of this kind.
-    pub(crate) fn behind(&self, kind: Terminal, at: usize) -> Result<usize, SourceFaultOrMemory>
+    pub(crate) fn following(&self, kind: Terminal, at: usize) -> Result<usize, SourceFaultOrMemory>
         requires { IsReady self.now }
         ensures { MatchResult result
-            (λ behind. IsPassed kind self.now at behind)
+            (λ following. IsPassed kind self.now at following)
             (λ e. IsLacking (is kind) self.now at e) }
     {
-        let (_, behind) = self.take(kind, at)?;
-        Ok(behind)
+        let (_, following) = self.take(kind, at)?;
+        Ok(following)
     }
 }
 
@@ -193,7 +193,7 @@ impl<'s> Reader<'s> {
             (λ r. IsOpened self.now at r.0 r.1)
             (λ e. IsUnopened self.now at e) }
     {
-        let (token, behind) = self.take(Terminal::LeftParen, at)?;
+        let (token, following) = self.take(Terminal::LeftParen, at)?;
         if self.unclosed >= MOST_OPEN {
             return Err(SourceFaultOrMemory::at(SourceError::Syntax(SyntaxError::Depth), token.at));
         }
@@ -201,7 +201,7 @@ impl<'s> Reader<'s> {
             unclosed: self.unclosed + 1,
             ..*self
         };
-        Ok((inner, behind))
+        Ok((inner, following))
     }
 
     /// Reads a name.
@@ -209,10 +209,10 @@ impl<'s> Reader<'s> {
         requires { IsReady self.now }
         ensures { (limit : ℕ) → AnswersName limit (IsNamed self.now.source.now) name self.now at tables.old tables.new result }
     {
-        let (token, behind) = self.take_any(&NAMES, at)?;
+        let (token, following) = self.take_any(&NAMES, at)?;
         let text = self.ascii(token, self.text(token))?;
         let name = self.entered(&mut tables.names, token, text)?;
-        Ok((Named { at: token.at, name }, behind))
+        Ok((Named { at: token.at, name }, following))
     }
 
     /// These bytes of a token, which are all of ASCII.
@@ -275,11 +275,11 @@ impl<'s> Reader<'s> {
     /// Whether the next token is `-`, and the place after a sign, if any.
     pub(crate) fn sign(&self, at: usize) -> (bool, usize)
         requires { IsReady self.now }
-        ensures { (limit : ℕ) (tables : Tables) (walk : ReaderState) → Has self.now tables walk →
-            IsGot limit IsSign (Stays self.now tables walk) (opt (token Sign)) self.now at tables walk result.0 result.1 }
+        ensures { (limit : ℕ) (tables : Tables) (read_state : ReaderState) → Has self.now tables read_state →
+            IsGot limit IsSign (Stays self.now tables read_state) (opt (token Sign)) self.now at tables read_state result.0 result.1 }
     {
         match self.take_if(Terminal::Sign, at) {
-            Some((token, behind)) => (is_minus(token.kind), behind),
+            Some((token, following)) => (is_minus(token.kind), following),
             None => (false, at),
         }
     }
@@ -289,9 +289,9 @@ impl<'s> Reader<'s> {
         requires { IsReady self.now }
         ensures { MatchOption result
             (leads productions look_ahead (any_of (Comma ∷ Break ∷ [])) (seen_from self.now at) ≡ false)
-            (λ behind. IsPassedAny (Comma ∷ Break ∷ []) self.now at behind) }
+            (λ following. IsPassedAny (Comma ∷ Break ∷ []) self.now at following) }
     {
-        let (_, behind) = self.take_any_if(&[Terminal::Comma, Terminal::Break], at)?;
-        Some(behind)
+        let (_, following) = self.take_any_if(&[Terminal::Comma, Terminal::Break], at)?;
+        Some(following)
     }
 }

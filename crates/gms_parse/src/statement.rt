@@ -107,13 +107,13 @@ impl<'s> Reader<'s> {
         requires { IsReady self.now }
         ensures { AnswersAct F.limit (IsAct F.value self.now.source.now loop_act) (the LoopStatement) self.now at tables.old tables.new result }
     {
-        let opening = self.behind(Terminal::Loop, at)?;
+        let opening = self.following(Terminal::Loop, at)?;
         let (inner, start) = self.enter(opening)?;
         let (control, next) = inner.control(tables, start)?;
-        let first = inner.behind(Terminal::Comma, next)?;
+        let first = inner.following(Terminal::Comma, next)?;
         let (body, next) = inner.loop_body(tables, first)?;
-        let behind = self.behind(Terminal::RightParen, next)?;
-        Ok((Act::Loop { control, body }, behind))
+        let following = self.following(Terminal::RightParen, next)?;
+        Ok((Act::Loop { control, body }, following))
     }
 
     /// Reads the statements of a loop, and the semicolon after the last, if any.
@@ -125,11 +125,11 @@ impl<'s> Reader<'s> {
         let mut body = Vec::new(self.alloc);
         let (first, mut next) = self.inner_statement(tables, at)?;
         body.push(first)?;
-        while let Some((_, behind)) = self.take_if(Terminal::Semicolon, next) {
-            if !self.is_any_next(&INNER, behind) {
-                return Ok((body, behind));
+        while let Some((_, following)) = self.take_if(Terminal::Semicolon, next) {
+            if !self.is_any_next(&INNER, following) {
+                return Ok((body, following));
             }
-            let (statement, after) = self.inner_statement(tables, behind)?;
+            let (statement, after) = self.inner_statement(tables, following)?;
             body.push(statement)?;
             next = after;
         }
@@ -170,10 +170,10 @@ impl<'s> Reader<'s> {
         at: usize,
     ) -> Result<usize, SourceFaultOrMemory>
         requires { IsReady self.now }
-        ensures { (walk : ReaderState) → Starts self.now tables.old walk → Tableless walk →
+        ensures { (read_state : ReaderState) → Starts self.now tables.old read_state → Tableless read_state →
             MatchResult result
-            (λ next. IsGot F.limit (IsNamedFirst F.value self.now.source.now statements.old) (Holds self.now tables.new) (opt (the NamedStatement)) self.now at tables.new walk statements.new next)
-            (λ e. Refuses F.limit self.now.source.now (opt (the NamedStatement)) walk (seen_from self.now at) e) }
+            (λ next. IsGot F.limit (IsNamedFirst F.value self.now.source.now statements.old) (Holds self.now tables.new) (opt (the NamedStatement)) self.now at tables.new read_state statements.new next)
+            (λ e. Refuses F.limit self.now.source.now (opt (the NamedStatement)) read_state (seen_from self.now at) e) }
     {
         if !self.is_any_next(&NAMES, at) {
             return Ok(at);
@@ -195,10 +195,10 @@ impl<'s> Reader<'s> {
         at: usize,
     ) -> Result<usize, SourceFaultOrMemory>
         requires { IsReady self.now }
-        ensures { (walk : ReaderState) → Starts self.now tables.old walk → Tableless walk →
+        ensures { (read_state : ReaderState) → Starts self.now tables.old read_state → Tableless read_state →
             MatchResult result
-            (λ next. IsGot F.limit (IsSegment F.value self.now.source.now statements.old) (Holds self.now tables.new) (the Segment) self.now at tables.new walk statements.new next)
-            (λ e. Refuses F.limit self.now.source.now (the Segment) walk (seen_from self.now at) e) }
+            (λ next. IsGot F.limit (IsSegment F.value self.now.source.now statements.old) (Holds self.now tables.new) (the Segment) self.now at tables.new read_state statements.new next)
+            (λ e. Refuses F.limit self.now.source.now (the Segment) read_state (seen_from self.now at) e) }
     {
         let mut next = self.named_statement(tables, statements, at)?;
         while self.is_any_next(&KEYWORDS, next) {
@@ -227,8 +227,8 @@ impl<'s> Reader<'s> {
     {
         let mut statements = Vec::new(self.alloc);
         let mut next = self.segment(tables, &mut statements, 0)?;
-        while let Some((_, behind)) = self.take_if(Terminal::Semicolon, next) {
-            next = self.segment(tables, &mut statements, behind)?;
+        while let Some((_, following)) = self.take_if(Terminal::Semicolon, next) {
+            next = self.segment(tables, &mut statements, following)?;
         }
         if self.is_next(Terminal::End, next) {
             return Ok(statements);

@@ -120,13 +120,13 @@ impl<'s> Reader<'s> {
     {
         let mut lines = Vec::new(self.alloc);
         let mut next = at;
-        while let Some((token, behind)) = self.take_if(Terminal::TableLine, next) {
+        while let Some((token, following)) = self.take_if(Terminal::TableLine, next) {
             let text = String::from_str(self.alloc, self.ascii(token, self.text(token))?)?;
             lines.push(TableLine {
                 text,
                 line: token.at.line,
             })?;
-            next = behind;
+            next = following;
         }
         Ok((lines, next))
     }
@@ -174,7 +174,7 @@ impl<'s> Reader<'s> {
         requires { IsReady self.now }
         ensures { AnswersStatement F.limit (IsAct F.value self.now.source.now table_act) (the TableStatement) self.now at tables.old tables.new result }
     {
-        let start = self.behind(Terminal::Table, at)?;
+        let start = self.following(Terminal::Table, at)?;
         let name = self.place(start);
         let (named, next) = self.name(tables, start)?;
         let (domain, next) = self.domain(tables, next)?;

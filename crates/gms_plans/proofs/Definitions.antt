@@ -16,7 +16,7 @@ use Rattle.gms_ast.specs.declared.program.Side.{Side}
 use Rattle.gms_ast.specs.declared.program.Stmt.{Stmt}
 use Rattle.gms_ast.specs.declared.word.Named.{Named}
 use Rattle.gms_ast.specs.TreeView.{tree_of}
-use Rattle.gms_check.specs.Checked.{StandsAfter}
+use Rattle.gms_check.specs.Checked.{FollowsIn}
 use Rattle.gms_check.specs.CompileErrors.{errors_after, known_after}
 use Rattle.gms_check.specs.Loaded.{IsAccepted, sound}
 use Rattle.gms_check.specs.StatementUses.{index_list}
@@ -57,7 +57,7 @@ module _ {F : Type 0} (v : F → Number) (program : Program F) (accepted : IsAcc
   if-no-lag false d short = All-cons (IsShort {F = F}) d [] (short refl) (All-nil (IsShort {F = F}))
 
   of-define : (before : List (Stmt F)) (at : Place) (equation : Named) (indices : List (Index F)) (condition : Option (Expr F)) (left_at : Place) (left : Expr F) (side : Side) (right_at : Place) (right : Expr F) →
-      StandsAfter program before (record { at = at; act = Define equation indices condition left_at left side right_at right }) → AllShort (defined_at at (Define equation indices condition left_at left side right_at right))
+      FollowsIn program before (record { at = at; act = Define equation indices condition left_at left side right_at right }) → AllShort (defined_at at (Define equation indices condition left_at left side right_at right))
   of-define before at equation indices condition left_at left side right_at right stands =
       let statement : Stmt F = record { at = at; act = Define equation indices condition left_at left side right_at right } in
       let known = known_after v program accepted.0 (sound before) in
@@ -68,11 +68,11 @@ module _ {F : Type 0} (v : F → Number) (program : Program F) (accepted : IsAcc
       let d : Definition F = record { equation = equation.name; at = at; indices = index_list indices; condition = option_map tree_of condition; left_at = left_at; left = tree_of left; side = side; right_at = right_at; right = tree_of right } in
       if-no-lag (has_lag (index_list indices)) d (λ none. record { no_lag = none; few = omega (arith, few, same) })
 
-  of-act : (before : List (Stmt F)) (at : Place) (act : Act F) → StandsAfter program before (record { at = at; act = act }) → AllShort (defined_at at act)
+  of-act : (before : List (Stmt F)) (at : Place) (act : Act F) → FollowsIn program before (record { at = at; act = act }) → AllShort (defined_at at act)
   of-act before at act = by_parts Q by act
     where
       Q : Act F → Type 0
-      Q a = StandsAfter program before (record { at = at; act = a }) → AllShort (defined_at at a)
+      Q a = FollowsIn program before (record { at = at; act = a }) → AllShort (defined_at at a)
 
       none : AllShort []
       none = All-nil (IsShort {F = F})

@@ -24,7 +24,7 @@ use Rattle.gms_eval.proofs.Simple.{element-length}
 use Rattle.lp_form.specs.declared.key.Key.{Key}
 use Rattle.gms_rows.specs.ElementRows.{sets_of_definition, bound_to, holds_for}
 use Rattle.gms_rows.specs.ModelPoints.{SidesCompare, KeepsDefinition, is_there}
-use Rattle.gms_rows.specs.Rows.{Definition, each_once, has_lag, sets_among}
+use Rattle.gms_rows.specs.Rows.{Definition, distinct_numbers, has_lag, sets_among}
 use Rattle.gms_rows.proofs.Domains.{given, only_value, first_of, those-All, sized-is}
 
 -- ---- the elements of a domain
@@ -113,10 +113,10 @@ stand-unfiltered binding n (set ∷ sets) one all = by (set == n) refl all (stan
         (subst (λ m. is_some (label_of binding m) ≡ true) (sym (eqb-true set n same)) one, rest all)
     by false other all rest = (all.0, rest all.1)
 
-stand-all : (binding : Pairs) (sets : List ℕ) → Stand binding (each_once sets) → Stand binding sets
+stand-all : (binding : Pairs) (sets : List ℕ) → Stand binding (distinct_numbers sets) → Stand binding sets
 stand-all binding [] all = tt
 stand-all binding (set ∷ sets) all =
-    (all.0, stand-all binding sets (stand-unfiltered binding set (each_once sets) all.0 all.1))
+    (all.0, stand-all binding sets (stand-unfiltered binding set (distinct_numbers sets) all.0 all.1))
 
 module _ {F : Type 0} (v : F → Number) (limit : ℕ) (state : State) (binding : Pairs) where
   -- The labels of indices all exist.

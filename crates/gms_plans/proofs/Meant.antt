@@ -9,7 +9,7 @@ use Rattle.gms_check.specs.Loaded.{IsAccepted}
 use Rattle.gms_event.specs.Events.{Event, Solved, displays, solves, aborts, stops}
 use Rattle.gms_rows.specs.ProgramLp.{program_lp}
 use Rattle.gms_exec.specs.Answering.{IsSolved, IsAnswered, AreAnswered}
-use Rattle.gms_exec.specs.Run.{Course, World, one_after_another, of_statement, run_from}
+use Rattle.gms_exec.specs.Run.{Course, World, in_sequence, of_statement, run_from}
 use Rattle.gms_run_laws.proofs.Lasting.{IsLasting, start-lasts}
 use Rattle.gms_run_laws.proofs.LinearDefinitions.{model-linear}
 use Rattle.gms_run_laws.proofs.Reaching.{last-reaches}
@@ -47,14 +47,14 @@ module _ {F : Type 0} (v : F → Number) (limit : ℕ) (world : World F) (accept
   start = record { state = first; events = []; left = numbers; taken = 0; halted = None }
 
   abbrev does : Course → Course
-  does = one_after_another (map (of_statement v limit world) statements) []
+  does = in_sequence (map (of_statement v limit world) statements) []
 
   -- a solve that is shown is one of the program
   is-solve : (solved : Solved) → Waits v limit world does start solved → IsSolve v limit world first statements answers solved
   is-solve solved waits =
       let place : solved.answer ≡ length waits.before = omega (arith, waits.place) in
-      let front : take solved.answer numbers ≡ waits.before = ap (λ n. take n numbers) place ∙ ap (take (length waits.before)) waits.parts ∙ take-before waits.before waits.rest in
-      let same : run_before v limit world first statements answers solved.answer ≡ does (with_left start waits.before) = ap (λ (ls : List (Answer Number)). run_from v limit world first ls statements) front in
+      let prefix : take solved.answer numbers ≡ waits.before = ap (λ n. take n numbers) place ∙ ap (take (length waits.before)) waits.parts ∙ take-before waits.before waits.rest in
+      let same : run_before v limit world first statements answers solved.answer ≡ does (with_left start waits.before) = ap (λ (ls : List (Answer Number)). run_from v limit world first ls statements) prefix in
       let asks = waits.asks in
       record {
         statement = asks.statement;

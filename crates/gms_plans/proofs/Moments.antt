@@ -20,7 +20,7 @@ use Rattle.gms_ast.specs.declared.word.Word.{Word}
 use Rattle.gms_ast.specs.Trees as tree
 use Rattle.gms_ast.specs.TreeView.{tree_of, control_tree}
 use Rattle.gms_store.specs.State.{State, attributes_of, with_settings}
-use Rattle.gms_check.specs.LeftSides.{IsIn, StandsIn}
+use Rattle.gms_check.specs.LeftSides.{IsIn, IsNestedIn}
 use Rattle.gms_eval.specs.Bindings.{Pairs, controlled}
 use Rattle.gms_eval.specs.Faults.{Answer as Evaluated, Fault, faulted, nothing}
 use Rattle.gms_eval.specs.declared.stop.StopKind.TheVariants.{NoSolver, Aborted}
@@ -33,7 +33,7 @@ use Rattle.gms_exec.specs.Assignment.{target_of, after_assignment}
 use Rattle.gms_exec.specs.Options.{after_options}
 use Rattle.gms_exec.specs.Showing.{all_shown}
 use Rattle.gms_exec.specs.Solved.{after_end}
-use Rattle.gms_exec.specs.Run.{Course, Halt, waiting, World, OfAct, OfStatement, in_state, with_event, stopped_by, while_it_runs, with_evaluated, one_after_another, for_each, display, abort, abort_where, over_elements, answered, solve, act_step, statement_step, of_statement, labels_in}
+use Rattle.gms_exec.specs.Run.{Course, Halt, waiting, World, OfAct, OfStatement, in_state, with_event, stopped_by, while_it_runs, with_evaluated, in_sequence, for_each, display, abort, abort_where, over_elements, answered, solve, act_step, statement_step, of_statement, labels_in}
 use Rattle.gms_run_laws.specs.Reached.{IsStatementOf}
 use Rattle.lp_core.specs.declared.answer.Answer.{Answer}
 use Rattle.lp_core.specs.declared.program.Lp.{Lp}
@@ -58,7 +58,7 @@ with_left c left = record { state = c.state; events = c.events; left = left; tak
 -- ---- statements deeper in loops
 
 module _ {F : Type 0} where
-  deeper : (depth : ℕ) (inner outer next : Stmt F) → StandsIn depth inner outer → IsIn (λ (s : Stmt F). s ≡ next) inner → StandsIn (suc depth) next outer
+  deeper : (depth : ℕ) (inner outer next : Stmt F) → IsNestedIn depth inner outer → IsIn (λ (s : Stmt F). s ≡ next) inner → IsNestedIn (suc depth) next outer
   deeper zero inner outer next same inside = subst (λ (s : Stmt F). IsIn (λ (t : Stmt F). t ≡ next) s) (sym same) inside
   deeper (suc depth) inner outer next stands inside = record {
     control = stands.control;
@@ -279,15 +279,15 @@ module _ {F : Type 0} (v : F → Number) (limit : ℕ) (world : World F) where
   abbrev pub DoesSo : OfStatement → Type 0
   DoesSo s = (binding : Pairs) (c : Course) → Does (s binding) c
 
-  all-rest : (ss : List OfStatement) (binding : Pairs) → Rests (one_after_another ss binding)
+  all-rest : (ss : List OfStatement) (binding : Pairs) → Rests (in_sequence ss binding)
   all-rest [] binding d halt e = refl
   all-rest (s ∷ ss) binding d halt e =
-      ap (one_after_another ss binding) (while-rests (s binding) d halt e) ∙ all-rest ss binding d halt e
+      ap (in_sequence ss binding) (while-rests (s binding) d halt e) ∙ all-rest ss binding d halt e
 
-  pub all-do : (ss : List OfStatement) → EachOf DoesSo ss → DoesSo (one_after_another ss)
+  pub all-do : (ss : List OfStatement) → EachOf DoesSo ss → DoesSo (in_sequence ss)
   all-do [] each binding c = does-nothing c
   all-do (s ∷ ss) each binding c =
-      does-both (while_it_runs (s binding)) (one_after_another ss binding) (all-rest ss binding) c (while-does (s binding) c (each.0 binding c))
+      does-both (while_it_runs (s binding)) (in_sequence ss binding) (all-rest ss binding) c (while-does (s binding) c (each.0 binding c))
       (all-do ss each.1 binding (while_it_runs (s binding) c))
 
   loop-rests : (sets : List ℕ) (body : List OfStatement) (elements : List (List ℕ)) (binding : Pairs) → Rests (for_each sets body elements binding)
@@ -298,8 +298,8 @@ module _ {F : Type 0} (v : F → Number) (limit : ℕ) (world : World F) where
   each-do : (sets : List ℕ) (body : List OfStatement) (elements : List (List ℕ)) → EachOf DoesSo body → DoesSo (for_each sets body elements)
   each-do sets body [] each binding c = does-nothing c
   each-do sets body (element ∷ elements) each binding c =
-      does-both (one_after_another body (controlled binding sets element)) (for_each sets body elements binding) (loop-rests sets body elements binding) c (all-do body each (controlled binding sets element) c)
-      (each-do sets body elements each binding (one_after_another body (controlled binding sets element) c))
+      does-both (in_sequence body (controlled binding sets element)) (for_each sets body elements binding) (loop-rests sets body elements binding) c (all-do body each (controlled binding sets element) c)
+      (each-do sets body elements each binding (in_sequence body (controlled binding sets element) c))
 
   -- ---- acts
 
@@ -498,6 +498,6 @@ module _ {F : Type 0} (v : F → Number) (limit : ℕ) (world : World F) where
   each-statement (s ∷ statements) = (statement-does s, each-statement statements)
 
   -- The last statements of a program, in sequence.
-  pub last-do : (before statements : List (Stmt F)) → world.program.statements.items ≡ before ++ statements → DoesSo (one_after_another (map (of_statement v limit world) statements))
+  pub last-do : (before statements : List (Stmt F)) → world.program.statements.items ≡ before ++ statements → DoesSo (in_sequence (map (of_statement v limit world) statements))
   last-do before statements parts =
       all-do (map (of_statement v limit world) statements) (statements-do world.program.statements.items before statements parts (λ first rest s is. record { before = first; outer = s; stands = (rest, is); depth = 0; inside = refl }) (each-statement statements))

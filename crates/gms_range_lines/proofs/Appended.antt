@@ -17,8 +17,8 @@ module _ {X Y : Type 0} (f : ℕ × Y → List ℕ) (v : X → Y) (xs : List X) 
   Goes i now = now ++ flat_map f (placed v i xs) ≡ old ++ flat_map f (placed v 0 xs)
 
   -- the line of the element at the place was appended
-  pub goes_on : (i : ℕ) (x : X) (now new : List ℕ) → i < length xs → x ≡ get_or xs i x → Goes i now → new ≡ now ++ f (i, v x) → Goes (i + 1) new
-  goes_on i x now new within is so_far appended =
+  pub continues : (i : ℕ) (x : X) (now new : List ℕ) → i < length xs → x ≡ get_or xs i x → Goes i now → new ≡ now ++ f (i, v x) → Goes (i + 1) new
+  continues i x now new within is so_far appended =
       ap (λ t. t ++ flat_map f (placed v (i + 1) xs)) appended ∙ append_assoc now (f (i, v x)) (flat_map f (placed v (i + 1) xs))
       ∙ ap (λ ys. now ++ flat_map f ys) (sym (placed_at v xs i x within is)) ∙ so_far
 

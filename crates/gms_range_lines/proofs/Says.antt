@@ -112,13 +112,13 @@ module _ (names labels : List (List ℕ)) (limit : ℕ) where
       SaysRanges names labels limit 1 (map (lp_numbers value) (take place programs)) (map (answer_numbers value) (take place answers)) text →
       (said : List ℕ) × SaysAnswer names labels limit (place + 1) (lp_numbers value lp) (answer_numbers value answer) said × (new ≡ text ++ said) →
       SaysRanges names labels limit 1 (map (lp_numbers value) (take (place + 1) programs)) (map (answer_numbers value) (take (place + 1) answers)) new
-  says_next {F} value programs answers place lp answer text new in_programs in_answers is_lp is_answer so_far (said, of, behind) =
+  says_next {F} value programs answers place lp answer text new in_programs in_answers is_lp is_answer so_far (said, of, following) =
       let ps = taken_more (lp_numbers value) programs place lp in_programs is_lp in
       let ans = taken_more (answer_numbers value) answers place answer in_answers is_answer in
       let many : length (map (lp_numbers value) (take place programs)) ≡ place = taken_many (lp_numbers value) programs place in_programs in
       let many_answers : length (map (answer_numbers value) (take place answers)) ≡ place = taken_many (answer_numbers value) answers place in_answers in
       let number : place + 1 ≡ 1 + length (map (lp_numbers value) (take place programs)) = omega (arith, many) in
-      rw (ps, ans, behind)
+      rw (ps, ans, following)
       (says_more 1 (map (lp_numbers value) (take place programs)) (map (answer_numbers value) (take place answers)) (lp_numbers value lp) (answer_numbers value answer) text said (many ∙ sym many_answers) so_far (subst (λ n. SaysAnswer names labels limit n (lp_numbers value lp) (answer_numbers value answer) said) number of))
 
   -- all solves

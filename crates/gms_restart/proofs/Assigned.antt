@@ -21,7 +21,7 @@ use Rattle.gms_ast.specs.TreeView.{tree_of}
 use Rattle.gms_store.specs.State.{State, symbol_at, symbol_of, base_of}
 use Rattle.gms_store.specs.Declarations.{is_undeclared, blank_state}
 use Rattle.gms_scope.specs.Names.{has_no_declaration, positions}
-use Rattle.gms_check.specs.Checked.{StandsAfter}
+use Rattle.gms_check.specs.Checked.{FollowsIn}
 use Rattle.gms_check.specs.CompileErrors.{known_after}
 use Rattle.gms_check.specs.Domains as checking
 use Rattle.gms_check.specs.Loaded.{IsAccepted, loaded, sound}
@@ -142,7 +142,7 @@ module _ {F : Type 0} (v : F → Number) (limit : ℕ) (state : State) where
 
 -- ---- the positions of the name
 
-module _ {F : Type 0} (v : F → Number) (program : Program F) (before : List (Stmt F)) (statement : Stmt F) (stands : StandsAfter program before statement) where
+module _ {F : Type 0} (v : F → Number) (program : Program F) (before : List (Stmt F)) (statement : Stmt F) (stands : FollowsIn program before statement) where
   abbrev then_state : State
   then_state = state_after v (length program.names) (sound before)
 

@@ -41,13 +41,13 @@ use Rattle.gms_set.specs.Expansion.{ExpandedData}
 use Rattle.gms_check.specs.declared.error.CompileError.{CompileError}
 use Rattle.gms_check.specs.declared.error.ErrorKind.{ErrorKind}
 use Rattle.gms_check.specs.declared.error.ErrorKind.TheVariants as wrong
-use Rattle.gms_check.specs.declared.contexts.Standing.{Standing}
+use Rattle.gms_check.specs.declared.contexts.Context.{Context}
 use Rattle.gms_check.specs.CompileErrors.{act_errors, checked_kinds, compile_errors, declaration_errors, errors_after, errors_at, errors_of, has_error, is_faultless, known_after, known_after_item, known_in, model_errors, statement_error}
 use Rattle.gms_check.specs.Controls.{controlled_twice, not_ordered, uncontrolled}
 use Rattle.gms_check.specs.DeclarationUses.{are_usable, data_uses, domain_use, expansion_uses, failure, item_uses, kind_uses, model_uses}
 use Rattle.gms_check.specs.Domains.{domain_of_label, domain_of_set, dynamic_domain, wrong_arity}
 use Rattle.gms_check.specs.Errors.{first_error}
-use Rattle.gms_check.specs.Kinds.{discrete, is_left_amount, wrong_function, wrong_kind}
+use Rattle.gms_check.specs.Kinds.{discrete, is_target_amount, wrong_function, wrong_kind}
 use Rattle.gms_check.specs.Linearity.{endogenous, has_variable, have_variable, is_sum, is_variable_by, nonlinear}
 use Rattle.gms_check.specs.Names.{redeclared, unknown_name}
 use Rattle.gms_check.specs.OptionWords.{is_one_of}
@@ -106,35 +106,35 @@ module _ (selected : List (List ℕ)) where
   -- ---- expressions
 
   mutual
-    tree-fits : (standing : Standing) (around : Place) (controlled : List ℕ) (e : Tree Frac) → AllFit (uses standing around controlled e)
-    tree-fits standing around controlled (number n) = (tt, tt)
-    tree-fits standing around controlled plus_infinity = (tt, tt)
-    tree-fits standing around controlled not_available = (tt, tt)
-    tree-fits standing around controlled yes = (tt, tt)
-    tree-fits standing around controlled no = (tt, tt)
-    tree-fits standing around controlled (reference at name s indices) = (tt, amounts-fit controlled indices)
-    tree-fits standing around controlled (place_in_set at name) = (tt, tt)
-    tree-fits standing around controlled (size_of_set at name) = (tt, tt)
-    tree-fits standing around controlled (call at function args) = (tt, parts-fit (as_inner standing) at controlled args)
-    tree-fits standing around controlled (fold_over at op control body) =
-        (tt, fit-both (control_uses at controlled control) (uses (as_inner standing) at (controlled ++ sets_of_control control) body) (control-fits at controlled control) (tree-fits (as_inner standing) at (controlled ++ sets_of_control control) body))
-    tree-fits standing around controlled (negated operand) = tree-fits (as_part standing) around controlled operand
-    tree-fits standing around controlled (sum parts) = parts-fit (as_part standing) around controlled parts
-    tree-fits standing around controlled (product parts) =
-        fit-both (part_uses (as_part standing) around controlled parts) (steps standing around parts) (parts-fit (as_part standing) around controlled parts) (steps-fit standing around parts)
-    tree-fits standing around controlled (power parts) =
-        fit-both (part_uses (as_part standing) around controlled parts) (steps standing around parts) (parts-fit (as_part standing) around controlled parts) (steps-fit standing around parts)
-    tree-fits standing around controlled (relation parts) = (tt, parts-fit as_number around controlled parts)
-    tree-fits standing around controlled (not_so operand) = tree-fits (as_denied standing) around controlled operand
-    tree-fits standing around controlled (all_of parts) = (tt, parts-fit as_condition around controlled parts)
-    tree-fits standing around controlled (one_of parts) = (tt, parts-fit as_condition around controlled parts)
-    tree-fits standing around controlled (guarded operand guards) =
-        fit-both (uses (as_guarded standing) around controlled operand) (part_uses as_condition around controlled guards) (tree-fits (as_guarded standing) around controlled operand) (parts-fit as_condition around controlled guards)
+    tree-fits : (context : Context) (around : Place) (controlled : List ℕ) (e : Tree Frac) → AllFit (uses context around controlled e)
+    tree-fits context around controlled (number n) = (tt, tt)
+    tree-fits context around controlled plus_infinity = (tt, tt)
+    tree-fits context around controlled not_available = (tt, tt)
+    tree-fits context around controlled yes = (tt, tt)
+    tree-fits context around controlled no = (tt, tt)
+    tree-fits context around controlled (reference at name s indices) = (tt, amounts-fit controlled indices)
+    tree-fits context around controlled (place_in_set at name) = (tt, tt)
+    tree-fits context around controlled (size_of_set at name) = (tt, tt)
+    tree-fits context around controlled (call at function args) = (tt, parts-fit (as_inner context) at controlled args)
+    tree-fits context around controlled (fold_over at op control body) =
+        (tt, fit-both (control_uses at controlled control) (uses (as_inner context) at (controlled ++ sets_of_control control) body) (control-fits at controlled control) (tree-fits (as_inner context) at (controlled ++ sets_of_control control) body))
+    tree-fits context around controlled (negated operand) = tree-fits (as_part context) around controlled operand
+    tree-fits context around controlled (sum parts) = parts-fit (as_part context) around controlled parts
+    tree-fits context around controlled (product parts) =
+        fit-both (part_uses (as_part context) around controlled parts) (steps context around parts) (parts-fit (as_part context) around controlled parts) (steps-fit context around parts)
+    tree-fits context around controlled (power parts) =
+        fit-both (part_uses (as_part context) around controlled parts) (steps context around parts) (parts-fit (as_part context) around controlled parts) (steps-fit context around parts)
+    tree-fits context around controlled (relation parts) = (tt, parts-fit as_number around controlled parts)
+    tree-fits context around controlled (not_so operand) = tree-fits (as_denied context) around controlled operand
+    tree-fits context around controlled (all_of parts) = (tt, parts-fit as_condition around controlled parts)
+    tree-fits context around controlled (one_of parts) = (tt, parts-fit as_condition around controlled parts)
+    tree-fits context around controlled (guarded operand guards) =
+        fit-both (uses (as_guarded context) around controlled operand) (part_uses as_condition around controlled guards) (tree-fits (as_guarded context) around controlled operand) (parts-fit as_condition around controlled guards)
 
-    parts-fit : (standing : Standing) (around : Place) (controlled : List ℕ) (parts : Parts Frac) → AllFit (part_uses standing around controlled parts)
-    parts-fit standing around controlled no_part = tt
-    parts-fit standing around controlled (part mark e rest) =
-        fit-both (uses standing (place_by_mark mark around) controlled e) (part_uses standing around controlled rest) (tree-fits standing (place_by_mark mark around) controlled e) (parts-fit standing around controlled rest)
+    parts-fit : (context : Context) (around : Place) (controlled : List ℕ) (parts : Parts Frac) → AllFit (part_uses context around controlled parts)
+    parts-fit context around controlled no_part = tt
+    parts-fit context around controlled (part mark e rest) =
+        fit-both (uses context (place_by_mark mark around) controlled e) (part_uses context around controlled rest) (tree-fits context (place_by_mark mark around) controlled e) (parts-fit context around controlled rest)
 
     amounts-fit : (controlled : List ℕ) (indices : Indices Frac) → AllFit (amount_uses controlled indices)
     amounts-fit controlled no_index = tt
@@ -147,13 +147,13 @@ module _ (selected : List (List ℕ)) where
     control-fits at controlled (over sets) = (tt, tt)
     control-fits at controlled (over_where sets condition) = (tt, tree-fits as_condition at (controlled ++ sets) condition)
 
-    steps-fit : (standing : Standing) (around : Place) (parts : Parts Frac) → AllFit (steps standing around parts)
-    steps-fit standing around no_part = tt
-    steps-fit standing around (part mark e rest) = later-fit standing around (e ∷ []) rest
+    steps-fit : (context : Context) (around : Place) (parts : Parts Frac) → AllFit (steps context around parts)
+    steps-fit context around no_part = tt
+    steps-fit context around (part mark e rest) = later-fit context around (e ∷ []) rest
 
-    later-fit : (standing : Standing) (around : Place) (earlier : List (Tree Frac)) (parts : Parts Frac) → AllFit (later_steps standing around earlier parts)
-    later-fit standing around earlier no_part = tt
-    later-fit standing around earlier (part mark e rest) = (tt, later-fit standing around (earlier ++ e ∷ []) rest)
+    later-fit : (context : Context) (around : Place) (earlier : List (Tree Frac)) (parts : Parts Frac) → AllFit (later_steps context around earlier parts)
+    later-fit context around earlier no_part = tt
+    later-fit context around earlier (part mark e rest) = (tt, later-fit context around (earlier ++ e ∷ []) rest)
 
   shifts-fit : (controlled : List ℕ) (indices : Indices Frac) → AllFit (shift_uses controlled indices)
   shifts-fit controlled no_index = tt
@@ -312,32 +312,32 @@ module _ (selected : List (List ℕ)) where
     any-same : (earlier : List (Tree Frac)) → list_any (has_variable other) earlier ≡ list_any (has_variable known) earlier
     any-same earlier = ap (λ (f : Tree Frac → Bool). list_any f earlier) (fun_ext has-same)
 
-    amount-same : (amount : Tree Frac) → is_left_amount other amount ≡ is_left_amount known amount
+    amount-same : (amount : Tree Frac) → is_target_amount other amount ≡ is_target_amount known amount
     amount-same (number n) = refl
     amount-same (reference at name suffix.None indices) = refl
     amount-same (reference at name s indices) = refl
     amount-same e = refl
 
     unknown-same : (used : Use Frac) → unknown_name other used ≡ unknown_name known used
-    unknown-same (literal standing) = refl
+    unknown-same (literal context) = refl
     unknown-same used = refl
 
     redeclared-same : (used : Use Frac) → redeclared other used ≡ redeclared known used
-    redeclared-same (literal standing) = refl
+    redeclared-same (literal context) = refl
     redeclared-same used = refl
 
     kind-same : (used : Use Frac) → wrong_kind other used ≡ wrong_kind known used
     kind-same (shifting amount) = ap not (amount-same amount)
-    kind-same (stepping standing multiplies earlier right) = refl
-    kind-same (stepping standing operation earlier right) = refl
+    kind-same (stepping context multiplies earlier right) = refl
+    kind-same (stepping context operation earlier right) = refl
     kind-same used = refl
 
     arity-same : (used : Use Frac) → wrong_arity other used ≡ wrong_arity known used
-    arity-same (literal standing) = refl
+    arity-same (literal context) = refl
     arity-same used = refl
 
     set-same : (used : Use Frac) → domain_of_set other used ≡ domain_of_set known used
-    set-same (literal standing) = refl
+    set-same (literal context) = refl
     set-same used = refl
 
     label-same : (used : Use Frac) → domain_of_label other used ≡ domain_of_label known used
@@ -346,60 +346,60 @@ module _ (selected : List (List ℕ)) where
     label-same used = refl
 
     uncontrolled-same : (used : Use Frac) → uncontrolled other used ≡ uncontrolled known used
-    uncontrolled-same (literal standing) = refl
+    uncontrolled-same (literal context) = refl
     uncontrolled-same used = refl
 
     twice-same : (used : Use Frac) → controlled_twice other used ≡ controlled_twice known used
-    twice-same (literal standing) = refl
+    twice-same (literal context) = refl
     twice-same used = refl
 
     ordered-same : (used : Use Frac) → not_ordered other used ≡ not_ordered known used
-    ordered-same (literal standing) = refl
+    ordered-same (literal context) = refl
     ordered-same used = refl
 
     dynamic-same : (used : Use Frac) → dynamic_domain other used ≡ dynamic_domain known used
-    dynamic-same (literal standing) = refl
+    dynamic-same (literal context) = refl
     dynamic-same used = refl
 
     nonlinear-same : (used : Use Frac) → nonlinear other used ≡ nonlinear known used
-    nonlinear-same (stepping standing multiplies earlier right) = ap₂ (λ (a b : Bool). standing.variables && (a && b)) (any-same earlier) (has-same right)
-    nonlinear-same (stepping standing divides earlier right) = ap (λ (b : Bool). standing.variables && b) (has-same right)
-    nonlinear-same (stepping standing raises earlier right) = ap₂ (λ (a b : Bool). standing.variables && (a || b)) (any-same earlier) (has-same right)
-    nonlinear-same (calling standing function args) = ap (λ (b : Bool). standing.variables && b) (have-same args)
-    nonlinear-same (folding standing op body) = ap (λ (b : Bool). standing.variables && (not (is_sum op) && b)) (has-same body)
+    nonlinear-same (stepping context multiplies earlier right) = ap₂ (λ (a b : Bool). context.variables && (a && b)) (any-same earlier) (has-same right)
+    nonlinear-same (stepping context divides earlier right) = ap (λ (b : Bool). context.variables && b) (has-same right)
+    nonlinear-same (stepping context raises earlier right) = ap₂ (λ (a b : Bool). context.variables && (a || b)) (any-same earlier) (has-same right)
+    nonlinear-same (calling context function args) = ap (λ (b : Bool). context.variables && b) (have-same args)
+    nonlinear-same (folding context op body) = ap (λ (b : Bool). context.variables && (not (is_sum op) && b)) (has-same body)
     nonlinear-same used = refl
 
     discrete-same : (used : Use Frac) → discrete other used ≡ discrete known used
-    discrete-same (literal standing) = refl
+    discrete-same (literal context) = refl
     discrete-same used = refl
 
     type-same : (used : Use Frac) → model_type other used ≡ model_type known used
-    type-same (literal standing) = refl
+    type-same (literal context) = refl
     type-same used = refl
 
     defined-same : (used : Use Frac) → not_defined other used ≡ not_defined known used
-    defined-same (literal standing) = refl
+    defined-same (literal context) = refl
     defined-same used = refl
 
     again-same : (used : Use Frac) → defined_twice other used ≡ defined_twice known used
-    again-same (literal standing) = refl
+    again-same (literal context) = refl
     again-same used = refl
 
     objective-same : (used : Use Frac) → objective other used ≡ objective known used
-    objective-same (literal standing) = refl
+    objective-same (literal context) = refl
     objective-same used = refl
 
     range-same : (used : Use Frac) → option_range other used ≡ option_range known used
-    range-same (literal standing) = refl
+    range-same (literal context) = refl
     range-same used = refl
 
     endogenous-same : (used : Use Frac) → endogenous other used ≡ endogenous known used
-    endogenous-same (reading standing controlled name s indices) = ap (λ (b : Bool). not standing.variables && b) (variable-same name s)
+    endogenous-same (reading context controlled name s indices) = ap (λ (b : Bool). not context.variables && b) (variable-same name s)
     endogenous-same (showing name s) = variable-same name s
     endogenous-same used = refl
 
     function-same : (used : Use Frac) → wrong_function other used ≡ wrong_function known used
-    function-same (literal standing) = refl
+    function-same (literal context) = refl
     function-same used = refl
 
     data-same : (used : Use Frac) → data_fault other used ≡ data_fault known used
@@ -509,9 +509,9 @@ module _ (selected : List (List ℕ)) where
     after-again past [] among none = refl
     after-again past (s ∷ rest) among none =
         let o : Option CompileError = statement_error (known_after frac_value program names past) s in
-        let behind : Option CompileError → List CompileError = λ p. errors_after frac_value program names (past ++ (s, is_none p) ∷ []) rest in
-        let here : o ≡ None = no-option o (none-left (option_to_list o) (behind o) none) in
-        let later : behind None ≡ [] = sym (ap behind here) ∙ none-right (option_to_list o) (behind o) none in
+        let following : Option CompileError → List CompileError = λ p. errors_after frac_value program names (past ++ (s, is_none p) ∷ []) rest in
+        let here : o ≡ None = no-option o (none-left (option_to_list o) (following o) none) in
+        let later : following None ≡ [] = sym (ap following here) ∙ none-right (option_to_list o) (following o) none in
         let again : statement_error (known_after frac_value program selected past) s ≡ None = statement-again (known_after frac_value program names past) s (among-left selected (solvers_in s) (flat_map solvers_in rest) among) here in
         ap (λ (p : Option CompileError). option_to_list p ++ errors_after frac_value program selected (past ++ (s, is_none p) ∷ []) rest) again
         ∙ after-again (past ++ (s, true) ∷ []) rest (among-right selected (solvers_in s) (flat_map solvers_in rest) among) later

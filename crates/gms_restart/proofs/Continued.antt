@@ -22,14 +22,14 @@ use Rattle.gms_save.proofs.SeenPrograms.{Seen, assigned-are, seen}
 use Rattle.gms_save_text.specs.Validity.{is_solver_name}
 use Rattle.gms_joint_source.specs.JointSources.{first_line, joint_source}
 use Rattle.gms_restart.specs.StatementLines.{AreNew, AreSaved, SeenNew, SeenSaved}
-use Rattle.gms_restart.proofs.NewTypes.{saved-front}
+use Rattle.gms_restart.proofs.NewTypes.{saved-prefix}
 use Rattle.gms_restart.proofs.SeenAlike.{new-types, seen-same, stand-for}
-use Rattle.gms_restart.proofs.Restarted.{Split, behind-firsts, new-seen, saved-seen, split}
+use Rattle.gms_restart.proofs.Restarted.{Split, following-firsts, new-seen, saved-seen, split}
 use Rattle.gms_restart.specs.JointPrograms.{Continues}
 use Rattle.gms_restart.proofs.DeclaredNames.{declares-own}
 use Rattle.gms_restart.proofs.Continuing.{continues}
 use Rattle.gms_restart.specs.Labels.{WritesItsLabels}
-use Rattle.gms_restart.specs.LastStates.{GoesOnBehind, later_state}
+use Rattle.gms_restart.specs.LastStates.{ContinuesSaved, later_state}
 use Rattle.gms_restart.proofs.ChosenSolvers.{no-error-chosen}
 use Rattle.gms_restart.proofs.Grounds.{among}
 use Rattle.gms_restart.proofs.Kept.{Kept}
@@ -79,10 +79,10 @@ module _ (most : ℕ) (source file : List ℕ) (saved : Program Frac) (world : W
 
   others-are : drop (length (saved_statements from whole)) whole.statements.items ≡ parts.others
   others-are =
-      ap₂ (λ (xs ys : List (Stmt Frac)). drop (length xs) ys) (ap (filter (is_saved from)) parts.parts ∙ saved-front from parts.firsts parts.others are_saved are_new) parts.parts
-      ∙ behind-firsts parts.firsts parts.others
+      ap₂ (λ (xs ys : List (Stmt Frac)). drop (length xs) ys) (ap (filter (is_saved from)) parts.parts ∙ saved-prefix from parts.firsts parts.others are_saved are_new) parts.parts
+      ∙ following-firsts parts.firsts parts.others
 
-  goes-on : GoesOnBehind frac_value saved whole parts.firsts parts.others
+  goes-on : ContinuesSaved frac_value saved whole parts.firsts parts.others
   goes-on =
       let names = names_go_on most source file one other p q in
       let labels = labels_go_on most source file one other p q in

@@ -34,14 +34,14 @@ use Rattle.gms_joint_source.proofs.ProgramPrefixes.{attached, kin, names_go_on}
 use Rattle.gms_joint_source.proofs.KinPrograms.{statements_same}
 use Rattle.gms_run_laws.proofs.Padding.{test-of}
 use Rattle.gms_save.specs.JointErrors.{joint_errors}
-use Rattle.gms_joint_source.specs.JointSources.{BeginsWith, DerivesSource, HaveFront, attach, first_line, joint_source}
+use Rattle.gms_joint_source.specs.JointSources.{BeginsWith, DerivesSource, HaveJointPrefix, attach, first_line, joint_source}
 use Rattle.gms_joint_source.proofs.JointDerivations.{begins_with, have_front, no_ends, own_seen, seen_own}
 use Rattle.gms_restart.specs.Restarts.{SaysTheSame, base_run, whole_run}
 use Rattle.gms_restart.specs.StatementLines.{SeenNew, SeenSaved}
 use Rattle.gms_restart.proofs.Restarted.{restarted}
 use Rattle.gms_restart.specs.JointPrograms.{Continues}
 use Rattle.gms_restart.proofs.DeclaredNames.{declares-own}
-use Rattle.gms_restart.proofs.TokenLines.{IsEarly, IsLate, all-behind, front-has, rest-has, seen-early, seen-late}
+use Rattle.gms_restart.proofs.TokenLines.{IsEarly, IsLate, all-following, prefix-has, rest-has, seen-early, seen-late}
 use Rattle.lp_core.specs.declared.answer.Answer.{Answer}
 
 -- ---- lists of segments
@@ -80,7 +80,7 @@ module _ (source : List ℕ) (names labels : List (List ℕ)) (from : ℕ) (some
 
   keywords-early : (tree : Derivation) → EachHas Early (yield tree) → SeenSaved from (keyword_statements source names labels tree)
   keywords-early (more first others) all =
-      (first-early (yield first) (front-has Early (yield first) (yield others) all), keywords-early others (rest-has Early (yield first) (yield others) all))
+      (first-early (yield first) (prefix-has Early (yield first) (yield others) all), keywords-early others (rest-has Early (yield first) (yield others) all))
   keywords-early tree all = tt
 
   named-early : (tree : Derivation) (others : Statements Number) → EachHas Early (yield tree) → SeenSaved from others → SeenSaved from (named_first source names labels tree others)
@@ -89,17 +89,17 @@ module _ (source : List ℕ) (names labels : List (List ℕ)) (from : ℕ) (some
 
   segment-early : (tree : Derivation) → EachHas Early (yield tree) → SeenSaved from (segment source names labels tree)
   segment-early (node (pair named others)) all =
-      named-early named (keyword_statements source names labels others) (front-has Early (yield named) (yield others) all) (keywords-early others (rest-has Early (yield named) (yield others) all))
+      named-early named (keyword_statements source names labels others) (prefix-has Early (yield named) (yield others) all) (keywords-early others (rest-has Early (yield named) (yield others) all))
   segment-early tree all = tt
 
   segments-early : (tree : Derivation) → EachHas Early (yield tree) → SeenSaved from (segments source names labels tree)
   segments-early (more (pair mark tree) others) all =
-      saved-both (segment source names labels tree) (segments source names labels others) (segment-early tree (rest-has Early (yield mark) (yield tree) (front-has Early (yield mark ++ yield tree) (yield others) all))) (segments-early others (rest-has Early (yield mark ++ yield tree) (yield others) all))
+      saved-both (segment source names labels tree) (segments source names labels others) (segment-early tree (rest-has Early (yield mark) (yield tree) (prefix-has Early (yield mark ++ yield tree) (yield others) all))) (segments-early others (rest-has Early (yield mark ++ yield tree) (yield others) all))
   segments-early tree all = tt
 
   statements-early : (tree : Derivation) → EachHas Early (yield tree) → SeenSaved from (statements_of source names labels tree)
   statements-early (node (pair first others)) all =
-      saved-both (segment source names labels first) (segments source names labels others) (segment-early first (front-has Early (yield first) (yield others) all)) (segments-early others (rest-has Early (yield first) (yield others) all))
+      saved-both (segment source names labels first) (segments source names labels others) (segment-early first (prefix-has Early (yield first) (yield others) all)) (segments-early others (rest-has Early (yield first) (yield others) all))
   statements-early tree all = tt
 
 -- ---- statements at a line or below it
@@ -124,7 +124,7 @@ module _ (source : List ℕ) (names labels : List (List ℕ)) (from : ℕ) where
 
   keywords-late : (tree : Derivation) → IsTree productions (many (the KeywordStatement)) tree → EachHas Late (yield tree) → SeenNew from (keyword_statements source names labels tree)
   keywords-late (more first others) is all =
-      (first-late (the KeywordStatement) first refl is.0 (front-has Late (yield first) (yield others) all), keywords-late others is.1 (rest-has Late (yield first) (yield others) all))
+      (first-late (the KeywordStatement) first refl is.0 (prefix-has Late (yield first) (yield others) all), keywords-late others is.1 (rest-has Late (yield first) (yield others) all))
   keywords-late tree is all = tt
 
   named-late : (tree : Derivation) (others : Statements Number) → IsTree productions (opt (the NamedStatement)) tree → EachHas Late (yield tree) → SeenNew from others → SeenNew from (named_first source names labels tree others)
@@ -133,12 +133,12 @@ module _ (source : List ℕ) (names labels : List (List ℕ)) (from : ℕ) where
 
   segment-late : (tree : Derivation) → IsTree productions (the Segment) tree → EachHas Late (yield tree) → SeenNew from (segment source names labels tree)
   segment-late (node (pair named others)) is all =
-      named-late named (keyword_statements source names labels others) is.0 (front-has Late (yield named) (yield others) all) (keywords-late others is.1 (rest-has Late (yield named) (yield others) all))
+      named-late named (keyword_statements source names labels others) is.0 (prefix-has Late (yield named) (yield others) all) (keywords-late others is.1 (rest-has Late (yield named) (yield others) all))
   segment-late tree is all = tt
 
   segments-late : (tree : Derivation) → IsTree productions Segments tree → EachHas Late (yield tree) → SeenNew from (segments source names labels tree)
   segments-late (more (pair mark tree) others) is all =
-      new-both (segment source names labels tree) (segments source names labels others) (segment-late tree is.0.1 (rest-has Late (yield mark) (yield tree) (front-has Late (yield mark ++ yield tree) (yield others) all))) (segments-late others is.1 (rest-has Late (yield mark ++ yield tree) (yield others) all))
+      new-both (segment source names labels tree) (segments source names labels others) (segment-late tree is.0.1 (rest-has Late (yield mark) (yield tree) (prefix-has Late (yield mark ++ yield tree) (yield others) all))) (segments-late others is.1 (rest-has Late (yield mark ++ yield tree) (yield others) all))
   segments-late tree is all = tt
 
 -- ---- programs
@@ -174,18 +174,18 @@ module _ (limit : ℕ) (saved file : List ℕ) (first whole : ProgramView) (p : 
   whole-tree : IsTree productions (the Program) (node (pair begins.segment (attach begins.others behind_tree)))
   whole-tree = subst (λ (t : Derivation). IsTree productions (the Program) t) begins.whole_is q.is.is_tree
 
-  behind-is : IsTree productions Segments behind_tree
-  behind-is = attached-tree begins.others behind_tree own-tree.1 whole-tree.1
+  following-is : IsTree productions Segments behind_tree
+  following-is = attached-tree begins.others behind_tree own-tree.1 whole-tree.1
 
   -- its tokens
-  behind-yield : yield q.is.tree ≡ yield p.is.tree ++ (begins.semicolon ∷ (yield begins.next ++ yield begins.last))
-  behind-yield =
+  following-yield : yield q.is.tree ≡ yield p.is.tree ++ (begins.semicolon ∷ (yield begins.next ++ yield begins.last))
+  following-yield =
       ap (λ (t : Derivation). yield t) begins.whole_is
       ∙ ap (λ (ts : List KindedToken). yield begins.segment ++ ts) (attached-yield begins.others behind_tree own-tree.1)
       ∙ sym (append_assoc (yield begins.segment) (yield begins.others) (begins.semicolon ∷ (yield begins.next ++ yield begins.last)))
       ∙ ap (λ (t : Derivation). yield t ++ (begins.semicolon ∷ (yield begins.next ++ yield begins.last))) (sym begins.first_is)
 
-  saved_front : HaveFront saved p.tokens q.tokens
+  saved_front : HaveJointPrefix saved p.tokens q.tokens
   saved_front = have_front saved file p.tokens q.tokens p.are_tokens q.are_tokens
 
   abbrev those_behind : List Token
@@ -197,8 +197,8 @@ module _ (limit : ℕ) (saved file : List ℕ) (first whole : ProgramView) (p : 
       ∙ ap (λ (es : List Token). (saved_front.own ++ es) ++ those_behind) (no_ends saved file p.tokens q.tokens p.are_tokens q.are_tokens p.is.tree own-derives saved_front)
       ∙ ap (λ (os : List Token). os ++ those_behind) (append-nil saved_front.own)
 
-  behind-late : EachHas (IsLate from) (yield begins.next ++ yield begins.last)
-  behind-late =
+  following-late : EachHas (IsLate from) (yield begins.next ++ yield begins.last)
+  following-late =
       let last : List KindedToken = (terminal.End, q.is.end) ∷ [] in
       let those : List KindedToken = yield begins.next ++ yield begins.last in
       let others : List KindedToken = kinded_tokens joint_text saved_front.others in
@@ -208,11 +208,11 @@ module _ (limit : ℕ) (saved file : List ℕ) (first whole : ProgramView) (p : 
       ap (kinded_tokens joint_text) tokens-are ∙ map-append see saved_front.own those_behind ∙ ap (λ (ts : List KindedToken). ts ++ (see saved_front.semicolon ∷ others)) own in
       let agree : see saved_front.semicolon ∷ others ≡ begins.semicolon ∷ (those ++ last) =
       cancelled (yield p.is.tree) (see saved_front.semicolon ∷ others) (begins.semicolon ∷ (those ++ last))
-      (sym parts ∙ q.is.tokens_are ∙ ap (λ (ts : List KindedToken). ts ++ last) behind-yield ∙ append_assoc (yield p.is.tree) (begins.semicolon ∷ those) last) in
+      (sym parts ∙ q.is.tokens_are ∙ ap (λ (ts : List KindedToken). ts ++ last) following-yield ∙ append_assoc (yield p.is.tree) (begins.semicolon ∷ those) last) in
       let rest : others ≡ those ++ last = cc in
       let is_placed : All (IsPlaced joint_text) (saved_front.own ++ those_behind) = subst (All (IsPlaced joint_text)) tokens-are (tokens_placed joint_text q.tokens q.are_tokens) in
-      let others_placed : All (IsPlaced joint_text) saved_front.others = All-tail (IsPlaced joint_text) saved_front.semicolon saved_front.others (all-behind (IsPlaced joint_text) saved_front.own those_behind is_placed) in
-      front-has (IsLate from) those last (subst (EachHas (IsLate from)) rest (seen-late saved file saved_front.others others_placed saved_front.below))
+      let others_placed : All (IsPlaced joint_text) saved_front.others = All-tail (IsPlaced joint_text) saved_front.semicolon saved_front.others (all-following (IsPlaced joint_text) saved_front.own those_behind is_placed) in
+      prefix-has (IsLate from) those last (subst (EachHas (IsLate from)) rest (seen-late saved file saved_front.others others_placed saved_front.below))
 
   -- the statements of the file
   abbrev news : Statements Number
@@ -229,13 +229,13 @@ module _ (limit : ℕ) (saved file : List ℕ) (first whole : ProgramView) (p : 
 
   pub continues : Continues from first whole
   continues =
-      let early : EachHas (IsEarly from) (yield p.is.tree) = front-has (IsEarly from) (yield p.is.tree) ((terminal.End, p.is.end) ∷ []) (subst (EachHas (IsEarly from)) p.is.tokens_are (seen-early saved p.tokens (tokens_placed saved p.tokens p.are_tokens))) in
+      let early : EachHas (IsEarly from) (yield p.is.tree) = prefix-has (IsEarly from) (yield p.is.tree) ((terminal.End, p.is.end) ∷ []) (subst (EachHas (IsEarly from)) p.is.tokens_are (seen-early saved p.tokens (tokens_placed saved p.tokens p.are_tokens))) in
       record {
         others = news;
         statements = whole-statements;
         olds = subst (SeenSaved from) (sym p.is.statements_are) (statements-early saved first.names first.labels from (omega arith) p.is.tree early);
         news = new-both joint_text whole.names whole.labels from (segment joint_text whole.names whole.labels begins.next) (segments joint_text whole.names whole.labels begins.last)
-            (segment-late joint_text whole.names whole.labels from begins.next behind-is.0.1 (front-has (IsLate from) (yield begins.next) (yield begins.last) behind-late)) (segments-late joint_text whole.names whole.labels from begins.last behind-is.1 (rest-has (IsLate from) (yield begins.next) (yield begins.last) behind-late));
+            (segment-late joint_text whole.names whole.labels from begins.next following-is.0.1 (prefix-has (IsLate from) (yield begins.next) (yield begins.last) following-late)) (segments-late joint_text whole.names whole.labels from begins.last following-is.1 (rest-has (IsLate from) (yield begins.next) (yield begins.last) following-late));
       }
 
 -- ---- the restarted run

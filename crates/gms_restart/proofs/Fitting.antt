@@ -36,7 +36,7 @@ use Rattle.gms_run_laws.proofs.FormKeys.{OkHas, EachHas, then-has, after-has, ei
 use Rattle.gms_run_laws.specs.Labels.{AreMembers}
 use Rattle.gms_run_laws.specs.LastStates.{AreFixed}
 use Rattle.gms_rows.proofs.Domains.{given, only_value}
-use Rattle.gms_save_text.specs.Validity.{stands_at, stands_in}
+use Rattle.gms_save_text.specs.Validity.{fits_position, fits_domain}
 use Rattle.gms_run_laws.specs.Names.{Each}
 use Rattle.gms_restart.specs.Labels.{tree_labels, index_labels}
 use Rattle.gms_restart.proofs.Homes.{stands_few, members-given, index-known, DataStand, IsFixedAt, MayStand, is-label, set-stands, label-stands}
@@ -125,7 +125,7 @@ pub record Ground (count : ℕ) (first : State) (assigned : ℕ → Bool) (s : S
 
 -- A state of the run: names stand for what they stood for at first, their data are in their
 -- domains, and a set that is not assigned has the members of the first state.
-pub record Standing (count : ℕ) (first : State) (assigned : ℕ → Bool) (state : State) : Type 0 where
+pub record Context (count : ℕ) (first : State) (assigned : ℕ → Bool) (state : State) : Type 0 where
   pub stays : Stays first state
   pub stand : (n : ℕ) (t : List ℕ) → has (given_in (symbol_at state n).content) t ≡ true → stands_few count first (symbol_at first n).domain t ≡ true
   pub static : (n : ℕ) → assigned n ≡ false → members_in (symbol_at state n).content ≡ members_in (symbol_at first n).content
@@ -138,14 +138,14 @@ module _ (count : ℕ) (first : State) (assigned : ℕ → Bool) where
   abbrev pub Fits : Pairs → Type 0
   Fits binding = (set label : ℕ) → label_of binding set ≡ Some label → May set label
 
-  module _ (state : State) (standing : Standing count first assigned state) where
+  module _ (state : State) (context : Context count first assigned state) where
     -- a member of a set may stand for it
     pub member-may : (set label : ℕ) → has (members_of state set) (label ∷ []) ≡ true → May set label
     member-may set label there =
         let base = base_of state set in
-        subst (λ n. MayStand count first assigned n label) ((standing.stays set).alike set) (record {
-          domain = (and_parts (stands_in count first (symbol_at first base).domain (label ∷ [])) true (standing.stand base (label ∷ []) (members-given (symbol_at state base).content (label ∷ []) there))).0;
-          member = λ none. sym (ap (λ (members : List (List ℕ)). has members (label ∷ [])) (standing.static base none)) ∙ there;
+        subst (λ n. MayStand count first assigned n label) ((context.stays set).alike set) (record {
+          domain = (and_parts (fits_domain count first (symbol_at first base).domain (label ∷ [])) true (context.stand base (label ∷ []) (members-given (symbol_at state base).content (label ∷ []) there))).0;
+          member = λ none. sym (ap (λ (members : List (List ℕ)). has members (label ∷ [])) (context.static base none)) ∙ there;
         })
 
     -- ---- elements
@@ -209,19 +209,19 @@ module _ (count : ℕ) (first : State) (assigned : ℕ → Bool) where
   split l (Some u) t e = let same : l ∷ u ≡ t = cc in (u, refl, sym same)
 
   -- an index whose label fits its position, before others
-  one-more : (position : Option ℕ) (domain : List (Option ℕ)) (o : Option ℕ) (xs : List (Option ℕ)) (t : List ℕ) → ((l : ℕ) → o ≡ Some l → (nat_lt l count ≡ true) × (stands_at first position l ≡ true)) → ((u : List ℕ) → all_there xs ≡ Some u → stands_in count first domain u ≡ true) → all_there (o ∷ xs) ≡ Some t → stands_in count first (position ∷ domain) t ≡ true
+  one-more : (position : Option ℕ) (domain : List (Option ℕ)) (o : Option ℕ) (xs : List (Option ℕ)) (t : List ℕ) → ((l : ℕ) → o ≡ Some l → (nat_lt l count ≡ true) × (fits_position first position l ≡ true)) → ((u : List ℕ) → all_there xs ≡ Some u → fits_domain count first domain u ≡ true) → all_there (o ∷ xs) ≡ Some t → fits_domain count first (position ∷ domain) t ≡ true
   one-more position domain None xs t here rest e = absurd (cc)
   one-more position domain (Some l) xs t here rest e =
       let parts = split l (all_there xs) t e in
       let own = here l refl in
-      subst (λ u. stands_in count first (position ∷ domain) u ≡ true) (sym parts.2)
-      (and_from (nat_lt l count) (stands_at first position l && stands_in count first domain parts.0) own.0 (and_from (stands_at first position l) (stands_in count first domain parts.0) own.1 (rest parts.0 parts.1)))
+      subst (λ u. fits_domain count first (position ∷ domain) u ≡ true) (sym parts.2)
+      (and_from (nat_lt l count) (fits_position first position l && fits_domain count first domain parts.0) own.0 (and_from (fits_position first position l) (fits_domain count first domain parts.0) own.1 (rest parts.0 parts.1)))
 
   not-not : (b c : Bool) → (not b || c) ≡ false → (b ≡ true) × (c ≡ false)
   not-not true c e = (refl, e)
   not-not false c e = absurd (cc)
 
-  module _ (s : State) (ground : Ground count first assigned s) (declared : List ℕ) {F : Type 0} (v : F → Number) (limit : ℕ) (state : State) (standing : Standing count first assigned state) (binding : Pairs) (fits_all : Fits binding) where
+  module _ (s : State) (ground : Ground count first assigned s) (declared : List ℕ) {F : Type 0} (v : F → Number) (limit : ℕ) (state : State) (context : Context count first assigned state) (binding : Pairs) (fits_all : Fits binding) where
     -- the label that a lag reaches may stand for its set
     reached-may : (set : ℕ) (op : LagOp) (at : Place) (x : Extended) (l : ℕ) → is_index_set s set ≡ true → reached_label state binding set op at x ≡ Ok (Some l) → May set l
     reached-may set op at x l index e = by (whole_number x) (label_of binding set) e
@@ -230,20 +230,20 @@ module _ (count : ℕ) (first : State) (assigned : ℕ → Bool) where
         by None o e = absurd (cc)
         by (Some places) None e = absurd (let none : ◌≡◌ {A = Option ℕ} None (Some l) = only_value None (Some l) e in let z : ⊥ = cc in z)
         by (Some places) (Some from) e =
-            member-may state standing set l (lagged-there (members_of state set) (ground.simple state standing.stays set index).1 op places from l (only_value (lagged_label (members_of state set) op places from) (Some l) e))
+            member-may state context set l (lagged-there (members_of state set) (ground.simple state context.stays set index).1 op places from l (only_value (lagged_label (members_of state set) op places from) (Some l) e))
 
     -- a set's label fits a position that the set fits
-    set-at : (name : ℕ) (position : Option ℕ) (set l : ℕ) → IsFixedAt count first assigned position → is_index_set s set ≡ true → set_fits_position s declared (directly_above s declared) name position set ≡ true → May set l → (nat_lt l count ≡ true) × (stands_at first position l ≡ true)
+    set-at : (name : ℕ) (position : Option ℕ) (set l : ℕ) → IsFixedAt count first assigned position → is_index_set s set ≡ true → set_fits_position s declared (directly_above s declared) name position set ≡ true → May set l → (nat_lt l count ≡ true) × (fits_position first position l ≡ true)
     set-at name position set l fixed index fit may =
         (is-label count first assigned (base_of first set) l may, set-stands count first assigned ground.starts s declared ground.later name position set l fixed (index-known s set index) fit may)
 
     pub labels-stand : (name : ℕ) (domain : List (Option ℕ)) (indices : tree.Indices F) (those : List (Option ℕ)) (t : List ℕ) → AreFixed assigned first domain → index_count indices ≡ length domain → All (λ index. is_index_set s index ≡ true) (index_sets indices) →
         have_unfit_set s declared (directly_above s declared) name domain indices ≡ false → have_unfit_label s declared name domain indices ≡ false → Each (λ l. nat_lt l count) (index_labels indices) →
-        in_order (labels v limit state binding indices) ≡ Ok those → all_there those ≡ Some t → stands_in count first domain t ≡ true
+        in_order (labels v limit state binding indices) ≡ Ok those → all_there those ≡ Some t → fits_domain count first domain t ≡ true
     labels-stand name [] tree.no_index those t fixed long sets below named own e is =
         let same : ◌≡◌ {A = Option (List ℕ)} (Some []) (Some t) = ap all_there (only_value [] those e) ∙ is in
         let none : ◌≡◌ {A = List ℕ} [] t = cc in
-        subst (λ u. stands_in count first [] u ≡ true) none refl
+        subst (λ u. fits_domain count first [] u ≡ true) none refl
     labels-stand name (position ∷ domain) tree.no_index those t fixed long sets below named own e is = absurd (omega (arith, long))
     labels-stand name [] (tree.label n rest) those t fixed long sets below named own e is = absurd (omega (arith, long))
     labels-stand name [] (tree.set set rest) those t fixed long sets below named own e is = absurd (omega (arith, long))
@@ -252,7 +252,7 @@ module _ (count : ℕ) (first : State) (assigned : ℕ → Bool) where
         let one = given (in_order (labels v limit state binding rest)) (λ xs. Ok (Some n ∷ xs)) those e in
         let fixes = fixed-head position domain fixed in
         let fit = not-not (label_fits_position s declared name position n) (have_unfit_label s declared name domain rest) named in
-        one-more position domain (Some n) one.value t (λ l same. let at : n ≡ l = cc in subst (λ m. (nat_lt m count ≡ true) × (stands_at first position m ≡ true)) at (own.0, label-stands count first assigned ground.starts s declared ground.later ground.more name position n fit.0))
+        one-more position domain (Some n) one.value t (λ l same. let at : n ≡ l = cc in subst (λ m. (nat_lt m count ≡ true) × (fits_position first position m ≡ true)) at (own.0, label-stands count first assigned ground.starts s declared ground.later ground.more name position n fit.0))
         (λ u there. labels-stand name domain rest one.value u fixes.1 (omega (arith, long)) sets below fit.1 own.1 one.is there)
         (ap all_there (only_value (Some n ∷ one.value) those one.next_is) ∙ is)
     labels-stand name (position ∷ domain) (tree.set set rest) those t fixed long sets below named own e is =
@@ -276,9 +276,9 @@ module _ (count : ℕ) (first : State) (assigned : ℕ → Bool) where
     -- the tuple of indices
     pub tuple-stands : (name : ℕ) (domain : List (Option ℕ)) (indices : tree.Indices F) (those : List (Option ℕ)) (t : List ℕ) → AreFixed assigned first domain → index_count indices ≡ length domain → All (λ index. is_index_set s index ≡ true) (index_sets indices) →
         have_unfit_set s declared (directly_above s declared) name domain indices ≡ false → have_unfit_label s declared name domain indices ≡ false → Each (λ l. nat_lt l count) (index_labels indices) →
-        in_order (labels v limit state binding indices) ≡ Ok those → tuple_of those ≡ Some t → stands_in count first domain t ≡ true
+        in_order (labels v limit state binding indices) ≡ Ok those → tuple_of those ≡ Some t → fits_domain count first domain t ≡ true
     tuple-stands name domain indices those t fixed long sets below named own e is = by (nat_le (length those) 10) is
       where
-        by : (b : Bool) → (if b then all_there those else None) ≡ Some t → stands_in count first domain t ≡ true
+        by : (b : Bool) → (if b then all_there those else None) ≡ Some t → fits_domain count first domain t ≡ true
         by true is = labels-stand name domain indices those t fixed long sets below named own e is
         by false is = absurd (cc)

@@ -19,7 +19,7 @@ use Rattle.gms_store.specs.Declarations.{blank_state, declared_state, is_undecla
 use Rattle.gms_store.specs.State.{State, Symbol, symbol_at, symbol_of, alias_target, base_of, given_in, members_of, with_content}
 use Rattle.gms_scope.specs.DynamicSets.{assigned_names as assigned_by, dynamic_sets}
 use Rattle.gms_scope.specs.Names.{is_index_set, has_no_declaration}
-use Rattle.gms_check.specs.Checked.{StandsAfter}
+use Rattle.gms_check.specs.Checked.{FollowsIn}
 use Rattle.gms_check.specs.CompileErrors.{of_program}
 use Rattle.gms_check.specs.Loaded.{IsAccepted, loaded, sound}
 use Rattle.gms_check.specs.Past.{after_statement, is_among, state_after}
@@ -30,15 +30,15 @@ use Rattle.gms_exec.proofs.Staying.{Stays, follows-of}
 use Rattle.gms_run_laws.specs.Names.{Each}
 use Rattle.gms_run_laws.proofs.Changing.{within}
 use Rattle.gms_run_laws.proofs.Padding.{test-of}
-use Rattle.gms_run_laws.specs.LastStates.{AreFixed, IsFixedSet, StandAt, names_assigned}
+use Rattle.gms_run_laws.specs.LastStates.{AreFixed, IsFixedSet, FitPositions, names_assigned}
 use Rattle.gms_run_laws.specs.Reached.{at_first}
 use Rattle.gms_run_laws.proofs.FewPositions.{few-given}
 use Rattle.gms_run_laws.proofs.LoadedPositions.{loaded-stands}
 use Rattle.gms_run_laws.proofs.StaticDomains.{loaded-fixed}
 use Rattle.gms_run_laws.proofs.TidyLoaded.{loaded-well}
 use Rattle.gms_run_laws.proofs.Tidying.{has-long}
-use Rattle.gms_save.proofs.LoadedNames.{loaded-declares, declared-count, keeps-behind, same-read}
-use Rattle.gms_save_text.specs.Validity.{emptied, stands_at, stands_in}
+use Rattle.gms_save.proofs.LoadedNames.{loaded-declares, declared-count, keeps-following, same-read}
+use Rattle.gms_save_text.specs.Validity.{emptied, fits_position, fits_domain}
 use Rattle.gms_restart.specs.Labels.{HasItsLabels}
 use Rattle.gms_restart.proofs.Fitting.{Ground}
 use Rattle.gms_restart.proofs.Growth.{Member, member-sound, closed-after}
@@ -48,13 +48,13 @@ use Rattle.gms_restart.proofs.Homes.{DataStand}
 
 -- a tuple of as many labels as the domain has positions, each in the program and fitting its
 -- position, is in the domain
-stand-all : (count : ℕ) (state : State) (domain : List (Option ℕ)) (t : List ℕ) → length t ≡ length domain → StandAt state domain t → Each (λ label. nat_lt label count) t → stands_in count state domain t ≡ true
+stand-all : (count : ℕ) (state : State) (domain : List (Option ℕ)) (t : List ℕ) → length t ≡ length domain → FitPositions state domain t → Each (λ label. nat_lt label count) t → fits_domain count state domain t ≡ true
 stand-all count state [] [] long at own = refl
 stand-all count state [] (label ∷ t) long at own = absurd (omega (arith, long))
 stand-all count state (position ∷ domain) [] long at own = absurd (omega (arith, long))
 stand-all count state (position ∷ domain) (label ∷ t) long at own =
     let rest : length t ≡ length domain = omega (arith, long) in
-    and_from (nat_lt label count) (stands_at state position label && stands_in count state domain t) own.0 (and_from (stands_at state position label) (stands_in count state domain t) at.0 (stand-all count state domain t rest at.1 own.1))
+    and_from (nat_lt label count) (fits_position state position label && fits_domain count state domain t) own.0 (and_from (fits_position state position label) (fits_domain count state domain t) at.0 (stand-all count state domain t rest at.1 own.1))
 
 -- what holds of all tuples holds of each member
 pub has-all : (P : List ℕ → Type 0) (tuples : List (List ℕ)) (t : List ℕ) → All P tuples → has tuples t ≡ true → P t
@@ -84,7 +84,7 @@ module _ {F : Type 0} (v : F → Number) (program : Program F) (accepted : IsAcc
   same-bases : (ns : List ℕ) → map (base_of first) ns ≡ map (base_of (declared_state program)) ns
   same-bases [] = refl
   same-bases (n ∷ ns) =
-      ap₂ (λ (m : ℕ) (ms : List ℕ). m ∷ ms) (same-read (alias_target n) (keeps-behind n) first (declared_state program) n (loaded-declares v program)) (same-bases ns)
+      ap₂ (λ (m : ℕ) (ms : List ℕ). m ∷ ms) (same-read (alias_target n) (keeps-following n) first (declared_state program) n (loaded-declares v program)) (same-bases ns)
 
   pub same-names : names_assigned first program ≡ dynamic_sets program
   same-names = same-bases (flat_map assigned_by program.statements.items)
@@ -117,13 +117,13 @@ module _ {F : Type 0} (v : F → Number) (program : Program F) (accepted : IsAcc
 
   pub data-stand : (labels : ℕ) → HasItsLabels labels program.statements.items first → DataStand labels first
   data-stand labels own n t there =
-      and_from (stands_in labels first (symbol_at first n).domain t) (nat_le (length t) 10)
-      (stand-all labels first (symbol_at first n).domain t (has-long (length (symbol_at first n).domain) (given_in (symbol_at first n).content) t ((loaded-well v program).tidy n).long there) (has-all (StandAt first (symbol_at first n).domain) (given_in (symbol_at first n).content) t (loaded-stands v program n accepted) there) (own.given n t there))
+      and_from (fits_domain labels first (symbol_at first n).domain t) (nat_le (length t) 10)
+      (stand-all labels first (symbol_at first n).domain t (has-long (length (symbol_at first n).domain) (given_in (symbol_at first n).content) t ((loaded-well v program).tidy n).long there) (has-all (FitPositions first (symbol_at first n).domain) (given_in (symbol_at first n).content) t (loaded-stands v program n accepted) there) (own.given n t there))
       (at-most-ten (length t) (has-all (λ (u : List ℕ). length u ≤ 10) (given_in (symbol_at first n).content) t (few-given v 0 (record { program = program; solvers = [] }) first n accepted at_first) there))
 
   -- ---- the state before a statement
 
-  module _ (before : List (Stmt F)) (statement : Stmt F) (stands : StandsAfter program before statement) where
+  module _ (before : List (Stmt F)) (statement : Stmt F) (stands : FollowsIn program before statement) where
     abbrev now : State
     now = state_after v count (sound before)
 

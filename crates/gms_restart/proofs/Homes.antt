@@ -9,7 +9,7 @@ use Rattle.gms_scope.specs.Below.{is_met_before, bounds, superset_in, superset, 
 use Rattle.gms_scope.specs.Names.{has_one_position, is_index_set, is_set_name, has_no_declaration, positions}
 use Rattle.gms_check.specs.Above.{directly_above}
 use Rattle.gms_check.proofs.Growing.{IsAfter}
-use Rattle.gms_save_text.specs.Validity.{stands_at, stands_in}
+use Rattle.gms_save_text.specs.Validity.{fits_position, fits_domain}
 use Rattle.gms_run_laws.specs.LastStates.{IsFixedSet}
 
 members-given undeclared t there = absurd (cc)
@@ -35,7 +35,7 @@ index-known s set is = set-known (symbol_at s set).content (and_parts (is_set_na
 
 -- a tuple is in a domain, and has no more labels than a tuple may have
 abbrev pub stands_few : ℕ → State → List (Option ℕ) → List ℕ → Bool
-stands_few count state domain t = stands_in count state domain t && nat_le (length t) 10
+stands_few count state domain t = fits_domain count state domain t && nat_le (length t) 10
 
 -- all data of a state are in their domains
 abbrev pub DataStand : ℕ → State → Type 0
@@ -46,16 +46,16 @@ module _ (count : ℕ) (first : State) (assigned : ℕ → Bool) where
   -- A label may stand for a set of this base: it is in the set's domain, and if the set is not
   -- assigned, it is a member.
   pub record MayStand (base label : ℕ) : Type 0 where
-    pub domain : stands_in count first (symbol_at first base).domain (label ∷ []) ≡ true
+    pub domain : fits_domain count first (symbol_at first base).domain (label ∷ []) ≡ true
     pub member : assigned base ≡ false → has (members_in (symbol_at first base).content) (label ∷ []) ≡ true
 
   -- such a label is one of the program's
   pub is-label : (base label : ℕ) → MayStand base label → nat_lt label count ≡ true
   is-label base label may = by (symbol_at first base).domain may.domain
     where
-      by : (domain : List (Option ℕ)) → stands_in count first domain (label ∷ []) ≡ true → nat_lt label count ≡ true
+      by : (domain : List (Option ℕ)) → fits_domain count first domain (label ∷ []) ≡ true → nat_lt label count ≡ true
       by [] e = absurd (cc)
-      by (position ∷ domain) e = (and_parts (nat_lt label count) (stands_at first position label && stands_in count first domain []) e).0
+      by (position ∷ domain) e = (and_parts (nat_lt label count) (fits_position first position label && fits_domain count first domain []) e).0
 
   -- the set of a position, if it has one, is fixed
   abbrev pub IsFixedAt : Option ℕ → Type 0
@@ -66,12 +66,12 @@ module _ (count : ℕ) (first : State) (assigned : ℕ → Bool) where
     -- a label that may stand for a set may stand for the set of its position
     one-up : (a d label : ℕ) → (symbol_at first a).domain ≡ Some d ∷ [] → MayStand a label → MayStand (base_of first d) label
     one-up a d label is may = record {
-      domain = (and_parts (stands_in count first (symbol_of first d).domain (label ∷ [])) true (starts (base_of first d) (label ∷ []) (members-given (symbol_of first d).content (label ∷ []) there))).0;
+      domain = (and_parts (fits_domain count first (symbol_of first d).domain (label ∷ [])) true (starts (base_of first d) (label ∷ []) (members-given (symbol_of first d).content (label ∷ []) there))).0;
       member = λ static. there;
     }
       where
         own : (nat_lt label count && (has (members_of first d) (label ∷ []) && true)) ≡ true
-        own = subst (λ (domain : List (Option ℕ)). stands_in count first domain (label ∷ []) ≡ true) is may.domain
+        own = subst (λ (domain : List (Option ℕ)). fits_domain count first domain (label ∷ []) ≡ true) is may.domain
 
         there : has (members_of first d) (label ∷ []) ≡ true
         there = (and_parts (has (members_of first d) (label ∷ [])) true (and_parts (nat_lt label count) (has (members_of first d) (label ∷ []) && true) own).1).0
@@ -123,7 +123,7 @@ module _ (count : ℕ) (first : State) (assigned : ℕ → Bool) where
       -- ---- positions
 
       -- a label of an index set that fits a position fits it too
-      pub set-stands : (name : ℕ) (position : Option ℕ) (index label : ℕ) → IsFixedAt position → has_no_declaration s index ≡ false → set_fits_position s declared (directly_above s declared) name position index ≡ true → MayStand (base_of first index) label → stands_at first position label ≡ true
+      pub set-stands : (name : ℕ) (position : Option ℕ) (index label : ℕ) → IsFixedAt position → has_no_declaration s index ≡ false → set_fits_position s declared (directly_above s declared) name position index ≡ true → MayStand (base_of first index) label → fits_position first position label ≡ true
       set-stands name None index label fixed known e may = refl
       set-stands name (Some d) index label fixed known e may =
           let parts = and_parts (bounds s declared name d) (is_below s declared (directly_above s declared) index d) e in
@@ -133,7 +133,7 @@ module _ (count : ℕ) (first : State) (assigned : ℕ → Bool) where
 
       module _ (more : (d : ℕ) (t : List ℕ) → has_no_declaration s d ≡ false → has (members_of s d) t ≡ true → has (members_of first d) t ≡ true) where
         -- a label that fits one does
-        pub label-stands : (name : ℕ) (position : Option ℕ) (label : ℕ) → label_fits_position s declared name position label ≡ true → stands_at first position label ≡ true
+        pub label-stands : (name : ℕ) (position : Option ℕ) (label : ℕ) → label_fits_position s declared name position label ≡ true → fits_position first position label ≡ true
         label-stands name None label e = refl
         label-stands name (Some d) label e =
             let parts = and_parts (bounds s declared name d) (has (members_of s d) (label ∷ [])) e in

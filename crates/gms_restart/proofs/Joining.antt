@@ -13,7 +13,7 @@ use Rattle.lp_core.specs.declared.answer.Answer.{Answer}
 use Rattle.gms_run_laws.specs.Agreeing.{EndsAlike}
 use Rattle.gms_run_laws.proofs.Running.{ends-alike}
 use Rattle.gms_run_laws.proofs.Later.{joined}
-use Rattle.gms_run_laws.specs.JointRun.{behind_run}
+use Rattle.gms_run_laws.specs.JointRun.{run_after}
 use Rattle.gms_run_laws.specs.Extensions.{DeclaresItsOwn, TypesNone}
 use Rattle.gms_run_laws.proofs.Begins.{begins-with}
 use Rattle.gms_run_laws.proofs.Closing.{loaded-closed}
@@ -45,22 +45,22 @@ module _ {F : Type 0} (v : F → Number) (limit : ℕ) (saved joint : World F) (
   -- from the last state of the saved run.
   pub record Joins : Type 0 where
     pub is : run_from v limit joint (loaded v joint.program) (answers ++ further) joint.program.statements.items
-        ≡ behind_run first_run (run_from v limit joint (overlaid (loaded v joint.program) base.state) further others)
+        ≡ run_after first_run (run_from v limit joint (overlaid (loaded v joint.program) base.state) further others)
     pub taken : first_run.taken ≡ length answers
 
   -- a program whose first statements stand for those of the saved one
   pub joins : IsAccepted v saved.program → IsAccepted v joint.program → length saved.program.names ≤ length joint.program.names → DeclaresItsOwn saved.program → joint.program.statements.items ≡ firsts ++ others → StandsFor v limit joint firsts saved.program.statements.items → TypesNone (loaded v saved.program) others → joint.solvers ≡ saved.solvers →
       base.halted ≡ None → base.left ≡ [] → first_run.halted ≡ None → Joins
   joins accepted both few own statements stands types solvers done none reached =
-      let front : Course = run_from v limit joint (loaded v joint.program) (answers ++ further) saved.program.statements.items in
-      let same : first_run ≡ front = stands.runs (loaded v joint.program) (answers ++ further) in
-      let there : front.halted ≡ None = sym (ap (λ (c : Course). c.halted) same) ∙ reached in
-      let alike : EndsAlike (loaded v joint.program) further (length answers) base front = ends-alike v limit saved joint (loaded v saved.program) (loaded v joint.program) answers further saved.program.statements.items (solves-alike v saved joint others accepted both few own firsts statements (stands.define others) stands.defined solvers) (program-named v saved accepted) (loaded-closed v saved.program accepted) (begins-with v saved joint firsts others both few own statements stands.states types) done there in
+      let prefix : Course = run_from v limit joint (loaded v joint.program) (answers ++ further) saved.program.statements.items in
+      let same : first_run ≡ prefix = stands.runs (loaded v joint.program) (answers ++ further) in
+      let there : prefix.halted ≡ None = sym (ap (λ (c : Course). c.halted) same) ∙ reached in
+      let alike : EndsAlike (loaded v joint.program) further (length answers) base prefix = ends-alike v limit saved joint (loaded v saved.program) (loaded v joint.program) answers further saved.program.statements.items (solves-alike v saved joint others accepted both few own firsts statements (stands.define others) stands.defined solvers) (program-named v saved accepted) (loaded-closed v saved.program accepted) (begins-with v saved joint firsts others both few own statements stands.states types) done there in
       record {
         is =
             ap (run_from v limit joint (loaded v joint.program) (answers ++ further)) statements
             ∙ joined v limit joint (loaded v joint.program) (answers ++ further) firsts others reached
-            ∙ ap (λ (c : Course). behind_run first_run (run_from v limit joint c.state c.left others)) same
-            ∙ ap₂ (λ (s : State) (ls : List (Answer Number)). behind_run first_run (run_from v limit joint s ls others)) alike.ends (alike.left ∙ ap (λ (ls : List (Answer Number)). ls ++ further) none);
+            ∙ ap (λ (c : Course). run_after first_run (run_from v limit joint c.state c.left others)) same
+            ∙ ap₂ (λ (s : State) (ls : List (Answer Number)). run_after first_run (run_from v limit joint s ls others)) alike.ends (alike.left ∙ ap (λ (ls : List (Answer Number)). ls ++ further) none);
         taken = ap (λ (c : Course). c.taken) same ∙ alike.taken ∙ all-taken base.left base.taken (length answers) none alike.total;
       }

@@ -21,7 +21,7 @@ use Rattle.gms_check.proofs.Growing.{IsLater, Grows, grows-past}
 use Rattle.gms_check.proofs.IndexSetsStay.{blank-fits}
 use Rattle.gms_save_text.specs.Validity.{declared_symbols}
 use Rattle.gms_save.specs.JointErrors.{resumed}
-use Rattle.gms_save.proofs.LoadedNames.{declared-count, keeps-behind, keeps-undeclared, loaded-declares, same-at, same-read}
+use Rattle.gms_save.proofs.LoadedNames.{declared-count, keeps-following, keeps-undeclared, loaded-declares, same-at, same-read}
 use Rattle.gms_save.proofs.SeenActs.{told_by}
 use Rattle.gms_save.proofs.SeenPrograms.{Seen, seen, seen_declared, declared-are, declared-is, listed, listed-is}
 use Rattle.gms_restart.specs.Alike.{IsAlike}
@@ -39,13 +39,13 @@ listed-own count (statement at act rest) own = (own.0, listed-own count rest own
 
 -- a list whose view is two parts splits accordingly
 record IsParted (xs : List (Stmt Frac)) (vs : List Seen) : Type 0 where
-  front : List (Stmt Frac)
+  prefix : List (Stmt Frac)
   rest : List (Stmt Frac)
-  parts : xs ≡ front ++ rest
-  seen_so : map seen front ≡ vs
+  parts : xs ≡ prefix ++ rest
+  seen_so : map seen prefix ≡ vs
 
 parted : (xs : List (Stmt Frac)) (vs ws : List Seen) → map seen xs ≡ vs ++ ws → IsParted xs vs
-parted xs [] ws e = record { front = []; rest = xs; parts = refl; seen_so = refl }
+parted xs [] ws e = record { prefix = []; rest = xs; parts = refl; seen_so = refl }
 parted [] (v ∷ vs) ws e = absurd (let z : [] ≡ v ∷ (vs ++ ws) = e in cc)
 parted (x ∷ xs) (v ∷ vs) ws e =
     let both : seen x ∷ map seen xs ≡ v ∷ (vs ++ ws) = e in
@@ -53,7 +53,7 @@ parted (x ∷ xs) (v ∷ vs) ws e =
     let later : map seen xs ≡ vs ++ ws = cc in
     let r = parted xs vs ws later in
     record {
-      front = x ∷ r.front;
+      prefix = x ∷ r.prefix;
       rest = r.rest;
       parts = ap (λ (ys : List (Stmt Frac)). x ∷ ys) r.parts;
       seen_so = ap₂ (λ (u : Seen) (us : List Seen). u ∷ us) here r.seen_so;
@@ -73,10 +73,10 @@ grows-all : (xs : List (Stmt Frac)) (state : State) → Grows state (declared_by
 grows-all xs state = subst (λ (s : State). Grows state s) (bare-declared xs state) (grows-past frac_value (bare xs) state)
 
 -- what is declared after all statements is later than what is declared after the first ones
-later-than : (count : ℕ) (front rest : List (Stmt Frac)) (n : ℕ) → IsLater (symbol_at (declared_by_all (blank_state count) front) n) (symbol_at (declared_by_all (blank_state count) (front ++ rest)) n)
-later-than count front rest n =
-    subst (λ (s : State). IsLater (symbol_at (declared_by_all (blank_state count) front) n) (symbol_at s n)) (sym (fold-append (λ (state : State) (x : Stmt Frac). declared_by state x.act) (blank_state count) front rest))
-    (grows-all rest (declared_by_all (blank_state count) front) n (grows-all front (blank_state count) n (blank-fits count n)).0).1
+later-than : (count : ℕ) (prefix rest : List (Stmt Frac)) (n : ℕ) → IsLater (symbol_at (declared_by_all (blank_state count) prefix) n) (symbol_at (declared_by_all (blank_state count) (prefix ++ rest)) n)
+later-than count prefix rest n =
+    subst (λ (s : State). IsLater (symbol_at (declared_by_all (blank_state count) prefix) n) (symbol_at s n)) (sym (fold-append (λ (state : State) (x : Stmt Frac). declared_by state x.act) (blank_state count) prefix rest))
+    (grows-all rest (declared_by_all (blank_state count) prefix) n (grows-all prefix (blank_state count) n (blank-fits count n)).0).1
 
 -- ---- one state over another
 
@@ -96,7 +96,7 @@ record AreAlike (a b : Symbol) : Type 0 where
 same-form : (a b : State) (n : ℕ) → declared_symbols a ≡ declared_symbols b → AreAlike (symbol_at a n) (symbol_at b n)
 same-form a b n e = record {
   domain = ap (λ (s : Symbol). s.domain) (same-at a b n e);
-  stands = λ m. same-read (alias_target m) (keeps-behind m) a b n e;
+  stands = λ m. same-read (alias_target m) (keeps-following m) a b n e;
 }
 
 form-both : (a b c : Symbol) → AreAlike a b → AreAlike b c → AreAlike a c
@@ -128,18 +128,18 @@ module _ (first whole : Program Frac) (saved : State) (declares : declared_symbo
   count-whole = sym (length-append first.names names.0) ∙ ap (λ (ns : List (List ℕ)). length ns) (sym names.1)
 
   -- what these declare in the joint program
-  front : State
-  front = declared_by_all (blank_state (length whole.names)) pieces.front
+  prefix : State
+  prefix = declared_by_all (blank_state (length whole.names)) pieces.prefix
 
   blank-padded : blank_state (length whole.names) ≡ padded more (blank_state (length first.names))
   blank-padded =
       ap (λ (xs : List Symbol). (let r : State = record { symbols = xs; settings = (blank_state 0).settings } in r)) (ap (λ n. replicate n no_symbol) (sym count-whole) ∙ sym (replicate-append-replicate (length first.names) more no_symbol))
 
   -- is what they declare in the saved program
-  front-is : front ≡ padded more (declared_state first)
-  unfolding front pieces
-  front-is =
-      declared-are pieces.front (blank_state (length whole.names))
+  prefix-is : prefix ≡ padded more (declared_state first)
+  unfolding prefix pieces
+  prefix-is =
+      declared-are pieces.prefix (blank_state (length whole.names))
       ∙ ap (λ (us : List Seen). seen_declared (length whole.names) us) pieces.seen_so
       ∙ ap (λ (s : State). fold (λ (s : State) (v : Seen). (told_by v.1).declared s) s vs) blank-padded
       ∙ acts-same more (length first.names) vs (blank_state (length first.names)) (subst (EachOwn (length first.names)) (listed-is first.statements.items) (listed-own (length first.names) (statements_view frac_value first.statements.items) own)) (length-replicate (length first.names) no_symbol)
@@ -147,11 +147,11 @@ module _ (first whole : Program Frac) (saved : State) (declares : declared_symbo
 
   -- what the saved source declares is of the same form in the joint program
   declared-form : (n : ℕ) → is_undeclared (symbol_at (declared_state first) n).content ≡ false → AreAlike (symbol_at (declared_state first) n) (symbol_at (declared_state whole) n)
-  unfolding front pieces
+  unfolding prefix pieces
   declared-form n is =
-      let at : symbol_at front n ≡ symbol_at (declared_state first) n = ap (λ (s : State). symbol_at s n) front-is ∙ at-padded more (declared_state first) n in
-      let whole-is : declared_by_all (blank_state (length whole.names)) (pieces.front ++ pieces.rest) ≡ declared_state whole = ap (λ (xs : List (Stmt Frac)). declared_by_all (blank_state (length whole.names)) xs) (sym pieces.parts) in
-      by (subst (λ (s : Symbol). IsLater s (symbol_at (declared_state whole) n)) at (subst (λ (s : State). IsLater (symbol_at front n) (symbol_at s n)) whole-is (later-than (length whole.names) pieces.front pieces.rest n)))
+      let at : symbol_at prefix n ≡ symbol_at (declared_state first) n = ap (λ (s : State). symbol_at s n) prefix-is ∙ at-padded more (declared_state first) n in
+      let whole-is : declared_by_all (blank_state (length whole.names)) (pieces.prefix ++ pieces.rest) ≡ declared_state whole = ap (λ (xs : List (Stmt Frac)). declared_by_all (blank_state (length whole.names)) xs) (sym pieces.parts) in
+      by (subst (λ (s : Symbol). IsLater s (symbol_at (declared_state whole) n)) at (subst (λ (s : State). IsLater (symbol_at prefix n) (symbol_at s n)) whole-is (later-than (length whole.names) pieces.prefix pieces.rest n)))
     where
       by : IsLater (symbol_at (declared_state first) n) (symbol_at (declared_state whole) n) → AreAlike (symbol_at (declared_state first) n) (symbol_at (declared_state whole) n)
       by (inl none) = absurd (let e : ◌≡◌ {A = Bool} true false = sym none ∙ is in cc)

@@ -12,24 +12,24 @@ use Rattle.lp_core.specs.declared.program.Lp.{Lp}
 use Rattle.gms_exec.specs.Given.{AllGiven, with_given, fitting, after_given}
 use Rattle.gms_exec.specs.Options.{after_options}
 use Rattle.gms_exec.specs.Solved.{Point, with_point, statuses_of, points_of, after_end}
-use Rattle.gms_exec.proofs.Levels.{behind-fitted, fits-either}
+use Rattle.gms_exec.proofs.Levels.{following-fitted, fits-either}
 use Rattle.gms_exec.proofs.Symbols.{at-after, base-after}
 use Rattle.gms_run_laws.proofs.Points.{ArePut, end-put}
 use Rattle.gms_run_laws.proofs.RowElements.{IsOver}
 use Rattle.gms_run_laws.proofs.LastStates.{Lasts, MayBe, lasts-given, lasts-end, lasts-options}
-use Rattle.gms_restart.proofs.Fitting.{Standing}
+use Rattle.gms_restart.proofs.Fitting.{Context}
 use Rattle.gms_restart.proofs.Homes.{stands_few}
 use Rattle.gms_restart.proofs.Passing.{stands_key}
 use Rattle.gms_restart.proofs.Writing.{AreGiven, given-has, put-has, statuses-has}
 
-behind-statuses : (content : Content) (model solver n : ℕ) → alias_target n (with_statuses content model solver) ≡ alias_target n content
-behind-statuses undeclared model solver n = refl
-behind-statuses (alias_of base) model solver n = refl
-behind-statuses (set_of members) model solver n = refl
-behind-statuses (parameter_of entries) model solver n = refl
-behind-statuses (variable_of type entries) model solver n = refl
-behind-statuses (equation_of entries) model solver n = refl
-behind-statuses (model_with m s) model solver n = refl
+following-statuses : (content : Content) (model solver n : ℕ) → alias_target n (with_statuses content model solver) ≡ alias_target n content
+following-statuses undeclared model solver n = refl
+following-statuses (alias_of base) model solver n = refl
+following-statuses (set_of members) model solver n = refl
+following-statuses (parameter_of entries) model solver n = refl
+following-statuses (variable_of type entries) model solver n = refl
+following-statuses (equation_of entries) model solver n = refl
+following-statuses (model_with m s) model solver n = refl
 
 module _ (count : ℕ) (first : State) (assigned : ℕ → Bool) where
   -- a tuple is in the domain that a name has at first
@@ -45,8 +45,8 @@ module _ (count : ℕ) (first : State) (assigned : ℕ → Bool) where
     pub lasts : Lasts first assigned state
     pub stand : AllStand state
 
-  pub standing-of : (state : State) → Kept state → Standing count first assigned state
-  standing-of state kept = record { stays = kept.lasts.stays; stand = kept.stand; static = kept.lasts.later.static }
+  pub context-of : (state : State) → Kept state → Context count first assigned state
+  context-of state kept = record { stays = kept.lasts.stays; stand = kept.stand; static = kept.lasts.later.static }
 
   -- ---- one name changed
 
@@ -92,7 +92,7 @@ module _ (count : ℕ) (first : State) (assigned : ℕ → Bool) where
       let new = if_fits symbol t (with_attributes symbol.content t a) in
       let own : Stand (base_of s name) t = subst (λ m. Stand m t) (sym (based name)) are.0 in
       let P : Content → Type 0 = λ content. (u : List ℕ) → has (given_in content) u ≡ true → Stand (base_of s name) u in
-      points-stand points (with_point s point) are.1 (λ n. base-after s name new (λ m. behind-fitted symbol t a m) n ∙ based n)
+      points-stand points (with_point s point) are.1 (λ n. base-after s name new (λ m. following-fitted symbol t a m) n ∙ based n)
       (stand-with s name new (fits-either P symbol t (with_attributes symbol.content t a) (all (base_of s name)) (put-has (Stand (base_of s name)) t a symbol.content own (all (base_of s name)))) all)
 
   pub kept-end : (s : State) (model : ℕ) (lp : Lp Number) (end : End Number) → IsOver (stands_key count first) lp → Kept s → Kept (after_end s model lp end)
@@ -102,7 +102,7 @@ module _ (count : ℕ) (first : State) (assigned : ℕ → Bool) where
       let new = with_content symbol (with_statuses symbol.content statuses.0 statuses.1) in
       record {
         lasts = lasts-end first assigned s model lp end kept.lasts;
-        stand = points-stand (points_of lp end) (with_symbol s model new) (end-put (stands_key count first) lp over end) (λ n. base-after s model new (λ m. behind-statuses symbol.content statuses.0 statuses.1 m) n ∙ (kept.lasts.stays n).alike n)
+        stand = points-stand (points_of lp end) (with_symbol s model new) (end-put (stands_key count first) lp over end) (λ n. base-after s model new (λ m. following-statuses symbol.content statuses.0 statuses.1 m) n ∙ (kept.lasts.stays n).alike n)
             (stand-with s model new (statuses-has (Stand (base_of s model)) statuses.0 statuses.1 symbol.content (kept.stand (base_of s model))) kept.stand);
       }
 

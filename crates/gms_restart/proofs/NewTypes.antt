@@ -50,9 +50,9 @@ module _ {F : Type 0} (v : F → Number) (joint : Program F) (solvers : List (Li
       let parts = no-first (sooner error (f s)) (flat_map option_to_list (each_sooner f (each_error v joint solvers next xs) xs)) e in
       (none-later error (f s) parts.0, each-none next xs parts.1)
 
-none-behind : {F : Type 0} (f : Stmt F → Option CompileError) (xs ys : List (Stmt F)) → EachNone f (xs ++ ys) → EachNone f ys
-none-behind f [] ys all = all
-none-behind f (x ∷ xs) ys all = none-behind f xs ys all.1
+none-following : {F : Type 0} (f : Stmt F → Option CompileError) (xs ys : List (Stmt F)) → EachNone f (xs ++ ys) → EachNone f ys
+none-following f [] ys all = all
+none-following f (x ∷ xs) ys all = none-following f xs ys all.1
 
 -- ---- the names that an act types
 
@@ -106,12 +106,12 @@ each-same p q same (n ∷ ns) all = (sym (same n) ∙ all.0, each-same p q same 
 
 module _ {F : Type 0} (from : ℕ) where
   -- the saved statements of two parts
-  pub saved-front : (xs ys : List (Stmt F)) → AreSaved from xs → AreNew from ys → filter (is_saved from) (xs ++ ys) ≡ xs
-  saved-front [] [] saved new = refl
-  saved-front [] (y ∷ ys) saved new =
-      ap (λ (b : Bool). if b then y ∷ filter (is_saved from) ys else filter (is_saved from) ys) new.0 ∙ saved-front [] ys tt new.1
-  saved-front (x ∷ xs) ys saved new =
-      ap (λ (b : Bool). if b then x ∷ filter (is_saved from) (xs ++ ys) else filter (is_saved from) (xs ++ ys)) saved.0 ∙ ap (λ (zs : List (Stmt F)). x ∷ zs) (saved-front xs ys saved.1 new)
+  pub saved-prefix : (xs ys : List (Stmt F)) → AreSaved from xs → AreNew from ys → filter (is_saved from) (xs ++ ys) ≡ xs
+  saved-prefix [] [] saved new = refl
+  saved-prefix [] (y ∷ ys) saved new =
+      ap (λ (b : Bool). if b then y ∷ filter (is_saved from) ys else filter (is_saved from) ys) new.0 ∙ saved-prefix [] ys tt new.1
+  saved-prefix (x ∷ xs) ys saved new =
+      ap (λ (b : Bool). if b then x ∷ filter (is_saved from) (xs ++ ys) else filter (is_saved from) (xs ++ ys)) saved.0 ∙ ap (λ (zs : List (Stmt F)). x ∷ zs) (saved-prefix xs ys saved.1 new)
 
   module _ (v : F → Number) (base joint : Program F) (firsts others : List (Stmt F)) (few : length base.names ≤ length joint.names) (own : DeclaresItsOwn base) (statements : joint.statements.items ≡ firsts ++ others) (declares : (s : State) → declared_by_all s firsts ≡ declared_by_all s base.statements.items) (saved : AreSaved from firsts) (new : AreNew from others) where
     -- the saved program with the names of the joint one
@@ -120,7 +120,7 @@ module _ {F : Type 0} (from : ℕ) where
 
     names-are : saved_names from joint ≡ declared_state wider
     names-are =
-        ap (declared_by_all (blank_state (length joint.names))) (ap (filter (is_saved from)) statements ∙ saved-front firsts others saved new) ∙ declares (blank_state (length joint.names))
+        ap (declared_by_all (blank_state (length joint.names))) (ap (filter (is_saved from)) statements ∙ saved-prefix firsts others saved new) ∙ declares (blank_state (length joint.names))
 
     variable-same : (n : ℕ) → is_saved_variable from joint n ≡ is_variable (symbol_at (loaded v base) n).content
     variable-same n =
@@ -140,4 +140,4 @@ module _ {F : Type 0} (from : ℕ) where
     -- The statements of the new file type no saved variable.
     pub types-none : (solvers : List (List ℕ)) → joint_errors v joint from solvers ≡ [] → TypesNone (loaded v base) others
     types-none solvers e =
-        none-typed others new (none-behind (restart_error from joint) firsts others (subst (EachNone (restart_error from joint)) statements (each-none v joint solvers (restart_error from joint) [] joint.statements.items e)))
+        none-typed others new (none-following (restart_error from joint) firsts others (subst (EachNone (restart_error from joint)) statements (each-none v joint solvers (restart_error from joint) [] joint.statements.items e)))

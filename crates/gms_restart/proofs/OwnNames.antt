@@ -110,15 +110,15 @@ module _ (source : List ℕ) (names labels : List (List ℕ)) (P : ℕ → Type 
 
   mutual
     of_head-own : (target : Target Number) (tree : Derivation) → Own (act_of_head source names labels target tree)
-    of_head-own target (node (left (pair text tree))) = behind-own target tree
+    of_head-own target (node (left (pair text tree))) = following-own target tree
     of_head-own target (node (right (pair name (node (left (pair amount (node (pair others (pair closing tree))))))))) = target-own target tree
-    of_head-own target (node (right (pair name (node (right tree))))) = behind-own target tree
+    of_head-own target (node (right (pair name (node (right tree))))) = following-own target tree
     of_head-own target _ = tt
 
-    behind-own : (target : Target Number) (tree : Derivation) → Own (act_of_head source names labels target (node (left (pair none tree))))
-    behind-own target (node (left (pair comma tree))) = of_head-own target tree
-    behind-own target (node (right (pair closing tree))) = head-own target tree
-    behind-own target _ = tt
+    following-own : (target : Target Number) (tree : Derivation) → Own (act_of_head source names labels target (node (left (pair none tree))))
+    following-own target (node (left (pair comma tree))) = of_head-own target tree
+    following-own target (node (right (pair closing tree))) = head-own target tree
+    following-own target _ = tt
 
   named-own : (tree : Derivation) → Own (named_act source names labels tree)
   named-own (node (pair name (node (left (pair dotted (pair indices tree)))))) = target-own _ tree

@@ -18,7 +18,7 @@ use Rattle.gms_parse.specs.Outcomes.{IsProgram}
 use Rattle.gms_parse.specs.Programs.{statements_of}
 use Rattle.gms_joint_source.proofs.Kinships.{program_kin}
 use Rattle.gms_joint_source.proofs.KinPrograms.{statements_same}
-use Rattle.gms_restart.proofs.ProgramNames.{alike-itself, behind_longer, placed-behind}
+use Rattle.gms_restart.proofs.ProgramNames.{alike-itself, behind_longer, placed-following}
 use Rattle.gms_run_laws.specs.Names.{Each}
 use Rattle.gms_run_laws.proofs.FormKeys.{EachHas}
 use Rattle.gms_run_laws.proofs.Padding.{test-of}
@@ -76,7 +76,7 @@ module _ (limit : ℕ) (source : List ℕ) (program : Program Frac) (is : IsProg
       let keep : (text : List ℕ) (n : ℕ) → place_of program.labels text ≡ Some n → place_of table text ≡ Some n = λ text n e. absurd (let z : ◌≡◌ {A = Option ℕ} None (Some n) = sym (ap (λ (ls : List (List ℕ)). place_of ls text) none) ∙ e in cc) in
       let kin = program_kin limit source source program.names program.names program.labels table (λ text n e. e) keep tree is.is.is_tree is.is.tables (record { names_are = is.is.names_are; labels_are = is.is.labels_are; parts = refl; alike = alike-itself source (yield tree) }) in
       let same : statements_of source program.names program.labels tree ≡ statements_of source program.names table tree = statements_same source source program.names program.names program.labels table kin in
-      let numbered : AllPass (λ n. nat_lt 0 n) (statements_of source program.names program.labels tree) = subst (AllPass (λ n. nat_lt 0 n)) (sym same) (statements-pass source program.names table (λ n. nat_lt 0 n) (λ text written. test-of 0 (or_0 (place_of table text)) (placed-behind (all_texts source) text (written-there source text written) (place_of table text) refl)) tree) in
+      let numbered : AllPass (λ n. nat_lt 0 n) (statements_of source program.names program.labels tree) = subst (AllPass (λ n. nat_lt 0 n)) (sym same) (statements-pass source program.names table (λ n. nat_lt 0 n) (λ text written. test-of 0 (or_0 (place_of table text)) (placed-following (all_texts source) text (written-there source text written) (place_of table text) refl)) tree) in
       let unnumbered : AllPass (λ n. n == 0) (statements_of source program.names program.labels tree) = statements-pass source program.names program.labels (λ n. n == 0) (λ text written. ap (λ (ls : List (List ℕ)). or_0 (place_of ls text) == 0) none) tree in
       all-both (λ n. nat_lt 0 n) (λ n. n == 0) own no-number (statements_of source program.names program.labels tree) numbered unnumbered
 

@@ -23,7 +23,7 @@ use Rattle.gms_ast.specs.Trees as trees
 use Rattle.gms_grammar.specs.Grammar.{yield, pair, left, right, some, more, node}
 use Rattle.gms_expressions.specs.ExpressionTrees.{control, expression, first_in, inside, more_indices, name_in, optional_indices, second_in, suffix_in}
 use Rattle.gms_parse.specs.Declarations.{equation_act, model_act, parameter_act, scalar_act, set_act, table_act, variable_act}
-use Rattle.gms_parse.specs.Programs.{behind_semicolon, controlled_act, display_or_other, inner_act, keyword_act, keyword_statements, loop_act, loop_body, named_first, segment, segments, statements_of}
+use Rattle.gms_parse.specs.Programs.{after_semicolon, controlled_act, display_or_other, inner_act, keyword_act, keyword_statements, loop_act, loop_body, named_first, segment, segments, statements_of}
 use Rattle.gms_parse.specs.Statements.{act_of_head, after_head, after_target, alias_act, assigned, assignment_act, condition_in, head_indices, named_act, sides_in, target_at, target_in}
 use Rattle.gms_parse.proofs.Looped.{view-Stmt}
 use Rattle.gms_restart.proofs.OwnNames.{QuietHave, abort-has, display-has, option-has, solve-has}
@@ -104,13 +104,13 @@ module _ (source : List ℕ) (names labels : List (List ℕ)) (own : ℕ → Boo
   head-own target all (node (pair condition (right (pair dots sides)))) = defined-own target.indices all condition sides
   head-own target all tree = tt
 
-  front-own : (tree : Derivation) → OwnIndices source names labels own has (head_indices source names labels tree)
-  front-own (node (left (pair text (node (left (pair comma tree)))))) = (label-own source names labels own has text, front-own tree)
-  front-own (node (left (pair text tree))) = (label-own source names labels own has text, tt)
-  front-own (node (right (pair name (node (left (pair amount (node (pair others mark)))))))) =
+  prefix-own : (tree : Derivation) → OwnIndices source names labels own has (head_indices source names labels tree)
+  prefix-own (node (left (pair text (node (left (pair comma tree)))))) = (label-own source names labels own has text, prefix-own tree)
+  prefix-own (node (left (pair text tree))) = (label-own source names labels own has text, tt)
+  prefix-own (node (right (pair name (node (left (pair amount (node (pair others mark)))))))) =
       lag-own source names labels own has amount (name_in source names labels name) (more_indices source names labels others) (more_indices-own source names labels own has others)
-  front-own (node (right (pair name (node (right (node (left (pair comma tree)))))))) = front-own tree
-  front-own tree = tt
+  prefix-own (node (right (pair name (node (right (node (left (pair comma tree)))))))) = prefix-own tree
+  prefix-own tree = tt
 
   act-own : (tree : Derivation) (target : Target Number) → OwnIndices source names labels own has target.indices → Written (act_of_head source names labels target tree)
   act-own (node (left (pair mark (node (left (pair comma tree)))))) target all = act-own tree target all
@@ -124,7 +124,7 @@ module _ (source : List ℕ) (names labels : List (List ℕ)) (own : ℕ → Boo
   named-own (node (pair name (node (left (pair dotted (pair indices tree)))))) =
       target-own (target_at source names labels name (suffix_in source names labels (some dotted)) (optional_indices source names labels indices)) (optional-own source names labels own has indices) tree
   named-own (node (pair name (node (right (left (pair mark tree)))))) =
-      act-own tree (target_at source names labels name suffix.None (head_indices source names labels tree)) (front-own tree)
+      act-own tree (target_at source names labels name suffix.None (head_indices source names labels tree)) (prefix-own tree)
   named-own (node (pair name (node (right (right tree))))) = head-own (target_at source names labels name suffix.None trees.no_index) tt tree
   named-own tree = tt
 
@@ -153,12 +153,12 @@ module _ (source : List ℕ) (names labels : List (List ℕ)) (own : ℕ → Boo
 
     body-own : (tree : Derivation) → Each own (all_labels (loop_body source names labels tree))
     body-own (node (pair first others)) =
-        each-both own (act_labels (inner_act source names labels first)) (all_labels (behind_semicolon source names labels others)) (inner-own first) (behind-own others)
+        each-both own (act_labels (inner_act source names labels first)) (all_labels (after_semicolon source names labels others)) (inner-own first) (following-own others)
     body-own tree = tt
 
-    behind-own : (tree : Derivation) → Each own (all_labels (behind_semicolon source names labels tree))
-    behind-own (some (pair mark (some tree))) = body-own tree
-    behind-own tree = tt
+    following-own : (tree : Derivation) → Each own (all_labels (after_semicolon source names labels tree))
+    following-own (some (pair mark (some tree))) = body-own tree
+    following-own tree = tt
 
     inner-own : (tree : Derivation) → Written (inner_act source names labels tree)
     inner-own (node (left tree)) = assignment-own tree

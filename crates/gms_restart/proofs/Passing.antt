@@ -11,7 +11,7 @@ use Rattle.gms_ast.specs.Trees as tree
 use Rattle.gms_tuple.specs.TupleSet.{has}
 use Rattle.gms_store.specs.State.{State, symbol_at, symbol_of, base_of}
 use Rattle.gms_scope.specs.Names.{is_index_set, has_no_declaration, positions}
-use Rattle.gms_check.specs.declared.contexts.Standing.{Standing as Standings}
+use Rattle.gms_check.specs.declared.contexts.Context.{Context as Standings}
 use Rattle.gms_check.specs.Above.{directly_above}
 use Rattle.gms_check.specs.Checked.{AreIndices}
 use Rattle.gms_check.specs.IndexList.{have_unfit_set}
@@ -30,7 +30,7 @@ use Rattle.gms_eval.specs.Value.{labels, domain, sets_of, control_over}
 use Rattle.lp_form.specs.declared.key.Key.{Key}
 use Rattle.gms_rows.specs.Rows.{Definition}
 use Rattle.gms_rows.specs.Rows as rows
-use Rattle.gms_rows.proofs.Domains.{All-each_once}
+use Rattle.gms_rows.proofs.Domains.{All-distinct_numbers}
 use Rattle.gms_exec.specs.Assignment as assigning
 use Rattle.gms_exec.specs.Given.{Given}
 use Rattle.gms_run_laws.specs.Names.{Each}
@@ -39,9 +39,9 @@ use Rattle.gms_run_laws.proofs.FormKeys.{OkHas, EachHas, then-has, after-has, in
 use Rattle.gms_run_laws.proofs.ModelRows.{RowPasses, DefinitionPasses}
 use Rattle.gms_run_laws.proofs.ElementLabels.{element-members}
 use Rattle.gms_run_laws.specs.LastStates.{AreFixed}
-use Rattle.gms_save_text.specs.Validity.{stands_in}
+use Rattle.gms_save_text.specs.Validity.{fits_domain}
 use Rattle.gms_restart.specs.Labels.{tree_labels, part_labels, index_labels, control_labels}
-use Rattle.gms_restart.proofs.Fitting.{Ground, Standing, Fits, controlled-fits, domain-has, tuple-few, tuple-stands}
+use Rattle.gms_restart.proofs.Fitting.{Ground, Context, Fits, controlled-fits, domain-has, tuple-few, tuple-stands}
 use Rattle.gms_restart.proofs.Homes.{stands_few}
 
 pub ok-weaker : {A : Type 0} (P Q : A → Type 0) (a : Answer A) → OkHas P a → ((x : A) → P x → Q x) → OkHas Q a
@@ -68,7 +68,7 @@ module _ (count : ℕ) (first : State) (assigned : ℕ → Bool) {F : Type 0} (k
   positions-same name there =
       sym (ap (λ n. (symbol_at first n).domain) ((ground.later name there).alike name) ∙ (ground.later (base_of known.state name) (ground.based name there)).domain)
 
-  module _ (v : F → Number) (limit : ℕ) (state : State) (standing : Standing count first assigned state) where
+  module _ (v : F → Number) (limit : ℕ) (state : State) (context : Context count first assigned state) where
     -- ---- references
 
     pub indices-pass : (name : ℕ) (indices : tree.Indices F) (binding : Pairs) → Fits count first assigned binding → has_no_declaration known.state name ≡ false → AreIndices known name indices → Below (index_labels indices) → OkHas (λ those. IsElement ok name (tuple_of those)) (in_order (labels v limit state binding indices))
@@ -81,8 +81,8 @@ module _ (count : ℕ) (first : State) (assigned : ℕ → Bool) {F : Type 0} (k
         tuple those e None is = tt
         tuple those e (Some t) is =
             subst (λ (ds : List (Option ℕ)). stands_few count first ds t ≡ true) same
-            (and_from (stands_in count first (positions known.state name) t) (nat_le (length t) 10)
-            (tuple-stands count first assigned known.state ground known.declared v limit state standing binding fits name (positions known.state name) indices those t (subst (λ (ds : List (Option ℕ)). AreFixed assigned first ds) (sym same) (ground.fixed (base_of first name))) are.count are.sets
+            (and_from (fits_domain count first (positions known.state name) t) (nat_le (length t) 10)
+            (tuple-stands count first assigned known.state ground known.declared v limit state context binding fits name (positions known.state name) indices those t (subst (λ (ds : List (Option ℕ)). AreFixed assigned first ds) (sym same) (ground.fixed (base_of first name))) are.count are.sets
             (sym (ap (λ (above : ℕ → Option ℕ). have_unfit_set known.state known.declared above name (positions known.state name) indices) above_is) ∙ are.below) are.labels own e is)
             (tuple-few those t is))
 
@@ -93,7 +93,7 @@ module _ (count : ℕ) (first : State) (assigned : ℕ → Bool) {F : Type 0} (k
     -- ---- elements of controls
 
     simple-all : (sets : List ℕ) → All (λ name. is_index_set known.state name ≡ true) sets → All (IsSimple state) sets
-    simple-all sets all = λ k d below. ground.simple state standing.stays (get_or sets k d) (all k d below)
+    simple-all sets all = λ k d below. ground.simple state context.stays (get_or sets k d) (all k d below)
 
     pub control-simple : (control : tree.Control F) (at : Place) (around : List ℕ) → AreClean known (control_uses at around control) → All (IsSimple state) (sets_of control)
     control-simple (tree.over sets) at around clean = simple-all sets (sound-use known (controlling around sets) clean.0).0
@@ -102,12 +102,12 @@ module _ (count : ℕ) (first : State) (assigned : ℕ → Bool) {F : Type 0} (k
     -- the binding with the labels of an element
     pub element-fits : (binding : Pairs) (sets element : List ℕ) → Fits count first assigned binding → All (IsSimple state) sets → has (elements state sets) element ≡ true → Fits count first assigned (controlled binding sets element)
     element-fits binding sets element fits simple there =
-        controlled-fits count first assigned state standing binding sets element fits (element-members state sets element simple there)
+        controlled-fits count first assigned state context binding sets element fits (element-members state sets element simple there)
 
     -- what holds of each such binding holds of those of a domain
     pub over-domain : (P : List ℕ → Type 0) (binding : Pairs) (at : Place) (control : tree.Control F) → ((element : List ℕ) → has (elements state (sets_of control)) element ≡ true → P element) → OkHas (EachHas P) (domain v limit state binding at control)
     over-domain P binding at control each =
-        ok-weaker (EachHas (λ element. has (elements state (sets_of control)) element ≡ true)) (EachHas P) (domain v limit state binding at control) (domain-has count first assigned state standing v limit binding at control)
+        ok-weaker (EachHas (λ element. has (elements state (sets_of control)) element ≡ true)) (EachHas P) (domain v limit state binding at control) (domain-has count first assigned state context v limit binding at control)
         (λ those all. each-weaker (λ element. has (elements state (sets_of control)) element ≡ true) P each those all)
 
     pub over-sets : (P : List ℕ → Type 0) (binding : Pairs) (at : Place) (sets : List ℕ) (condition : Option (tree.Tree F)) → ((element : List ℕ) → has (elements state sets) element ≡ true → P element) → OkHas (EachHas P) (domain v limit state binding at (control_over sets condition))
@@ -167,9 +167,9 @@ module _ (count : ℕ) (first : State) (assigned : ℕ → Bool) {F : Type 0} (k
     pub definition-passes : (d : Definition F) → has_no_declaration known.state d.equation ≡ false → AreIndices known d.equation d.indices → Below (index_labels d.indices) →
         ((binding : Pairs) → Fits count first assigned binding → Passes ok v limit state binding d.left) → ((binding : Pairs) → Fits count first assigned binding → Passes ok v limit state binding d.right) → DefinitionPasses ok v limit state d
     definition-passes d there are own left right =
-        let sets = rows.each_once (rows.sets_among d.indices) in
+        let sets = rows.distinct_numbers (rows.sets_among d.indices) in
         over-sets (λ element. RowPasses ok v limit state d (controlled [] sets element)) [] d.at sets d.condition (λ element among.
-        let fits = element-fits [] sets element nothing-fits (simple-all sets (All-each_once (λ name. is_index_set known.state name ≡ true) (rows.sets_among d.indices) (row-sets (λ name. is_index_set known.state name ≡ true) d.indices are.sets))) among in
+        let fits = element-fits [] sets element nothing-fits (simple-all sets (All-distinct_numbers (λ name. is_index_set known.state name ≡ true) (rows.sets_among d.indices) (row-sets (λ name. is_index_set known.state name ≡ true) d.indices are.sets))) among in
         (indices-pass d.equation d.indices (controlled [] sets element) fits there are own, (left (controlled [] sets element) fits, right (controlled [] sets element) fits)))
 
     -- ---- assignments
@@ -205,7 +205,7 @@ module _ (count : ℕ) (first : State) (assigned : ℕ → Bool) {F : Type 0} (k
     given-stand target at binding condition right_at right fits there are own =
         let sets = assigning.newly_controlled binding target.indices in
         let element : List ℕ → Answer (Option (List ℕ × Given)) = λ element. assigning.element_under v limit state target right_at right (controlled binding sets element) in
-        let index_sets_are = All-filter (λ set. is_none (label_of binding set)) (λ name. is_index_set known.state name ≡ true) (rows.each_once (rows.sets_among target.indices)) (All-each_once (λ name. is_index_set known.state name ≡ true) (rows.sets_among target.indices) (row-sets (λ name. is_index_set known.state name ≡ true) target.indices are.sets)) in
+        let index_sets_are = All-filter (λ set. is_none (label_of binding set)) (λ name. is_index_set known.state name ≡ true) (rows.distinct_numbers (rows.sets_among target.indices)) (All-distinct_numbers (λ name. is_index_set known.state name ≡ true) (rows.sets_among target.indices) (row-sets (λ name. is_index_set known.state name ≡ true) target.indices are.sets)) in
         then-has (EachHas (λ element. OkHas (λ those. IsElement ok target.name (tuple_of those)) (in_order (labels v limit state (controlled binding sets element) target.indices)))) (EachHas (GivenStands target.name)) (domain v limit state binding at (control_over sets condition)) (λ those. in_order (map element those) and_then λ given. Ok (assigning.given_elements v limit state given))
         (over-sets (λ element. OkHas (λ those. IsElement ok target.name (tuple_of those)) (in_order (labels v limit state (controlled binding sets element) target.indices))) binding at sets condition (λ element among. indices-pass target.name target.indices (controlled binding sets element) (element-fits binding sets element fits (simple-all sets index_sets_are) among) there are own))
         (λ those all. then-has (EachHas (MayStandGiven target.name)) (EachHas (GivenStands target.name)) (in_order (map element those)) (λ given. Ok (assigning.given_elements v limit state given)) (in_order-has (MayStandGiven target.name) (map element those) (each-element target right_at right sets binding those all)) (λ given all. there-stand target.name given all))

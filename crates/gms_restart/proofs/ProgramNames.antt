@@ -98,17 +98,17 @@ not-longer (first ∷ texts) text (inr there) =
     omega (arith, few, all)
 
 -- each of them has a place after the first
-pub placed-behind : (texts : List (List ℕ)) (text : List ℕ) → Has texts text → (o : Option ℕ) → place_of (behind_longer texts) text ≡ o → 0 < or_0 o
-placed-behind texts text there None e =
+pub placed-following : (texts : List (List ℕ)) (text : List ℕ) → Has texts text → (o : Option ℕ) → place_of (behind_longer texts) text ≡ o → 0 < or_0 o
+placed-following texts text there None e =
     let at = has-at texts text there in
     let missed : is_same text (get_or (behind_longer texts) (suc at.0) []) ≡ false = position_misses (is_same text) (behind_longer texts) e (suc at.0) [] (omega (arith, at.1)) in
     let found : is_same text (get_or texts at.0 []) ≡ true = subst (λ (t : List ℕ). is_same text t ≡ true) (sym at.2) (is_same_refl text) in
     absurd (let z : ◌≡◌ {A = Bool} true false = sym found ∙ missed in cc)
-placed-behind texts text there (Some zero) e =
+placed-following texts text there (Some zero) e =
     let long : length text ≡ length (0 ∷ flat_map (λ (text : List ℕ). text) texts) = same-long text (0 ∷ flat_map (λ (text : List ℕ). text) texts) (place_of-reads (behind_longer texts) text 0 e).1 in
     let few = not-longer texts text there in
     absurd (omega (arith, long, few))
-placed-behind texts text there (Some (suc n)) e = omega arith
+placed-following texts text there (Some (suc n)) e = omega arith
 
 module _ (source : List ℕ) where
   -- the parts of a source after a text that is none of them
@@ -120,7 +120,7 @@ module _ (source : List ℕ) where
   named labels tree =
       let token = token_of tree in
       let text : List ℕ = token_text source token in
-      placed-behind (parts source) text (parts-have source token.start (token.end - token.start)) (place_of table text) refl
+      placed-following (parts source) text (parts-have source token.start (token.end - token.start)) (place_of table text) refl
 
 -- ---- programs
 

@@ -17,11 +17,11 @@ use Rattle.gms_run_laws.specs.Extensions.{DeclaresItsOwn}
 use Rattle.gms_save.specs.JointErrors.{is_saved, joint_errors, resumed, saved_statements}
 use Rattle.gms_save.proofs.Joints.{accepted}
 use Rattle.gms_save.proofs.SeenActs.{shown}
-use Rattle.gms_run_laws.specs.JointRun.{behind_run}
+use Rattle.gms_run_laws.specs.JointRun.{run_after}
 use Rattle.gms_restart.specs.Restarts.{SaysTheSame, base_run, whole_run}
 use Rattle.gms_restart.specs.StatementLines.{AreSaved, AreNew, SeenSaved, SeenNew}
 use Rattle.gms_restart.proofs.Joining.{Joins}
-use Rattle.gms_restart.proofs.NewTypes.{saved-front}
+use Rattle.gms_restart.proofs.NewTypes.{saved-prefix}
 use Rattle.gms_restart.proofs.SeenAlike.{alike-joins, new-types}
 
 -- ---- statements with the views of two parts
@@ -71,9 +71,9 @@ new-seen from [] all = tt
 new-seen from (x ∷ xs) all =
     let parts = subst (SeenNew from) (view-Stmt frac_value x (statements_view frac_value xs)) all in (parts.0, new-seen from xs parts.1)
 
-pub behind-firsts : (xs ys : List (Stmt Frac)) → drop (length xs) (xs ++ ys) ≡ ys
-behind-firsts [] ys = refl
-behind-firsts (x ∷ xs) ys = behind-firsts xs ys
+pub following-firsts : (xs ys : List (Stmt Frac)) → drop (length xs) (xs ++ ys) ≡ ys
+following-firsts [] ys = refl
+following-firsts (x ∷ xs) ys = following-firsts xs ys
 
 -- ---- the restarted run
 
@@ -84,7 +84,7 @@ as-said from limit saved joint firsts others answers further firsts_are others_a
     let long : List (Stmt Frac) → Course = run_from frac_value limit joint (loaded frac_value joint.program) (answers ++ further) in
     let short : List (Stmt Frac) → Course = run_from frac_value limit joint (resumed frac_value (whole_run frac_value limit saved answers).state joint.program) further in
     record {
-      is = both.is ∙ ap₂ (λ (xs ys : List (Stmt Frac)). behind_run (long xs) (short ys)) firsts_are others_are;
+      is = both.is ∙ ap₂ (λ (xs ys : List (Stmt Frac)). run_after (long xs) (short ys)) firsts_are others_are;
       taken = sym (ap (λ (xs : List (Stmt Frac)). (long xs).taken) firsts_are) ∙ both.taken;
     }
 
@@ -97,9 +97,9 @@ restarted from limit saved joint rest answers further seen olds news few own acc
     let s = split joint.program.statements.items (statements_view frac_value saved.program.statements.items) rest seen in
     let are_saved = saved-seen from s.firsts (subst (SeenSaved from) (sym s.first_seen) olds) in
     let are_new = new-seen from s.others (subst (SeenNew from) (sym s.rest_seen) news) in
-    let saved_are : saved_statements from joint.program ≡ s.firsts = ap (filter (is_saved from)) s.parts ∙ saved-front from s.firsts s.others are_saved are_new in
+    let saved_are : saved_statements from joint.program ≡ s.firsts = ap (filter (is_saved from)) s.parts ∙ saved-prefix from s.firsts s.others are_saved are_new in
     let firsts_are : take (length (saved_statements from joint.program)) joint.program.statements.items ≡ s.firsts = ap₂ (λ (xs ys : List (Stmt Frac)). take (length xs) ys) saved_are s.parts ∙ take-append_seam s.firsts s.others in
-    let others_are : drop (length (saved_statements from joint.program)) joint.program.statements.items ≡ s.others = ap₂ (λ (xs ys : List (Stmt Frac)). drop (length xs) ys) saved_are s.parts ∙ behind-firsts s.firsts s.others in
+    let others_are : drop (length (saved_statements from joint.program)) joint.program.statements.items ≡ s.others = ap₂ (λ (xs ys : List (Stmt Frac)). drop (length xs) ys) saved_are s.parts ∙ following-firsts s.firsts s.others in
     let types = new-types from saved.program joint.program s.firsts s.others joint.solvers s.first_seen few own s.parts are_saved are_new none in
     let there = subst (λ (firsts : List (Stmt Frac)). (run_from frac_value limit joint (loaded frac_value joint.program) (answers ++ further) firsts).halted ≡ None) firsts_are reached in
     let both = alike-joins limit saved joint s.firsts s.others answers further s.first_seen accepts (accepted frac_value joint.program from (joint.solvers, none)) few own s.parts types solvers done left there in

@@ -24,10 +24,10 @@ use Rattle.gms_run_laws.proofs.Changing.{read, over-at, chosen-declared, chosen-
 use Rattle.gms_run_laws.proofs.Padding.{below-of, test-of}
 use Rattle.gms_run_laws.specs.LastStates.{AreFixed, IsTidy}
 use Rattle.gms_run_laws.proofs.TidyLoaded.{loaded-well}
-use Rattle.gms_save.proofs.LoadedNames.{blanked, keeps-behind, keeps-undeclared, loaded-declares, same-at, same-read}
-use Rattle.gms_save_text.specs.Validity.{IsSavedOf, declared_symbols, stands_at, stands_in}
+use Rattle.gms_save.proofs.LoadedNames.{blanked, keeps-following, keeps-undeclared, loaded-declares, same-at, same-read}
+use Rattle.gms_save_text.specs.Validity.{IsSavedOf, declared_symbols, fits_position, fits_domain}
 use Rattle.gms_restart.specs.Labels.{WritesItsLabels}
-use Rattle.gms_restart.specs.LastStates.{GoesOnBehind}
+use Rattle.gms_restart.specs.LastStates.{ContinuesSaved}
 use Rattle.gms_restart.proofs.Grounds.{among, at-most-ten, data-stand, fixed-positions, has-all, same-names}
 use Rattle.gms_restart.proofs.Growth.{closed-after}
 use Rattle.gms_restart.proofs.Homes.{stands_few}
@@ -53,23 +53,23 @@ members-ordered (variable_of type entries) all = ordered-nil
 members-ordered (equation_of entries) all = ordered-nil
 members-ordered (model_with model solver) all = ordered-nil
 
-behind-nothing : (n : ℕ) (c : Content) → is_undeclared c ≡ true → alias_target n c ≡ n
-behind-nothing n undeclared none = refl
-behind-nothing n (alias_of base) none = absurd (cc)
-behind-nothing n (set_of members) none = absurd (cc)
-behind-nothing n (parameter_of entries) none = absurd (cc)
-behind-nothing n (variable_of type entries) none = absurd (cc)
-behind-nothing n (equation_of entries) none = absurd (cc)
-behind-nothing n (model_with model solver) none = absurd (cc)
+following-nothing : (n : ℕ) (c : Content) → is_undeclared c ≡ true → alias_target n c ≡ n
+following-nothing n undeclared none = refl
+following-nothing n (alias_of base) none = absurd (cc)
+following-nothing n (set_of members) none = absurd (cc)
+following-nothing n (parameter_of entries) none = absurd (cc)
+following-nothing n (variable_of type entries) none = absurd (cc)
+following-nothing n (equation_of entries) none = absurd (cc)
+following-nothing n (model_with model solver) none = absurd (cc)
 
 -- a tuple in a domain has a label for each position
-long-in : (count : ℕ) (s : State) (domain : List (Option ℕ)) (t : List ℕ) → stands_in count s domain t ≡ true → length t ≡ length domain
+long-in : (count : ℕ) (s : State) (domain : List (Option ℕ)) (t : List ℕ) → fits_domain count s domain t ≡ true → length t ≡ length domain
 long-in count s [] [] e = refl
 long-in count s [] (l ∷ t) e = absurd (cc)
 long-in count s (p ∷ domain) [] e = absurd (cc)
 long-in count s (p ∷ domain) (l ∷ t) e =
-    let at = and_parts (nat_lt l count) (stands_at s p l && stands_in count s domain t) e in
-    ap suc (long-in count s domain t (and_parts (stands_at s p l) (stands_in count s domain t) at.1).1)
+    let at = and_parts (nat_lt l count) (fits_position s p l && fits_domain count s domain t) e in
+    ap suc (long-in count s domain t (and_parts (fits_position s p l) (fits_domain count s domain t) at.1).1)
 
 -- symbols that are overlaid with others of the same declarations declare the same
 overlay-declares : (xs ys : List Symbol) → ((n : ℕ) → is_undeclared (read ys n).content ≡ false → blanked (read ys n) ≡ blanked (read xs n)) → map blanked (overlaid_symbols xs ys) ≡ map blanked xs
@@ -84,13 +84,13 @@ overlay-declares (x ∷ xs) (y ∷ ys) same =
 
 -- ---- names among others
 
-front-none : (f : ℕ → ℕ) (ns ms : List ℕ) (name : ℕ) → is_among (map f (ns ++ ms)) name ≡ false → is_among (map f ns) name ≡ false
-front-none f [] ms name e = refl
-front-none f (n ∷ ns) ms name e =
+prefix-none : (f : ℕ → ℕ) (ns ms : List ℕ) (name : ℕ) → is_among (map f (ns ++ ms)) name ≡ false → is_among (map f ns) name ≡ false
+prefix-none f [] ms name e = refl
+prefix-none f (n ∷ ns) ms name e =
     let parts = or_parts (f n == name) (is_among (map f (ns ++ ms)) name) e in
-    ap (λ (b : Bool). b || is_among (map f ns) name) parts.0 ∙ front-none f ns ms name parts.1
+    ap (λ (b : Bool). b || is_among (map f ns) name) parts.0 ∙ prefix-none f ns ms name parts.1
 
-module _ {F : Type 0} (v : F → Number) (whole saved : Program F) (firsts others : List (Stmt F)) (accepted : IsAccepted v whole) (accepts : IsAccepted v saved) (own : WritesItsLabels v whole) (goes_on : GoesOnBehind v saved whole firsts others)
+module _ {F : Type 0} (v : F → Number) (whole saved : Program F) (firsts others : List (Stmt F)) (accepted : IsAccepted v whole) (accepts : IsAccepted v saved) (own : WritesItsLabels v whole) (continues : ContinuesSaved v saved whole firsts others)
     (state : State) (most : ℕ) (solver : List ℕ) (is : IsSavedOf most (length saved.labels) (declared_state saved) (loaded v saved) (is_among (dynamic_sets saved)) state solver) where
   abbrev first : State
   first = loaded v whole
@@ -112,13 +112,13 @@ module _ {F : Type 0} (v : F → Number) (whole saved : Program F) (firsts other
   many : length state.symbols ≤ length first.symbols
   many =
       let counts : length state.symbols ≡ length one.symbols = sym (length-map state.symbols blanked) ∙ ap (λ (ss : List Symbol). length ss) same-declared ∙ length-map one.symbols blanked in
-      let fewer = goes_on.has_all.many in
+      let fewer = continues.has_all.many in
       omega (arith, counts, fewer)
 
   known-there : (n : ℕ) → declares one n ≡ true → symbol_at first n ≡ symbol_at one n
   known-there n there =
-      ap (λ (s : State). symbol_at s n) (sym goes_on.has_all.same)
-      ∙ over-at first.symbols one.symbols n goes_on.has_all.many
+      ap (λ (s : State). symbol_at s n) (sym continues.has_all.same)
+      ∙ over-at first.symbols one.symbols n continues.has_all.many
       ∙ chosen-declared (symbol_at first n) (symbol_at one n) (not-true (is_undeclared (symbol_at one n).content) there)
 
   undeclared-same : (n : ℕ) → is_undeclared (symbol_at state n).content ≡ is_undeclared (symbol_at one n).content
@@ -137,8 +137,8 @@ module _ {F : Type 0} (v : F → Number) (whole saved : Program F) (firsts other
   domain-same : (n : ℕ) → (symbol_at state n).domain ≡ (symbol_at one n).domain
   domain-same n = ap (λ (s : Symbol). s.domain) (same-at state one n same-declared)
 
-  behind-same : (m n : ℕ) → alias_target m (symbol_at state n).content ≡ alias_target m (symbol_at one n).content
-  behind-same m n = same-read (alias_target m) (keeps-behind m) state one n same-declared
+  following-same : (m n : ℕ) → alias_target m (symbol_at state n).content ≡ alias_target m (symbol_at one n).content
+  following-same m n = same-read (alias_target m) (keeps-following m) state one n same-declared
 
   -- ---- what it keeps
 
@@ -149,7 +149,7 @@ module _ {F : Type 0} (v : F → Number) (whole saved : Program F) (firsts other
   follows-there : (n : ℕ) → Follows (symbol_at one n) (symbol_at state n)
   follows-there n = record {
     domain = domain-same n;
-    alike = λ m. behind-same m n;
+    alike = λ m. following-same m n;
     singles = λ single old. members-all (λ (t : List ℕ). length t ≡ 1) (symbol_at state n).content (λ k d below. all-long n k d below ∙ ap (λ (ds : List (Option ℕ)). length ds) (domain-same n) ∙ single);
     ordered = λ old. members-ordered (symbol_at state n).content (is.given n).ordered;
   }
@@ -177,17 +177,17 @@ module _ {F : Type 0} (v : F → Number) (whole saved : Program F) (firsts other
   -- a set that the whole does not assign is none that the saved program assigns
   not-dynamic : (name : ℕ) → declares one name ≡ true → among v whole accepted name ≡ false → is_among (dynamic_sets saved) name ≡ false
   not-dynamic name there none =
-      let front = flat_map assigned_by saved.statements.items in
-      let parts : flat_map assigned_by whole.statements.items ≡ front ++ flat_map assigned_by others = ap (flat_map assigned_by) goes_on.statements ∙ flat_map-append assigned_by firsts others ∙ ap (λ (ns : List ℕ). ns ++ flat_map assigned_by others) goes_on.assigns in
-      swapped front (front-none (base_of first) front (flat_map assigned_by others) name (sym (ap (λ (ns : List ℕ). is_among (map (base_of first) ns) name) parts) ∙ none))
+      let prefix = flat_map assigned_by saved.statements.items in
+      let parts : flat_map assigned_by whole.statements.items ≡ prefix ++ flat_map assigned_by others = ap (flat_map assigned_by) continues.statements ∙ flat_map-append assigned_by firsts others ∙ ap (λ (ns : List ℕ). ns ++ flat_map assigned_by others) continues.assigns in
+      swapped prefix (prefix-none (base_of first) prefix (flat_map assigned_by others) name (sym (ap (λ (ns : List ℕ). is_among (map (base_of first) ns) name) parts) ∙ none))
     where
       base-there : (n : ℕ) → base_of (declared_state saved) n ≡ base_of one n
-      base-there n = sym (same-read (alias_target n) (keeps-behind n) one (declared_state saved) n (loaded-declares v saved))
+      base-there n = sym (same-read (alias_target n) (keeps-following n) one (declared_state saved) n (loaded-declares v saved))
 
       other : (n : ℕ) (b : Bool) → declares one n ≡ b → (base_of first n == name) ≡ false → (base_of (declared_state saved) n == name) ≡ false
       other n true known e =
           ap (λ (m : ℕ). m == name) (base-there n ∙ sym (ap (λ (s : Symbol). alias_target n s.content) (known-there n known))) ∙ e
-      other n false unknown e = ap (λ (m : ℕ). m == name) (base-there n ∙ behind-nothing n (symbol_at one n).content (not-false (is_undeclared (symbol_at one n).content) unknown)) ∙ apart (n == name) refl
+      other n false unknown e = ap (λ (m : ℕ). m == name) (base-there n ∙ following-nothing n (symbol_at one n).content (not-false (is_undeclared (symbol_at one n).content) unknown)) ∙ apart (n == name) refl
         where
           apart : (b : Bool) → (n == name) ≡ b → (n == name) ≡ false
           apart true same = absurd (both_ways (declares one n) unknown (ap (declares one) (eqb-true n name same) ∙ there))
@@ -214,27 +214,27 @@ module _ {F : Type 0} (v : F → Number) (whole saved : Program F) (firsts other
   members-same set known none =
       let base = base_of one set in
       let declared : declares one set ≡ true = ap not known in
-      ap (λ (n : ℕ). members_in (symbol_at state n).content) (behind-same set set)
+      ap (λ (n : ℕ). members_in (symbol_at state n).content) (following-same set set)
       ∙ is.static base (ap (λ (ns : List ℕ). is_among ns base) (sym (same-names v saved accepts)) ∙ none)
       ∙ sym (ap (λ (s : Symbol). members_in s.content) (known-there base (closed-after v (length saved.names) saved.statements.items set declared)))
       ∙ sym (ap (λ (n : ℕ). members_in (symbol_at first n).content) (ap (λ (s : Symbol). alias_target set s.content) (known-there set declared)))
 
   further : (l : ℕ) → nat_lt l (length saved.labels) ≡ true → nat_lt l labels ≡ true
   further l e =
-      let below = below-of l (length saved.labels) e in let fewer = goes_on.labels in test-of l labels (omega (arith, below, fewer))
+      let below = below-of l (length saved.labels) e in let fewer = continues.labels in test-of l labels (omega (arith, below, fewer))
 
-  stands-more : (domain : List (Option ℕ)) → AreFixed (among v saved accepts) one domain → (t : List ℕ) → stands_in (length saved.labels) state domain t ≡ true → stands_in labels first domain t ≡ true
+  stands-more : (domain : List (Option ℕ)) → AreFixed (among v saved accepts) one domain → (t : List ℕ) → fits_domain (length saved.labels) state domain t ≡ true → fits_domain labels first domain t ≡ true
   stands-more [] fixed [] e = refl
   stands-more [] fixed (l ∷ t) e = absurd (cc)
   stands-more (p ∷ domain) fixed [] e = absurd (cc)
   stands-more (None ∷ domain) fixed (l ∷ t) e =
-      let parts = and_parts (nat_lt l (length saved.labels)) (true && stands_in (length saved.labels) state domain t) e in
-      and_from (nat_lt l labels) (true && stands_in labels first domain t) (further l parts.0) (stands-more domain fixed t parts.1)
+      let parts = and_parts (nat_lt l (length saved.labels)) (true && fits_domain (length saved.labels) state domain t) e in
+      and_from (nat_lt l labels) (true && fits_domain labels first domain t) (further l parts.0) (stands-more domain fixed t parts.1)
   stands-more (Some set ∷ domain) fixed (l ∷ t) e =
-      let parts = and_parts (nat_lt l (length saved.labels)) (stands_at state (Some set) l && stands_in (length saved.labels) state domain t) e in
-      let here = and_parts (stands_at state (Some set) l) (stands_in (length saved.labels) state domain t) parts.1 in
-      and_from (nat_lt l labels) (stands_at first (Some set) l && stands_in labels first domain t) (further l parts.0)
-      (and_from (stands_at first (Some set) l) (stands_in labels first domain t) (sym (ap (λ (ms : List (List ℕ)). has ms (l ∷ [])) (members-same set fixed.0.declared fixed.0.static)) ∙ here.0) (stands-more domain fixed.1 t here.1))
+      let parts = and_parts (nat_lt l (length saved.labels)) (fits_position state (Some set) l && fits_domain (length saved.labels) state domain t) e in
+      let here = and_parts (fits_position state (Some set) l) (fits_domain (length saved.labels) state domain t) parts.1 in
+      and_from (nat_lt l labels) (fits_position first (Some set) l && fits_domain labels first domain t) (further l parts.0)
+      (and_from (fits_position first (Some set) l) (fits_domain labels first domain t) (sym (ap (λ (ms : List (List ℕ)). has ms (l ∷ [])) (members-same set fixed.0.declared fixed.0.static)) ∙ here.0) (stands-more domain fixed.1 t here.1))
 
   stand : (n : ℕ) (t : List ℕ) → has (given_in (symbol_at later n).content) t ≡ true → stands_few labels first (symbol_at first n).domain t ≡ true
   stand n t there = by (declares one n) refl
@@ -243,10 +243,10 @@ module _ {F : Type 0} (v : F → Number) (whole saved : Program F) (firsts other
       by true known =
           let tuples = given_in (symbol_at state n).content in
           let given : has tuples t ≡ true = subst (λ (s : Symbol). has (given_in s.content) t ≡ true) (later-there n known) there in
-          let stood = has-all (λ (u : List ℕ). stands_in (length saved.labels) state (symbol_at state n).domain u ≡ true) tuples t (is.given n).stand given in
-          let moved = stands-more (symbol_at one n).domain (fixed-positions v saved accepts n) t (subst (λ (ds : List (Option ℕ)). stands_in (length saved.labels) state ds t ≡ true) (domain-same n) stood) in
-          and_from (stands_in labels first (symbol_at first n).domain t) (nat_le (length t) 10)
-          (subst (λ (ds : List (Option ℕ)). stands_in labels first ds t ≡ true) (sym (ap (λ (s : Symbol). s.domain) (known-there n known))) moved)
+          let stood = has-all (λ (u : List ℕ). fits_domain (length saved.labels) state (symbol_at state n).domain u ≡ true) tuples t (is.given n).stand given in
+          let moved = stands-more (symbol_at one n).domain (fixed-positions v saved accepts n) t (subst (λ (ds : List (Option ℕ)). fits_domain (length saved.labels) state ds t ≡ true) (domain-same n) stood) in
+          and_from (fits_domain labels first (symbol_at first n).domain t) (nat_le (length t) 10)
+          (subst (λ (ds : List (Option ℕ)). fits_domain labels first ds t ≡ true) (sym (ap (λ (s : Symbol). s.domain) (known-there n known))) moved)
           (at-most-ten (length t) (has-all (λ (u : List ℕ). length u ≤ 10) tuples t (is.given n).few given))
       by false apart = data-stand v whole accepted labels own n t (subst (λ (s : Symbol). has (given_in s.content) t ≡ true) (later-elsewhere n apart) there)
 

@@ -24,7 +24,7 @@ use Rattle.gms_tuple.specs.TupleSet.{has}
 use Rattle.gms_tuple.proofs.Ordered.{same_tuple_refl}
 use Rattle.gms_store.specs.State.{State, symbol_at, base_of, given_in, members_in, members_of}
 use Rattle.gms_scope.specs.DynamicSets.{assigned_names as assigned_by}
-use Rattle.gms_check.specs.Checked.{StandsAfter}
+use Rattle.gms_check.specs.Checked.{FollowsIn}
 use Rattle.gms_check.specs.CompileErrors.{errors_after, known_after}
 use Rattle.gms_check.specs.Loaded.{IsAccepted, loaded, sound}
 use Rattle.gms_check.specs.Past.{Known, is_among}
@@ -46,9 +46,9 @@ use Rattle.gms_run_laws.proofs.ModelRows.{DefinitionPasses}
 use Rattle.gms_run_laws.specs.LastStates.{AreFixed}
 use Rattle.gms_run_laws.proofs.LastStates.{lasts-first}
 use Rattle.gms_run_laws.proofs.TidyLoaded.{loaded-well}
-use Rattle.gms_save_text.specs.Validity.{are_in_range, stands_at, stands_in}
+use Rattle.gms_save_text.specs.Validity.{are_in_range, fits_position, fits_domain}
 use Rattle.gms_restart.specs.Labels.{HasItsLabels, index_labels, tree_labels, condition_labels, labels_step, statement_labels}
-use Rattle.gms_restart.proofs.Fitting.{Standing}
+use Rattle.gms_restart.proofs.Fitting.{Context}
 use Rattle.gms_restart.proofs.Grounds.{among, fixed-positions, data-stand, ground-then}
 use Rattle.gms_restart.proofs.Kept.{Kept}
 use Rattle.gms_restart.proofs.Passing.{stands_key, definition-passes, tree-passes}
@@ -79,13 +79,13 @@ module _ {F : Type 0} (v : F → Number) (limit : ℕ) (world : World F) (accept
   abbrev known_before : List (Stmt F) → Known F
   known_before before = known_after v program accepted.0 (sound before)
 
-  clean-there : (before : List (Stmt F)) (statement : Stmt F) → StandsAfter program before statement → AreClean (known_before before) (statement_uses statement (known_before before).state [])
+  clean-there : (before : List (Stmt F)) (statement : Stmt F) → FollowsIn program before statement → AreClean (known_before before) (statement_uses statement (known_before before).state [])
   clean-there before statement stands =
       statement-clean (known_before before) statement (after-sound v program accepted.0 before [] statement stands.0 (sym (ap (errors_after v program accepted.0 []) stands.1) ∙ accepted.1))
 
   -- ---- definitions
 
-  module _ (state : State) (standing : Standing labels first assigned state) where
+  module _ (state : State) (context : Context labels first assigned state) where
     abbrev DefinesWell : Definition F → Type 0
     DefinesWell = DefinitionPasses (stands_key labels first) v limit state
 
@@ -112,7 +112,7 @@ module _ {F : Type 0} (v : F → Number) (limit : ℕ) (world : World F) (accept
 
     -- a definition of the program
     defines-well : (before : List (Stmt F)) (at : Place) (equation : Named) (indices : List (Index F)) (condition : Option (Expr F)) (left_at : Place) (left : Expr F) (side : Side) (right_at : Place) (right : Expr F) →
-        StandsAfter program before (record { at = at; act = Define equation indices condition left_at left side right_at right }) →
+        FollowsIn program before (record { at = at; act = Define equation indices condition left_at left side right_at right }) →
         Each (λ l. nat_lt l labels) (index_labels (index_list indices) ++ (condition_labels (option_map tree_of condition) ++ (tree_labels (tree_of left) ++ tree_labels (tree_of right)))) →
         DefinesWell (record { equation = equation.name; at = at; indices = index_list indices; condition = option_map tree_of condition; left_at = left_at; left = tree_of left; side = side; right_at = right_at; right = tree_of right })
     defines-well before at equation indices condition left_at left side right_at right stands written =
@@ -124,21 +124,21 @@ module _ {F : Type 0} (v : F → Number) (limit : ℕ) (world : World F) (accept
         let clean = subst (AreClean known) (uses-act statement known.state [] ∙ uses-Define known.state at [] equation indices condition left_at left side right_at right) (clean-there before statement stands) in
         let used = sound-use known (defining equation.name (index_list indices)) clean.0 in
         let sides = clean-right known (left_uses at around indices condition) (uses as_side left_at around (tree_of left) ++ uses as_side right_at around (tree_of right)) clean.1 in
-        let behind = each-right below (index_labels (index_list indices)) (condition_labels (option_map tree_of condition) ++ (tree_labels (tree_of left) ++ tree_labels (tree_of right))) written in
-        let side_labels = each-right below (condition_labels (option_map tree_of condition)) (tree_labels (tree_of left) ++ tree_labels (tree_of right)) behind in
-        definition-passes labels first assigned known refl ground v limit state standing (record { equation = equation.name; at = at; indices = index_list indices; condition = option_map tree_of condition; left_at = left_at; left = tree_of left; side = side; right_at = right_at; right = tree_of right }) used.0 used.2
+        let following = each-right below (index_labels (index_list indices)) (condition_labels (option_map tree_of condition) ++ (tree_labels (tree_of left) ++ tree_labels (tree_of right))) written in
+        let side_labels = each-right below (condition_labels (option_map tree_of condition)) (tree_labels (tree_of left) ++ tree_labels (tree_of right)) following in
+        definition-passes labels first assigned known refl ground v limit state context (record { equation = equation.name; at = at; indices = index_list indices; condition = option_map tree_of condition; left_at = left_at; left = tree_of left; side = side; right_at = right_at; right = tree_of right }) used.0 used.2
         (each-left below (index_labels (index_list indices)) (condition_labels (option_map tree_of condition) ++ (tree_labels (tree_of left) ++ tree_labels (tree_of right))) written)
-        (λ binding fits. tree-passes labels first assigned known refl ground v limit state standing (tree_of left) as_side left_at around binding (clean-left known (uses as_side left_at around (tree_of left)) (uses as_side right_at around (tree_of right)) sides) (each-left below (tree_labels (tree_of left)) (tree_labels (tree_of right)) side_labels) fits)
-        (λ binding fits. tree-passes labels first assigned known refl ground v limit state standing (tree_of right) as_side right_at around binding (clean-right known (uses as_side left_at around (tree_of left)) (uses as_side right_at around (tree_of right)) sides) (each-right below (tree_labels (tree_of left)) (tree_labels (tree_of right)) side_labels) fits)
+        (λ binding fits. tree-passes labels first assigned known refl ground v limit state context (tree_of left) as_side left_at around binding (clean-left known (uses as_side left_at around (tree_of left)) (uses as_side right_at around (tree_of right)) sides) (each-left below (tree_labels (tree_of left)) (tree_labels (tree_of right)) side_labels) fits)
+        (λ binding fits. tree-passes labels first assigned known refl ground v limit state context (tree_of right) as_side right_at around binding (clean-right known (uses as_side left_at around (tree_of left)) (uses as_side right_at around (tree_of right)) sides) (each-right below (tree_labels (tree_of left)) (tree_labels (tree_of right)) side_labels) fits)
 
     abbrev labels_of : Act F → List ℕ
     labels_of = fold-Act F (List ℕ) (List ℕ) labels_step (λ statement. statement.act)
 
-    act-well : (before : List (Stmt F)) (at : Place) (act : Act F) → StandsAfter program before (record { at = at; act = act }) → Each (λ l. nat_lt l labels) (labels_of act) → EachHas DefinesWell (defined_at at act)
+    act-well : (before : List (Stmt F)) (at : Place) (act : Act F) → FollowsIn program before (record { at = at; act = act }) → Each (λ l. nat_lt l labels) (labels_of act) → EachHas DefinesWell (defined_at at act)
     act-well before at act = by_parts Q by act
       where
         Q : Act F → Type 0
-        Q a = StandsAfter program before (record { at = at; act = a }) → Each (λ l. nat_lt l labels) (labels_of a) → EachHas DefinesWell (defined_at at a)
+        Q a = FollowsIn program before (record { at = at; act = a }) → Each (λ l. nat_lt l labels) (labels_of a) → EachHas DefinesWell (defined_at at a)
 
         by : (layer : Act-F F (Act F) (Stmt F)) → Q (roll-Act F layer)
         by (Act-F.Declare kind items) = subst Q (sym (rolls-Declare kind items)) (λ stands written. tt)
@@ -199,19 +199,19 @@ module _ {F : Type 0} (v : F → Number) (limit : ℕ) (world : World F) (accept
 -- ---- the same for the last state
 
 -- the sets of positions have the same members in it
-stand-later : (count : ℕ) (first last : State) (assigned : ℕ → Bool) → ((set : ℕ) → base_of last set ≡ base_of first set) → ((n : ℕ) → assigned n ≡ false → members_in (symbol_at last n).content ≡ members_in (symbol_at first n).content) → (domain : List (Option ℕ)) → AreFixed assigned first domain → (t : List ℕ) → stands_in count first domain t ≡ true → stands_in count last domain t ≡ true
+stand-later : (count : ℕ) (first last : State) (assigned : ℕ → Bool) → ((set : ℕ) → base_of last set ≡ base_of first set) → ((n : ℕ) → assigned n ≡ false → members_in (symbol_at last n).content ≡ members_in (symbol_at first n).content) → (domain : List (Option ℕ)) → AreFixed assigned first domain → (t : List ℕ) → fits_domain count first domain t ≡ true → fits_domain count last domain t ≡ true
 stand-later count first last assigned bases static [] fixed [] e = refl
 stand-later count first last assigned bases static [] fixed (label ∷ t) e = absurd (cc)
 stand-later count first last assigned bases static (position ∷ domain) fixed [] e = absurd (cc)
 stand-later count first last assigned bases static (None ∷ domain) fixed (label ∷ t) e =
-    let parts = and_parts (nat_lt label count) (true && stands_in count first domain t) e in
-    and_from (nat_lt label count) (true && stands_in count last domain t) parts.0 (stand-later count first last assigned bases static domain fixed t parts.1)
+    let parts = and_parts (nat_lt label count) (true && fits_domain count first domain t) e in
+    and_from (nat_lt label count) (true && fits_domain count last domain t) parts.0 (stand-later count first last assigned bases static domain fixed t parts.1)
 stand-later count first last assigned bases static (Some set ∷ domain) fixed (label ∷ t) e =
-    let parts = and_parts (nat_lt label count) (stands_at first (Some set) label && stands_in count first domain t) e in
-    let here = and_parts (stands_at first (Some set) label) (stands_in count first domain t) parts.1 in
+    let parts = and_parts (nat_lt label count) (fits_position first (Some set) label && fits_domain count first domain t) e in
+    let here = and_parts (fits_position first (Some set) label) (fits_domain count first domain t) parts.1 in
     let members : members_of last set ≡ members_of first set = ap (λ n. members_in (symbol_at last n).content) (bases set) ∙ static (base_of first set) fixed.0.static in
-    and_from (nat_lt label count) (stands_at last (Some set) label && stands_in count last domain t) parts.0
-    (and_from (stands_at last (Some set) label) (stands_in count last domain t) (ap (λ (ms : List (List ℕ)). has ms (label ∷ [])) members ∙ here.0) (stand-later count first last assigned bases static domain fixed.1 t here.1))
+    and_from (nat_lt label count) (fits_position last (Some set) label && fits_domain count last domain t) parts.0
+    (and_from (fits_position last (Some set) label) (fits_domain count last domain t) (ap (λ (ms : List (List ℕ)). has ms (label ∷ [])) members ∙ here.0) (stand-later count first last assigned bases static domain fixed.1 t here.1))
 
 all-from_has : (P : List ℕ → Type 0) (tuples : List (List ℕ)) → ((t : List ℕ) → has tuples t ≡ true → P t) → All P tuples
 all-from_has P [] each = All-nil P
@@ -220,19 +220,19 @@ all-from_has P (u ∷ tuples) each =
 
 module _ {F : Type 0} (v : F → Number) (program : Program F) (accepted : IsAccepted v program) (labels : ℕ) (last : State) (kept : Kept labels (loaded v program) (among v program accepted) last) where
   -- each tuple with data is in the domain of its name
-  pub kept-stand : (name : ℕ) → All (λ (t : List ℕ). stands_in labels last (symbol_at last name).domain t ≡ true) (given_in (symbol_at last name).content)
+  pub kept-stand : (name : ℕ) → All (λ (t : List ℕ). fits_domain labels last (symbol_at last name).domain t ≡ true) (given_in (symbol_at last name).content)
   kept-stand name =
       let first = loaded v program in
-      all-from_has (λ (t : List ℕ). stands_in labels last (symbol_at last name).domain t ≡ true) (given_in (symbol_at last name).content) (λ t there.
-      subst (λ (ds : List (Option ℕ)). stands_in labels last ds t ≡ true) (sym (kept.lasts.stays name).domain)
+      all-from_has (λ (t : List ℕ). fits_domain labels last (symbol_at last name).domain t ≡ true) (given_in (symbol_at last name).content) (λ t there.
+      subst (λ (ds : List (Option ℕ)). fits_domain labels last ds t ≡ true) (sym (kept.lasts.stays name).domain)
       (stand-later labels first last (among v program accepted) (λ set. (kept.lasts.stays set).alike set) kept.lasts.later.static (symbol_at first name).domain (fixed-positions v program accepted name) t
-      (and_parts (stands_in labels first (symbol_at first name).domain t) (nat_le (length t) 10) (kept.stand name t there)).0))
+      (and_parts (fits_domain labels first (symbol_at first name).domain t) (nat_le (length t) 10) (kept.stand name t there)).0))
 
   -- and has at most 10 labels
   pub kept-few : (name : ℕ) → All (λ (t : List ℕ). length t ≤ 10) (given_in (symbol_at last name).content)
   kept-few name =
       let first = loaded v program in
-      all-from_has (λ (t : List ℕ). length t ≤ 10) (given_in (symbol_at last name).content) (λ t there. ten (length t) (and_parts (stands_in labels first (symbol_at first name).domain t) (nat_le (length t) 10) (kept.stand name t there)).1)
+      all-from_has (λ (t : List ℕ). length t ≤ 10) (given_in (symbol_at last name).content) (λ t there. ten (length t) (and_parts (fits_domain labels first (symbol_at first name).domain t) (nat_le (length t) 10) (kept.stand name t there)).1)
     where
       ten : (n : ℕ) → nat_le n 10 ≡ true → n ≤ 10
       ten n le = grind (arith, nat_tests, le)

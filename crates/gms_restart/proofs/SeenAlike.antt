@@ -37,14 +37,14 @@ module _ (xs ys : List (Stmt Frac)) (alike : map seen xs ≡ map seen ys) where
   states-same state =
       declared-are xs state ∙ ap (fold (λ (s : State) (v : Seen). (told_by v.1).declared s) state) alike ∙ sym (declared-are ys state)
 
-  behind-alike : (others : List (Stmt Frac)) → map seen (xs ++ others) ≡ map seen (ys ++ others)
-  behind-alike others = map-append seen xs others ∙ ap (λ (vs : List Seen). vs ++ map seen others) alike ∙ sym (map-append seen ys others)
+  following-alike : (others : List (Stmt Frac)) → map seen (xs ++ others) ≡ map seen (ys ++ others)
+  following-alike others = map-append seen xs others ∙ ap (λ (vs : List Seen). vs ++ map seen others) alike ∙ sym (map-append seen ys others)
 
   pub stand-for : (limit : ℕ) (world : World Frac) → StandsFor frac_value limit world xs ys
   stand-for limit world = record {
     states = λ count.
         loaded-are xs (blank_state count) ∙ ap (fold (λ (s : State) (v : Seen). (told_by v.1).given s) (blank_state count)) alike ∙ sym (loaded-are ys (blank_state count));
-    define = λ others m. same-definitions (xs ++ others) (ys ++ others) (behind-alike others) m;
+    define = λ others m. same-definitions (xs ++ others) (ys ++ others) (following-alike others) m;
     defined = λ q. defined-told xs q ∙ ap (list_any (λ (v : Seen). (told_by v.1).is_defined q)) alike ∙ sym (defined-told ys q);
     runs = λ state answers. seen-runs limit world state answers xs ys alike;
   }

@@ -19,7 +19,7 @@ use Rattle.gms_ast.specs.TreeView.{tree_of}
 use Rattle.gms_ast.specs.Trees.{Tree, Indices}
 use Rattle.gms_check.specs.StatementUses.{index_list}
 use Rattle.gms_rows.specs.ModelPoints.{definitions_of_model}
-use Rattle.gms_rows.specs.Rows.{Definition, equations_declared_by, defined_at, definitions, definition_of, each_once, equations_from, equations_of, found, has_lag, models_of}
+use Rattle.gms_rows.specs.Rows.{Definition, equations_declared_by, defined_at, definitions, definition_of, distinct_numbers, equations_from, equations_of, found, has_lag, models_of}
 use Rattle.gms_save.proofs.FromNumbers.{condition_back, declarations_back, indices_back, tree_back, value_of}
 use Rattle.gms_save.proofs.SeenActs.{Layer, declaration, shown, shown_layer, shows}
 use Rattle.gms_save.proofs.SeenPrograms.{Seen, seen}
@@ -93,7 +93,7 @@ same-listing act =
 abbrev equations_by : List ℕ → ℕ → List Seen → List ℕ
 equations_by declared name [] = []
 equations_by declared name (v ∷ vs) =
-    elim (found (each_once declared) name (listing (declaration v.1)).0) [
+    elim (found (distinct_numbers declared) name (listing (declaration v.1)).0) [
       | Some equations ↦ equations
       | None ↦ equations_by (declared ++ (listing (declaration v.1)).1) name vs
     ]
@@ -101,7 +101,7 @@ equations_by declared name (v ∷ vs) =
 equations-are : (declared : List ℕ) (name : ℕ) (xs : List (Stmt Frac)) → equations_from declared name xs ≡ equations_by declared name (map seen xs)
 equations-are declared name [] = refl
 equations-are declared name (x ∷ xs) =
-    let either : Listed → List ℕ → List ℕ = λ those behind. elim (found (each_once declared) name those.0) [ Some equations ↦ equations | None ↦ behind ] in
+    let either : Listed → List ℕ → List ℕ = λ those following. elim (found (distinct_numbers declared) name those.0) [ Some equations ↦ equations | None ↦ following ] in
     ap (λ (those : Listed). either those (equations_from (declared ++ those.1) name xs)) (sym (same-listing x.act))
     ∙ ap (either (listing (declaration (shown x.act)))) (equations-are (declared ++ (listing (declaration (shown x.act))).1) name xs)
 

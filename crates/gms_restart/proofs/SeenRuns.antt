@@ -33,7 +33,7 @@ use Rattle.gms_rows.specs.ProgramLp.{program_of, sized_program}
 use Rattle.gms_rows.specs.Rows.{Definition, FormRow, equations_of, rows_of_definition}
 use Rattle.gms_exec.specs.Assignment.{after_assignment}
 use Rattle.gms_exec.specs.Options.{after_options}
-use Rattle.gms_exec.specs.Run.{Course, World, OfAct, OfStatement, answered, in_state, with_evaluated, one_after_another, display, abort_where, over_elements, solve, act_step, statement_step, of_statement, run_from, labels_in}
+use Rattle.gms_exec.specs.Run.{Course, World, OfAct, OfStatement, answered, in_state, with_evaluated, in_sequence, display, abort_where, over_elements, solve, act_step, statement_step, of_statement, run_from, labels_in}
 use Rattle.gms_save.proofs.FromNumbers.{condition_back, control_back, indices_back, option_in, options_back, tree_back, value_of}
 use Rattle.gms_save.proofs.SeenActs.{AllSuch, Layer, LayerSuch, each-act, shown, shown_layer, shows}
 use Rattle.gms_save.proofs.SeenPrograms.{Seen, seen}
@@ -168,7 +168,7 @@ module _ (limit : ℕ) (world : World Frac) where
 -- In one world statements with equal views run alike.
 pub seen-runs : (limit : ℕ) (world : World Frac) (state : State) (answers : List (Answer Number)) (xs ys : List (Stmt Frac)) → map seen xs ≡ map seen ys → run_from frac_value limit world state answers xs ≡ run_from frac_value limit world state answers ys
 seen-runs limit world state answers xs ys alike =
-    let run : List OfStatement → Course = λ fs. one_after_another fs [] (record { state = state; events = []; left = answers; taken = 0; halted = None }) in
+    let run : List OfStatement → Course = λ fs. in_sequence fs [] (record { state = state; events = []; left = answers; taken = 0; halted = None }) in
     ap run (runs-are limit world xs ∙ ap (map (run_seen limit (labels_in world) world.solvers world.program.statements.items)) alike ∙ sym (runs-are limit world ys))
 
 -- Statements with equal views run alike in the worlds of two programs with equal views, with the
@@ -176,7 +176,7 @@ seen-runs limit world state answers xs ys alike =
 pub seen-alike : (limit : ℕ) (one other : World Frac) (state : State) (answers : List (Answer Number)) (xs ys : List (Stmt Frac)) → labels_in one ≡ labels_in other → one.solvers ≡ other.solvers → map seen one.program.statements.items ≡ map seen other.program.statements.items → map seen xs ≡ map seen ys →
     run_from frac_value limit one state answers xs ≡ run_from frac_value limit other state answers ys
 seen-alike limit one other state answers xs ys labels solvers programs alike =
-    let run : List OfStatement → Course = λ fs. one_after_another fs [] (record { state = state; events = []; left = answers; taken = 0; halted = None }) in
+    let run : List OfStatement → Course = λ fs. in_sequence fs [] (record { state = state; events = []; left = answers; taken = 0; halted = None }) in
     let first = one.program.statements.items in
     let second = other.program.statements.items in
     ap run (

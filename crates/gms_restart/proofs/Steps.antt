@@ -40,7 +40,7 @@ use Rattle.gms_rows.specs.ProgramLp.{program_lp}
 use Rattle.gms_rows.specs.Rows.{equations_of}
 use Rattle.gms_exec.specs.Assignment.{given_by, target_of}
 use Rattle.gms_exec.specs.Given.{AllGiven, after_given}
-use Rattle.gms_exec.specs.Run.{Course, Halt, World, OfAct, OfStatement, in_state, while_it_runs, with_evaluated, one_after_another, for_each, display, abort, abort_where, over_elements, answered, solve, act_step, statement_step, of_statement, labels_in}
+use Rattle.gms_exec.specs.Run.{Course, Halt, World, OfAct, OfStatement, in_state, while_it_runs, with_evaluated, in_sequence, for_each, display, abort, abort_where, over_elements, answered, solve, act_step, statement_step, of_statement, labels_in}
 use Rattle.gms_exec.specs.Showing.{all_shown}
 use Rattle.gms_run_laws.specs.Names.{Each}
 use Rattle.gms_run_laws.proofs.Eaches.{each-left, each-right}
@@ -48,9 +48,9 @@ use Rattle.gms_run_laws.proofs.FormKeys.{OkHas, EachHas}
 use Rattle.gms_run_laws.proofs.ModelRows.{DefinitionPasses, program-keyed}
 use Rattle.gms_run_laws.proofs.RowElements.{IsOver}
 use Rattle.gms_restart.specs.Labels.{index_labels, tree_labels, condition_labels, control_labels, labels_step, statement_labels}
-use Rattle.gms_restart.proofs.Fitting.{Ground, Standing, Fits}
+use Rattle.gms_restart.proofs.Fitting.{Ground, Context, Fits}
 use Rattle.gms_restart.proofs.Homes.{stands_few}
-use Rattle.gms_restart.proofs.Kept.{Kept, standing-of, kept-given, kept-end, kept-options}
+use Rattle.gms_restart.proofs.Kept.{Kept, context-of, kept-given, kept-end, kept-options}
 use Rattle.gms_restart.proofs.Passing.{stands_key, positions-same, control-simple, element-fits, over-domain, GivenStands, given-stand}
 
 no-positions : (ds : List (Option ℕ)) → is_without_positions ds ≡ true → ds ≡ []
@@ -80,7 +80,7 @@ module _ (count : ℕ) (first : State) (assigned : ℕ → Bool) where
       by None = keep p
       by (Some halt) = p
 
-  pub all-keep : (ss : List OfStatement) → EachKeeps ss → Keeps (one_after_another ss)
+  pub all-keep : (ss : List OfStatement) → EachKeeps ss → Keeps (in_sequence ss)
   all-keep [] each binding c fits p = p
   all-keep (s ∷ ss) each binding c fits p =
       all-keep ss each.1 binding (while_it_runs (s binding) c) fits (while-keeps (s binding) c (each.0 binding c fits) p)
@@ -88,7 +88,7 @@ module _ (count : ℕ) (first : State) (assigned : ℕ → Bool) where
   each-keeps : (sets : List ℕ) (body : List OfStatement) (binding : Pairs) (those : List (List ℕ)) → EachHas (λ element. Fits count first assigned (controlled binding sets element)) those → EachKeeps body → (c : Course) → P c → P (for_each sets body those binding c)
   each-keeps sets body binding [] fits each c p = p
   each-keeps sets body binding (element ∷ those) fits each c p =
-      each-keeps sets body binding those fits.1 each (one_after_another body (controlled binding sets element) c) (all-keep body each (controlled binding sets element) c fits.0 p)
+      each-keeps sets body binding those fits.1 each (in_sequence body (controlled binding sets element) c) (all-keep body each (controlled binding sets element) c fits.0 p)
 
   value-keeps : {A : Type 0} (r : Evaluated A) (next : A → Course) (c : Course) → ((x : A) → P (next x)) → P c → P (with_evaluated r next c)
   value-keeps (Ok x) next c each p = each x
@@ -102,7 +102,7 @@ module _ (count : ℕ) (first : State) (assigned : ℕ → Bool) where
   abbrev pub may_be : ℕ → Bool
   may_be name = assigned (base_of first name)
 
-  module _ {F : Type 0} (v : F → Number) (limit : ℕ) (world : World F) (definitions_pass : (state : State) → Standing count first assigned state → (model : ℕ) → EachHas (DefinitionPasses (stands_key count first) v limit state) (definitions_of_model world.program.statements.items model)) (known : Known F) (above_is : known.above ≡ directly_above known.state known.declared) (ground : Ground count first assigned known.state) where
+  module _ {F : Type 0} (v : F → Number) (limit : ℕ) (world : World F) (definitions_pass : (state : State) → Context count first assigned state → (model : ℕ) → EachHas (DefinitionPasses (stands_key count first) v limit state) (definitions_of_model world.program.statements.items model)) (known : Known F) (above_is : known.above ≡ directly_above known.state known.declared) (ground : Ground count first assigned known.state) where
     keeps-display : (labels : ℕ) (items : List Show) → KeepsAct (display v limit labels items)
     keeps-display labels items at binding c fits p = value-keeps (all_shown labels c.state binding items) _ c (λ shown. p) p
 
@@ -124,9 +124,9 @@ module _ (count : ℕ) (first : State) (assigned : ℕ → Bool) where
         P (with_evaluated (given_by v limit c.state at binding (target_of target) (option_map tree_of condition) right_at (tree_of right) and_then λ given. Ok (after_given target.suffix target.name given c.state)) (in_state c) c)
     keeps-assign target condition right_at right there are own may at binding c fits p =
         by (given_by v limit c.state at binding (target_of target) (option_map tree_of condition) right_at (tree_of right))
-        (given-stand count first assigned known above_is ground v limit c.state (standing-of count first assigned c.state p) (target_of target) at binding (option_map tree_of condition) right_at (tree_of right) fits there are own)
+        (given-stand count first assigned known above_is ground v limit c.state (context-of count first assigned c.state p) (target_of target) at binding (option_map tree_of condition) right_at (tree_of right) fits there are own)
       where
-        by : (r : Evaluated AllGiven) → OkHas (EachHas (GivenStands count first assigned known above_is ground v limit c.state (standing-of count first assigned c.state p) target.name)) r → P (with_evaluated (r and_then λ given. Ok (after_given target.suffix target.name given c.state)) (in_state c) c)
+        by : (r : Evaluated AllGiven) → OkHas (EachHas (GivenStands count first assigned known above_is ground v limit c.state (context-of count first assigned c.state p) target.name)) r → P (with_evaluated (r and_then λ given. Ok (after_given target.suffix target.name given c.state)) (in_state c) c)
         by (Ok given) are = kept-given count first assigned c.state target.suffix target.name given may are p
         by (Err fault) are = p
 
@@ -147,17 +147,17 @@ module _ (count : ℕ) (first : State) (assigned : ℕ → Bool) where
     keeps-solve (solver ∷ solvers) model objective maximize is at binding c fits p =
         let statements = world.program.statements.items in
         has-keeps (IsOver (stands_key count first)) (program_lp v limit c.state statements model objective maximize at) (answered v limit (solver ∷ solvers) model (equations_of statements model) objective at c) c
-        (program-keyed (stands_key count first) v limit c.state statements model objective maximize at (definitions_pass c.state (standing-of count first assigned c.state p) model) is)
+        (program-keyed (stands_key count first) v limit c.state statements model objective maximize at (definitions_pass c.state (context-of count first assigned c.state p) model) is)
         (λ lp over. keeps-answered c c.left (solver ∷ solvers) model (equations_of statements model) objective at lp over p) p
 
     -- ---- a loop
 
     keeps-loop : (control : tree.Control F) (body : List OfStatement) (place : Place) (around : List ℕ) → AreClean known (control_uses place around control) → EachKeeps body → KeepsAct (over_elements v limit control body)
     keeps-loop control body place around clean each at binding c fits p =
-        let standing = standing-of count first assigned c.state p in
+        let context = context-of count first assigned c.state p in
         let Q : List ℕ → Type 0 = λ element. Fits count first assigned (controlled binding (sets_of control) element) in
         has-keeps (EachHas Q) (domain v limit c.state binding at control) (λ those. for_each (sets_of control) body those binding c) c
-        (over-domain count first assigned known above_is ground v limit c.state standing Q binding at control (λ element there. element-fits count first assigned known above_is ground v limit c.state standing binding (sets_of control) element fits (control-simple count first assigned known above_is ground v limit c.state standing control place around clean) there))
+        (over-domain count first assigned known above_is ground v limit c.state context Q binding at control (λ element there. element-fits count first assigned known above_is ground v limit c.state context binding (sets_of control) element fits (control-simple count first assigned known above_is ground v limit c.state context control place around clean) there))
         (λ those all. each-keeps (sets_of control) body binding those all each c p) p
 
     nothing-kept : KeepsAct (λ at binding c. c)

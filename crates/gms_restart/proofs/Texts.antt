@@ -12,9 +12,9 @@ use Rattle.gms_lex.specs.TokenTexts.{token_text, unquoted}
 use Rattle.gms_grammar.specs.declared.terminal.Terminal.{Terminal}
 use Rattle.gms_set.specs.Ranges.{members}
 use Rattle.gms_table.specs.TableEntries.{TablePart, name, cell, is_plus, under, table_of, met, meet}
-use Rattle.gms_lines.specs.SplitFields.{is_dot, stretch_bytes}
+use Rattle.gms_lines.specs.SplitFields.{is_dot, field_bytes}
 use Rattle.gms_table.specs.WordLabels.{label_of_text, labels_among, labels_of_text, labels_of_word, quoted_label, plain_label, with_label}
-use Rattle.gms_table.specs.Words.{Word, column_of_byte, first_stretches, others_by, parted, word_of, words_among}
+use Rattle.gms_table.specs.Words.{Word, column_of_byte, first_fields, others_by, parted, word_of, words_among}
 use Rattle.gms_parse.specs.Tables.{parts_of_tokens}
 use Rattle.gms_restart.proofs.ProgramNames.{Has, has-left, has-right, parts, parts-have}
 use Rattle.gms_run_laws.proofs.FormKeys.{EachHas}
@@ -24,30 +24,30 @@ use Rattle.gms_run_laws.proofs.FormKeys.{EachHas}
 -- A text is a part of another.
 pub record IsPart (source text : List ℕ) : Type 0 where
   pub before : List ℕ
-  pub behind : List ℕ
-  pub is : source ≡ before ++ (text ++ behind)
+  pub following : List ℕ
+  pub is : source ≡ before ++ (text ++ following)
 
 whole-part : (source : List ℕ) → IsPart source source
-whole-part source = record { before = []; behind = []; is = sym (append-nil source) }
+whole-part source = record { before = []; following = []; is = sym (append-nil source) }
 
-part-front : (source text : List ℕ) (k : ℕ) → IsPart source text → IsPart source (take k text)
-part-front source text k part = record {
+part-prefix : (source text : List ℕ) (k : ℕ) → IsPart source text → IsPart source (take k text)
+part-prefix source text k part = record {
   before = part.before;
-  behind = drop k text ++ part.behind;
-  is = part.is ∙ ap (λ (t : List ℕ). part.before ++ t) (ap (λ (t : List ℕ). t ++ part.behind) (sym (take-append-drop k text)) ∙ append_assoc (take k text) (drop k text) part.behind);
+  following = drop k text ++ part.following;
+  is = part.is ∙ ap (λ (t : List ℕ). part.before ++ t) (ap (λ (t : List ℕ). t ++ part.following) (sym (take-append-drop k text)) ∙ append_assoc (take k text) (drop k text) part.following);
 }
 
 part-rest : (source text : List ℕ) (k : ℕ) → IsPart source text → IsPart source (drop k text)
 part-rest source text k part = record {
   before = part.before ++ take k text;
-  behind = part.behind;
-  is = part.is ∙ ap (λ (t : List ℕ). part.before ++ t) (ap (λ (t : List ℕ). t ++ part.behind) (sym (take-append-drop k text)) ∙ append_assoc (take k text) (drop k text) part.behind) ∙ sym (append_assoc part.before (take k text) (drop k text ++ part.behind));
+  following = part.following;
+  is = part.is ∙ ap (λ (t : List ℕ). part.before ++ t) (ap (λ (t : List ℕ). t ++ part.following) (sym (take-append-drop k text)) ∙ append_assoc (take k text) (drop k text) part.following) ∙ sym (append_assoc part.before (take k text) (drop k text ++ part.following));
 }
 
 -- the text of a token
 pub token-part : (source : List ℕ) (token : Token) → IsPart source (token_text source token)
 token-part source token =
-    part-front source (drop token.start source) (token.end - token.start) (part-rest source source token.start (whole-part source))
+    part-prefix source (drop token.start source) (token.end - token.start) (part-rest source source token.start (whole-part source))
 
 -- a text without its marks
 unquoted-part : (source text : List ℕ) → IsPart source text → IsPart source (unquoted text)
@@ -58,7 +58,7 @@ unquoted-part source (b ∷ text) part = by (is_quote b)
     rest = part-rest source (b ∷ text) 1 part
 
     by : (c : Bool) → IsPart source (if c then take (length text - 1) text else b ∷ text)
-    by true = part-front source text (length text - 1) rest
+    by true = part-prefix source text (length text - 1) rest
     by false = part
 
 -- A text is a member of a range between two parts.
@@ -107,12 +107,12 @@ module _ (source : List ℕ) where
   abbrev pub WordIs : Word → Type 0
   WordIs word = IsPart source word.text
 
-  stretches-are : (test : ℕ → Bool) (most : ℕ) (text : List ℕ) → IsPart source text → Parts (first_stretches test most text)
+  stretches-are : (test : ℕ → Bool) (most : ℕ) (text : List ℕ) → IsPart source text → Parts (first_fields test most text)
   stretches-are test zero text part = tt
   stretches-are test (suc most) text part =
-      (part-front source text (stretch_bytes test text) part, others (drop (stretch_bytes test text) text) (λ rest part. stretches-are test most rest part) (part-rest source text (stretch_bytes test text) part))
+      (part-prefix source text (field_bytes test text) part, others (drop (field_bytes test text) text) (λ rest part. stretches-are test most rest part) (part-rest source text (field_bytes test text) part))
     where
-      others : (rest : List ℕ) → ((text : List ℕ) → IsPart source text → Parts (first_stretches test most text)) → IsPart source rest → Parts (others_by (first_stretches test most) rest)
+      others : (rest : List ℕ) → ((text : List ℕ) → IsPart source text → Parts (first_fields test most text)) → IsPart source rest → Parts (others_by (first_fields test most) rest)
       others [] further part = tt
       others (b ∷ rest) further part = further rest (part-rest source (b ∷ rest) 1 part)
 
@@ -145,7 +145,7 @@ module _ (source : List ℕ) where
       may false text part = tt
 
       by : (c : Bool) → MayBePart (if c then quoted_label b rest else plain_label (b ∷ rest))
-      by true = may _ _ (part-front source rest _ (part-rest source (b ∷ rest) 1 part))
+      by true = may _ _ (part-prefix source rest _ (part-rest source (b ∷ rest) 1 part))
       by false = may _ _ part
 
   with-is : (label : Option (List ℕ)) (others : Option (List (List ℕ))) → MayBePart label → MayBeParts others → MayBeParts (with_label label others)
@@ -225,7 +225,7 @@ all_texts source = parts source ++ flat_map (λ from. flat_map (λ to. members f
 
 part-there : (source text : List ℕ) → IsPart source text → Has (parts source) text
 part-there source text part =
-    let same : take (length text) (drop (length part.before) source) ≡ text = ap (λ (s : List ℕ). take (length text) (drop (length part.before) s)) part.is ∙ ap (take (length text)) (drop-append_seam part.before (text ++ part.behind)) ∙ take-append_seam text part.behind in
+    let same : take (length text) (drop (length part.before) source) ≡ text = ap (λ (s : List ℕ). take (length text) (drop (length part.before) s)) part.is ∙ ap (take (length text)) (drop-append_seam part.before (text ++ part.following)) ∙ take-append_seam text part.following in
     subst (Has (parts source)) same (parts-have source (length part.before) (length text))
 
 has-flat : (f : List ℕ → List (List ℕ)) (texts : List (List ℕ)) (from text : List ℕ) → Has texts from → Has (f from) text → Has (flat_map f texts) text

@@ -8,7 +8,7 @@ use Rattle.gms_labels.specs.declared.place.Place.{Place}
 use Rattle.gms_lines.proofs.LineLemmas.{below_or}
 use Rattle.gms_lines.specs.Columns.{column_after}
 use Rattle.gms_lex.specs.declared.token.Token.{Token}
-use Rattle.gms_lex.specs.Places.{IsEarlier, place_behind, place_of_byte, source_start}
+use Rattle.gms_lex.specs.Places.{IsEarlier, place_after_bytes, place_of_byte, source_start}
 use Rattle.gms_lex.specs.TokenTexts.{IsPlaced}
 use Rattle.gms_lex.proofs.PlaceLemmas.{places_in_order}
 use Rattle.gms_expressions.specs.Outcomes.{kinded_tokens}
@@ -28,11 +28,11 @@ abbrev feeds : List ℕ → ℕ
 feeds bytes = length (filter is_feed bytes)
 
 -- the line after bytes
-line-behind : (bytes : List ℕ) (at : Place) → (place_behind at bytes).line ≡ at.line + feeds bytes
-line-behind [] at = omega arith
-line-behind (b ∷ bytes) at = by (is_feed b) (line-behind bytes)
+line-following : (bytes : List ℕ) (at : Place) → (place_after_bytes at bytes).line ≡ at.line + feeds bytes
+line-following [] at = omega arith
+line-following (b ∷ bytes) at = by (is_feed b) (line-following bytes)
   where
-    by : (c : Bool) → ((p : Place) → (place_behind p bytes).line ≡ p.line + feeds bytes) → (place_behind (if c then record { line = at.line + 1; column = 1 } else record { line = at.line; column = column_after at.column b }) bytes).line ≡ at.line + length (if c then b ∷ filter is_feed bytes else filter is_feed bytes)
+    by : (c : Bool) → ((p : Place) → (place_after_bytes p bytes).line ≡ p.line + feeds bytes) → (place_after_bytes (if c then record { line = at.line + 1; column = 1 } else record { line = at.line; column = column_after at.column b }) bytes).line ≡ at.line + length (if c then b ∷ filter is_feed bytes else filter is_feed bytes)
     by true rest = omega (arith, rest (record { line = at.line + 1; column = 1 }))
     by false rest = rest (record { line = at.line; column = column_after at.column b })
 
@@ -40,7 +40,7 @@ line-behind (b ∷ bytes) at = by (is_feed b) (line-behind bytes)
 not-above : (source : List ℕ) (m n : ℕ) → m ≤ n → n ≤ length source → (place_of_byte source m).line ≤ (place_of_byte source n).line
 not-above source m n le within = elim (below_or m n) [
   | inl before ↦ by (places_in_order source m n before within)
-  | inr behind ↦ let same : m ≡ n = omega (arith, le, behind) in subst (λ k. (place_of_byte source m).line ≤ (place_of_byte source k).line) same (omega arith)
+  | inr following ↦ let same : m ≡ n = omega (arith, le, following) in subst (λ k. (place_of_byte source m).line ≤ (place_of_byte source k).line) same (omega arith)
 ]
   where
     by : IsEarlier (place_of_byte source m) (place_of_byte source n) → (place_of_byte source m).line ≤ (place_of_byte source n).line
@@ -49,20 +49,20 @@ not-above source m n le within = elim (below_or m n) [
 
 -- the line of the end of a source
 end-line : (source : List ℕ) → (place_of_byte source (length source)).line ≡ 1 + feeds source
-end-line source = ap (λ bytes. (place_behind source_start bytes).line) (take-length source) ∙ line-behind source source_start
+end-line source = ap (λ bytes. (place_after_bytes source_start bytes).line) (take-length source) ∙ line-following source source_start
 
 -- the line of the first byte of a file
 file-line : (saved file : List ℕ) → (place_of_byte (joint_source saved file) (length saved + 3)).line ≡ first_line saved
 file-line saved file =
-    let seam : List ℕ = 10 ∷ 59 ∷ 10 ∷ [] in
-    let front : take (length saved + 3) (joint_source saved file) ≡ saved ++ seam = take-append-add saved (10 ∷ 59 ∷ 10 ∷ file) 3 in
-    let line : (place_behind source_start (saved ++ seam)).line ≡ 1 + feeds (saved ++ seam) = line-behind (saved ++ seam) source_start in
-    let parts : feeds (saved ++ seam) ≡ length (filter is_feed saved ++ filter is_feed seam) = ap (λ (bytes : List ℕ). length bytes) (filter-append is_feed saved seam) in
-    let size : length (filter is_feed saved ++ filter is_feed seam) ≡ feeds saved + feeds seam = length-append (filter is_feed saved) (filter is_feed seam) in
-    let two : feeds seam ≡ 2 = refl in
+    let joining : List ℕ = 10 ∷ 59 ∷ 10 ∷ [] in
+    let prefix : take (length saved + 3) (joint_source saved file) ≡ saved ++ joining = take-append-add saved (10 ∷ 59 ∷ 10 ∷ file) 3 in
+    let line : (place_after_bytes source_start (saved ++ joining)).line ≡ 1 + feeds (saved ++ joining) = line-following (saved ++ joining) source_start in
+    let parts : feeds (saved ++ joining) ≡ length (filter is_feed saved ++ filter is_feed joining) = ap (λ (bytes : List ℕ). length bytes) (filter-append is_feed saved joining) in
+    let size : length (filter is_feed saved ++ filter is_feed joining) ≡ feeds saved + feeds joining = length-append (filter is_feed saved) (filter is_feed joining) in
+    let two : feeds joining ≡ 2 = refl in
     let first : first_line saved ≡ feeds saved + 3 = refl in
-    let there : (place_behind source_start (saved ++ seam)).line ≡ first_line saved = omega (arith, line, parts, size, two, first) in
-    ap (λ bytes. (place_behind source_start bytes).line) front ∙ there
+    let there : (place_after_bytes source_start (saved ++ joining)).line ≡ first_line saved = omega (arith, line, parts, size, two, first) in
+    ap (λ bytes. (place_after_bytes source_start bytes).line) prefix ∙ there
 
 -- ---- the saved source
 
@@ -98,14 +98,14 @@ seen-late saved file (token ∷ tokens) all below =
 
 -- ---- parts of lists
 
-pub front-has : {A : Type 0} (P : A → Type 0) (xs ys : List A) → EachHas P (xs ++ ys) → EachHas P xs
-front-has P [] ys all = tt
-front-has P (x ∷ xs) ys all = (all.0, front-has P xs ys all.1)
+pub prefix-has : {A : Type 0} (P : A → Type 0) (xs ys : List A) → EachHas P (xs ++ ys) → EachHas P xs
+prefix-has P [] ys all = tt
+prefix-has P (x ∷ xs) ys all = (all.0, prefix-has P xs ys all.1)
 
 pub rest-has : {A : Type 0} (P : A → Type 0) (xs ys : List A) → EachHas P (xs ++ ys) → EachHas P ys
 rest-has P [] ys all = all
 rest-has P (x ∷ xs) ys all = rest-has P xs ys all.1
 
-pub all-behind : {A : Type 0} (P : A → Type 0) (xs ys : List A) → All P (xs ++ ys) → All P ys
-all-behind P [] ys all = all
-all-behind P (x ∷ xs) ys all = all-behind P xs ys (All-tail P x (xs ++ ys) all)
+pub all-following : {A : Type 0} (P : A → Type 0) (xs ys : List A) → All P (xs ++ ys) → All P ys
+all-following P [] ys all = all
+all-following P (x ∷ xs) ys all = all-following P xs ys (All-tail P x (xs ++ ys) all)

@@ -28,7 +28,7 @@ NumbersFit most state = (name : ℕ) (t : List ℕ) → fits_at most (symbol_at 
 -- A program continues a saved one: its first statements assign the sets that those of the saved one
 -- assign, it has at least the labels of that, and it begins with all that the saved one begins
 -- with.
-pub record GoesOnBehind {F : Type 0} (value : F → Number) (saved whole : Program F) (firsts others : List (Stmt F)) : Type 0 where
+pub record ContinuesSaved {F : Type 0} (value : F → Number) (saved whole : Program F) (firsts others : List (Stmt F)) : Type 0 where
   pub statements : whole.statements.items ≡ firsts ++ others
   pub assigns : flat_map assigned_names firsts ≡ flat_map assigned_names saved.statements.items
   pub labels : length saved.labels ≤ length whole.labels

@@ -5,7 +5,7 @@ use Rattle.gq_number.specs.Number.{Number}
 use Rattle.gms_store.specs.State.{State}
 use Rattle.gms_check.specs.Loaded.{loaded}
 use Rattle.gms_exec.specs.Run.{Course, World, run_from}
-use Rattle.gms_run_laws.specs.JointRun.{behind_run}
+use Rattle.gms_run_laws.specs.JointRun.{run_after}
 use Rattle.gms_save.specs.JointErrors.{resumed, saved_statements}
 use Rattle.lp_core.specs.declared.answer.Answer.{Answer}
 
@@ -32,7 +32,7 @@ module _ {F : Type 0} (value : F → Number) (limit : ℕ) where
     -- one. The first statements take as many answers as the saved run did.
     pub record SaysTheSame (saved joint : World F) (answers further : List (Answer Number)) : Type 0 where
       pub is : whole_run joint (answers ++ further)
-          ≡ behind_run (base_run joint (answers ++ further)) (restarted_run joint (whole_run saved answers).state further)
+          ≡ run_after (base_run joint (answers ++ further)) (restarted_run joint (whole_run saved answers).state further)
       pub taken : (base_run joint (answers ++ further)).taken ≡ length answers
 
 -- the name that a save has for the solver of a state: that of the solver, or `none` if there are no

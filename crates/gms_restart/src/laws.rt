@@ -27,7 +27,7 @@ ghost use Rattle.gms_run_laws.specs.LastStates.{MayBegin};
 ghost use Rattle.gms_save.specs.JointErrors.{joint_errors, resumed};
 ghost use Rattle.gms_save.specs.Saves.{IsSavedBy};
 ghost use Rattle.gms_joint_source.specs.JointSources.{first_line, joint_source};
-ghost use Rattle.gms_save_text.specs.Validity.{IsSavedOf, is_solver_name, stands_in};
+ghost use Rattle.gms_save_text.specs.Validity.{IsSavedOf, is_solver_name, fits_domain};
 ghost use Rattle.gms_restart.specs.Alike.{IsAlike};
 ghost use Rattle.gms_restart.specs.JointPrograms.{Continues};
 ghost use Rattle.gms_restart.specs.Labels.{WritesItsLabels};
@@ -85,7 +85,7 @@ pub fn restart_laws()
 /// GAMS User's Guide, "Save and Restart"; "Set Definition", domain checking.
 pub fn valid_laws<F: ExactField>()
     ensures stand { (world : World F) (answers : List (Answer Number)) (name : ℕ) → IsAccepted F.value world.program → WritesItsLabels F.value world.program →
-        All (λ (t : List ℕ). stands_in (length world.program.labels) (last_state F.value F.limit world answers) (symbol_at (last_state F.value F.limit world answers) name).domain t ≡ true)
+        All (λ (t : List ℕ). fits_domain (length world.program.labels) (last_state F.value F.limit world answers) (symbol_at (last_state F.value F.limit world answers) name).domain t ≡ true)
         (given_in (symbol_at (last_state F.value F.limit world answers) name).content) }
     ensures saved { (world : World F) (answers : List (Answer Number)) (most : ℕ) (solver : List ℕ) → IsAccepted F.value world.program → WritesItsLabels F.value world.program →
         NumbersFit most (last_state F.value F.limit world answers) → is_solver_name solver ≡ true →

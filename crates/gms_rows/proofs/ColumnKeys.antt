@@ -86,11 +86,11 @@ same_keys (k ∷ ks) (l ∷ ls) up over same =
     apart a b xs bs ordered_keys less e =
         both_ways (is_among (b ∷ bs) a) (among-before a (b ∷ bs) (before-all a b bs less ordered_keys)) (sym e ∙ among-first a xs)
 
-    behind : k ≡ l → (q : Key) (b : Bool) → same_key q k ≡ b → is_among ks q ≡ is_among ls q
-    behind e q true is =
+    following : k ≡ l → (q : Key) (b : Bool) → same_key q k ≡ b → is_among ks q ≡ is_among ls q
+    following e q true is =
         let at : q ≡ k = same_key-is q k is in
         ap (is_among ks) at ∙ among-before k ks (first-before k ks up) ∙ sym (ap (is_among ls) (at ∙ e) ∙ among-before l ls (first-before l ls over))
-    behind e q false is =
+    following e q false is =
         let left : is_among (k ∷ ks) q ≡ is_among ks q = ap (λ b. b || is_among ks q) is in
         let right : is_among (l ∷ ls) q ≡ is_among ls q = ap (λ b. b || is_among ls q) (ap (same_key q) (sym e) ∙ is) in
         sym left ∙ same q ∙ right
@@ -99,7 +99,7 @@ same_keys (k ∷ ks) (l ∷ ls) up over same =
     by Less o rest = absurd (apart k l ks ls over o (same k))
     by Equal o rest =
         let e = key_cmp-Equal k l o in
-        let others = rest (λ q. behind e q (same_key q k) refl) in
+        let others = rest (λ q. following e q (same_key q k) refl) in
         λ i. e i ∷ others i
     by Greater o rest = absurd (apart l k ls ks up (key_cmp-flip k l Greater o) (sym (same l)))
 

@@ -17,7 +17,7 @@ use Rattle.gms_eval.specs.Holds.{holds}
 use Rattle.gms_eval.specs.Value.{domain, control_over}
 use Rattle.gms_eval.proofs.Simple.{elements-ordered, element-length}
 use Rattle.gms_rows.specs.Plain.{ArePlain}
-use Rattle.gms_rows.specs.Rows.{each_once, sets_among}
+use Rattle.gms_rows.specs.Rows.{distinct_numbers, sets_among}
 use Rattle.gms_rows.specs.ElementRows.{AreInOrder}
 
 -- ---- answers and their parts
@@ -81,10 +81,10 @@ module _ (test : List ℕ → Answer Bool) where
 -- ---- sets
 
 -- what holds of all numbers holds of all after repetitions are removed
-pub All-each_once : (P : ℕ → Type 0) (ns : List ℕ) → All P ns → All P (each_once ns)
-All-each_once P [] all = all
-All-each_once P (n ∷ ns) all =
-    All-cons P n (filter (λ m. not (m == n)) (each_once ns)) (All-head P n ns all) (All-filter (λ m. not (m == n)) P (each_once ns) (All-each_once P ns (All-tail P n ns all)))
+pub All-distinct_numbers : (P : ℕ → Type 0) (ns : List ℕ) → All P ns → All P (distinct_numbers ns)
+All-distinct_numbers P [] all = all
+All-distinct_numbers P (n ∷ ns) all =
+    All-cons P n (filter (λ m. not (m == n)) (distinct_numbers ns)) (All-head P n ns all) (All-filter (λ m. not (m == n)) P (distinct_numbers ns) (All-distinct_numbers P ns (All-tail P n ns all)))
 
 module _ {F : Type 0} (state : State) where
   -- the sets of plain indices have members of one label
@@ -96,10 +96,10 @@ module _ {F : Type 0} (state : State) where
   plain-sets (tree.lagged set op at amount rest) plain = absurd plain
 
   -- and are simple where they are in order
-  pub plain-simple : (indices : tree.Indices F) → ArePlain state indices → AreInOrder state (each_once (sets_among indices)) → All (IsSimple state) (each_once (sets_among indices))
+  pub plain-simple : (indices : tree.Indices F) → ArePlain state indices → AreInOrder state (distinct_numbers (sets_among indices)) → All (IsSimple state) (distinct_numbers (sets_among indices))
   plain-simple indices plain kept =
-      let singles = All-each_once (λ set. All (λ t. length t ≡ 1) (members_of state set)) (sets_among indices) (plain-sets indices plain) in
-      λ k d below. (kept k d below, λ member there. All-contains (λ t. length t ≡ 1) (members_of state (get_or (each_once (sets_among indices)) k d)) member (singles k d below) (Contains-has (members_of state (get_or (each_once (sets_among indices)) k d)) member there))
+      let singles = All-distinct_numbers (λ set. All (λ t. length t ≡ 1) (members_of state set)) (sets_among indices) (plain-sets indices plain) in
+      λ k d below. (kept k d below, λ member there. All-contains (λ t. length t ≡ 1) (members_of state (get_or (distinct_numbers (sets_among indices)) k d)) member (singles k d below) (Contains-has (members_of state (get_or (distinct_numbers (sets_among indices)) k d)) member there))
 
 -- ---- domains
 

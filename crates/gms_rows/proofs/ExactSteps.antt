@@ -138,19 +138,19 @@ module _ (limit : ℕ) (b : Pairs) where
 
 module _ (limited exact : ValueStep) (is : (mark : Mark) (x : Extended) (a : Answer Extended) (z : Extended) → limited mark x a ≡ Ok z → exact mark x a ≡ Ok z) where
   -- parts that make a value under a limit, and then others
-  pub front-behind : (empty : Answer Extended) (xs ys : Marked) (x z : Extended) → nodes.joined limited empty (Some x) xs ≡ Ok z → nodes.joined exact empty (Some x) (xs ++ ys) ≡ nodes.joined exact empty (Some z) ys
-  front-behind empty [] ys x z e = ap (λ w. nodes.joined exact empty (Some w) ys) (only_value x z e)
-  front-behind empty (p ∷ xs) ys x z e =
+  pub prefix-following : (empty : Answer Extended) (xs ys : Marked) (x z : Extended) → nodes.joined limited empty (Some x) xs ≡ Ok z → nodes.joined exact empty (Some x) (xs ++ ys) ≡ nodes.joined exact empty (Some z) ys
+  prefix-following empty [] ys x z e = ap (λ w. nodes.joined exact empty (Some w) ys) (only_value x z e)
+  prefix-following empty (p ∷ xs) ys x z e =
       let first = given (limited p.0 x p.1) (λ y. nodes.joined limited empty (Some y) xs) z e in
       ap (λ a. a and_then λ y. nodes.joined exact empty (Some y) (xs ++ ys)) (is p.0 x p.1 first.value first.is)
-      ∙ front-behind empty xs ys first.value z first.next_is
+      ∙ prefix-following empty xs ys first.value z first.next_is
 
   -- the same from the first part on
-  pub chain-behind : (p : Mark × Answer Extended) (xs ys : Marked) (z : Extended) → chain limited (p ∷ xs) ≡ Ok z → chain exact ((p ∷ xs) ++ ys) ≡ nodes.joined exact (Ok nothing) (Some z) ys
-  chain-behind p xs ys z e =
+  pub chain-following : (p : Mark × Answer Extended) (xs ys : Marked) (z : Extended) → chain limited (p ∷ xs) ≡ Ok z → chain exact ((p ∷ xs) ++ ys) ≡ nodes.joined exact (Ok nothing) (Some z) ys
+  chain-following p xs ys z e =
       let first = given p.1 (λ x. nodes.joined limited (Ok nothing) (Some x) xs) z e in
       ap (λ a. a and_then λ x. nodes.joined exact (Ok nothing) (Some x) (xs ++ ys)) first.is
-      ∙ front-behind (Ok nothing) xs ys first.value z first.next_is
+      ∙ prefix-following (Ok nothing) xs ys first.value z first.next_is
 
 -- ---- numbers that are 0
 

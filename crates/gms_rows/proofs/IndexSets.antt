@@ -13,9 +13,9 @@ use Rattle.gms_ast.specs.declared.expression.Index.{Index, Label, Set}
 use Rattle.gms_ast.specs.declared.expression.Index.TheVariants.{rolls-Label, rolls-Set}
 use Rattle.gms_ast.specs.Trees as tree
 use Rattle.gms_ast.specs.TreeView.{tree_step, index_step, control_step, index_tree, indices_of, set_index}
-use Rattle.gms_rows.specs.Rows.{each_once, sets_among}
+use Rattle.gms_rows.specs.Rows.{distinct_numbers, sets_among}
 use Rattle.gms_rows.specs.InnerContracts.{with_once}
-use Rattle.gms_rows.proofs.Naming.{each_once-push}
+use Rattle.gms_rows.proofs.Naming.{distinct_numbers-push}
 
 module _ {F : Type 0} where
   -- the sets of an index
@@ -54,14 +54,14 @@ module _ {F : Type 0} where
       ap set_names (sym (rolls-Set name lag)) ∙ ap (λ f. sets_among (f tree.no_index)) (fold-roll-Index F (tree.Tree F) (tree.Indices F → tree.Indices F) (tree.Control F) tree_step index_step control_step (Index-F.Set name lag)) ∙ sets-set_index name _
 
   -- one more set, without repetition
-  pub once-Set : (indices : List (Index F)) (i : ℕ) (index : Index F) (name : ℕ) → i < length indices → index ≡ get_or indices i index → set_names index ≡ name ∷ [] → each_once (sets_among (indices_of (map index_tree (take (i + 1) indices)))) ≡ with_once (each_once (sets_among (indices_of (map index_tree (take i indices))))) name
+  pub once-Set : (indices : List (Index F)) (i : ℕ) (index : Index F) (name : ℕ) → i < length indices → index ≡ get_or indices i index → set_names index ≡ name ∷ [] → distinct_numbers (sets_among (indices_of (map index_tree (take (i + 1) indices)))) ≡ with_once (distinct_numbers (sets_among (indices_of (map index_tree (take i indices))))) name
   once-Set indices i index name here is names =
-      ap each_once (sets-more indices i index here is ∙ ap (λ those. sets_among (indices_of (map index_tree (take i indices))) ++ those) names)
-      ∙ each_once-push (sets_among (indices_of (map index_tree (take i indices)))) name
+      ap distinct_numbers (sets-more indices i index here is ∙ ap (λ those. sets_among (indices_of (map index_tree (take i indices))) ++ those) names)
+      ∙ distinct_numbers-push (sets_among (indices_of (map index_tree (take i indices)))) name
 
-  pub once-Label : (indices : List (Index F)) (i : ℕ) (index : Index F) → i < length indices → index ≡ get_or indices i index → set_names index ≡ [] → each_once (sets_among (indices_of (map index_tree (take (i + 1) indices)))) ≡ each_once (sets_among (indices_of (map index_tree (take i indices))))
+  pub once-Label : (indices : List (Index F)) (i : ℕ) (index : Index F) → i < length indices → index ≡ get_or indices i index → set_names index ≡ [] → distinct_numbers (sets_among (indices_of (map index_tree (take (i + 1) indices)))) ≡ distinct_numbers (sets_among (indices_of (map index_tree (take i indices))))
   once-Label indices i index here is names =
-      ap each_once (sets-more indices i index here is ∙ ap (λ those. sets_among (indices_of (map index_tree (take i indices))) ++ those) names ∙ append-nil (sets_among (indices_of (map index_tree (take i indices)))))
+      ap distinct_numbers (sets-more indices i index here is ∙ ap (λ those. sets_among (indices_of (map index_tree (take i indices))) ++ those) names ∙ append-nil (sets_among (indices_of (map index_tree (take i indices)))))
 
 pub names-Label : (F : Type 0) (n : ℕ) → set_names {F = F} (Label n) ≡ []
 names-Label F n =

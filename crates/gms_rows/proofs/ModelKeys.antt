@@ -10,11 +10,11 @@ use Rattle.gms_ast.specs.declared.program.Stmt.{Stmt}
 use Rattle.gms_store.specs.State.{State}
 use Rattle.gms_eval.specs.Nodes.{in_order}
 use Rattle.gms_rows.specs.Plain.{ArePlain, HasPlainDefinitions}
-use Rattle.gms_rows.specs.Rows.{Definition, FormRow, each_once, sets_among, definitions, definition_of, listed_equations, found, equations_declared_by, models_of, equations_from, equations_of, rows_of_definition, rows_of_model}
+use Rattle.gms_rows.specs.Rows.{Definition, FormRow, distinct_numbers, sets_among, definitions, definition_of, listed_equations, found, equations_declared_by, models_of, equations_from, equations_of, rows_of_definition, rows_of_model}
 use Rattle.gms_rows.specs.InnerContracts.{HaveOrder}
 use Rattle.gms_rows.specs.ElementRows.{AreInOrder}
 use Rattle.gms_rows.proofs.Domains.{given, only_value}
-use Rattle.gms_rows.proofs.RowKeys.{AreApart, each_once-apart, HaveApart, definitions-apart}
+use Rattle.gms_rows.proofs.RowKeys.{AreApart, distinct_numbers-apart, HaveApart, definitions-apart}
 use Rattle.gms_rows.proofs.RowSequences.{joined_rows}
 
 -- ---- equations
@@ -22,9 +22,9 @@ use Rattle.gms_rows.proofs.RowSequences.{joined_rows}
 listed-apart : (declared : List ℕ) (model : ModelDecl) → AreApart declared → AreApart (listed_equations declared model)
 listed-apart declared model apart = by model.all
   where
-    by : (b : Bool) → AreApart (if b then declared else each_once (map (λ equation. equation.name) model.equations))
+    by : (b : Bool) → AreApart (if b then declared else distinct_numbers (map (λ equation. equation.name) model.equations))
     by true = apart
-    by false = each_once-apart (map (λ equation. equation.name) model.equations)
+    by false = distinct_numbers-apart (map (λ equation. equation.name) model.equations)
 
 found-apart : (declared : List ℕ) (name : ℕ) (models : List ModelDecl) (equations : List ℕ) → AreApart declared → found declared name models ≡ Some equations → AreApart equations
 found-apart declared name [] equations apart e = absurd (cc)
@@ -39,10 +39,10 @@ module _ {F : Type 0} where
   from-apart : (declared : List ℕ) (name : ℕ) (statements : List (Stmt F)) → AreApart (equations_from declared name statements)
   from-apart declared name [] = tt
   from-apart declared name (s ∷ statements) =
-      by (found (each_once declared) name (models_of s.act)) refl (from-apart (declared ++ equations_declared_by s.act) name statements)
+      by (found (distinct_numbers declared) name (models_of s.act)) refl (from-apart (declared ++ equations_declared_by s.act) name statements)
     where
-      by : (o : Option (List ℕ)) → found (each_once declared) name (models_of s.act) ≡ o → AreApart (equations_from (declared ++ equations_declared_by s.act) name statements) → AreApart (elim o [ Some equations ↦ equations | None ↦ equations_from (declared ++ equations_declared_by s.act) name statements ])
-      by (Some equations) e rest = found-apart (each_once declared) name (models_of s.act) equations (each_once-apart declared) e
+      by : (o : Option (List ℕ)) → found (distinct_numbers declared) name (models_of s.act) ≡ o → AreApart (equations_from (declared ++ equations_declared_by s.act) name statements) → AreApart (elim o [ Some equations ↦ equations | None ↦ equations_from (declared ++ equations_declared_by s.act) name statements ])
+      by (Some equations) e rest = found-apart (distinct_numbers declared) name (models_of s.act) equations (distinct_numbers-apart declared) e
       by None e rest = rest
 
   -- no equation of a model occurs twice
@@ -99,4 +99,4 @@ module _ {F : Type 0} where
         let names = equations_of statements model in
         let those = given (in_order (map (rows_of_definition v limit state) (flat_map (definition_of ds) names))) (λ rows. Ok (joined_rows rows)) rows e in
         subst (AllPairs (λ (a b : FormRow). a.key ≢ b.key)) (only_value _ _ those.next_is)
-        (definitions-apart v limit state (flat_map (definition_of ds) names) those.value (each-apart ds names (equations-apart statements model)) (each-All (λ (d : Definition F). ArePlain state d.indices) ds names (λ k d below. found-All (λ (d : Definition F). ArePlain state d.indices) ds _ plain)) (each-All (λ (d : Definition F). AreInOrder state (each_once (sets_among d.indices))) ds names kept) those.is)
+        (definitions-apart v limit state (flat_map (definition_of ds) names) those.value (each-apart ds names (equations-apart statements model)) (each-All (λ (d : Definition F). ArePlain state d.indices) ds names (λ k d below. found-All (λ (d : Definition F). ArePlain state d.indices) ds _ plain)) (each-All (λ (d : Definition F). AreInOrder state (distinct_numbers (sets_among d.indices))) ds names kept) those.is)

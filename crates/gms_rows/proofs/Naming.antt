@@ -7,7 +7,7 @@ use Rattle.std.proofs.lemmas.List.{at_drop_more, at_drop_all, take_more}
 use Rattle.std.proofs.lemmas.List.Concat.{flat_map-append}
 use Rattle.gms_ast.specs.declared.declaration.ModelDecl.{ModelDecl}
 use Rattle.gms_ast.specs.declared.program.Stmt.{Stmt}
-use Rattle.gms_rows.specs.Rows.{each_once, Definition, definitions, defined_at, definition_of, listed_equations, found, equations_declared_by, models_of, equations_from}
+use Rattle.gms_rows.specs.Rows.{distinct_numbers, Definition, definitions, defined_at, definition_of, listed_equations, found, equations_declared_by, models_of, equations_from}
 use Rattle.gms_rows.specs.InnerContracts.{with_once, is_in}
 
 -- ---- without repetition
@@ -34,40 +34,40 @@ is_in-filter n x (y ∷ ys) apart = by (y == n) refl (is_in-filter n x ys apart)
     by false e rest = ap (λ b. (y == x) || b) rest
 
 -- one more name
-pub each_once-push : (xs : List ℕ) (x : ℕ) → each_once (xs ++ x ∷ []) ≡ with_once (each_once xs) x
-each_once-push [] x = refl
-each_once-push (n ∷ xs) x =
-    ap (λ those. n ∷ filter (λ m. not (m == n)) those) (each_once-push xs x) ∙ by (n == x) refl (is_in (each_once xs) x) refl
+pub distinct_numbers-push : (xs : List ℕ) (x : ℕ) → distinct_numbers (xs ++ x ∷ []) ≡ with_once (distinct_numbers xs) x
+distinct_numbers-push [] x = refl
+distinct_numbers-push (n ∷ xs) x =
+    ap (λ those. n ∷ filter (λ m. not (m == n)) those) (distinct_numbers-push xs x) ∙ by (n == x) refl (is_in (distinct_numbers xs) x) refl
   where
     p : ℕ → Bool
     p m = not (m == n)
 
-    by : (same : Bool) → (n == x) ≡ same → (there : Bool) → is_in (each_once xs) x ≡ there → n ∷ filter (λ m. not (m == n)) (if there then each_once xs else each_once xs ++ x ∷ []) ≡ (if same || is_in (filter (λ m. not (m == n)) (each_once xs)) x then n ∷ filter (λ m. not (m == n)) (each_once xs) else (n ∷ filter (λ m. not (m == n)) (each_once xs)) ++ x ∷ [])
+    by : (same : Bool) → (n == x) ≡ same → (there : Bool) → is_in (distinct_numbers xs) x ≡ there → n ∷ filter (λ m. not (m == n)) (if there then distinct_numbers xs else distinct_numbers xs ++ x ∷ []) ≡ (if same || is_in (filter (λ m. not (m == n)) (distinct_numbers xs)) x then n ∷ filter (λ m. not (m == n)) (distinct_numbers xs) else (n ∷ filter (λ m. not (m == n)) (distinct_numbers xs)) ++ x ∷ [])
     by true e true there = refl
     by true e false there =
-        ap (λ those. n ∷ those) (filter-append (λ m. not (m == n)) (each_once xs) (x ∷ []) ∙ ap (λ b. filter (λ m. not (m == n)) (each_once xs) ++ cond b (x ∷ []) []) (ap (λ z. not (z == n)) (sym (eqb-true n x e)) ∙ left_out n) ∙ append-nil (filter (λ m. not (m == n)) (each_once xs)))
+        ap (λ those. n ∷ those) (filter-append (λ m. not (m == n)) (distinct_numbers xs) (x ∷ []) ∙ ap (λ b. filter (λ m. not (m == n)) (distinct_numbers xs) ++ cond b (x ∷ []) []) (ap (λ z. not (z == n)) (sym (eqb-true n x e)) ∙ left_out n) ∙ append-nil (filter (λ m. not (m == n)) (distinct_numbers xs)))
     by false e true there =
-        sym (ap (λ b. if b then n ∷ filter (λ m. not (m == n)) (each_once xs) else (n ∷ filter (λ m. not (m == n)) (each_once xs)) ++ x ∷ []) (is_in-filter n x (each_once xs) e ∙ there))
+        sym (ap (λ b. if b then n ∷ filter (λ m. not (m == n)) (distinct_numbers xs) else (n ∷ filter (λ m. not (m == n)) (distinct_numbers xs)) ++ x ∷ []) (is_in-filter n x (distinct_numbers xs) e ∙ there))
     by false e false there =
         let apart : (x == n) ≡ false = ne_eqb x n (λ same. eqb-false n x e (sym same)) in
-        ap (λ those. n ∷ those) (filter-append (λ m. not (m == n)) (each_once xs) (x ∷ []) ∙ ap (λ b. filter (λ m. not (m == n)) (each_once xs) ++ cond (not b) (x ∷ []) []) apart)
-        ∙ sym (ap (λ b. if b then n ∷ filter (λ m. not (m == n)) (each_once xs) else (n ∷ filter (λ m. not (m == n)) (each_once xs)) ++ x ∷ []) (is_in-filter n x (each_once xs) e ∙ there))
+        ap (λ those. n ∷ those) (filter-append (λ m. not (m == n)) (distinct_numbers xs) (x ∷ []) ∙ ap (λ b. filter (λ m. not (m == n)) (distinct_numbers xs) ++ cond (not b) (x ∷ []) []) apart)
+        ∙ sym (ap (λ b. if b then n ∷ filter (λ m. not (m == n)) (distinct_numbers xs) else (n ∷ filter (λ m. not (m == n)) (distinct_numbers xs)) ++ x ∷ []) (is_in-filter n x (distinct_numbers xs) e ∙ there))
 
 map-append : {X : Type 0} (f : X → ℕ) (xs ys : List X) → map f (xs ++ ys) ≡ map f xs ++ map f ys
 map-append f [] ys = refl
 map-append f (x ∷ xs) ys = ap (λ zs. f x ∷ zs) (map-append f xs ys)
 
 -- one more of a list, without repetition
-pub each_once-at : {X : Type 0} (name : X → ℕ) (before : List ℕ) (xs : List X) (i : ℕ) (d : X) → i < length xs → each_once (before ++ map name (take (i + 1) xs)) ≡ with_once (each_once (before ++ map name (take i xs))) (name (get_or xs i d))
-each_once-at name before xs i d here =
-    ap (λ ys. each_once (before ++ map name ys)) (take_more xs i d here)
-    ∙ ap (λ names. each_once (before ++ names)) (map-append name (take i xs) (get_or xs i d ∷ []))
-    ∙ ap each_once (sym (append_assoc before (map name (take i xs)) (name (get_or xs i d) ∷ [])))
-    ∙ each_once-push (before ++ map name (take i xs)) (name (get_or xs i d))
+pub distinct_numbers-at : {X : Type 0} (name : X → ℕ) (before : List ℕ) (xs : List X) (i : ℕ) (d : X) → i < length xs → distinct_numbers (before ++ map name (take (i + 1) xs)) ≡ with_once (distinct_numbers (before ++ map name (take i xs))) (name (get_or xs i d))
+distinct_numbers-at name before xs i d here =
+    ap (λ ys. distinct_numbers (before ++ map name ys)) (take_more xs i d here)
+    ∙ ap (λ names. distinct_numbers (before ++ names)) (map-append name (take i xs) (get_or xs i d ∷ []))
+    ∙ ap distinct_numbers (sym (append_assoc before (map name (take i xs)) (name (get_or xs i d) ∷ [])))
+    ∙ distinct_numbers-push (before ++ map name (take i xs)) (name (get_or xs i d))
 
-pub each_once-more : {X : Type 0} (name : X → ℕ) (before : List ℕ) (xs : List X) (i : ℕ) (x : X) → i < length xs → x ≡ get_or xs i x → each_once (before ++ map name (take (i + 1) xs)) ≡ with_once (each_once (before ++ map name (take i xs))) (name x)
-each_once-more name before xs i x here is =
-    each_once-at name before xs i x here ∙ ap (λ y. with_once (each_once (before ++ map name (take i xs))) (name y)) (sym is)
+pub distinct_numbers-more : {X : Type 0} (name : X → ℕ) (before : List ℕ) (xs : List X) (i : ℕ) (x : X) → i < length xs → x ≡ get_or xs i x → distinct_numbers (before ++ map name (take (i + 1) xs)) ≡ with_once (distinct_numbers (before ++ map name (take i xs))) (name x)
+distinct_numbers-more name before xs i x here is =
+    distinct_numbers-at name before xs i x here ∙ ap (λ y. with_once (distinct_numbers (before ++ map name (take i xs))) (name y)) (sym is)
 
 -- ---- definitions
 
@@ -110,16 +110,16 @@ module _ {F : Type 0} (name : ℕ) where
   declared_in statements = flat_map (λ (s : Stmt F). equations_declared_by s.act) statements
 
   module _ (declared : List ℕ) (statements : List (Stmt F)) (i : ℕ) (s : Stmt F) (here : i < length statements) (is : s ≡ get_or statements i s) where
-    step : (o : Option (List ℕ)) → found (each_once declared) name (models_of s.act) ≡ o → equations_from declared name (drop i statements) ≡ (elim o [ Some equations ↦ equations | None ↦ equations_from (declared ++ equations_declared_by s.act) name (drop (i + 1) statements) ])
+    step : (o : Option (List ℕ)) → found (distinct_numbers declared) name (models_of s.act) ≡ o → equations_from declared name (drop i statements) ≡ (elim o [ Some equations ↦ equations | None ↦ equations_from (declared ++ equations_declared_by s.act) name (drop (i + 1) statements) ])
     step o e =
         at_drop_more (equations_from declared name) statements i s here
         ∙ ap (λ (z : Stmt F). equations_from declared name (z ∷ drop (i + 1) statements)) (sym is)
         ∙ ap (λ (x : Option (List ℕ)). elim x [ Some equations ↦ equations | None ↦ equations_from (declared ++ equations_declared_by s.act) name (drop (i + 1) statements) ]) e
 
-    pub equations-here : (equations : List ℕ) → found (each_once declared) name (models_of s.act) ≡ Some equations → equations_from declared name (drop i statements) ≡ equations
+    pub equations-here : (equations : List ℕ) → found (distinct_numbers declared) name (models_of s.act) ≡ Some equations → equations_from declared name (drop i statements) ≡ equations
     equations-here equations e = step (Some equations) e
 
-    pub equations-later : found (each_once declared) name (models_of s.act) ≡ None → equations_from declared name (drop i statements) ≡ equations_from (declared ++ equations_declared_by s.act) name (drop (i + 1) statements)
+    pub equations-later : found (distinct_numbers declared) name (models_of s.act) ≡ None → equations_from declared name (drop i statements) ≡ equations_from (declared ++ equations_declared_by s.act) name (drop (i + 1) statements)
     equations-later e = step None e
 
   pub equations-nowhere : (declared : List ℕ) (statements : List (Stmt F)) (i : ℕ) → length statements ≤ i → equations_from declared name (drop i statements) ≡ []

@@ -19,9 +19,9 @@ use Rattle.gms_rows.specs.Forms.{Form, sum_of_forms}
 use Rattle.gms_rows.specs.Rows.{Definition, FormRow, sense_of, row_form, row_under}
 use Rattle.gms_rows.proofs.Parts.{tuple_answer}
 
-goes_on : {A B : Type 0} (a : Answer A) (f g : A → Answer B) → ((x : A) → f x ≡ g x) → (a and_then f) ≡ (a and_then g)
-goes_on (Ok x) f g same = same x
-goes_on (Err fault) f g same = refl
+continues : {A B : Type 0} (a : Answer A) (f g : A → Answer B) → ((x : A) → f x ≡ g x) → (a and_then f) ≡ (a and_then g)
+continues (Ok x) f g same = same x
+continues (Err fault) f g same = refl
 
 module _ {F : Type 0} (v : F → Number) (limit : ℕ) (state : State) (d : Definition F) (b : Pairs) where
   -- the row of a tuple with a form
@@ -51,7 +51,7 @@ module _ {F : Type 0} (v : F → Number) (limit : ℕ) (state : State) (d : Defi
         row-is indices is
         ∙ ap (λ a. a and_then row_at) given
         ∙ and_then_assoc (affine v limit state d.left_at b d.left) (λ l. affine v limit state d.right_at b d.right and_then λ r. sum_of_forms limit d.right_at b true l r) (λ form. Ok (Some (row_with t (sense_of d.side) form)))
-        ∙ goes_on (affine v limit state d.left_at b d.left) (λ l. (affine v limit state d.right_at b d.right and_then λ r. sum_of_forms limit d.right_at b true l r) and_then λ form. Ok (Some (row_with t (sense_of d.side) form))) (λ l. affine v limit state d.right_at b d.right and_then λ r. last l r) (λ l. and_then_assoc (affine v limit state d.right_at b d.right) (λ r. sum_of_forms limit d.right_at b true l r) (λ form. Ok (Some (row_with t (sense_of d.side) form))))
+        ∙ continues (affine v limit state d.left_at b d.left) (λ l. (affine v limit state d.right_at b d.right and_then λ r. sum_of_forms limit d.right_at b true l r) and_then λ form. Ok (Some (row_with t (sense_of d.side) form))) (λ l. affine v limit state d.right_at b d.right and_then λ r. last l r) (λ l. and_then_assoc (affine v limit state d.right_at b d.right) (λ r. sum_of_forms limit d.right_at b true l r) (λ form. Ok (Some (row_with t (sense_of d.side) form))))
 
     -- a side or the step that stops
     pub row-left_stops : (stop : ExecStopOrMemory F) → ShowsStop v stop (affine v limit state d.left_at b d.left) → ShowsStop v stop (row_under v limit state d b)

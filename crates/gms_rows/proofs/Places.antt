@@ -36,7 +36,7 @@ not-found keys key i ordered searched =
     let apart = searched (indices_rise keys key ordered) in
     among-none keys (λ k d h. elim (cases_lt k i) [
       | inl before ↦ same_key-Less (get_or keys k d) key (apart.0 k d (omega arith) before)
-      | inr behind ↦ same_key-Greater (get_or keys k d) key (apart.1 k d behind h)
+      | inr following ↦ same_key-Greater (get_or keys k d) key (apart.1 k d following h)
     ])
   where
     among-none : (keys : List Key) → All (λ k. same_key k key ≡ false) keys → is_among keys key ≡ false

@@ -51,17 +51,17 @@ module _ (columns : List Key) (ordered : AreOrdered columns) where
   place-rises : (k l : Key) → is_among columns k ≡ true → is_among columns l ≡ true → key_cmp k l ≡ Less → place_of_key columns k < place_of_key columns l
   place-rises k l here there less =
       let at = stands-in_place k here in
-      let behind = stands-in_place l there in
+      let following = stands-in_place l there in
       elim (cases_lt (place_of_key columns k) (place_of_key columns l)) [
         | inl before ↦ before
         | inr after ↦ absurd (elim (cases_eq (place_of_key columns l) (place_of_key columns k)) [
           | inl same ↦
-              let e : k ≡ l = sym (at.1 k) ∙ ap (λ i. get_or columns i k) (sym same) ∙ behind.1 k in
+              let e : k ≡ l = sym (at.1 k) ∙ ap (λ i. get_or columns i k) (sym same) ∙ following.1 k in
               let tied : key_cmp k l ≡ Equal = ap (key_cmp k) (sym e) ∙ tied_itself key_cmp-total k in
               let both : Less ≡ Equal = sym less ∙ tied in cc
           | inr apart ↦
               let falls : key_cmp (get_or columns (place_of_key columns l) k) (get_or columns (place_of_key columns k) k) ≡ Less = Less-from_sorted key_cmp columns (place_of_key columns l) (place_of_key columns k) k ordered (omega (arith, after, apart)) at.0 in
-              let turned : key_cmp l k ≡ Less = sym (ap (λ x. key_cmp x (get_or columns (place_of_key columns k) k)) (behind.1 k) ∙ ap (key_cmp l) (at.1 k)) ∙ falls in
+              let turned : key_cmp l k ≡ Less = sym (ap (λ x. key_cmp x (get_or columns (place_of_key columns k) k)) (following.1 k) ∙ ap (key_cmp l) (at.1 k)) ∙ falls in
               let both : Greater ≡ Less = sym (key_cmp-flip k l Less less) ∙ turned in cc
         ])
       ]

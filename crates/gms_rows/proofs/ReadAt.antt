@@ -29,14 +29,14 @@ use Rattle.gms_eval.specs.declared.stop.StopKind.TheVariants.{Divide, EmptyExtre
 use Rattle.lp_form.specs.declared.key.Key.{Key}
 use Rattle.lp_form.specs.Keys.{key_cmp}
 use Rattle.lp_form.proofs.KeyOrder.{key_cmp-total, same_key_refl}
-use Rattle.gms_rows.specs.Affine.{has_variables, some_has_variables, in_front, form_of, part_place, is_inverse, Join, joined_forms, front, chained, plus, times, element_form, form_of_constant, linear, forms, affine}
+use Rattle.gms_rows.specs.Affine.{has_variables, some_has_variables, values_first, form_of, part_place, is_inverse, Join, joined_forms, prefix, chained, plus, times, element_form, form_of_constant, linear, forms, affine}
 use Rattle.gms_rows.specs.Forms.{Form, constant_form, zero_form, column_form, number_of_key, is_number, is_not_zero, sum_of_forms, scaled_form, product_of_forms, quotient_of}
 use Rattle.gms_rows.specs.Points.{form_at}
 use Rattle.gms_rows.specs.PointValues.{exact_sum_step, exact_product_step, exact_fold_step, exact_quotient, element_at, read_at, values_at, value_at, is_signed, is_sum_fold, are_later_factors, are_factors, is_linear, are_linear}
 use Rattle.gms_rows.proofs.ColumnKeys.{no_entries}
 use Rattle.gms_rows.proofs.Domains.{given, only_value}
 use Rattle.gms_rows.proofs.Entries.{not_zero-zero}
-use Rattle.gms_rows.proofs.ExactSteps.{sum_step-exact, product_step-exact, chain-behind}
+use Rattle.gms_rows.proofs.ExactSteps.{sum_step-exact, product_step-exact, chain-following}
 use Rattle.gms_rows.proofs.KeyLists.{tied-turned}
 use Rattle.gms_rows.proofs.PointSums.{number-at, sum_of-at, product_of-at, quotient_of-at, scaled-at}
 
@@ -127,17 +127,17 @@ drop-first n x xs = let e : n + 1 ≡ suc n = omega arith in ap (λ k. drop k (x
 
 module _ {F : Type 0} (state : State) where
   -- the parts from the first with variables on
-  abbrev behind : tree.Parts F → tree.Parts F
-  behind tree.no_part = tree.no_part
-  behind (tree.part mark e rest) = if has_variables state e then tree.part mark e rest else behind rest
+  abbrev following : tree.Parts F → tree.Parts F
+  following tree.no_part = tree.no_part
+  following (tree.part mark e rest) = if has_variables state e then tree.part mark e rest else following rest
 
   -- what holds of parts holds of the parts from the first with variables on
-  behind-keeps : (P : tree.Parts F → Type 0) → ((mark : Mark) (e : tree.Tree F) (rest : tree.Parts F) → has_variables state e ≡ false → P (tree.part mark e rest) → P rest) → (parts : tree.Parts F) → P parts → P (behind parts)
-  behind-keeps P later tree.no_part holds = holds
-  behind-keeps P later (tree.part mark e rest) holds =
-      by (has_variables state e) refl (behind-keeps P later rest)
+  following-keeps : (P : tree.Parts F → Type 0) → ((mark : Mark) (e : tree.Tree F) (rest : tree.Parts F) → has_variables state e ≡ false → P (tree.part mark e rest) → P rest) → (parts : tree.Parts F) → P parts → P (following parts)
+  following-keeps P later tree.no_part holds = holds
+  following-keeps P later (tree.part mark e rest) holds =
+      by (has_variables state e) refl (following-keeps P later rest)
     where
-      by : (h : Bool) → has_variables state e ≡ h → (P rest → P (behind rest)) → P (if h then tree.part mark e rest else behind rest)
+      by : (h : Bool) → has_variables state e ≡ h → (P rest → P (following rest)) → P (if h then tree.part mark e rest else following rest)
       by true is next = holds
       by false is next = next (later mark e rest is holds)
 
@@ -152,24 +152,24 @@ module _ {F : Type 0} (state : State) where
   IsUpright (tree.part mark e rest) = is_inverse mark ≡ false
 
   -- so are factors from the first with variables on
-  behind-later : (parts : tree.Parts F) → are_later_factors state parts ≡ true → IsSingle (behind parts) × IsUpright (behind parts)
-  behind-later tree.no_part so = (tt, tt)
-  behind-later (tree.part mark e rest) so = by (has_variables state e) (behind-later rest) so
+  following-later : (parts : tree.Parts F) → are_later_factors state parts ≡ true → IsSingle (following parts) × IsUpright (following parts)
+  following-later tree.no_part so = (tt, tt)
+  following-later (tree.part mark e rest) so = by (has_variables state e) (following-later rest) so
     where
-      by : (h : Bool) → (are_later_factors state rest ≡ true → IsSingle (behind rest) × IsUpright (behind rest)) → (if h then not (is_inverse mark) && not (some_has_variables state rest) else are_later_factors state rest) ≡ true → IsSingle (if h then tree.part mark e rest else behind rest) × IsUpright (if h then tree.part mark e rest else behind rest)
+      by : (h : Bool) → (are_later_factors state rest ≡ true → IsSingle (following rest) × IsUpright (following rest)) → (if h then not (is_inverse mark) && not (some_has_variables state rest) else are_later_factors state rest) ≡ true → IsSingle (if h then tree.part mark e rest else following rest) × IsUpright (if h then tree.part mark e rest else following rest)
       by true later so =
           let each = and_parts (not (is_inverse mark)) (not (some_has_variables state rest)) so in
           (not-true (some_has_variables state rest) each.1, not-true (is_inverse mark) each.0)
       by false later so = later so
 
   -- the factors from the first with variables on
-  behind-factors : (parts : tree.Parts F) → are_factors state parts ≡ true → ((in_front state parts ≡ 0) × IsSingle (behind parts)) ⊎ (IsSingle (behind parts) × IsUpright (behind parts))
-  behind-factors tree.no_part so = inl (refl, tt)
-  behind-factors (tree.part mark e rest) so = by (has_variables state e) so
+  following-factors : (parts : tree.Parts F) → are_factors state parts ≡ true → ((values_first state parts ≡ 0) × IsSingle (following parts)) ⊎ (IsSingle (following parts) × IsUpright (following parts))
+  following-factors tree.no_part so = inl (refl, tt)
+  following-factors (tree.part mark e rest) so = by (has_variables state e) so
     where
-      by : (h : Bool) → (if h then not (some_has_variables state rest) else are_later_factors state rest) ≡ true → (((if h then 0 else in_front state rest + 1) ≡ 0) × IsSingle (if h then tree.part mark e rest else behind rest)) ⊎ (IsSingle (if h then tree.part mark e rest else behind rest) × IsUpright (if h then tree.part mark e rest else behind rest))
+      by : (h : Bool) → (if h then not (some_has_variables state rest) else are_later_factors state rest) ≡ true → (((if h then 0 else values_first state rest + 1) ≡ 0) × IsSingle (if h then tree.part mark e rest else following rest)) ⊎ (IsSingle (if h then tree.part mark e rest else following rest) × IsUpright (if h then tree.part mark e rest else following rest))
       by true so = inl (refl, not-true (some_has_variables state rest) so)
-      by false so = inr (behind-later rest so)
+      by false so = inr (following-later rest so)
 
 -- ---- values of parts and of expressions
 
@@ -210,25 +210,25 @@ module _ {F : Type 0} (v : F → Number) (limit : ℕ) (state : State) (point : 
 
   -- ---- parts before the first with variables
 
-  values-split : (b : Pairs) (parts : tree.Parts F) → values_at v limit state point b parts ≡ take (in_front state parts) (values v limit state b parts) ++ values_at v limit state point b (behind state parts)
+  values-split : (b : Pairs) (parts : tree.Parts F) → values_at v limit state point b parts ≡ take (values_first state parts) (values v limit state b parts) ++ values_at v limit state point b (following state parts)
   values-split b tree.no_part = refl
   values-split b (tree.part mark e rest) = by (has_variables state e) refl (values-split b rest)
     where
-      by : (h : Bool) → has_variables state e ≡ h → values_at v limit state point b rest ≡ take (in_front state rest) (values v limit state b rest) ++ values_at v limit state point b (behind state rest) → values_at v limit state point b (tree.part mark e rest) ≡ take (if h then 0 else in_front state rest + 1) (values v limit state b (tree.part mark e rest)) ++ values_at v limit state point b (if h then tree.part mark e rest else behind state rest)
+      by : (h : Bool) → has_variables state e ≡ h → values_at v limit state point b rest ≡ take (values_first state rest) (values v limit state b rest) ++ values_at v limit state point b (following state rest) → values_at v limit state point b (tree.part mark e rest) ≡ take (if h then 0 else values_first state rest + 1) (values v limit state b (tree.part mark e rest)) ++ values_at v limit state point b (if h then tree.part mark e rest else following state rest)
       by true is next = refl
       by false is next =
           ap (λ (h : Bool). (mark, (if h then read_at v limit state point b e else value v limit state b e)) ∷ values_at v limit state point b rest) is
           ∙ ap (λ (those : Marked). (mark, value v limit state b e) ∷ those) next
-          ∙ sym (ap (λ (those : Marked). those ++ values_at v limit state point b (behind state rest)) (take-first (in_front state rest) (mark, value v limit state b e) (values v limit state b rest)))
+          ∙ sym (ap (λ (those : Marked). those ++ values_at v limit state point b (following state rest)) (take-first (values_first state rest) (mark, value v limit state b e) (values v limit state b rest)))
 
-  forms-split : (b : Pairs) (parts : tree.Parts F) → drop (in_front state parts) (forms v limit state b parts) ≡ forms v limit state b (behind state parts)
+  forms-split : (b : Pairs) (parts : tree.Parts F) → drop (values_first state parts) (forms v limit state b parts) ≡ forms v limit state b (following state parts)
   forms-split b tree.no_part = refl
   forms-split b (tree.part mark e rest) = by (has_variables state e) refl (forms-split b rest)
     where
-      by : (h : Bool) → has_variables state e ≡ h → drop (in_front state rest) (forms v limit state b rest) ≡ forms v limit state b (behind state rest) → drop (if h then 0 else in_front state rest + 1) (forms v limit state b (tree.part mark e rest)) ≡ forms v limit state b (if h then tree.part mark e rest else behind state rest)
+      by : (h : Bool) → has_variables state e ≡ h → drop (values_first state rest) (forms v limit state b rest) ≡ forms v limit state b (following state rest) → drop (if h then 0 else values_first state rest + 1) (forms v limit state b (tree.part mark e rest)) ≡ forms v limit state b (if h then tree.part mark e rest else following state rest)
       by true is next = refl
       by false is next =
-          drop-first (in_front state rest) (mark, form_answer (part_place mark) b e) (forms v limit state b rest) ∙ next
+          drop-first (values_first state rest) (mark, form_answer (part_place mark) b e) (forms v limit state b rest) ∙ next
 
   -- a sum or a product, where the parts from the first with variables on are right
   module _ (b : Pairs) (limited exact : ValueStep) (join : Join) (is : (mark : Mark) (x : Extended) (a : Answer Extended) (z : Extended) → limited mark x a ≡ Ok z → exact mark x a ≡ Ok z) where
@@ -237,33 +237,33 @@ module _ {F : Type 0} (v : F → Number) (limit : ℕ) (state : State) (point : 
     Starts x parts f =
         joined_forms join (option_map constant_form x) (forms v limit state b parts) ≡ Ok f → nodes.joined exact (Ok nothing) (option_map number x) (values_at v limit state point b parts) ≡ Ok (shown point f)
 
-    from_front : (parts : tree.Parts F) (f : Form) → ((x : Option Number) → Starts x parts f) → (xs : Marked) → (front b limited xs and_then λ so_far. joined_forms join so_far (forms v limit state b parts)) ≡ Ok f → chain exact (xs ++ values_at v limit state point b parts) ≡ Ok (shown point f)
+    from_front : (parts : tree.Parts F) (f : Form) → ((x : Option Number) → Starts x parts f) → (xs : Marked) → (prefix b limited xs and_then λ so_far. joined_forms join so_far (forms v limit state b parts)) ≡ Ok f → chain exact (xs ++ values_at v limit state point b parts) ≡ Ok (shown point f)
     from_front parts f starts [] e = starts None e
     from_front parts f starts (p ∷ xs) e =
-        let one = given (front b limited (p ∷ xs)) (λ so_far. joined_forms join so_far (forms v limit state b parts)) f e in
+        let one = given (prefix b limited (p ∷ xs)) (λ so_far. joined_forms join so_far (forms v limit state b parts)) f e in
         let two = given (chain limited (p ∷ xs)) (λ x. form_of (part_place p.0) b x and_then λ form. Ok (Some form)) one.value one.is in
         let three = given (form_of (part_place p.0) b two.value) (λ form. Ok (Some form)) one.value two.next_is in
         let k = number-known (part_place p.0) b two.value three.value three.is in
         let so_far : one.value ≡ Some (constant_form k.0) = sym (only_value (Some three.value) one.value three.next_is) ∙ ap Some k.2 in
-        chain-behind limited exact is p xs (values_at v limit state point b parts) two.value two.is
+        chain-following limited exact is p xs (values_at v limit state point b parts) two.value two.is
         ∙ ap (λ x. nodes.joined exact (Ok nothing) (Some x) (values_at v limit state point b parts)) k.1
         ∙ starts (Some k.0) (ap (λ o. joined_forms join o (forms v limit state b parts)) (sym so_far) ∙ one.next_is)
 
     -- first the parts before the first with variables, and then the others
-    split-forms : (parts : tree.Parts F) (f : Form) → chained b limited join (in_front state parts) (values v limit state b parts) (forms v limit state b parts) ≡ Ok f → (front b limited (take (in_front state parts) (values v limit state b parts)) and_then λ so_far. joined_forms join so_far (forms v limit state b (behind state parts))) ≡ Ok f
+    split-forms : (parts : tree.Parts F) (f : Form) → chained b limited join (values_first state parts) (values v limit state b parts) (forms v limit state b parts) ≡ Ok f → (prefix b limited (take (values_first state parts) (values v limit state b parts)) and_then λ so_far. joined_forms join so_far (forms v limit state b (following state parts))) ≡ Ok f
     split-forms parts f e =
-        ap (λ those. front b limited (take (in_front state parts) (values v limit state b parts)) and_then λ so_far. joined_forms join so_far those) (sym (forms-split b parts)) ∙ e
+        ap (λ those. prefix b limited (take (values_first state parts) (values v limit state b parts)) and_then λ so_far. joined_forms join so_far those) (sym (forms-split b parts)) ∙ e
 
-    chained-at : (parts : tree.Parts F) (f : Form) → ((x : Option Number) → Starts x (behind state parts) f) → chained b limited join (in_front state parts) (values v limit state b parts) (forms v limit state b parts) ≡ Ok f → chain exact (values_at v limit state point b parts) ≡ Ok (shown point f)
+    chained-at : (parts : tree.Parts F) (f : Form) → ((x : Option Number) → Starts x (following state parts) f) → chained b limited join (values_first state parts) (values v limit state b parts) (forms v limit state b parts) ≡ Ok f → chain exact (values_at v limit state point b parts) ≡ Ok (shown point f)
     chained-at parts f starts e =
         ap (chain exact) (values-split b parts)
-        ∙ from_front (behind state parts) f starts (take (in_front state parts) (values v limit state b parts)) (split-forms parts f e)
+        ∙ from_front (following state parts) f starts (take (values_first state parts) (values v limit state b parts)) (split-forms parts f e)
 
     -- where no part comes before the first with variables
-    chained-none : (parts : tree.Parts F) (f : Form) → in_front state parts ≡ 0 → Starts None (behind state parts) f → chained b limited join (in_front state parts) (values v limit state b parts) (forms v limit state b parts) ≡ Ok f → chain exact (values_at v limit state point b parts) ≡ Ok (shown point f)
+    chained-none : (parts : tree.Parts F) (f : Form) → values_first state parts ≡ 0 → Starts None (following state parts) f → chained b limited join (values_first state parts) (values v limit state b parts) (forms v limit state b parts) ≡ Ok f → chain exact (values_at v limit state point b parts) ≡ Ok (shown point f)
     chained-none parts f none start e =
-        ap (chain exact) (values-split b parts ∙ ap (λ n. take n (values v limit state b parts) ++ values_at v limit state point b (behind state parts)) none)
-        ∙ start (sym (ap (λ n. front b limited (take n (values v limit state b parts)) and_then λ so_far. joined_forms join so_far (forms v limit state b (behind state parts))) none) ∙ split-forms parts f e)
+        ap (chain exact) (values-split b parts ∙ ap (λ n. take n (values v limit state b parts) ++ values_at v limit state point b (following state parts)) none)
+        ∙ start (sym (ap (λ n. prefix b limited (take n (values v limit state b parts)) and_then λ so_far. joined_forms join so_far (forms v limit state b (following state parts))) none) ∙ split-forms parts f e)
 
   -- ---- sums
 
@@ -271,20 +271,20 @@ module _ {F : Type 0} (v : F → Number) (limit : ℕ) (state : State) (point : 
     abbrev summed : Option Extended → Marked → Answer Extended
     summed o parts = nodes.joined (exact_sum_step b) (Ok nothing) o parts
 
-    sum-behind : (parts : tree.Parts F) (left f : Form) → Hold b parts → are_linear state parts ≡ true → joined_forms (plus limit b) (Some left) (forms v limit state b parts) ≡ Ok f → summed (Some (shown point left)) (values_at v limit state point b parts) ≡ Ok (shown point f)
-    sum-behind tree.no_part left f hold so e = ap {B = Answer Extended} (λ g. Ok (shown point g)) (only_value left f e)
-    sum-behind (tree.part (signed at inverse) t rest) left f hold so e =
+    sum-following : (parts : tree.Parts F) (left f : Form) → Hold b parts → are_linear state parts ≡ true → joined_forms (plus limit b) (Some left) (forms v limit state b parts) ≡ Ok f → summed (Some (shown point left)) (values_at v limit state point b parts) ≡ Ok (shown point f)
+    sum-following tree.no_part left f hold so e = ap {B = Answer Extended} (λ g. Ok (shown point g)) (only_value left f e)
+    sum-following (tree.part (signed at inverse) t rest) left f hold so e =
         let one = given (form_answer at b t) (λ form. plus limit b (signed at inverse) left form and_then λ next. joined_forms (plus limit b) (Some next) (forms v limit state b rest)) f e in
         let two = given (plus limit b (signed at inverse) left one.value) (λ next. joined_forms (plus limit b) (Some next) (forms v limit state b rest)) f one.next_is in
         let k = known at b t one.value hold.0 one.is in
         ap (λ a. exact_sum_step b (signed at inverse) (shown point left) a and_then λ y. summed (Some y) (values_at v limit state point b rest)) k.0
         ∙ ap (λ a. a and_then λ y. summed (Some y) (values_at v limit state point b rest)) (sum-shown point limit b at inverse left one.value two.value two.is)
-        ∙ sum-behind rest two.value f hold.1 (and_parts (is_linear state t) (are_linear state rest) so).1 two.next_is
-    sum-behind (tree.part mark t rest) left f hold so e = absurd (cc)
+        ∙ sum-following rest two.value f hold.1 (and_parts (is_linear state t) (are_linear state rest) so).1 two.next_is
+    sum-following (tree.part mark t rest) left f hold so e = absurd (cc)
 
     sum-starts : (parts : tree.Parts F) (f : Form) → Hold b parts → are_linear state parts ≡ true → (x : Option Number) → Starts b (sum_step limit b) (exact_sum_step b) (plus limit b) (sum_step-exact limit b) x parts f
     sum-starts parts f hold so (Some x) e =
-        ap (λ y. summed (Some (number y)) (values_at v limit state point b parts)) (sym (constant-at point x)) ∙ sum-behind parts (constant_form x) f hold so e
+        ap (λ y. summed (Some (number y)) (values_at v limit state point b parts)) (sym (constant-at point x)) ∙ sum-following parts (constant_form x) f hold so e
     sum-starts tree.no_part f hold so None e =
         ap {B = Answer Extended} Ok (ap number (sym (constant-at point (whole (pos 0)))) ∙ ap (shown point) (only_value zero_form f e))
     sum-starts (tree.part mark t rest) f hold so None e =
@@ -292,7 +292,7 @@ module _ {F : Type 0} (v : F → Number) (limit : ℕ) (state : State) (point : 
         let k = known (part_place mark) b t one.value hold.0 one.is in
         let later = and_parts (is_linear state t) (are_linear state rest) (and_parts (is_signed mark) (is_linear state t && are_linear state rest) so).1 in
         ap (λ a. a and_then λ y. summed (Some y) (values_at v limit state point b rest)) k.0
-        ∙ sum-behind rest one.value f hold.1 later.1 one.next_is
+        ∙ sum-following rest one.value f hold.1 later.1 one.next_is
 
     -- ---- products
 
@@ -304,17 +304,17 @@ module _ {F : Type 0} (v : F → Number) (limit : ℕ) (state : State) (point : 
     or_neither false c e = (refl, e)
 
     -- factors without variables
-    product-behind : (parts : tree.Parts F) (left f : Form) → some_has_variables state parts ≡ false → are_linear state parts ≡ true → joined_forms (times limit b) (Some left) (forms v limit state b parts) ≡ Ok f → multiplied (Some (shown point left)) (values_at v limit state point b parts) ≡ Ok (shown point f)
-    product-behind tree.no_part left f none so e = ap {B = Answer Extended} (λ g. Ok (shown point g)) (only_value left f e)
-    product-behind (tree.part (signed at inverse) t rest) left f none so e =
+    product-following : (parts : tree.Parts F) (left f : Form) → some_has_variables state parts ≡ false → are_linear state parts ≡ true → joined_forms (times limit b) (Some left) (forms v limit state b parts) ≡ Ok f → multiplied (Some (shown point left)) (values_at v limit state point b parts) ≡ Ok (shown point f)
+    product-following tree.no_part left f none so e = ap {B = Answer Extended} (λ g. Ok (shown point g)) (only_value left f e)
+    product-following (tree.part (signed at inverse) t rest) left f none so e =
         let neither = or_neither (has_variables state t) (some_has_variables state rest) none in
         let one = given (form_answer at b t) (λ form. times limit b (signed at inverse) left form and_then λ next. joined_forms (times limit b) (Some next) (forms v limit state b rest)) f e in
         let two = given (times limit b (signed at inverse) left one.value) (λ next. joined_forms (times limit b) (Some next) (forms v limit state b rest)) f one.next_is in
         let k = known at b t one.value (λ has. absurd (both_ways (has_variables state t) neither.0 has)) one.is in
         ap (λ a. exact_product_step b (signed at inverse) (shown point left) a and_then λ y. multiplied (Some y) (values_at v limit state point b rest)) k.0
         ∙ ap (λ a. a and_then λ y. multiplied (Some y) (values_at v limit state point b rest)) (factor-shown point limit b at inverse left one.value two.value (k.1 neither.0) two.is)
-        ∙ product-behind rest two.value f neither.1 (and_parts (is_linear state t) (are_linear state rest) so).1 two.next_is
-    product-behind (tree.part mark t rest) left f none so e = absurd (cc)
+        ∙ product-following rest two.value f neither.1 (and_parts (is_linear state t) (are_linear state rest) so).1 two.next_is
+    product-following (tree.part mark t rest) left f none so e = absurd (cc)
 
     or_first : (a c : Bool) → a ≡ true → (a || c) ≡ true
     or_first a c e = ap (λ (x : Bool). x || c) e
@@ -334,7 +334,7 @@ module _ {F : Type 0} (v : F → Number) (limit : ℕ) (state : State) (point : 
         let k = known (part_place mark) b t one.value hold.0 one.is in
         let later = and_parts (is_linear state t) (are_linear state rest) (and_parts (is_signed mark) (is_linear state t && are_linear state rest) so).1 in
         ap (λ a. a and_then λ y. multiplied (Some y) (values_at v limit state point b rest)) k.0
-        ∙ product-behind rest one.value f single later.1 one.next_is
+        ∙ product-following rest one.value f single later.1 one.next_is
 
     -- or after a number
     product-after : (parts : tree.Parts F) (f : Form) (x : Number) → Hold b parts → are_linear state parts ≡ true → IsSingle state parts → IsUpright state parts → Starts b (product_step limit b) (exact_product_step b) (times limit b) (product_step-exact limit b) (Some x) parts f
@@ -347,7 +347,7 @@ module _ {F : Type 0} (v : F → Number) (limit : ℕ) (state : State) (point : 
         ap (λ y. multiplied (Some (number y)) (values_at v limit state point b (tree.part (signed at inverse) t rest))) (sym (constant-at point x))
         ∙ ap (λ a. exact_product_step b (signed at inverse) (shown point (constant_form x)) a and_then λ y. multiplied (Some y) (values_at v limit state point b rest)) k.0
         ∙ ap (λ a. a and_then λ y. multiplied (Some y) (values_at v limit state point b rest)) (number-times at inverse x one.value two.value upright two.is)
-        ∙ product-behind rest two.value f single (and_parts (is_linear state t) (are_linear state rest) so).1 two.next_is
+        ∙ product-following rest two.value f single (and_parts (is_linear state t) (are_linear state rest) so).1 two.next_is
     product-after (tree.part mark t rest) f x hold so single upright e = absurd (cc)
 
     product-starts : (parts : tree.Parts F) (f : Form) → Hold b parts → are_linear state parts ≡ true → IsSingle state parts → IsUpright state parts → (x : Option Number) → Starts b (product_step limit b) (exact_product_step b) (times limit b) (product_step-exact limit b) x parts f
@@ -356,19 +356,19 @@ module _ {F : Type 0} (v : F → Number) (limit : ℕ) (state : State) (point : 
 
   -- ---- the parts from the first with variables on
 
-  behind-holds : (b : Pairs) (parts : tree.Parts F) → Hold b parts → Hold b (behind state parts)
-  behind-holds b parts hold = behind-keeps state (Hold b) (λ mark e rest none holds. holds.1) parts hold
+  following-holds : (b : Pairs) (parts : tree.Parts F) → Hold b parts → Hold b (following state parts)
+  following-holds b parts hold = following-keeps state (Hold b) (λ mark e rest none holds. holds.1) parts hold
 
-  behind-linear : (parts : tree.Parts F) → are_linear state parts ≡ true → are_linear state (behind state parts) ≡ true
-  behind-linear parts so =
-      behind-keeps state (λ those. are_linear state those ≡ true) (λ mark e rest none holds. (and_parts (is_linear state e) (are_linear state rest) (and_parts (is_signed mark) (is_linear state e && are_linear state rest) holds).1).1) parts so
+  following-linear : (parts : tree.Parts F) → are_linear state parts ≡ true → are_linear state (following state parts) ≡ true
+  following-linear parts so =
+      following-keeps state (λ those. are_linear state those ≡ true) (λ mark e rest none holds. (and_parts (is_linear state e) (are_linear state rest) (and_parts (is_signed mark) (is_linear state e && are_linear state rest) holds).1).1) parts so
 
   -- a product
-  multiplied-at : (b : Pairs) (parts : tree.Parts F) (f : Form) → Hold b (behind state parts) → are_linear state (behind state parts) ≡ true → ((in_front state parts ≡ 0) × IsSingle state (behind state parts)) ⊎ (IsSingle state (behind state parts) × IsUpright state (behind state parts)) → chained b (product_step limit b) (times limit b) (in_front state parts) (values v limit state b parts) (forms v limit state b parts) ≡ Ok f → chain (exact_product_step b) (values_at v limit state point b parts) ≡ Ok (shown point f)
+  multiplied-at : (b : Pairs) (parts : tree.Parts F) (f : Form) → Hold b (following state parts) → are_linear state (following state parts) ≡ true → ((values_first state parts ≡ 0) × IsSingle state (following state parts)) ⊎ (IsSingle state (following state parts) × IsUpright state (following state parts)) → chained b (product_step limit b) (times limit b) (values_first state parts) (values v limit state b parts) (forms v limit state b parts) ≡ Ok f → chain (exact_product_step b) (values_at v limit state point b parts) ≡ Ok (shown point f)
   multiplied-at b parts f hold so (inl first) e =
-      chained-none b (product_step limit b) (exact_product_step b) (times limit b) (product_step-exact limit b) parts f first.0 (product-first b (behind state parts) f hold so first.1) e
+      chained-none b (product_step limit b) (exact_product_step b) (times limit b) (product_step-exact limit b) parts f first.0 (product-first b (following state parts) f hold so first.1) e
   multiplied-at b parts f hold so (inr later) e =
-      chained-at b (product_step limit b) (exact_product_step b) (times limit b) (product_step-exact limit b) parts f (product-starts b (behind state parts) f hold so later.0 later.1) e
+      chained-at b (product_step limit b) (exact_product_step b) (times limit b) (product_step-exact limit b) parts f (product-starts b (following state parts) f hold so later.0 later.1) e
 
   -- ---- sums over a domain
 
@@ -440,10 +440,10 @@ module _ {F : Type 0} (v : F → Number) (limit : ℕ) (state : State) (point : 
         folded-at b place op control body two.0 (λ element. linear-at body (controlled b (sets_of control) element) has two.1) at f e
     linear-at (tree.negated operand) b has so at f e = negated-at b at operand f (linear-at operand b has so) e
     linear-at (tree.sum parts) b has so at f e =
-        chained-at b (sum_step limit b) (exact_sum_step b) (plus limit b) (sum_step-exact limit b) parts f (sum-starts b (behind state parts) f (behind-holds b parts (parts-at parts b so)) (behind-linear parts so)) e
+        chained-at b (sum_step limit b) (exact_sum_step b) (plus limit b) (sum_step-exact limit b) parts f (sum-starts b (following state parts) f (following-holds b parts (parts-at parts b so)) (following-linear parts so)) e
     linear-at (tree.product parts) b has so at f e =
         let two = and_parts (are_linear state parts) (are_factors state parts) so in
-        multiplied-at b parts f (behind-holds b parts (parts-at parts b two.0)) (behind-linear parts two.0) (behind-factors state parts two.1) e
+        multiplied-at b parts f (following-holds b parts (parts-at parts b two.0)) (following-linear parts two.0) (following-factors state parts two.1) e
     linear-at (tree.guarded operand guards) b has so at f e = guarded-at b at operand guards f (linear-at operand b has so) e
     linear-at other b has so at f e = absurd (cc)
 

@@ -21,9 +21,9 @@ use Rattle.lp_core.proofs.Points.{AllPairs-first, AllPairs-rest}
 use Rattle.lp_form.specs.declared.key.Key.{Key}
 use Rattle.gms_rows.specs.ElementRows.{sets_of_definition, bound_to, tuple_at, AreInOrder}
 use Rattle.gms_rows.specs.Plain.{ArePlain}
-use Rattle.gms_rows.specs.Rows.{Definition, FormRow, each_once, sets_among, sense_of, present_rows, row_form, rows_of_definition}
+use Rattle.gms_rows.specs.Rows.{Definition, FormRow, distinct_numbers, sets_among, sense_of, present_rows, row_form, rows_of_definition}
 use Rattle.gms_rows.specs.InnerContracts.{HaveOrder}
-use Rattle.gms_rows.proofs.Domains.{given, only_value, All-each_once, plain-simple, domain-known}
+use Rattle.gms_rows.proofs.Domains.{given, only_value, All-distinct_numbers, plain-simple, domain-known}
 use Rattle.gms_rows.proofs.OneRow.{row_at}
 use Rattle.gms_rows.proofs.RowSequences.{row_of, domain_of, joined_rows}
 
@@ -56,10 +56,10 @@ all_filtered : (n : ℕ) (ns : List ℕ) → All (λ m. (n == m) ≡ false) (fil
 all_filtered n ns =
     All-weaker (λ m. not (m == n) ≡ true) (λ m. (n == m) ≡ false) (others n) (filter (λ m. not (m == n)) ns) (filter_passes (λ m. not (m == n)) ns)
 
-pub each_once-apart : (ns : List ℕ) → AreApart (each_once ns)
-each_once-apart [] = tt
-each_once-apart (n ∷ ns) =
-    (all_filtered n (each_once ns), apart-filter (λ m. not (m == n)) (each_once ns) (each_once-apart ns))
+pub distinct_numbers-apart : (ns : List ℕ) → AreApart (distinct_numbers ns)
+distinct_numbers-apart [] = tt
+distinct_numbers-apart (n ∷ ns) =
+    (all_filtered n (distinct_numbers ns), apart-filter (λ m. not (m == n)) (distinct_numbers ns) (distinct_numbers-apart ns))
 
 -- ---- elements and their labels
 
@@ -137,8 +137,8 @@ module _ {F : Type 0} (v : F → Number) (limit : ℕ) (state : State) where
     -- elements whose rows have the same tuple are the same
     pub tuple-decides : (x y t : List ℕ) → length x ≡ length (sets_of_definition d) → length y ≡ length (sets_of_definition d) → tuple_at v limit state d x ≡ Ok (Some t) → tuple_at v limit state d y ≡ Ok (Some t) → x ≡ y
     tuple-decides x y t l m e f =
-        paired-same (sets_of_definition d) x y (each_once-apart (sets_among d.indices)) l m
-        (All-each_once (λ set. label_of (bound_to d x) set ≡ label_of (bound_to d y) set) (sets_among d.indices) (labels-decide state (bound_to d x) (bound_to d y) d.indices plain (labels-at x t e ∙ sym (labels-at y t f))))
+        paired-same (sets_of_definition d) x y (distinct_numbers-apart (sets_among d.indices)) l m
+        (All-distinct_numbers (λ set. label_of (bound_to d x) set ≡ label_of (bound_to d y) set) (sets_among d.indices) (labels-decide state (bound_to d x) (bound_to d y) d.indices plain (labels-at x t e ∙ sym (labels-at y t f))))
 
     -- What is known of the row of an element.
     pub record IsMade (row : FormRow) (element : List ℕ) : Type 0 where
@@ -212,8 +212,8 @@ module _ {F : Type 0} (v : F → Number) (limit : ℕ) (state : State) where
     rows-apart (x ∷ xs) made ordered long e =
         let parts = rows-parts x xs made e in
         let rest = rows-apart xs parts.later (rest-ordered x xs ordered) (All-tail (λ t. length t ≡ length (sets_of_definition d)) x xs long) parts.rest in
-        let behind = rows-All (λ y. (tuple_cmp x y ≡ Less) × (length y ≡ length (sets_of_definition d))) xs parts.later (λ k z below. (first-before x xs ordered k z below, All-tail (λ t. length t ≡ length (sets_of_definition d)) x xs long k z below)) parts.rest in
-        subst (λ those. AllPairs (λ (a b : FormRow). a.key ≢ b.key) (present_rows those)) (sym parts.is) (by parts.row parts.later parts.first rest behind)
+        let following = rows-All (λ y. (tuple_cmp x y ≡ Less) × (length y ≡ length (sets_of_definition d))) xs parts.later (λ k z below. (first-before x xs ordered k z below, All-tail (λ t. length t ≡ length (sets_of_definition d)) x xs long k z below)) parts.rest in
+        subst (λ those. AllPairs (λ (a b : FormRow). a.key ≢ b.key) (present_rows those)) (sym parts.is) (by parts.row parts.later parts.first rest following)
       where
         unlike : (row other : FormRow) (y : List ℕ) → IsMade row x → IsMade other y → tuple_cmp x y ≡ Less → length y ≡ length (sets_of_definition d) → row.key ≢ other.key
         unlike row other y here there less m same =
@@ -222,9 +222,9 @@ module _ {F : Type 0} (v : F → Number) (limit : ℕ) (state : State) where
             let both : Less ≡ Equal = sym less ∙ tied in cc
 
         by : (row : Option FormRow) (later : List (Option FormRow)) → row_of v limit state d x ≡ Ok row → AllPairs (λ a b. a.key ≢ b.key) (present_rows later) → All (λ row. (y : List ℕ) × ((tuple_cmp x y ≡ Less) × (length y ≡ length (sets_of_definition d))) × IsMade row y) (present_rows later) → AllPairs (λ a b. a.key ≢ b.key) (present_rows (row ∷ later))
-        by None later is rest behind = rest
-        by (Some row) later is rest behind =
-            AllPairs-cons (λ (a b : FormRow). a.key ≢ b.key) row (present_rows later) (λ k d below. let other = behind k d below in unlike row (get_or (present_rows later) k d) other.0 (row-known x row is) other.2 other.1.0 other.1.1) rest
+        by None later is rest following = rest
+        by (Some row) later is rest following =
+            AllPairs-cons (λ (a b : FormRow). a.key ≢ b.key) row (present_rows later) (λ k d below. let other = following k d below in unlike row (get_or (present_rows later) k d) other.0 (row-known x row is) other.2 other.1.0 other.1.1) rest
 
   -- ---- the rows of a definition
 

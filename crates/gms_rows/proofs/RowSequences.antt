@@ -19,7 +19,7 @@ use Rattle.gms_eval.specs.Value.{domain, control_over}
 use Rattle.gms_eval.proofs.Answering.{and_then_assoc, stops-along, stops-then, stops-same}
 use Rattle.gms_rows.specs.InnerContracts.{HaveOrder}
 use Rattle.gms_rows.specs.ElementRows.{AreInOrder}
-use Rattle.gms_rows.specs.Rows.{Definition, FormRow, each_once, sets_among, definition_of, present_rows, row_under, rows_of_definition}
+use Rattle.gms_rows.specs.Rows.{Definition, FormRow, distinct_numbers, sets_among, definition_of, present_rows, row_under, rows_of_definition}
 
 -- ---- elements
 
@@ -70,10 +70,10 @@ lent-condition (Some e) = refl
 module _ {F : Type 0} (v : F → Number) (limit : ℕ) (state : State) (d : Definition F) where
   -- the row of an element
   abbrev pub row_of : List ℕ → Answer (Option FormRow)
-  row_of element = row_under v limit state d (controlled [] (each_once (sets_among d.indices)) element)
+  row_of element = row_under v limit state d (controlled [] (distinct_numbers (sets_among d.indices)) element)
 
   abbrev pub domain_of : Answer (List (List ℕ))
-  domain_of = domain v limit state [] d.at (control_over (each_once (sets_among d.indices)) d.condition)
+  domain_of = domain v limit state [] d.at (control_over (distinct_numbers (sets_among d.indices)) d.condition)
 
   pub rows_of-start : (done : List FormRow) (elements : List (List ℕ)) → domain_of ≡ Ok elements → (rows_of_definition v limit state d and_then λ those. Ok (done ++ those)) ≡ rows_from row_of done elements
   rows_of-start done elements e =
@@ -81,7 +81,7 @@ module _ {F : Type 0} (v : F → Number) (limit : ℕ) (state : State) (d : Defi
       ∙ and_then_assoc (in_order (map row_of elements)) (λ rows. Ok (present_rows rows)) (λ those. Ok (done ++ those))
 
   -- the domain over sets and a condition that are those of the definition
-  module _ (b : Pairs) (sets : List ℕ) (condition : Option (Tree F)) (none : b ≡ []) (same : sets ≡ each_once (sets_among d.indices)) (is : condition ≡ d.condition) where
+  module _ (b : Pairs) (sets : List ℕ) (condition : Option (Tree F)) (none : b ≡ []) (same : sets ≡ distinct_numbers (sets_among d.indices)) (is : condition ≡ d.condition) where
     pub domain_of-same : domain v limit state b d.at (control_over sets condition) ≡ domain_of
     domain_of-same = λ i. domain v limit state (none i) d.at (control_over (same i) (is i))
 
@@ -93,8 +93,8 @@ module _ {F : Type 0} (v : F → Number) (limit : ℕ) (state : State) (d : Defi
         stops-then v stop (rows_of_definition v limit state d) (λ those. Ok (done ++ those)) (stops-then v stop domain_of (λ elements. in_order (map row_of elements) and_then λ rows. Ok (present_rows rows)) (stops-same v stop domain_of (domain v limit state b d.at (control_over sets condition)) (sym domain_of-same) s))
 
 -- sets in order are those of one definition
-pub order-of_one : {F : Type 0} (state : State) (d : Definition F) → AreInOrder state (each_once (sets_among d.indices)) → HaveOrder state (d ∷ [])
-order-of_one {F} state d kept = All-cons (λ (d : Definition F). AreInOrder state (each_once (sets_among d.indices))) d [] kept (All-nil (λ (d : Definition F). AreInOrder state (each_once (sets_among d.indices))))
+pub order-of_one : {F : Type 0} (state : State) (d : Definition F) → AreInOrder state (distinct_numbers (sets_among d.indices)) → HaveOrder state (d ∷ [])
+order-of_one {F} state d kept = All-cons (λ (d : Definition F). AreInOrder state (distinct_numbers (sets_among d.indices))) d [] kept (All-nil (λ (d : Definition F). AreInOrder state (distinct_numbers (sets_among d.indices))))
 
 -- ---- equations
 

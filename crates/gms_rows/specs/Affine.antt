@@ -48,9 +48,9 @@ module _ {F : Type 0} (state : State) where
     some_has_variables (tree.part mark part rest) = has_variables part || some_has_variables rest
 
   -- how many parts come before the first that has variables
-  abbrev pub in_front : tree.Parts F → ℕ
-  in_front tree.no_part = 0
-  in_front (tree.part mark part rest) = if has_variables part then 0 else in_front rest + 1
+  abbrev pub values_first : tree.Parts F → ℕ
+  values_first tree.no_part = 0
+  values_first (tree.part mark part rest) = if has_variables part then 0 else values_first rest + 1
 
 -- ---- sums and products
 
@@ -84,13 +84,13 @@ joined_forms join so_far [] = Ok (unwrap_or so_far zero_form)
 joined_forms join so_far (part ∷ parts) = part.1 and_then λ form. with_next join part.0 so_far form and_then λ next. joined_forms join (Some next) parts
 
 -- the form of values, which has the place of the first: the number that they make from the left
-abbrev pub front : Pairs → ValueStep → Marked → Answer (Option Form)
-front binding step [] = Ok None
-front binding step (first ∷ rest) = chain step (first ∷ rest) and_then λ x. form_of (part_place first.0) binding x and_then λ form. Ok (Some form)
+abbrev pub prefix : Pairs → ValueStep → Marked → Answer (Option Form)
+prefix binding step [] = Ok None
+prefix binding step (first ∷ rest) = chain step (first ∷ rest) and_then λ x. form_of (part_place first.0) binding x and_then λ form. Ok (Some form)
 
 -- the first `count` values, and then each part by one step on forms
 abbrev pub chained : Pairs → ValueStep → Join → ℕ → Marked → List (Mark × Answer Form) → Answer Form
-chained binding step join count values forms = front binding step (take count values) and_then λ so_far. joined_forms join so_far (drop count forms)
+chained binding step join count values forms = prefix binding step (take count values) and_then λ so_far. joined_forms join so_far (drop count forms)
 
 module _ (limit : ℕ) (binding : Pairs) where
   -- the sum with the next part, or the difference
@@ -125,9 +125,9 @@ module _ {F : Type 0} (number_of : F → Number) (limit : ℕ) (state : State) w
     linear at binding (tree.negated operand) =
         linear at binding operand and_then λ form. scaled_form limit at binding false form (neg_ℚ (whole (pos 1)))
     linear at binding (tree.sum parts) =
-        chained binding (sum_step limit binding) (plus limit binding) (in_front state parts) (values number_of limit state binding parts) (forms binding parts)
+        chained binding (sum_step limit binding) (plus limit binding) (values_first state parts) (values number_of limit state binding parts) (forms binding parts)
     linear at binding (tree.product parts) =
-        chained binding (product_step limit binding) (times limit binding) (in_front state parts) (values number_of limit state binding parts) (forms binding parts)
+        chained binding (product_step limit binding) (times limit binding) (values_first state parts) (values number_of limit state binding parts) (forms binding parts)
     linear at binding (tree.guarded operand guards) =
         each_holds (unmarked (values number_of limit state binding guards)) and_then λ hold. if hold then linear at binding operand else Ok zero_form
     linear at binding other = form_of_constant at binding other

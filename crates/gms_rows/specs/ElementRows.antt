@@ -15,11 +15,11 @@ use Rattle.gms_eval.specs.Holds.{holds}
 use Rattle.gms_eval.specs.References.{tuple_of}
 use Rattle.gms_eval.specs.Value.{labels}
 use Rattle.gms_rows.specs.Plain.{ArePlain}
-use Rattle.gms_rows.specs.Rows.{Definition, FormRow, each_once, sets_among, sense_of, row_form}
+use Rattle.gms_rows.specs.Rows.{Definition, FormRow, distinct_numbers, sets_among, sense_of, row_form}
 
 -- the sets of a definition
 abbrev pub sets_of_definition : {F : Type 0} → Definition F → List ℕ
-sets_of_definition d = each_once (sets_among d.indices)
+sets_of_definition d = distinct_numbers (sets_among d.indices)
 
 -- the binding of an element
 abbrev pub bound_to : {F : Type 0} → Definition F → List ℕ → Pairs

@@ -17,11 +17,11 @@ use Rattle.gms_ast.specs.Trees.{signed, Tree, Parts, Control}
 use Rattle.gms_ast.specs.declared.expression.Expr.{Expr}
 use Rattle.gms_ast.specs.declared.program.Stmt.{Stmt}
 use Rattle.gms_labels.specs.declared.place.Place.{Place}
-use Rattle.gms_rows.specs.Affine.{Join, joined_forms, plus, times, chained, in_front, forms, affine}
+use Rattle.gms_rows.specs.Affine.{Join, joined_forms, plus, times, chained, values_first, forms, affine}
 use Rattle.gms_store.specs.State.{State}
 use Rattle.gms_rows.specs.ElementRows.{AreInOrder}
 use Rattle.gms_rows.specs.ProgramLp.{place_of_key}
-use Rattle.gms_rows.specs.Rows.{FormRow, Definition, defined_at, definition_of, each_once, sets_among}
+use Rattle.gms_rows.specs.Rows.{FormRow, Definition, defined_at, definition_of, distinct_numbers, sets_among}
 use Rattle.gms_rows.specs.declared.equations.Definition.{Definition as OwnDefinition}
 use Rattle.gms_rows.specs.declared.form_row.FormRow.{FormRow as OwnRow}
 use Rattle.gq_number.specs.Number.{Number}
@@ -51,7 +51,7 @@ module _ {F : Type 0} (number_of : F → Number) (limit : ℕ) (state : State) w
   -- the form of the parts of a sum or a product
   abbrev pub chain_form : Pairs → Signed → Parts F → Answer Form
   chain_form binding kind parts =
-      chained binding (signed_step limit binding kind) (signed_join limit binding kind) (in_front state parts) (values number_of limit state binding parts) (forms number_of limit state binding parts)
+      chained binding (signed_step limit binding kind) (signed_join limit binding kind) (values_first state parts) (values number_of limit state binding parts) (forms number_of limit state binding parts)
 
   -- a form so far, plus the forms of an expression at elements: sets are bound to the labels of
   -- each
@@ -124,7 +124,7 @@ AreNoted noted ds = (name : ℕ) → noted_by (slice_index_or noted name None) n
 
 -- the members of the sets of definitions are in order
 abbrev pub HaveOrder : {F : Type 0} → State → List (Definition F) → Type 0
-HaveOrder {F} state ds = All (λ (d : Definition F). AreInOrder state (each_once (sets_among d.indices))) ds
+HaveOrder {F} state ds = All (λ (d : Definition F). AreInOrder state (distinct_numbers (sets_among d.indices))) ds
 
 -- ---- rows and their columns
 

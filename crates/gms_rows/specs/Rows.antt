@@ -29,9 +29,9 @@ use Rattle.gms_rows.specs.Affine.{affine}
 -- ---- equations
 
 -- numbers without repetition, each where it occurs first
-abbrev pub each_once : List ℕ → List ℕ
-each_once [] = []
-each_once (n ∷ ns) = n ∷ filter (λ m. not (m == n)) (each_once ns)
+abbrev pub distinct_numbers : List ℕ → List ℕ
+distinct_numbers [] = []
+distinct_numbers (n ∷ ns) = n ∷ filter (λ m. not (m == n)) (distinct_numbers ns)
 
 -- The definition of an equation.
 pub record Definition (F : Type 0) : Type 0 where
@@ -48,7 +48,7 @@ pub record Definition (F : Type 0) : Type 0 where
 
 -- the equations of a declared model: those that are listed, or all that were declared before
 abbrev pub listed_equations : List ℕ → ModelDecl → List ℕ
-listed_equations declared model = if model.all then declared else each_once (map (λ (equation : Named). equation.name) model.equations)
+listed_equations declared model = if model.all then declared else distinct_numbers (map (λ (equation : Named). equation.name) model.equations)
 
 -- the equations of the first of these models that has a name
 abbrev pub found : List ℕ → ℕ → List ModelDecl → Option (List ℕ)
@@ -98,7 +98,7 @@ module _ {F : Type 0} where
   abbrev pub equations_from : List ℕ → ℕ → List (Stmt F) → List ℕ
   equations_from declared name [] = []
   equations_from declared name (s ∷ statements) =
-      elim (found (each_once declared) name (models_of s.act)) [
+      elim (found (distinct_numbers declared) name (models_of s.act)) [
         | Some equations ↦ equations
         | None ↦ equations_from (declared ++ equations_declared_by s.act) name statements
       ]
@@ -162,7 +162,7 @@ module _ {F : Type 0} (number_of : F → Number) (limit : ℕ) (state : State) w
   -- the rows of a definition: one for each element of its domain, and no other
   abbrev pub rows_of_definition : Definition F → Answer (List FormRow)
   rows_of_definition d =
-      let sets = each_once (sets_among d.indices) in
+      let sets = distinct_numbers (sets_among d.indices) in
       domain number_of limit state [] d.at (control_over sets d.condition) and_then λ elements.
       in_order (map (λ element. row_under d (controlled [] sets element)) elements) and_then λ rows. Ok (present_rows rows)
 

@@ -2,7 +2,7 @@
 ghost use Rattle.std.specs.Prelude.{◌≡◌, ℕ, List, ◌++◌, map, option_map, option_to_list, slice_index_or, None, IfOk, OnOk};
 ghost use Rattle.gms_ast.specs.Trees.{no_index};
 ghost use Rattle.gms_ast.specs.TreeView.{index_tree, indices_of};
-ghost use Rattle.gms_rows.specs.Rows.{each_once, listed_equations, found, equations_declared_by, models_of, has_lag, Definition as Defined, defined_at, definition_of, definitions, equations_of};
+ghost use Rattle.gms_rows.specs.Rows.{distinct_numbers, listed_equations, found, equations_declared_by, models_of, has_lag, Definition as Defined, defined_at, definition_of, definitions, equations_of};
 ghost use Rattle.gms_rows.specs.InnerContracts.{AreNoted, found_in, noted_by};
 
 use crate::names::{Names, reach};
@@ -200,8 +200,8 @@ fn found_by<F: ExactField>(
 
 /// Adds the names that are declared, without repetition.
 fn push_names<F: ExactField>(names: &mut Names, items: &[Decl<F>]) -> Result<(), AllocError>
-    ensures { (before : List ℕ) → names.old ≡ each_once before →
-        OnOk result (names.new ≡ each_once (before ++ map (λ item. item.named.name) items.now)) }
+    ensures { (before : List ℕ) → names.old ≡ distinct_numbers before →
+        OnOk result (names.new ≡ distinct_numbers (before ++ map (λ item. item.named.name) items.now)) }
 {
     for item in items {
         names.push_once(item.named.name)?;
@@ -211,8 +211,8 @@ fn push_names<F: ExactField>(names: &mut Names, items: &[Decl<F>]) -> Result<(),
 
 /// Adds the equations that an act declares, without repetition.
 fn push_declared<F: ExactField>(names: &mut Names, act: &Act<F>) -> Result<(), AllocError>
-    ensures { (before : List ℕ) → names.old ≡ each_once before →
-        OnOk result (names.new ≡ each_once (before ++ equations_declared_by act.now)) }
+    ensures { (before : List ℕ) → names.old ≡ distinct_numbers before →
+        OnOk result (names.new ≡ distinct_numbers (before ++ equations_declared_by act.now)) }
 {
     match act {
         Act::Declare {

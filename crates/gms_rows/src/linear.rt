@@ -8,12 +8,12 @@ ghost use Rattle.gms_eval.specs.Gives.{Gives};
 ghost use Rattle.gms_eval.specs.Nodes.{in_order, signed_step};
 ghost use Rattle.gms_eval.specs.References.{tuple_of};
 ghost use Rattle.gms_eval.specs.Value.{value, labels};
-ghost use Rattle.gms_rows.specs.Affine.{affine, form_of_constant, element_form, form_of, front, with_next};
+ghost use Rattle.gms_rows.specs.Affine.{affine, form_of_constant, element_form, form_of, prefix, with_next};
 ghost use Rattle.gms_rows.specs.Forms.{form_in};
 ghost use Rattle.gms_rows.specs.InnerContracts.{parts_in, added_at, chain_form, signed_join, total_form};
 
 use crate::steps::{add, add_to, divide, finished, multiply, scale};
-use crate::variables::{count_in_front, has_variables};
+use crate::variables::{count_before_variables, has_variables};
 use gms_ast::{Control, Expr, Index};
 use gms_eval::{
     Binding, ExecStopOrMemory, Signed, StopKind, all_hold, domain, signed_chain, tuple_of, value,
@@ -201,9 +201,9 @@ fn chain<F: ExactField>(
 ) -> Result<Form<F>, ExecStopOrMemory<F>>
     ensures { Gives F.value (form_in F.value) result (chain_form F.value F.limit store.now b.now kind (parts_in parts.now)) }
 {
-    let count = count_in_front(store, parts);
+    let count = count_before_variables(store, parts);
     let (values, rest) = parts.split_at(count);
-    let mut so_far = front(alloc, store, kind, values, b)?;
+    let mut so_far = prefix(alloc, store, kind, values, b)?;
     for (at, inverse, part) in rest {
         let form = affine(alloc, store, part, *at, b)?;
         let next = join(alloc, kind, so_far, form, *at, *inverse, b)?;
@@ -218,14 +218,14 @@ fn chain<F: ExactField>(
 /// The form of the parts before the first with variables: the number that they make. `Undefined` at
 /// the first part if it is none.
 #[inline(never)]
-fn front<F: ExactField>(
+fn prefix<F: ExactField>(
     alloc: Global,
     store: &Store<F>,
     kind: Signed,
     parts: &[(Place, bool, Expr<F>)],
     b: &Binding,
 ) -> Result<Option<Form<F>>, ExecStopOrMemory<F>>
-    ensures { Gives F.value (option_map (form_in F.value)) result (front b.now (signed_step F.limit b.now kind)
+    ensures { Gives F.value (option_map (form_in F.value)) result (prefix b.now (signed_step F.limit b.now kind)
         (map (λ part. (signed part.0 part.1, value F.value F.limit store.now b.now (tree_of part.2))) parts.now)) }
 {
     let Some((first, _)) = parts.split_first() else {

@@ -3,7 +3,7 @@ ghost use Rattle.std.specs.Prelude.{◌≡◌, ◌∷◌, [], ◌++◌, map, Ok,
 ghost use Rattle.gms_ast.specs.TreeView.{index_tree, indices_of};
 ghost use Rattle.gms_eval.specs.Faults.{◌and_then◌};
 ghost use Rattle.gms_eval.specs.Gives.{Gives};
-ghost use Rattle.gms_rows.specs.Rows.{each_once, sets_among, sense_of, present_rows, row_under, rows_of_definition};
+ghost use Rattle.gms_rows.specs.Rows.{distinct_numbers, sets_among, sense_of, present_rows, row_under, rows_of_definition};
 ghost use Rattle.gms_rows.specs.InnerContracts.{with_once, definition_in, form_row_in, HaveOrder};
 ghost use Rattle.gms_rows.specs.ElementRows.{AreInOrder};
 
@@ -35,7 +35,7 @@ fn push_once(names: &mut Vec<u32>, name: u32) -> Result<(), AllocError>
 
 /// The sets among indices, in order, without repetition.
 fn sets_of<F: ExactField>(alloc: Global, indices: &[Index<F>]) -> Result<Vec<u32>, AllocError>
-    ensures { IfOk result (λ sets. sets.items ≡ each_once (sets_among (indices_of (map index_tree indices.now)))) }
+    ensures { IfOk result (λ sets. sets.items ≡ distinct_numbers (sets_among (indices_of (map index_tree indices.now)))) }
 {
     let mut sets: Vec<u32> = Vec::new(alloc);
     for index in indices {

@@ -1,7 +1,7 @@
 //! Whether a variable of an equation occurs in an expression.
 ghost use Rattle.std.specs.Prelude.{◌≡◌, ◌≤◌, length};
 ghost use Rattle.gms_ast.specs.TreeView.{tree_of};
-ghost use Rattle.gms_rows.specs.Affine.{has_variables, some_has_variables, in_front};
+ghost use Rattle.gms_rows.specs.Affine.{has_variables, some_has_variables, values_first};
 ghost use Rattle.gms_rows.specs.InnerContracts.{parts_in};
 
 use gms_ast::{Expr, Suffix};
@@ -42,11 +42,11 @@ fn some_has_variables<F: ExactField>(store: &Store<F>, parts: &[(Place, bool, Ex
 }
 
 /// How many parts of a sum or a product come before the first with variables.
-pub(crate) fn count_in_front<F: ExactField>(
+pub(crate) fn count_before_variables<F: ExactField>(
     store: &Store<F>,
     parts: &[(Place, bool, Expr<F>)],
 ) -> usize
-    ensures count { result ≡ in_front store.now (parts_in parts.now) }
+    ensures count { result ≡ values_first store.now (parts_in parts.now) }
     ensures few { result ≤ length parts.now }
 {
     for (place, (_, _, part)) in parts.iter().enumerate() {

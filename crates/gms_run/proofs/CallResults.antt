@@ -6,33 +6,33 @@ use Rattle.gms_host.specs.declared.host.Failed.{Failed}
 use Rattle.gms_host.specs.declared.host.Failed.TheVariants.{Fault, Memory}
 use Rattle.gms_host.specs.Meaning.{Counts, Outside}
 use Rattle.gms_host.specs.Rules.{CountsReading, CountsWriting, IsCounted, with_output}
-use Rattle.gms_host.specs.Spooling.{Passes, PutsThrough, WritesAll, WritesFront}
+use Rattle.gms_host.specs.Spooling.{Passes, PutsThrough, WritesAll, WritesPrefix}
 use Rattle.gms_host.proofs.Counting.{done_with, reading_more, writing_more}
 use Rattle.gms_host.proofs.WrittenPrefixes.{front_on, passes_whole}
-use Rattle.gms_run.specs.InnerSteps.{ComesTo}
+use Rattle.gms_run.specs.InnerSteps.{ResultsIn}
 
 -- a result that is this failure
 abbrev pub failed_with : (A : Type 0) → Failed → Result A Failed
 failed_with A failed = Err failed
 
 -- a property that holds whichever fault ends the work
-pub comes_broken : {A : Type 0} (Done : A → Type 0) {X : Type 0} (failed : Failed) → X → ComesTo (failed_with A failed) Done X
+pub comes_broken : {A : Type 0} (Done : A → Type 0) {X : Type 0} (failed : Failed) → X → ResultsIn (failed_with A failed) Done X
 comes_broken Done Fault x = x
 comes_broken Done Memory x = tt
 
 -- what a fault of one piece of work says of another
-pub comes_err : {A B : Type 0} (Done : A → Type 0) (Other : B → Type 0) {X Y : Type 0} (failed : Failed) → (X → Y) → ComesTo (failed_with A failed) Done X → ComesTo (failed_with B failed) Other Y
+pub comes_err : {A B : Type 0} (Done : A → Type 0) (Other : B → Type 0) {X Y : Type 0} (failed : Failed) → (X → Y) → ResultsIn (failed_with A failed) Done X → ResultsIn (failed_with B failed) Other Y
 comes_err Done Other Fault f x = f x
 comes_err Done Other Memory f x = tt
 
 -- what work results in, with weaker conclusions
-pub comes_as : {A : Type 0} (r : Result A Failed) (Done Other : A → Type 0) {X Y : Type 0} → ((x : A) → Done x → Other x) → (X → Y) → ComesTo r Done X → ComesTo r Other Y
+pub comes_as : {A : Type 0} (r : Result A Failed) (Done Other : A → Type 0) {X Y : Type 0} → ((x : A) → Done x → Other x) → (X → Y) → ResultsIn r Done X → ResultsIn r Other Y
 comes_as (Ok x) Done Other f b d = f x d
 comes_as (Err Fault) Done Other f b d = b d
 comes_as (Err Memory) Done Other f b d = tt
 
 -- from what finished work results in, what holds of its value
-pub told_as : {A : Type 0} (r : Result A Failed) (Done P Q : A → Type 0) (X : Type 0) → ((x : A) → Done x → P x → Q x) → ComesTo r Done X → IfOk r P → IfOk r Q
+pub told_as : {A : Type 0} (r : Result A Failed) (Done P Q : A → Type 0) (X : Type 0) → ((x : A) → Done x → P x → Q x) → ResultsIn r Done X → IfOk r P → IfOk r Q
 told_as (Ok x) Done P Q X f d p = f x d p
 told_as (Err e) Done P Q X f d p = tt
 
@@ -47,15 +47,15 @@ both_of (Ok x) P Q p q = (p, q)
 both_of (Err e) P Q p q = tt
 
 -- what writing a text through the spool results in
-pub comes_put : {A : Type 0} (r : Result A Failed) (old new : Outside) (put due pending : List ℕ) → put ≡ due → PutsThrough r old new put pending → ComesTo r (λ x. Passes old new due pending) (WritesFront old new due)
-comes_put (Ok x) old new put due pending same p = subst (λ (text : List ℕ). Passes old new text pending) same p
-comes_put (Err Fault) old new put due pending same p = subst (λ (text : List ℕ). WritesFront old new text) same p.0
-comes_put (Err Memory) old new put due pending same p = tt
+pub comes_put : {A : Type 0} (r : Result A Failed) (old new : Outside) (put expected pending : List ℕ) → put ≡ expected → PutsThrough r old new put pending → ResultsIn r (λ x. Passes old new expected pending) (WritesPrefix old new expected)
+comes_put (Ok x) old new put expected pending same p = subst (λ (text : List ℕ). Passes old new text pending) same p
+comes_put (Err Fault) old new put expected pending same p = subst (λ (text : List ℕ). WritesPrefix old new text) same p.0
+comes_put (Err Memory) old new put expected pending same p = tt
 
 -- work that ends by writing all that is pending
-pub comes_flushed : {A : Type 0} (r : Result A Failed) (old mid new : Outside) (due pending : List ℕ) → Passes old mid due pending → WritesAll r mid new pending → ComesTo r (λ x. new ≡ with_output old due) (WritesFront old new due)
-comes_flushed (Ok x) old mid new due pending p w = passes_whole old mid new due pending p w
-comes_flushed (Err failed) old mid new due pending p w = comes_broken _ failed (front_on old mid new due pending p w)
+pub comes_flushed : {A : Type 0} (r : Result A Failed) (old mid new : Outside) (expected pending : List ℕ) → Passes old mid expected pending → WritesAll r mid new pending → ResultsIn r (λ x. new ≡ with_output old expected) (WritesPrefix old new expected)
+comes_flushed (Ok x) old mid new expected pending p w = passes_whole old mid new expected pending p w
+comes_flushed (Err failed) old mid new expected pending p w = comes_broken _ failed (front_on old mid new expected pending p w)
 
 -- the same fault in another result
 fault_in : {A B : Type 0} (failed : Failed) → IsErrOf (failed_with B failed) Fault → IsErrOf (failed_with A failed) Fault

@@ -20,9 +20,9 @@ use Rattle.gms_ast.specs.declared.program.Program.{Program}
 use Rattle.gms_store.specs.State.{State}
 use Rattle.gms_command.specs.CommandLine.{Asked, Origin, in_file, restarted, generated, request_of}
 use Rattle.gms_run.specs.Solving.{Solving}
-use Rattle.gms_run.specs.ProgramsToRun.{Job}
-use Rattle.gms_run.specs.Scripts.{Script, joint_script, Matter, scripted, unrestored, Taken, from_start, from_save, IsMatter, IsUnrestored, errors_of_script}
-use Rattle.gms_run.specs.Listings.{IsAcceptedScript, IsExecuted, IsJob, ShowsWhy}
+use Rattle.gms_run.specs.ProgramsToRun.{ProgramToRun}
+use Rattle.gms_run.specs.Scripts.{Script, joint_script, LoadedInput, scripted, unrestored, RunInput, from_start, from_save, IsLoadedInput, IsUnrestored, errors_of_script}
+use Rattle.gms_run.specs.Listings.{IsAcceptedScript, IsExecuted, IsProgramToRun, ShowsWhy}
 use Rattle.gms_run.specs.Statuses.{CanRun, CountsSo, EndsByNoFault, IsContentOf, HasFile, HasOrigin, IsFileOf, IsGood, IsGoodSave, IsReadyFor, IsRun, IsRunOf, IsInputOf, MeetsNoFault, NamesProgram, NamesSource}
 use Rattle.gms_parse.specs.Outcomes.{program_view}
 use Rattle.gms_parse.proofs.OneReading.{one_program, program_or_fault}
@@ -39,7 +39,7 @@ ready_for old words n reliable =
     has : (file bytes : List ℕ) → HasFile old.outside file bytes → IsThere old.outside file
     has file bytes f = subst (λ (files : Option Files). IfSome files (λ fs. is_some (files_map.get fs file) ≡ true)) (sym f.1) (ap is_some f.2)
 
-    found : (o : Origin) (taken : Taken) → IsContentOf old.outside o taken → HasOrigin old.outside o
+    found : (o : Origin) (taken : RunInput) → IsContentOf old.outside o taken → HasOrigin old.outside o
     found (in_file file) (from_start source) f = has file source f
     found (in_file file) (from_save save source) f = absurd f
     found (restarted saved file) (from_start source) f = absurd f
@@ -53,7 +53,7 @@ one_file old file told bytes f is =
     one_value at f.2
 
 -- what an exposed host holds is the input that was read
-the_taken : (old : Outside) (o : Origin) (told taken : Taken) → IsContentOf old o told → IsInputOf old o taken → taken ≡ told
+the_taken : (old : Outside) (o : Origin) (told taken : RunInput) → IsContentOf old o told → IsInputOf old o taken → taken ≡ told
 the_taken old (in_file file) (from_start told) (from_start source) f is = ap from_start (one_file old file told source f is)
 the_taken old (in_file file) (from_save a b) taken f is = absurd f
 the_taken old (in_file file) (from_start told) (from_save a b) f is = absurd is
@@ -110,7 +110,7 @@ good_save solvers save fault good is = by fault (is.back good.source good.progra
     by SaveSolver lacks = good.placed lacks
 
 -- What can be run is not refused.
-good_matter : (solvers : List (List ℕ)) (taken : Taken) (matter : Matter) (text : List ℕ) → CanRun solvers taken → IsMatter solvers taken matter → ShowsWhy solvers matter text → ⊥
+good_matter : (solvers : List (List ℕ)) (taken : RunInput) (loaded_input : LoadedInput) (text : List ℕ) → CanRun solvers taken → IsLoadedInput solvers taken loaded_input → ShowsWhy solvers loaded_input text → ⊥
 good_matter solvers (from_start source) (scripted script) text can is why = good_script solvers script text (subst (IsGood solvers) (sym is) can) why
 good_matter solvers (from_start source) (unrestored fault) text can is why = absurd is
 good_matter solvers (from_save save file) (scripted script) text can is why = good_script solvers script text (subst (IsGood solvers) (sym is.joint) (can.1 is.saved is.restored)) why
@@ -119,7 +119,7 @@ good_matter solvers (from_save save file) (unrestored fault) text can is why = g
 pub not_refused : (solving : Solving) (old new : Outside) (words : List (List ℕ)) (request : Asked) → IsRunOf Compile solving old new request → (n : NamesSource old words) → n.request ≡ request → CanRun solving.before.names n.taken → ⊥
 not_refused solving old new words request run n same can =
     let is : run.taken ≡ n.taken = named_taken Compile solving old new words request run n same in
-    good_matter solving.before.names run.taken run.matter run.ran.text (subst (CanRun solving.before.names) (sym is) can) run.is_matter run.ran.listing.0
+    good_matter solving.before.names run.taken run.loaded_input run.ran.text (subst (CanRun solving.before.names) (sym is) can) run.is_loaded_input run.ran.listing.0
 
 -- A run of arguments that name a program, where no fault is met: it ends with Done or Execution.
 pub completes : (status : Status) (solving : Solving) (words : List (List ℕ)) (old new : Meaning) → IsRun status solving words old new → CountsSo status old.counts new.counts → (IsReadyFor old words → EndsByNoFault status) → NamesProgram solving.before.names old.outside words → MeetsNoFault old.counts new.counts → (status ≡ Done) ⊎ (status ≡ Execution)
@@ -142,21 +142,21 @@ same_restored solvers save a b back is =
     (h.source_is, h.state_is ∙ ap (with_solver b.store) (one_value h.placed is.placed))
 
 -- the input of a program that was run can be run
-pub can_run_of : (solvers : List (List ℕ)) (taken : Taken) (matter : Matter) (job : Job) → IsMatter solvers taken matter → IsJob solvers matter job → CanRun solvers taken
-can_run_of solvers (from_start source) (scripted script) job is j = subst (IsGood solvers) (sym (one_script j.to_run) ∙ is) (accepted_good solvers j.script job.program j.accepted)
-can_run_of solvers (from_start source) (unrestored fault) job is j = absurd is
-can_run_of solvers (from_save save file) (unrestored fault) job is j = absurd (let z : ⊥ = (let e = j.to_run in cc) in z)
-can_run_of solvers (from_save save file) (scripted script) job is j = (
+pub can_run_of : (solvers : List (List ℕ)) (taken : RunInput) (loaded_input : LoadedInput) (to_run : ProgramToRun) → IsLoadedInput solvers taken loaded_input → IsProgramToRun solvers loaded_input to_run → CanRun solvers taken
+can_run_of solvers (from_start source) (scripted script) to_run is j = subst (IsGood solvers) (sym (one_script j.of_script) ∙ is) (accepted_good solvers j.script to_run.program j.accepted)
+can_run_of solvers (from_start source) (unrestored fault) to_run is j = absurd is
+can_run_of solvers (from_save save file) (unrestored fault) to_run is j = absurd (let z : ⊥ = (let e = j.of_script in cc) in z)
+can_run_of solvers (from_save save file) (scripted script) to_run is j = (
   record { short = is.short; source = is.saved.source.items; program = is.saved.program; state = is.saved.store; solver = is.restored.solver; is_save = is.restored.is_save; placed = λ none. let z : ⊥ = (let e = sym none ∙ is.restored.placed in cc) in z },
   λ saved restored.
       let same = same_restored solvers save is.saved saved is.back restored in
-      subst (IsGood solvers) (sym (one_script j.to_run) ∙ is.joint ∙ ap₂ (λ source store. joint_script source store file) same.0 same.1) (accepted_good solvers j.script job.program j.accepted),
+      subst (IsGood solvers) (sym (one_script j.of_script) ∙ is.joint ∙ ap₂ (λ source store. joint_script source store file) same.0 same.1) (accepted_good solvers j.script to_run.program j.accepted),
 )
 
 -- what was executed can be run
-executed_can : (status : Status) (solving : Solving) (old new : Outside) (words : List (List ℕ)) (request : Asked) (run : IsRunOf status solving old new request) (n : NamesSource old words) → n.request ≡ request → (text : List ℕ) → IsExecuted solving run.matter text → CanRun solving.before.names n.taken
+executed_can : (status : Status) (solving : Solving) (old new : Outside) (words : List (List ℕ)) (request : Asked) (run : IsRunOf status solving old new request) (n : NamesSource old words) → n.request ≡ request → (text : List ℕ) → IsExecuted solving run.loaded_input text → CanRun solving.before.names n.taken
 executed_can status solving old new words request run n same text executed =
-    subst (CanRun solving.before.names) (named_taken status solving old new words request run n same) (can_run_of solving.before.names run.taken run.matter executed.job run.is_matter executed.is_job)
+    subst (CanRun solving.before.names) (named_taken status solving old new words request run n same) (can_run_of solving.before.names run.taken run.loaded_input executed.to_run run.is_loaded_input executed.is_to_run)
 
 -- A run of arguments that name a source, where no fault is met: it ends with Compile exactly where
 -- the input cannot be run.

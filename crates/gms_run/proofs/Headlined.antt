@@ -14,9 +14,9 @@ use Rattle.gms_run.specs.declared.status.Status.TheVariants.{Done, Usage, Compil
 use Rattle.gms_exec.specs.Answering.{AreAnswered}
 use Rattle.gms_parse.specs.Outcomes.{IsProgram}
 use Rattle.gms_run.specs.Solving.{Solving, numbers_of}
-use Rattle.gms_run.specs.Scripts.{Script, Matter, Taken, from_start, from_save, scripted, unrestored, script_of, IsMatter, errors_of_script}
+use Rattle.gms_run.specs.Scripts.{Script, LoadedInput, RunInput, from_start, from_save, scripted, unrestored, script_of, IsLoadedInput, errors_of_script}
 use Rattle.gms_run.specs.Laws.{RunIsAnsweredRightly}
-use Rattle.gms_run.specs.ProgramsToRun.{HasRightAnswers, job_of, course_of, job_text, body_of, last_line, HaltsSo, status_code}
+use Rattle.gms_run.specs.ProgramsToRun.{HasRightAnswers, program_to_run, course_of, program_listing, body_of, last_line, HaltsSo, status_code}
 use Rattle.gms_run.specs.Listings.{AreClosing, IsExecuted, IsListing, IsRefusalListing, save_file}
 use Rattle.gms_run.specs.Statuses.{IsFileOf, IsReported, IsRun, IsRunOf, IsInputOf, RanSo, with_file, with_save, with_source_read, with_taken}
 use Rattle.gms_run.specs.Headline.{HasListing, IsListingOf, IsRunListing, WritesListing, file_alone, run_of}
@@ -38,22 +38,22 @@ run_is {status} {solving} {old} {new} e run = subst (λ request. IsRunOf status 
 
 module _ (solving : Solving) (source : List ℕ) (text : List ℕ) where
   -- what is run of a source is its program, from the state of its declarations
-  executed : RunIsAnsweredRightly solving → (status : Status) (run : IsExecuted solving (scripted (script_of source)) text) → HaltsSo status (course_of run.job solving).halted → IsRunListing status solving source text
+  executed : RunIsAnsweredRightly solving → (status : Status) (run : IsExecuted solving (scripted (script_of source)) text) → HaltsSo status (course_of run.to_run solving).halted → IsRunListing status solving source text
   executed right status run halts =
-      let same : run.is_job.script ≡ script_of source = one_script (sym run.is_job.to_run) in
-      let is : run.job ≡ job_of (script_of source) run.job.program = run.is_job.is_job ∙ ap (λ s. job_of s run.job.program) same in
-      let ends : HaltsSo status (run_of run.job.program solving).halted = subst (λ j. HaltsSo status (course_of j solving).halted) is halts in
+      let same : run.is_to_run.script ≡ script_of source = one_script (sym run.is_to_run.of_script) in
+      let is : run.to_run ≡ program_to_run (script_of source) run.to_run.program = run.is_to_run.is_to_run ∙ ap (λ s. program_to_run s run.to_run.program) same in
+      let ends : HaltsSo status (run_of run.to_run.program solving).halted = subst (λ j. HaltsSo status (course_of j solving).halted) is halts in
       let count : length solving.answers ≡ length (numbers_of solving.answers) = sym (length-map solving.answers (answer_numbers frac_value)) in
       record {
-        program = run.job.program;
-        is_program = subst (λ (s : Script). IsProgram frac_limit s.source frac_value run.job.program) same run.is_job.accepted.is_program;
-        no_error = subst (λ (s : Script). errors_of_script s.saved s.line run.job.program solving.before.names ≡ []) same run.is_job.accepted.no_error;
+        program = run.to_run.program;
+        is_program = subst (λ (s : Script). IsProgram frac_limit s.source frac_value run.to_run.program) same run.is_to_run.accepted.is_program;
+        no_error = subst (λ (s : Script). errors_of_script s.saved s.line run.to_run.program solving.before.names ≡ []) same run.is_to_run.accepted.no_error;
         all_taken = subst (λ j. (course_of j solving).left ≡ []) is run.solved.all_taken;
         answered = subst (λ j. AreAnswered frac_value frac_limit solving.before.rules solving.answers (course_of j solving).events) is run.solved.answered;
         says_so = subst (λ j. HasRightAnswers j solving) is (right (from_start source) (scripted (script_of source)) text refl run);
         ends = ends;
-        listing = run.listing ∙ ap (λ j. job_text j solving) is
-            ∙ ap (λ t. body_of (job_of (script_of source) run.job.program) solving ++ t) (ends_with status (run_of run.job.program solving).halted (length solving.answers) ends ∙ ap (end_text (status_code status)) count);
+        listing = run.listing ∙ ap (λ j. program_listing j solving) is
+            ∙ ap (λ t. body_of (program_to_run (script_of source) run.to_run.program) solving ++ t) (ends_with status (run_of run.to_run.program solving).halted (length solving.answers) ends ∙ ap (end_text (status_code status)) count);
       }
 
   refused : IsRefusalListing solving (scripted (script_of source)) text → IsListingOf Compile solving source text
@@ -100,27 +100,27 @@ module _ (status : Status) (solving : Solving) (old new : Outside) (file output 
 
   -- what was read of a file is run from its start
   of_run : ((source text : List ℕ) → IsListing status solving (scripted (script_of source)) text → IsListingOf status solving source text) →
-      ((outside : Outside) (matter : Matter) → RanSo status solving outside new (file_alone file output) matter → IsReported status solving outside new (file_alone file output) matter) →
+      ((outside : Outside) (loaded_input : LoadedInput) → RanSo status solving outside new (file_alone file output) loaded_input → IsReported status solving outside new (file_alone file output) loaded_input) →
       IsRunOf status solving old new (file_alone file output) → WritesListing status solving old new file output
-  of_run lists reports run = by run.taken run.matter run.is_taken run.is_matter run.ran
+  of_run lists reports run = by run.taken run.loaded_input run.is_taken run.is_loaded_input run.ran
     where
-      by : (taken : Taken) (matter : Matter) → IsInputOf old (file_alone file output).source taken → IsMatter solving.before.names taken matter → RanSo status solving (with_taken old (file_alone file output).source taken) new (file_alone file output) matter →
+      by : (taken : RunInput) (loaded_input : LoadedInput) → IsInputOf old (file_alone file output).source taken → IsLoadedInput solving.before.names taken loaded_input → RanSo status solving (with_taken old (file_alone file output).source taken) new (file_alone file output) loaded_input →
           WritesListing status solving old new file output
       by (from_start source) (scripted script) is_source same ran =
           of_report source is_source (lists source) (reports (with_source_read old file source) (scripted (script_of source)) (subst (λ s. RanSo status solving (with_source_read old file source) new (file_alone file output) (scripted s)) same ran))
       by (from_start source) (unrestored fault) is_source same ran = absurd same
-      by (from_save save source) matter is_source same ran = absurd is_source
+      by (from_save save source) loaded_input is_source same ran = absurd is_source
 
 -- for a request of one FILE, a listing that was written whole is the listing of the source in that
 -- file
 pub headlined : (status : Status) (solving : Solving) (words : List (List ℕ)) (old new : Meaning) (file output : List ℕ) → RunIsAnsweredRightly solving → IsRun status solving words old new → request_of words ≡ Some (file_alone file output) → HasListing status →
     WritesListing status solving old.outside new.outside file output
 headlined Done solving words old new file output right run named has =
-    of_run Done solving old.outside new.outside file output (λ source text. of_source solving source text right Done) (λ outside matter ran. ran) (run_is (one_request run.1.0 named) run.1.1)
+    of_run Done solving old.outside new.outside file output (λ source text. of_source solving source text right Done) (λ outside loaded_input ran. ran) (run_is (one_request run.1.0 named) run.1.1)
 headlined Execution solving words old new file output right run named has =
-    of_run Execution solving old.outside new.outside file output (λ source text. of_source solving source text right Execution) (λ outside matter ran. ran) (run_is (one_request run.1.0 named) run.1.1)
+    of_run Execution solving old.outside new.outside file output (λ source text. of_source solving source text right Execution) (λ outside loaded_input ran. ran) (run_is (one_request run.1.0 named) run.1.1)
 headlined Compile solving words old new file output right run named has =
-    of_run Compile solving old.outside new.outside file output (λ source text. of_source solving source text right Compile) (λ outside matter ran. ran) (run_is (one_request run.1.0 named) run.1.1)
+    of_run Compile solving old.outside new.outside file output (λ source text. of_source solving source text right Compile) (λ outside loaded_input ran. ran) (run_is (one_request run.1.0 named) run.1.1)
 headlined Usage solving words old new file output right run named has = absurd has
 headlined ReadFault solving words old new file output right run named has = absurd has
 headlined WriteFault solving words old new file output right run named has = absurd has

@@ -14,7 +14,7 @@ use Rattle.lp_slot.specs.declared.solver.SolverRule.{SolverRule}
 use Rattle.lp_core.specs.declared.program.Lp.{Lp}
 use Rattle.lp_core.specs.Numbers.{lp_numbers}
 use Rattle.gms_exec.specs.Run.{Course}
-use Rattle.gms_exec.specs.ValidEvents.{IsStanding, IsStandingSolve}
+use Rattle.gms_exec.specs.ValidEvents.{IsValidEvent, IsValidSolve}
 use Rattle.gms_run.specs.Solving.{solves_in}
 use Rattle.gms_run.specs.InnerSteps.{IsAnsweredAt, KeepsPrograms, programs_in}
 use Rattle.gms_run.proofs.Numbered.{IsNumbered, places_in}
@@ -64,7 +64,7 @@ first_of n (suc m) x xs e = (cc, (m, cc))
 
 module _ (rules : List SolverRule) (answers : List (Answer Frac)) where
   abbrev Stands : OwnEvent Frac → Type 0
-  Stands = IsStanding frac_value frac_limit rules answers
+  Stands = IsValidEvent frac_value frac_limit rules answers
 
   -- the answer at the place of each is one of it
   stand : (es : List (OwnEvent Frac)) (n m : ℕ) → All Stands es → places_in (events_in frac_value es) ≡ range_with_len n m → (k : ℕ) → IfSome (slice_get (programs_in es) k) (IsAnsweredAt rules answers (n + k))
@@ -75,7 +75,7 @@ module _ (rules : List SolverRule) (answers : List (Answer Frac)) where
   stand (own.Solve line model equations lp answer solver settings level ∷ es) n m are is zero =
       let first = first_of n m answer (places_in (events_in frac_value es)) is in
       let here : answer ≡ n + 0 = omega (arith, first.0) in
-      (settings, subst (λ place. IsStandingSolve frac_value frac_limit rules answers lp place settings) here (All-head Stands (own.Solve line model equations lp answer solver settings level) es are))
+      (settings, subst (λ place. IsValidSolve frac_value frac_limit rules answers lp place settings) here (All-head Stands (own.Solve line model equations lp answer solver settings level) es are))
   stand (own.Solve line model equations lp answer solver settings level ∷ es) n m are is (suc k) =
       let first = first_of n m answer (places_in (events_in frac_value es)) is in
       let next : (n + 1) + k ≡ n + suc k = omega arith in

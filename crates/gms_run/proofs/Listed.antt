@@ -18,26 +18,26 @@ use Rattle.gms_event.specs.EventView.{events_in, event_in}
 use Rattle.lp_core.specs.declared.answer.Answer.{Answer}
 use Rattle.lp_slot.specs.declared.solver.SolverRule.{SolverRule}
 use Rattle.lp_core.specs.Numbers.{answer_numbers, lp_numbers}
-use Rattle.gms_exec.specs.Run.{Course, Halt, OfStatement, stopped, last_event, while_it_runs, one_after_another}
-use Rattle.gms_exec.specs.ValidEvents.{IsStanding}
+use Rattle.gms_exec.specs.Run.{Course, Halt, OfStatement, stopped, last_event, while_it_runs, in_sequence}
+use Rattle.gms_exec.specs.ValidEvents.{IsValidEvent}
 use Rattle.gms_exec.proofs.ValidCalls.{answered_by_standing}
 use Rattle.gms_list.specs.ListingText.{event_text, events_text}
 use Rattle.gms_list.specs.SolveText.{solve_text}
-use Rattle.gms_run.specs.Solving.{HaveGrown}
+use Rattle.gms_run.specs.Solving.{HavePathsExtended}
 use Rattle.gms_run.specs.InnerSteps.{Between, IsListed, course_at, programs_in}
 use Rattle.gms_run.proofs.Kept.{programs-append}
 use Rattle.gms_run.proofs.Paths.{grown_none, grown_more, stands-more}
 
 module _ (rules : List SolverRule) where
   abbrev Stands : List (Answer Frac) → OwnEvent Frac → Type 0
-  Stands answers e = IsStanding frac_value frac_limit rules answers e
+  Stands answers e = IsValidEvent frac_value frac_limit rules answers e
 
   -- an event that is valid with some answers is valid with more
-  standing-more : (answers more : List (Answer Frac)) (e : OwnEvent Frac) → Stands answers e → Stands (answers ++ more) e
-  standing-more answers more (event.Display line items) is = is
-  standing-more answers more (event.Abort line items) is = is
-  standing-more answers more (event.Fault stop) is = is
-  standing-more answers more (event.Solve line model equations lp answer solver settings level) is =
+  valid-more : (answers more : List (Answer Frac)) (e : OwnEvent Frac) → Stands answers e → Stands (answers ++ more) e
+  valid-more answers more (event.Display line items) is = is
+  valid-more answers more (event.Abort line items) is = is
+  valid-more answers more (event.Fault stop) is = is
+  valid-more answers more (event.Solve line model equations lp answer solver settings level) is =
       record {
         formed = is.formed;
         given = is.given;
@@ -50,7 +50,7 @@ module _ (rules : List SolverRule) where
   pub all_standing-more : (answers more : List (Answer Frac)) (es : List (OwnEvent Frac)) → All (Stands answers) es → All (Stands (answers ++ more)) es
   all_standing-more answers more [] is = All-nil (Stands (answers ++ more))
   all_standing-more answers more (e ∷ es) is =
-      All-cons (Stands (answers ++ more)) e es (standing-more answers more e (All-head (Stands answers) e es is)) (all_standing-more answers more es (All-tail (Stands answers) e es is))
+      All-cons (Stands (answers ++ more)) e es (valid-more answers more e (All-head (Stands answers) e es is)) (all_standing-more answers more es (All-tail (Stands answers) e es is))
 
   module _ (names labels : List (List ℕ)) where
     abbrev texts : List (Answer Frac) → List Event → List ℕ
@@ -86,16 +86,16 @@ listed_none program rules now text =
       fresh = [];
       answers = sym (append-nil now.answers);
       programs = sym (append-nil now.programs);
-      standing = All-nil (IsStanding frac_value frac_limit rules now.answers);
-      grown = grown_none now.solvers now.answers;
+      valid = All-nil (IsValidEvent frac_value frac_limit rules now.answers);
+      extended = grown_none now.solvers now.answers;
       comes = λ events more. ap (λ es. course_at now es more None) (sym (append-nil events));
       text = sym (append-nil text);
     }
 
 -- A second piece was executed after a first.
-pub listed_more : (program : Program Frac) (rules : List SolverRule) (goes_on : Bool) (first next : Course → Course) (a b c : Between) (x y z : List ℕ) →
-    IsListed true first program rules a b x y → IsListed goes_on next program rules b c y z → IsListed goes_on (λ course. while_it_runs next (first course)) program rules a c x z
-listed_more program rules goes_on first next a b c x y z p q =
+pub listed_more : (program : Program Frac) (rules : List SolverRule) (continues : Bool) (first next : Course → Course) (a b c : Between) (x y z : List ℕ) →
+    IsListed true first program rules a b x y → IsListed continues next program rules b c y z → IsListed continues (λ course. while_it_runs next (first course)) program rules a c x z
+listed_more program rules continues first next a b c x y z p q =
     record {
       shown = p.shown ++ q.shown;
       fault = q.fault;
@@ -105,8 +105,8 @@ listed_more program rules goes_on first next a b c x y z p q =
       programs =
           q.programs ∙ ap (λ kept. kept ++ programs_in q.shown) p.programs ∙ append_assoc a.programs (programs_in p.shown) (programs_in q.shown)
           ∙ ap (λ kept. a.programs ++ kept) (sym (programs-append p.shown q.shown));
-      standing = All-append (IsStanding frac_value frac_limit rules c.answers) p.shown q.shown (subst (λ given. All (IsStanding frac_value frac_limit rules given) p.shown) (sym q.answers) (all_standing-more rules b.answers q.fresh p.shown p.standing)) q.standing;
-      grown = grown;
+      valid = All-append (IsValidEvent frac_value frac_limit rules c.answers) p.shown q.shown (subst (λ given. All (IsValidEvent frac_value frac_limit rules given) p.shown) (sym q.answers) (all_standing-more rules b.answers q.fresh p.shown p.valid)) q.valid;
+      extended = extended;
       comes = comes;
       text = q.text ∙ ap (λ t. t ++ last) before ∙ append_assoc x (texts_of c.answers p.shown) last ∙ ap (λ t. x ++ t) joined;
     }
@@ -131,7 +131,7 @@ listed_more program rules goes_on first next a b c x y z p q =
     ends_so = ap (λ f. events_in frac_value p.shown ++ last_event (option_map stopped f)) going ∙ append-nil (events_in frac_value p.shown)
 
     same : texts_of c.answers p.shown ≡ texts_of b.answers p.shown
-    same = ap (λ given. texts_of given p.shown) q.answers ∙ texts-more rules program.names program.labels b.answers q.fresh p.shown p.standing
+    same = ap (λ given. texts_of given p.shown) q.answers ∙ texts-more rules program.names program.labels b.answers q.fresh p.shown p.valid
 
     before : y ≡ x ++ texts_of c.answers p.shown
     before = p.text ∙ ap (λ es. x ++ events_text program.names program.labels frac_limit (numbers b.answers) es) ends_so ∙ ap (λ t. x ++ t) (sym same)
@@ -141,11 +141,11 @@ listed_more program rules goes_on first next a b c x y z p q =
         sym (flat_map-append (event_text program.names program.labels frac_limit (numbers c.answers)) (events_in frac_value p.shown) (events_in frac_value q.shown ++ stop))
         ∙ ap (events_text program.names program.labels frac_limit (numbers c.answers)) (sym (append_assoc (events_in frac_value p.shown) (events_in frac_value q.shown) stop) ∙ ap (λ es. es ++ stop) (sym (map-append (event_in frac_value) p.shown q.shown)))
 
-    grown : HaveGrown a.solvers c.solvers c.answers (events_in frac_value (p.shown ++ q.shown))
-    grown =
-        subst (HaveGrown a.solvers c.solvers c.answers) (sym (map-append (event_in frac_value) p.shown q.shown))
+    extended : HavePathsExtended a.solvers c.solvers c.answers (events_in frac_value (p.shown ++ q.shown))
+    extended =
+        subst (HavePathsExtended a.solvers c.solvers c.answers) (sym (map-append (event_in frac_value) p.shown q.shown))
         (grown_more rules a.solvers b.solvers c.solvers b.answers q.fresh c.answers (events_in frac_value p.shown) (events_in frac_value q.shown) q.answers
-        (answered_by_standing frac_value frac_limit rules b.answers p.shown p.standing) p.grown q.grown)
+        (answered_by_standing frac_value frac_limit rules b.answers p.shown p.valid) p.extended q.extended)
 
     comes : (events : List Event) (more : List (Answer Number)) →
         while_it_runs next (first (course_at a events (numbers (p.fresh ++ q.fresh) ++ more) None)) ≡ course_at c (events ++ events_in frac_value (p.shown ++ q.shown)) more q.fault
@@ -159,17 +159,17 @@ listed_more program rules goes_on first next a b c x y z p q =
 -- ---- statements of a list
 
 -- a run that was halted stays
-pub halted_stays : (ss : List OfStatement) (binding : _) (c : Course) (h : Halt) → c.halted ≡ Some h → one_after_another ss binding c ≡ c
+pub halted_stays : (ss : List OfStatement) (binding : _) (c : Course) (h : Halt) → c.halted ≡ Some h → in_sequence ss binding c ≡ c
 halted_stays [] binding c h e = refl
 halted_stays (s ∷ ss) binding c h e =
     let same : while_it_runs (s binding) c ≡ c = ap (λ (o : Option Halt). elim o [ None ↦ s binding c | Some halt ↦ c ]) e in
-    ap (one_after_another ss binding) same ∙ halted_stays ss binding c h e
+    ap (in_sequence ss binding) same ∙ halted_stays ss binding c h e
 
 -- one statement more
-pub one_more : (ss : List OfStatement) (s : OfStatement) (binding : _) (c : Course) → one_after_another (ss ++ s ∷ []) binding c ≡ while_it_runs (s binding) (one_after_another ss binding c)
+pub one_more : (ss : List OfStatement) (s : OfStatement) (binding : _) (c : Course) → in_sequence (ss ++ s ∷ []) binding c ≡ while_it_runs (s binding) (in_sequence ss binding c)
 one_more ss s binding c = fold-append (λ course statement. while_it_runs (statement binding) course) c ss (s ∷ [])
 
 -- the statements of a list up to a place, and those from that place on
-pub in_two : (ss : List OfStatement) (i : ℕ) (binding : _) (c : Course) → one_after_another ss binding c ≡ one_after_another (drop i ss) binding (one_after_another (take i ss) binding c)
+pub in_two : (ss : List OfStatement) (i : ℕ) (binding : _) (c : Course) → in_sequence ss binding c ≡ in_sequence (drop i ss) binding (in_sequence (take i ss) binding c)
 in_two ss i binding c =
-    ap (λ xs. one_after_another xs binding c) (sym (take-append-drop i ss)) ∙ fold-append (λ course statement. while_it_runs (statement binding) course) c (take i ss) (drop i ss)
+    ap (λ xs. in_sequence xs binding c) (sym (take-append-drop i ss)) ∙ fold-append (λ course statement. while_it_runs (statement binding) course) c (take i ss) (drop i ss)

@@ -26,7 +26,7 @@ use Rattle.gms_check.specs.Past.{state_after}
 use Rattle.gms_check.specs.CompileErrors.{known_after}
 use Rattle.gms_check.specs.Loaded.{sound, loaded}
 use Rattle.gms_check.proofs.ActUses.{uses-act, uses-Define}
-use Rattle.gms_check.specs.Checked.{IsChecked, IsSound, AreSound, StandsAfter}
+use Rattle.gms_check.specs.Checked.{IsChecked, IsSound, AreSound, FollowsIn}
 use Rattle.gms_check.proofs.Growing.{by_parts}
 use Rattle.gms_check.proofs.IndexSetsStay.{IsOverOne, index-set-loaded}
 
@@ -74,7 +74,7 @@ module _ {F : Type 0} (value : F → Number) (program : Program F) (solvers : Li
 
   -- the definition that a statement is
   of-define : (before : List (Stmt F)) (at : Place) (equation : Named) (indices : List (Index F)) (condition : Option (Expr F)) (left_at : Place) (left : Expr F) (side : Side) (right_at : Place) (right : Expr F) →
-      StandsAfter program before (record { at = at; act = Define equation indices condition left_at left side right_at right }) → All (IsFine first) (defined_at at (Define equation indices condition left_at left side right_at right))
+      FollowsIn program before (record { at = at; act = Define equation indices condition left_at left side right_at right }) → All (IsFine first) (defined_at at (Define equation indices condition left_at left side right_at right))
   of-define before at equation indices condition left_at left side right_at right stands =
       let statement : Stmt F = record { at = at; act = Define equation indices condition left_at left side right_at right } in
       let known = known_after value program solvers (sound before) in
@@ -82,11 +82,11 @@ module _ {F : Type 0} (value : F → Number) (program : Program F) (solvers : Li
       let defined = All-head (λ u. IsSound known u.1) (equation.at, defining equation.name (index_list indices)) _ (subst (AreSound known) parts (checked before statement stands)) in
       if-no-lag first (index_list indices) _ refl (All-weaker (λ set. is_index_set (before_state before) set ≡ true) (IsOverOne first) (index-set-loaded value program before statement stands) (index_sets (index_list indices)) defined.2.sets)
 
-  of-act : (before : List (Stmt F)) (at : Place) (act : Act F) → StandsAfter program before (record { at = at; act = act }) → All (IsFine first) (defined_at at act)
+  of-act : (before : List (Stmt F)) (at : Place) (act : Act F) → FollowsIn program before (record { at = at; act = act }) → All (IsFine first) (defined_at at act)
   of-act before at act = by_parts P by act
     where
       P : Act F → Type 0
-      P a = StandsAfter program before (record { at = at; act = a }) → All (IsFine {F = F} first) (defined_at at a)
+      P a = FollowsIn program before (record { at = at; act = a }) → All (IsFine {F = F} first) (defined_at at a)
 
       none : All (IsFine {F = F} first) []
       none = All-nil (IsFine {F = F} first)

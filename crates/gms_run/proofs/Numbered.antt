@@ -31,9 +31,9 @@ use Rattle.gms_rows.specs.ProgramLp.{program_lp}
 use Rattle.gms_rows.specs.Rows.{equations_of}
 use Rattle.gms_exec.specs.Assignment.{target_of, after_assignment}
 use Rattle.gms_exec.specs.Showing.{all_shown}
-use Rattle.gms_exec.specs.Run.{Course, Halt, World, OfAct, OfStatement, in_state, with_event, stopped_by, while_it_runs, with_evaluated, one_after_another, for_each, display, abort, abort_where, over_elements, answered, solve, act_step, statement_step, of_statement, labels_in}
+use Rattle.gms_exec.specs.Run.{Course, Halt, World, OfAct, OfStatement, in_state, with_event, stopped_by, while_it_runs, with_evaluated, in_sequence, for_each, display, abort, abort_where, over_elements, answered, solve, act_step, statement_step, of_statement, labels_in}
 use Rattle.gms_run.specs.Solving.{Solving, numbers_of, places_of, solve_of, solves_in}
-use Rattle.gms_run.specs.ProgramsToRun.{Job, course_of}
+use Rattle.gms_run.specs.ProgramsToRun.{ProgramToRun, course_of}
 
 -- the places at which the solves among events have their answers
 abbrev pub places_in : List Event → List ℕ
@@ -82,7 +82,7 @@ AllKeep [] = Unit {0}
 AllKeep (s ∷ ss) = Keeps s × AllKeep ss
 
 -- statements in sequence
-numbered_all : (ss : List OfStatement) → AllKeep ss → Keeps (one_after_another ss)
+numbered_all : (ss : List OfStatement) → AllKeep ss → Keeps (in_sequence ss)
 numbered_all [] ks binding c is = is
 numbered_all (s ∷ ss) ks binding c is = numbered_all ss ks.1 binding (while_it_runs (s binding) c) (numbered_runs (s binding) c is (ks.0 binding c is))
 
@@ -90,7 +90,7 @@ numbered_all (s ∷ ss) ks binding c is = numbered_all ss ks.1 binding (while_it
 numbered_each : (sets : List ℕ) (body : List OfStatement) (elements : List (List ℕ)) → AllKeep body → Keeps (for_each sets body elements)
 numbered_each sets body [] ks binding c is = is
 numbered_each sets body (element ∷ elements) ks binding c is =
-    numbered_each sets body elements ks binding (one_after_another body (controlled binding sets element) c) (numbered_all body ks (controlled binding sets element) c is)
+    numbered_each sets body elements ks binding (in_sequence body (controlled binding sets element) c) (numbered_all body ks (controlled binding sets element) c is)
 
 module _ {F : Type 0} (number_of : F → Number) (limit : ℕ) (world : World F) where
   numbered_display : (labels : ℕ) (items : List Show) → KeepsAct (display number_of limit labels items)
@@ -180,8 +180,8 @@ module _ {F : Type 0} (number_of : F → Number) (limit : ℕ) (world : World F)
   numbered_statements (s ∷ ss) = (numbered_statement s, numbered_statements ss)
 
 -- The solves of a program to run take its answers in order.
-pub numbered_job : (job : Job) (solving : Solving) → IsNumbered (course_of job solving)
-numbered_job job solving =
-    let world : World Frac = record { program = job.program; solvers = solving.before.names } in
-    numbered_all (map (of_statement frac_value frac_limit world) job.statements) (numbered_statements frac_value frac_limit world job.statements) []
-    (record { state = job.state; events = []; left = numbers_of solving.answers; taken = 0; halted = None }) refl
+pub numbered_job : (to_run : ProgramToRun) (solving : Solving) → IsNumbered (course_of to_run solving)
+numbered_job to_run solving =
+    let world : World Frac = record { program = to_run.program; solvers = solving.before.names } in
+    numbered_all (map (of_statement frac_value frac_limit world) to_run.statements) (numbered_statements frac_value frac_limit world to_run.statements) []
+    (record { state = to_run.state; events = []; left = numbers_of solving.answers; taken = 0; halted = None }) refl

@@ -16,7 +16,7 @@ use Rattle.gms_exec.specs.Answering.{AreAnswered, IsAnswered}
 use Rattle.gms_store.specs.State.{State}
 use Rattle.gms_exec.specs.Stepping.{Answered, paths_taken}
 use Rattle.gms_exec.proofs.Quiet.{IsNoSolve}
-use Rattle.gms_run.specs.Solving.{Solvers, HaveGrown, paths_of, solver_views}
+use Rattle.gms_run.specs.Solving.{Solvers, HavePathsExtended, paths_of, solver_views}
 
 -- the paths of all solvers
 abbrev pub AllPaths : Type 0
@@ -113,27 +113,27 @@ pub grew_answered : {S : Type 0} {before after : State} {given : List (Answer Fr
     Answered frac_value frac_limit name rule paths old new (record { state = before; events = none; answers = given }) (record { state = after; events = events; answers = answers }) → Grew (map paths old) (map paths new) answers (events_in frac_value events)
 grew_answered name rule paths old new answers none events empty a = λ k.
     let shown : events ≡ a.shown = a.events ∙ ap (λ es. es ++ a.shown) empty in
-    a.grown k
+    a.extended k
     ∙ ap (λ taken. option_map (λ before. before ++ taken) (slice_get (map paths old) k)) (taken_of k answers a.shown ∙ ap (λ es. paths_of k answers (events_in frac_value es)) (sym shown))
 
 -- ---- solvers
 
 -- nothing was shown
-pub grown_none : (solvers : Solvers) (answers : List (Answer Frac)) → HaveGrown solvers solvers answers []
+pub grown_none : (solvers : Solvers) (answers : List (Answer Frac)) → HavePathsExtended solvers solvers answers []
 grown_none solvers answers = record { names = refl; rules = refl; paths = grew_none solvers.paths answers }
 
 -- two extensions in sequence, with more answers
 pub grown_more : (rules : List SolverRule) (old mid new : Solvers) (answers fresh all : List (Answer Frac)) (first second : List Event) → all ≡ answers ++ fresh → AreAnswered frac_value frac_limit rules answers first →
-    HaveGrown old mid answers first → HaveGrown mid new all second → HaveGrown old new all (first ++ second)
+    HavePathsExtended old mid answers first → HavePathsExtended mid new all second → HavePathsExtended old new all (first ++ second)
 grown_more rules old mid new answers fresh all first second same are p q =
     record { names = q.names ∙ p.names; rules = q.rules ∙ p.rules; paths = grew_more rules old.paths mid.paths new.paths answers fresh all first second same are p.paths q.paths }
 
 -- events without a solve change nothing
-pub grown_quiet : (old new : Solvers) (answers : List (Answer Frac)) (es more : List Event) → All IsNoSolve more → HaveGrown old new answers es → HaveGrown old new answers (es ++ more)
+pub grown_quiet : (old new : Solvers) (answers : List (Answer Frac)) (es more : List Event) → All IsNoSolve more → HavePathsExtended old new answers es → HavePathsExtended old new answers (es ++ more)
 grown_quiet old new answers es more quiet p = record { names = p.names; rules = p.rules; paths = grew_quiet old.paths new.paths answers es more quiet p.paths }
 
 -- What a statement says of its solvers, where nothing was shown before it.
 pub grown_answered : {S : Type 0} {before after : State} {given : List (Answer Frac)} (name : S → List ℕ) (rule : S → SolverRule) (paths : S → List (List Pivot)) (old new : List S) (answers : List (Answer Frac)) (none events : List (OwnEvent Frac)) → none ≡ [] →
-    Answered frac_value frac_limit name rule paths old new (record { state = before; events = none; answers = given }) (record { state = after; events = events; answers = answers }) → HaveGrown (solver_views name rule paths old) (solver_views name rule paths new) answers (events_in frac_value events)
+    Answered frac_value frac_limit name rule paths old new (record { state = before; events = none; answers = given }) (record { state = after; events = events; answers = answers }) → HavePathsExtended (solver_views name rule paths old) (solver_views name rule paths new) answers (events_in frac_value events)
 grown_answered name rule paths old new answers none events empty a =
     record { names = a.names; rules = a.rules; paths = grew_answered name rule paths old new answers none events empty a }

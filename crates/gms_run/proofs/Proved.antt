@@ -23,7 +23,7 @@ use Rattle.lp_core.specs.Ends.{LeadsTo, EndsSoBy, ends_by_kind, limit_is_met, st
 use Rattle.lp_core.specs.Answers.{EndsCrossed, IsAnswer, bounds_cross, form_stops, search_ends}
 use Rattle.lp_slot.specs.declared.solver.SolverRule.{SolverRule}
 use Rattle.lp_slot.proofs.Under.{legal_under}
-use Rattle.gms_exec.specs.ValidEvents.{IsStanding}
+use Rattle.gms_exec.specs.ValidEvents.{IsValidEvent}
 use Rattle.gms_list.specs.Conditions.{HasProof, IsListable}
 
 module _ {F : Type 0} (value : F → Number) (limit : ℕ) (lp : Lp F) (iterlim : ℕ) (rule : Rule) where
@@ -65,7 +65,7 @@ module _ {F : Type 0} (value : F → Number) (limit : ℕ) (lp : Lp F) (iterlim 
   proved answer (search_ends ordered fit few last way ends) = of_end (length answer.pivots) last answer.end ends
 
 -- a valid event can be listed
-pub listable : {F : Type 0} (value : F → Number) (limit : ℕ) (rules : List SolverRule) (answers : List (Answer F)) (e : Event F) → IsStanding value limit rules answers e → IsListable value answers e
+pub listable : {F : Type 0} (value : F → Number) (limit : ℕ) (rules : List SolverRule) (answers : List (Answer F)) (e : Event F) → IsValidEvent value limit rules answers e → IsListable value answers e
 listable value limit rules answers (event.Display line items) is = is
 listable value limit rules answers (event.Abort line items) is = is
 listable value limit rules answers (event.Fault stop) is = tt

@@ -14,7 +14,7 @@ use Rattle.gq_frac.specs.declared.frac.Frac.{Frac}
 use Rattle.gq_frac.specs.Frac.{frac_value, frac_limit}
 use Rattle.gms_host.specs.Meaning.{Outside}
 use Rattle.gms_host.specs.Rules.{with_output}
-use Rattle.gms_host.specs.Spooling.{Passes, WritesFront}
+use Rattle.gms_host.specs.Spooling.{Passes, WritesPrefix}
 use Rattle.gms_host.proofs.WrittenPrefixes.{output-both, passes_behind, passes_none, passes_whole}
 use Rattle.gms_ast.specs.declared.program.Program.{Program}
 use Rattle.gms_ast.specs.declared.program.Stmt.{Stmt}
@@ -39,14 +39,14 @@ use Rattle.gms_store.specs.State.{State, fits_at, symbol_of}
 use Rattle.gms_command.specs.CommandLine.{Asked, Origin, in_file, restarted, generated, closing_line}
 use Rattle.gms_run.specs.Solving.{Solving, SolvesNothing, numbers_of, solves_in}
 use Rattle.gms_save_text.specs.SavedState.{saved_text}
-use Rattle.gms_run.specs.Scripts.{Matter, Script, scripted, errors_of_script}
-use Rattle.gms_run.specs.ProgramsToRun.{HaltsSo, IsCutOff, IsRunSolved, Job, body_of, course_of, first_of, job_of, job_text, last_line, save_text, solver_name, status_code}
-use Rattle.gms_run.specs.Listings.{AreClosing, AreRemarks, IsAcceptedScript, IsExecuted, IsWrittenPrefix, IsJob, IsListing, IsModelLine, SavesLast, SavesSo, ShowsErrors, ShowsWhy, TellsModel, TellsRanges, TellsRun, TellsSpans, errors_text, refused_text, save_file, unrestored_text}
+use Rattle.gms_run.specs.Scripts.{LoadedInput, Script, scripted, errors_of_script}
+use Rattle.gms_run.specs.ProgramsToRun.{HaltsSo, IsCutOff, IsRunSolved, ProgramToRun, body_of, course_of, first_of, program_to_run, program_listing, last_line, save_text, solver_name, status_code}
+use Rattle.gms_run.specs.Listings.{AreClosing, AreRemarks, IsAcceptedScript, IsExecuted, IsWrittenPrefix, IsProgramToRun, IsListing, IsModelLine, SavesLast, SavesSo, ShowsErrors, ShowsWhy, TellsModel, TellsRanges, TellsRun, TellsSpans, errors_text, refused_text, save_file, unrestored_text}
 use Rattle.gms_run.specs.Statuses.{IsUnwritten}
 use Rattle.gms_save.specs.declared.fault.SaveFault.{SaveFault}
-use Rattle.gms_run.specs.declared.script.Matter.{Matter as OwnMatter}
-use Rattle.gms_run.specs.declared.script.Matter.TheVariants.{Unrestored}
-use Rattle.gms_run.specs.InnerReports.{Follows, IsGoneOn, IsRanged, IsRemarked, IsSave, IsTold, KeepsState, Lists, ListsErrors, Prepares, matter_in}
+use Rattle.gms_run.specs.declared.script.LoadedInput.{LoadedInput as OwnMatter}
+use Rattle.gms_run.specs.declared.script.LoadedInput.TheVariants.{Unrestored}
+use Rattle.gms_run.specs.InnerReports.{Follows, IsGoneOn, IsRanged, IsRemarked, IsSave, IsTold, KeepsState, Lists, ListsErrors, Prepares, loaded_input_in}
 use Rattle.gms_run.specs.InnerSteps.{Ends, IsAnsweredAt, KeepsPrograms}
 use Rattle.gms_run.proofs.Executing.{BreaksJob, EndsJob}
 use Rattle.gms_run.proofs.Saving.{placed-last, saves-state}
@@ -56,8 +56,8 @@ pub behind_nothing : (spool before text : List ℕ) → spool ++ before ≡ [] �
 behind_nothing spool before text empty = sym (append_assoc spool before text) ∙ ap (λ t. t ++ text) empty
 
 -- a body of which nothing was written is pending
-all_pending : (status : Status) (solving : Solving) (now : Outside) (matter : Matter) (body pending : List ℕ) → IsListing status solving matter (body ++ end_text (status_code status) (length solving.answers)) → pending ≡ body → status ≡ Compile → Prepares status solving now now matter pending
-all_pending status solving now matter body pending is same compile = record { body = body; listing = is; passes = subst (Passes now now body) (sym same) (passes_none now body); room = inl compile }
+all_pending : (status : Status) (solving : Solving) (now : Outside) (loaded_input : LoadedInput) (body pending : List ℕ) → IsListing status solving loaded_input (body ++ end_text (status_code status) (length solving.answers)) → pending ≡ body → status ≡ Compile → Prepares status solving now now loaded_input pending
+all_pending status solving now loaded_input body pending is same compile = record { body = body; listing = is; passes = subst (Passes now now body) (sym same) (passes_none now body); within_bound = inl compile }
 
 -- ---- refusals
 
@@ -74,16 +74,16 @@ pub two_behind : (old echo mid line new : List ℕ) → mid ≡ old ++ echo → 
 two_behind old echo mid line new p q = q ∙ ap (λ t. t ++ line) p ∙ append_assoc old echo line
 
 -- the listing of what is refused
-shows_refused : (solving : Solving) (matter : Matter) (listed : List ℕ) → SolvesNothing solving → ShowsWhy solving.before.names matter (refused_text listed) → IsListing Compile solving matter (listed ++ end_text (status_code Compile) (length solving.answers))
-shows_refused solving matter listed none why =
-    (subst (ShowsWhy solving.before.names matter) (sym (ap (λ (answers : List (Answer Frac)). listed ++ end_text 2 (length answers)) none.0)) why, none)
+shows_refused : (solving : Solving) (loaded_input : LoadedInput) (listed : List ℕ) → SolvesNothing solving → ShowsWhy solving.before.names loaded_input (refused_text listed) → IsListing Compile solving loaded_input (listed ++ end_text (status_code Compile) (length solving.answers))
+shows_refused solving loaded_input listed none why =
+    (subst (ShowsWhy solving.before.names loaded_input) (sym (ap (λ (answers : List (Answer Frac)). listed ++ end_text 2 (length answers)) none.0)) why, none)
 
 -- Why there is nothing to run was listed.
-pub prepares_why : (status : Status) (solving : Solving) (now : Outside) (matter : Matter) (spool before pending after listed : List ℕ) → status ≡ Compile → SolvesNothing solving → spool ++ before ≡ [] → pending ≡ spool → after ≡ before ++ listed →
-    ShowsWhy solving.before.names matter (refused_text listed) → Prepares status solving now now matter (pending ++ after)
-prepares_why status solving now matter spool before pending after listed same none empty kept put why =
-    all_pending status solving now matter listed _
-    (subst (λ s. IsListing s solving matter (listed ++ end_text (status_code s) (length solving.answers))) (sym same) (shows_refused solving matter listed none why))
+pub prepares_why : (status : Status) (solving : Solving) (now : Outside) (loaded_input : LoadedInput) (spool before pending after listed : List ℕ) → status ≡ Compile → SolvesNothing solving → spool ++ before ≡ [] → pending ≡ spool → after ≡ before ++ listed →
+    ShowsWhy solving.before.names loaded_input (refused_text listed) → Prepares status solving now now loaded_input (pending ++ after)
+prepares_why status solving now loaded_input spool before pending after listed same none empty kept put why =
+    all_pending status solving now loaded_input listed _
+    (subst (λ s. IsListing s solving loaded_input (listed ++ end_text (status_code s) (length solving.answers))) (sym same) (shows_refused solving loaded_input listed none why))
     (ap₂ (λ a b. a ++ b) kept put ∙ behind_nothing spool before listed empty) same
 
 -- errors that are listed for these solvers are for the same
@@ -116,8 +116,8 @@ prepares_errors solving now script program some spool before after is_program is
     (inr (shows_errors solving.before.names script program is_program listed.0))
 
 -- why there is nothing to run of a save that cannot be restored
-pub unrestored_why : (solvers : List (List ℕ)) (matter : OwnMatter) (state : State) (fault : SaveFault) → matter ≡ Unrestored fault → ShowsWhy solvers (matter_in matter state) (refused_text (unrestored_text fault))
-unrestored_why solvers matter state fault is = subst (λ (m : OwnMatter). ShowsWhy solvers (matter_in m state) (refused_text (unrestored_text fault))) (sym is) refl
+pub unrestored_why : (solvers : List (List ℕ)) (loaded_input : OwnMatter) (state : State) (fault : SaveFault) → loaded_input ≡ Unrestored fault → ShowsWhy solvers (loaded_input_in loaded_input state) (refused_text (unrestored_text fault))
+unrestored_why solvers loaded_input state fault is = subst (λ (m : OwnMatter). ShowsWhy solvers (loaded_input_in m state) (refused_text (unrestored_text fault))) (sym is) refl
 
 -- ---- runs
 
@@ -131,18 +131,18 @@ ends_line ReadFault halted n is = absurd is
 ends_line WriteFault halted n is = absurd is
 
 -- what is run of an accepted script
-abbrev pub job_of_script : (solvers : List (List ℕ)) (script : Script) (program : Program Frac) → IsAcceptedScript solvers script program → IsJob solvers (scripted script) (job_of script program)
-job_of_script solvers script program accepted = record { script = script; to_run = refl; accepted = accepted; is_job = refl }
+abbrev pub job_of_script : (solvers : List (List ℕ)) (script : Script) (program : Program Frac) → IsAcceptedScript solvers script program → IsProgramToRun solvers (scripted script) (program_to_run script program)
+job_of_script solvers script program accepted = record { script = script; of_script = refl; accepted = accepted; is_to_run = refl }
 
 -- a program that ended has its listing
-listed_job : (status : Status) (solving : Solving) (matter : Matter) (job : Job) → IsJob solving.before.names matter job → IsRunSolved job solving → HaltsSo status (course_of job solving).halted →
-    IsListing status solving matter (body_of job solving ++ end_text (status_code status) (length solving.answers))
-listed_job status solving matter job is_job solved halts = by status halts
+listed_job : (status : Status) (solving : Solving) (loaded_input : LoadedInput) (to_run : ProgramToRun) → IsProgramToRun solving.before.names loaded_input to_run → IsRunSolved to_run solving → HaltsSo status (course_of to_run solving).halted →
+    IsListing status solving loaded_input (body_of to_run solving ++ end_text (status_code status) (length solving.answers))
+listed_job status solving loaded_input to_run is_to_run solved halts = by status halts
   where
-    run : (s : Status) → HaltsSo s (course_of job solving).halted → IsExecuted solving matter (body_of job solving ++ end_text (status_code s) (length solving.answers))
-    run s h = record { job = job; is_job = is_job; solved = solved; listing = ap (λ t. body_of job solving ++ t) (ends_line s (course_of job solving).halted (length solving.answers) h) }
+    run : (s : Status) → HaltsSo s (course_of to_run solving).halted → IsExecuted solving loaded_input (body_of to_run solving ++ end_text (status_code s) (length solving.answers))
+    run s h = record { to_run = to_run; is_to_run = is_to_run; solved = solved; listing = ap (λ t. body_of to_run solving ++ t) (ends_line s (course_of to_run solving).halted (length solving.answers) h) }
 
-    by : (s : Status) → HaltsSo s (course_of job solving).halted → IsListing s solving matter (body_of job solving ++ end_text (status_code s) (length solving.answers))
+    by : (s : Status) → HaltsSo s (course_of to_run solving).halted → IsListing s solving loaded_input (body_of to_run solving ++ end_text (status_code s) (length solving.answers))
     by Done h = (run Done h, h)
     by Execution h = (run Execution h, h)
     by Usage h = absurd h
@@ -151,32 +151,32 @@ listed_job status solving matter job is_job solved halts = by status halts
     by WriteFault h = absurd h
 
 -- The listing of a program that ended.
-pub prepares_job : (status : Status) (solving : Solving) (old new : Outside) (matter : Matter) (left : List ℕ) (job : Job) (last : State) (programs : List (Lp Frac)) → IsJob solving.before.names matter job →
-    EndsJob status job solving last programs old new left → Prepares status solving old new matter left
-prepares_job status solving old new matter left job last programs is_job e =
+pub prepares_job : (status : Status) (solving : Solving) (old new : Outside) (loaded_input : LoadedInput) (left : List ℕ) (to_run : ProgramToRun) (last : State) (programs : List (Lp Frac)) → IsProgramToRun solving.before.names loaded_input to_run →
+    EndsJob status to_run solving last programs old new left → Prepares status solving old new loaded_input left
+prepares_job status solving old new loaded_input left to_run last programs is_to_run e =
     record {
-      body = body_of job solving;
-      listing = listed_job status solving matter job is_job e.ends.solved e.ends.halts;
+      body = body_of to_run solving;
+      listing = listed_job status solving loaded_input to_run is_to_run e.ends.solved e.ends.halts;
       passes = e.passes;
-      room = inr e.room;
+      within_bound = inr e.within_bound;
     }
 
 -- The listing of a program was cut off.
-pub unwritten_job : (solving : Solving) (old new : Outside) (matter : Matter) (job : Job) → IsJob solving.before.names matter job → BreaksJob job solving old new → IsUnwritten solving old new matter
-unwritten_job solving old new matter job is_job b =
-    let line : List ℕ = last_line (course_of job solving).halted (length solving.answers) in
+pub unwritten_job : (solving : Solving) (old new : Outside) (loaded_input : LoadedInput) (to_run : ProgramToRun) → IsProgramToRun solving.before.names loaded_input to_run → BreaksJob to_run solving old new → IsUnwritten solving old new loaded_input
+unwritten_job solving old new loaded_input to_run is_to_run b =
+    let line : List ℕ = last_line (course_of to_run solving).halted (length solving.answers) in
     record {
-      text = job_text job solving;
-      prefix = record { added = b.front.1.bytes; missing = b.front.0 ++ line; split = ap (λ t. t ++ line) b.front.1.split ∙ append_assoc b.front.1.bytes b.front.0 line; outside = b.front.1.written };
-      due = inr (record { job = job; is_job = is_job; solved = b.solved; listing = refl }, b.cut);
+      text = program_listing to_run solving;
+      prefix = record { added = b.beginning.1.bytes; missing = b.beginning.0 ++ line; split = ap (λ t. t ++ line) b.beginning.1.split ∙ append_assoc b.beginning.1.bytes b.beginning.0 line; outside = b.beginning.1.written };
+      expected = inr (record { to_run = to_run; is_to_run = is_to_run; solved = b.solved; listing = refl }, b.cut);
     }
 
 -- ---- what is printed at the end
 
 -- The remarks on a run that ended are the expected ones.
-pub remarked : (status : Status) (solving : Solving) (request : Asked) (matter : Matter) (text : List ℕ) (job : Job) (last : State) (solved : List (Lp Frac)) → IsJob solving.before.names matter job → Ends status job solving last solved →
-    IsRemarked request job.program last solved solving.answers text → AreRemarks status solving request matter text
-remarked status solving request matter text job last solved is_job ends (ranges, line, ranged, told, split) = (
+pub remarked : (status : Status) (solving : Solving) (request : Asked) (loaded_input : LoadedInput) (text : List ℕ) (to_run : ProgramToRun) (last : State) (solved : List (Lp Frac)) → IsProgramToRun solving.before.names loaded_input to_run → Ends status to_run solving last solved →
+    IsRemarked request to_run.program last solved solving.answers text → AreRemarks status solving request loaded_input text
+remarked status solving request loaded_input text to_run last solved is_to_run ends (ranges, line, ranged, told, split) = (
   ranges,
   line,
   spans request.ranges status ends.halts ranged,
@@ -184,16 +184,16 @@ remarked status solving request matter text job last solved is_job ends (ranges,
   split,
 )
   where
-    of_spans : SaysRanges job.program.names job.program.labels frac_limit 1 (map (lp_numbers frac_value) solved) (numbers_of solving.answers) ranges → TellsSpans solving matter ranges
+    of_spans : SaysRanges to_run.program.names to_run.program.labels frac_limit 1 (map (lp_numbers frac_value) solved) (numbers_of solving.answers) ranges → TellsSpans solving loaded_input ranges
     of_spans said =
         record {
-          job = job;
-          is_job = is_job;
+          to_run = to_run;
+          is_to_run = is_to_run;
           in_order = ends.kept.in_order;
-          said = subst (λ (programs : List (Lp Number)). SaysRanges job.program.names job.program.labels frac_limit 1 programs (numbers_of solving.answers) ranges) ends.kept.shown said;
+          said = subst (λ (programs : List (Lp Number)). SaysRanges to_run.program.names to_run.program.labels frac_limit 1 programs (numbers_of solving.answers) ranges) ends.kept.shown said;
         }
 
-    spans : (asked : Bool) (s : Status) → HaltsSo s (course_of job solving).halted → IsRanged asked job.program solved solving.answers ranges → TellsRanges asked s solving matter ranges
+    spans : (asked : Bool) (s : Status) → HaltsSo s (course_of to_run solving).halted → IsRanged asked to_run.program solved solving.answers ranges → TellsRanges asked s solving loaded_input ranges
     spans false s h said = said
     spans true Done h said = of_spans said
     spans true Execution h said = of_spans said
@@ -202,11 +202,11 @@ remarked status solving request matter text job last solved is_job ends (ranges,
     spans true ReadFault h said = absurd h
     spans true WriteFault h said = absurd h
 
-    of_model : (size : ℕ) → IsModelLine size job.program last solving.answers line → TellsModel solving size matter line
+    of_model : (size : ℕ) → IsModelLine size to_run.program last solving.answers line → TellsModel solving size loaded_input line
     of_model size told =
-        record { job = job; is_job = is_job; told = subst (λ (state : State). IsModelLine size job.program state solving.answers line) (sym ends.comes) told }
+        record { to_run = to_run; is_to_run = is_to_run; told = subst (λ (state : State). IsModelLine size to_run.program state solving.answers line) (sym ends.comes) told }
 
-    tells : (o : Origin) (s : Status) → HaltsSo s (course_of job solving).halted → IsTold o job.program last solving.answers line → TellsRun s solving o matter line
+    tells : (o : Origin) (s : Status) → HaltsSo s (course_of to_run solving).halted → IsTold o to_run.program last solving.answers line → TellsRun s solving o loaded_input line
     tells (in_file file) s h told = told
     tells (restarted saved file) s h told = told
     tells (generated size) Done h told = of_model size told
@@ -217,48 +217,48 @@ remarked status solving request matter text job last solved is_job ends (ranges,
     tells (generated size) WriteFault h told = absurd h
 
 -- The save of the last state of a program that ended.
-pub saves_job : (status : Status) (solving : Solving) (request : Asked) (matter : Matter) (bytes : List ℕ) (job : Job) (last : State) (programs : List (Lp Frac)) (solvers : List (List ℕ)) → solvers ≡ solving.before.names → All IsSolverName solving.before.names → (is_job : IsJob solving.before.names matter job) → IfSome is_job.script.saved (IsGoneOn solving.before.names is_job.script.source is_job.script.line) → Ends status job solving last programs →
-    IsSave status request solvers job.source job.program last bytes → SavesSo status solving request matter bytes
-saves_job status solving request matter bytes job last programs solvers names named is_job origin ends = by (save_file status request)
+pub saves_job : (status : Status) (solving : Solving) (request : Asked) (loaded_input : LoadedInput) (bytes : List ℕ) (to_run : ProgramToRun) (last : State) (programs : List (Lp Frac)) (solvers : List (List ℕ)) → solvers ≡ solving.before.names → All IsSolverName solving.before.names → (is_to_run : IsProgramToRun solving.before.names loaded_input to_run) → IfSome is_to_run.script.saved (IsGoneOn solving.before.names is_to_run.script.source is_to_run.script.line) → Ends status to_run solving last programs →
+    IsSave status request solvers to_run.source to_run.program last bytes → SavesSo status solving request loaded_input bytes
+saves_job status solving request loaded_input bytes to_run last programs solvers names named is_to_run origin ends = by (save_file status request)
   where
-    by : (file : Option (List ℕ)) → IfSome file (λ f. KeepsState solvers job.source job.program last bytes) → IfSome file (λ f. SavesLast solving matter bytes)
+    by : (file : Option (List ℕ)) → IfSome file (λ f. KeepsState solvers to_run.source to_run.program last bytes) → IfSome file (λ f. SavesLast solving loaded_input bytes)
     by None is = tt
     by (Some file) is =
-        let text : bytes ≡ save_text job solving = is.text ∙ ap₂ (λ (ns : List (List ℕ)) (state : State). saved_text job.source job.program.names state (solver_name ns state)) names (sym ends.comes) in
+        let text : bytes ≡ save_text to_run solving = is.text ∙ ap₂ (λ (ns : List (List ℕ)) (state : State). saved_text to_run.source to_run.program.names state (solver_name ns state)) names (sym ends.comes) in
         record {
-          job = job;
-          is_job = is_job;
+          to_run = to_run;
+          is_to_run = is_to_run;
           text = text;
           is_save =
-              saves-state solving is_job.script job is_job.accepted is_job.is_job origin bytes text
-              (subst (λ (s : State). (name : ℕ) → name < length job.program.names → (t : List ℕ) → fits_at frac_limit (symbol_of s name).content t ≡ true) (sym ends.comes) is.fit) named;
-          placed = placed-last solving is_job.script job is_job.accepted is_job.is_job origin named;
+              saves-state solving is_to_run.script to_run is_to_run.accepted is_to_run.is_to_run origin bytes text
+              (subst (λ (s : State). (name : ℕ) → name < length to_run.program.names → (t : List ℕ) → fits_at frac_limit (symbol_of s name).content t ≡ true) (sym ends.comes) is.fit) named;
+          placed = placed-last solving is_to_run.script to_run is_to_run.accepted is_to_run.is_to_run origin named;
         }
 
 -- What follows the listing of a program that ended.
-pub follows_job : (status : Status) (solving : Solving) (request : Asked) (matter : Matter) (text bytes : List ℕ) (job : Job) (last : State) (programs : List (Lp Frac)) (solvers : List (List ℕ)) → (is_job : IsJob solving.before.names matter job) → IfSome is_job.script.saved (IsGoneOn solving.before.names is_job.script.source is_job.script.line) → Ends status job solving last programs →
-    IsRemarked request job.program last programs solving.answers text → IsSave status request solvers job.source job.program last bytes → solvers ≡ solving.before.names → All IsSolverName solving.before.names → Follows status solving request matter text bytes
-follows_job status solving request matter text bytes job last programs solvers is_job origin ends told saved names named =
-    record { remarks = remarked status solving request matter text job last programs is_job ends told; saves = saves_job status solving request matter bytes job last programs solvers names named is_job origin ends saved }
+pub follows_job : (status : Status) (solving : Solving) (request : Asked) (loaded_input : LoadedInput) (text bytes : List ℕ) (to_run : ProgramToRun) (last : State) (programs : List (Lp Frac)) (solvers : List (List ℕ)) → (is_to_run : IsProgramToRun solving.before.names loaded_input to_run) → IfSome is_to_run.script.saved (IsGoneOn solving.before.names is_to_run.script.source is_to_run.script.line) → Ends status to_run solving last programs →
+    IsRemarked request to_run.program last programs solving.answers text → IsSave status request solvers to_run.source to_run.program last bytes → solvers ≡ solving.before.names → All IsSolverName solving.before.names → Follows status solving request loaded_input text bytes
+follows_job status solving request loaded_input text bytes to_run last programs solvers is_to_run origin ends told saved names named =
+    record { remarks = remarked status solving request loaded_input text to_run last programs is_to_run ends told; saves = saves_job status solving request loaded_input bytes to_run last programs solvers names named is_to_run origin ends saved }
 
 -- On what is refused there are no remarks, and nothing is saved.
-pub nothing_follows : (status : Status) (solving : Solving) (request : Asked) (matter : Matter) (text bytes : List ℕ) → status ≡ Compile → text ≡ [] → Follows status solving request matter text bytes
-nothing_follows status solving request matter text bytes same none =
-    subst (λ s. Follows s solving request matter text bytes) (sym same) (record { remarks = ([], [], ranges request.ranges, line request.source, none); saves = tt })
+pub nothing_follows : (status : Status) (solving : Solving) (request : Asked) (loaded_input : LoadedInput) (text bytes : List ℕ) → status ≡ Compile → text ≡ [] → Follows status solving request loaded_input text bytes
+nothing_follows status solving request loaded_input text bytes same none =
+    subst (λ s. Follows s solving request loaded_input text bytes) (sym same) (record { remarks = ([], [], ranges request.ranges, line request.source, none); saves = tt })
   where
-    ranges : (asked : Bool) → TellsRanges asked Compile solving matter []
+    ranges : (asked : Bool) → TellsRanges asked Compile solving loaded_input []
     ranges true = refl
     ranges false = refl
 
-    line : (o : Origin) → TellsRun Compile solving o matter []
+    line : (o : Origin) → TellsRun Compile solving o loaded_input []
     line (in_file file) = refl
     line (restarted saved file) = refl
     line (generated size) = refl
 
 -- The closing lines are those that the run calls for.
-pub are_closing : (status : Status) (solving : Solving) (request : Asked) (matter : Matter) (remarks lines output : List ℕ) (solves : ℕ) → AreRemarks status solving request matter remarks → output ≡ request.output → solves ≡ length solving.answers →
-    lines ≡ remarks ++ closing_line (status_code status) solves output → AreClosing status solving request matter lines
-are_closing status solving request matter remarks lines output solves told named many closed =
+pub are_closing : (status : Status) (solving : Solving) (request : Asked) (loaded_input : LoadedInput) (remarks lines output : List ℕ) (solves : ℕ) → AreRemarks status solving request loaded_input remarks → output ≡ request.output → solves ≡ length solving.answers →
+    lines ≡ remarks ++ closing_line (status_code status) solves output → AreClosing status solving request loaded_input lines
+are_closing status solving request loaded_input remarks lines output solves told named many closed =
     (remarks, told, closed ∙ ap₂ (λ (n : ℕ) (name : List ℕ). remarks ++ closing_line (status_code status) n name) many named)
 
 -- ---- answers of the programs that were kept
@@ -276,30 +276,30 @@ answered_by rules answers programs events kept =
         subst (λ (o : Option (Answer Frac)). IfSome o (IsSomeAnswer frac_value frac_limit lp)) (sym stands.stands) (record { formed = stands.formed; iterlim = settings.iterlim; rule = Legal; is_answer = legal_under frac_value frac_limit lp settings.iterlim stands.rule stands.given stands.is_answer })
 
 -- each solve of a program that ended is answered
-pub ends_answered : (status : Status) (job : Job) (solving : Solving) (last : State) (programs : List (Lp Frac)) → Ends status job solving last programs → AreSomeAnswers frac_value frac_limit programs solving.answers
-ends_answered status job solving last programs ends = answered_by solving.before.rules solving.answers programs (course_of job solving).events ends.kept
+pub ends_answered : (status : Status) (to_run : ProgramToRun) (solving : Solving) (last : State) (programs : List (Lp Frac)) → Ends status to_run solving last programs → AreSomeAnswers frac_value frac_limit programs solving.answers
+ends_answered status to_run solving last programs ends = answered_by solving.before.rules solving.answers programs (course_of to_run solving).events ends.kept
 
 -- ---- the last line
 
 -- The whole listing was written.
-pub lists_ended : (status : Status) (solving : Solving) (old mid new : Outside) (matter : Matter) (pending : List ℕ) (solves : ℕ) → solves ≡ length solving.answers → Prepares status solving old mid matter pending →
-    new ≡ with_output mid (pending ++ end_text (status_code status) solves) → Lists status solving old new matter
-lists_ended status solving old mid new matter pending solves many p w =
+pub lists_ended : (status : Status) (solving : Solving) (old mid new : Outside) (loaded_input : LoadedInput) (pending : List ℕ) (solves : ℕ) → solves ≡ length solving.answers → Prepares status solving old mid loaded_input pending →
+    new ≡ with_output mid (pending ++ end_text (status_code status) solves) → Lists status solving old new loaded_input
+lists_ended status solving old mid new loaded_input pending solves many p w =
     let line : ℕ → List ℕ = end_text (status_code status) in
     record { text = p.body ++ line (length solving.answers); listing = p.listing; written = subst (λ n. new ≡ with_output old (p.body ++ line n)) many (passes_whole old mid new (p.body ++ line solves) (pending ++ line solves) (passes_behind (line solves) p.passes) w) }
 
 -- taking all statements changes nothing
-whole_job : (job : Job) (n : ℕ) → length job.statements ≤ n → first_of n job ≡ job
-whole_job job n h = ap (λ (ss : List (Stmt Frac)). record job { statements = ss }) (take_all n job.statements h)
+whole_job : (to_run : ProgramToRun) (n : ℕ) → length to_run.statements ≤ n → first_of n to_run ≡ to_run
+whole_job to_run n h = ap (λ (ss : List (Stmt Frac)). record to_run { statements = ss }) (take_all n to_run.statements h)
 
 -- a program whose statements were all executed is cut off where its text is not written
-cut_whole : (job : Job) (solving : Solving) (written : ℕ) → (course_of job solving).left ≡ [] → length (body_of job solving) ≤ written + 4096 → IsCutOff job solving written
-cut_whole job solving written taken pending =
-    let n = length job.statements in
+cut_whole : (to_run : ProgramToRun) (solving : Solving) (written : ℕ) → (course_of to_run solving).left ≡ [] → length (body_of to_run solving) ≤ written + 4096 → IsCutOff to_run solving written
+cut_whole to_run solving written taken pending =
+    let n = length to_run.statements in
     inr (record {
       before = n;
-      taken = subst (λ (j : Job). (course_of j solving).left ≡ []) (sym (whole_job job (n + 1) (omega arith))) taken;
-      held = subst (λ (j : Job). length (body_of j solving) ≤ written + 4096) (sym (whole_job job n (omega arith))) pending;
+      taken = subst (λ (j : ProgramToRun). (course_of j solving).left ≡ []) (sym (whole_job to_run (n + 1) (omega arith))) taken;
+      held = subst (λ (j : ProgramToRun). length (body_of j solving) ≤ written + 4096) (sym (whole_job to_run n (omega arith))) pending;
     })
 
 -- two texts that end with the same line are equally long before it
@@ -310,35 +310,35 @@ as_long a b x y line e =
     omega (arith, n, m, length-append a x, length-append b y)
 
 -- a listing is an expected prefix, where its body is written except for at most one spool
-listed_front : (status : Status) (solving : Solving) (matter : Matter) (body : List ℕ) (written : ℕ) → (status ≡ Compile) ⊎ (length body ≤ written + 4096) → IsListing status solving matter (body ++ end_text (status_code status) (length solving.answers)) →
-    IsWrittenPrefix solving matter (body ++ end_text (status_code status) (length solving.answers)) written
-listed_front status solving matter body written room is = by status room is
+listed_front : (status : Status) (solving : Solving) (loaded_input : LoadedInput) (body : List ℕ) (written : ℕ) → (status ≡ Compile) ⊎ (length body ≤ written + 4096) → IsListing status solving loaded_input (body ++ end_text (status_code status) (length solving.answers)) →
+    IsWrittenPrefix solving loaded_input (body ++ end_text (status_code status) (length solving.answers)) written
+listed_front status solving loaded_input body written within_bound is = by status within_bound is
   where
     text : Status → List ℕ
     text s = body ++ end_text (status_code s) (length solving.answers)
 
-    executed : (s : Status) → (run : IsExecuted solving matter (text s)) → HaltsSo s (course_of run.job solving).halted → length body ≤ written + 4096 → IsWrittenPrefix solving matter (text s) written
+    executed : (s : Status) → (run : IsExecuted solving loaded_input (text s)) → HaltsSo s (course_of run.to_run solving).halted → length body ≤ written + 4096 → IsWrittenPrefix solving loaded_input (text s) written
     executed s run h few =
-        let job = run.job in
-        let same : length body ≡ length (body_of job solving) = as_long body (body_of job solving) _ _ (ends_line s (course_of job solving).halted (length solving.answers) h) run.listing in
-        inr (run, cut_whole job solving written run.solved.all_taken (omega (arith, same, few)))
+        let to_run = run.to_run in
+        let same : length body ≡ length (body_of to_run solving) = as_long body (body_of to_run solving) _ _ (ends_line s (course_of to_run solving).halted (length solving.answers) h) run.listing in
+        inr (run, cut_whole to_run solving written run.solved.all_taken (omega (arith, same, few)))
 
-    by : (s : Status) → (s ≡ Compile) ⊎ (length body ≤ written + 4096) → IsListing s solving matter (text s) → IsWrittenPrefix solving matter (text s) written
-    by Compile room is = inl is
+    by : (s : Status) → (s ≡ Compile) ⊎ (length body ≤ written + 4096) → IsListing s solving loaded_input (text s) → IsWrittenPrefix solving loaded_input (text s) written
+    by Compile within_bound is = inl is
     by Done (inr few) is = executed Done is.0 is.1 few
     by Execution (inr few) is = executed Execution is.0 is.1 few
     by Done (inl e) is = absurd (let z : ⊥ = cc in z)
     by Execution (inl e) is = absurd (let z : ⊥ = cc in z)
-    by Usage room is = absurd is
-    by ReadFault room is = absurd is
-    by WriteFault room is = absurd is
+    by Usage within_bound is = absurd is
+    by ReadFault within_bound is = absurd is
+    by WriteFault within_bound is = absurd is
 
 -- The listing was written up to a prefix.
-pub front_ended : (status : Status) (solving : Solving) (old mid new : Outside) (matter : Matter) (pending : List ℕ) (solves : ℕ) → solves ≡ length solving.answers → Prepares status solving old mid matter pending →
-    WritesFront mid new (pending ++ end_text (status_code status) solves) → IsUnwritten solving old new matter
-front_ended status solving old mid new matter pending solves many p front =
+pub front_ended : (status : Status) (solving : Solving) (old mid new : Outside) (loaded_input : LoadedInput) (pending : List ℕ) (solves : ℕ) → solves ≡ length solving.answers → Prepares status solving old mid loaded_input pending →
+    WritesPrefix mid new (pending ++ end_text (status_code status) solves) → IsUnwritten solving old new loaded_input
+front_ended status solving old mid new loaded_input pending solves many p beginning =
     let line : List ℕ = end_text (status_code status) (length solving.answers) in
-    let f : WritesFront mid new (pending ++ line) = subst (λ n. WritesFront mid new (pending ++ end_text (status_code status) n)) many front in
+    let f : WritesPrefix mid new (pending ++ line) = subst (λ n. WritesPrefix mid new (pending ++ end_text (status_code status) n)) many beginning in
     record {
       text = p.body ++ line;
       prefix = record {
@@ -347,7 +347,7 @@ front_ended status solving old mid new matter pending solves many p front =
         split = ap (λ t. t ++ line) p.passes.split ∙ append_assoc p.passes.bytes pending line ∙ ap (λ t. p.passes.bytes ++ t) f.1.split ∙ sym (append_assoc p.passes.bytes f.1.bytes f.0);
         outside = output-both old mid new p.passes.bytes f.1.bytes p.passes.written f.1.written;
       };
-      due = listed_front status solving matter p.body _ (elim p.room [ inl e ↦ inl e | inr few ↦ inr (pends_over p.body p.passes.bytes f.1.bytes pending p.passes.split few) ]) p.listing;
+      expected = listed_front status solving loaded_input p.body _ (elim p.within_bound [ inl e ↦ inl e | inr few ↦ inr (pends_over p.body p.passes.bytes f.1.bytes pending p.passes.split few) ]) p.listing;
     }
   where
     pends_over : (body bytes more pending : List ℕ) → body ≡ bytes ++ pending → length pending ≤ 4096 → length body ≤ length (bytes ++ more) + 4096

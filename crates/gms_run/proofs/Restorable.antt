@@ -10,14 +10,14 @@ use Rattle.std.proofs.lemmas.List.Elements.{All-nil, All-weaker}
 use Rattle.std.proofs.lemmas.List.Quantifiers.{position-Some}
 use Rattle.std.proofs.lemmas.Result.{err_from_is_err_and}
 use Rattle.gms_store.specs.State.{State, Content, undeclared, alias_of, set_of, parameter_of, variable_of, equation_of, model_with, symbol_at, given_in, members_in}
-use Rattle.gms_save_text.specs.Validity.{stands_at, stands_in}
+use Rattle.gms_save_text.specs.Validity.{fits_position, fits_domain}
 use Rattle.gms_save.specs.declared.saved.Saved.{Saved}
 use Rattle.gms_save.specs.declared.fault.SaveFaultOrMemory.{SaveFaultOrMemory}
 use Rattle.gms_save.specs.declared.fault.SaveFaultOrMemory.TheVariants.{Memory}
 use Rattle.gms_save.specs.Saves.{GivesBack, IsRestored, Restores, place_of_solver}
 use Rattle.gms_joint_source.specs.JointSources.{first_line, joint_source}
 use Rattle.gms_restart.proofs.SavedFits.{saved_fits}
-use Rattle.gms_run.specs.InnerReports.{CanGoOn}
+use Rattle.gms_run.specs.InnerReports.{CanContinue}
 
 pub wanting : (r : Result Saved SaveFaultOrMemory) (solvers : List (List ℕ)) (save : List ℕ) → IsErrAnd r (λ e. e ≡ Memory) → Restores solvers save r
 wanting r solvers save h = let p = err_from_is_err_and r h in rw (p.1, p.2) tt
@@ -38,12 +38,12 @@ placed-below solvers solver place e some = by (bytes_eq solver (codes "none")) (
     by false none n is p = (position-Some (λ name. str_eq_ignore_ascii_case name solver) solvers place [] p).0
 
 -- a tuple in a domain is as long as the domain
-stands-long : (labels : ℕ) (state : State) (domain : List (Option ℕ)) (t : List ℕ) → stands_in labels state domain t ≡ true → length t ≡ length domain
+stands-long : (labels : ℕ) (state : State) (domain : List (Option ℕ)) (t : List ℕ) → fits_domain labels state domain t ≡ true → length t ≡ length domain
 stands-long labels state [] [] e = refl
 stands-long labels state [] (label ∷ t) e = absurd (let z : ⊥ = cc in z)
 stands-long labels state (set ∷ domain) [] e = absurd (let z : ⊥ = cc in z)
 stands-long labels state (set ∷ domain) (label ∷ t) e =
-    ap suc (stands-long labels state domain t ((and_parts (stands_at state set label) _ ((and_parts _ _ e).1)).1))
+    ap suc (stands-long labels state domain t ((and_parts (fits_position state set label) _ ((and_parts _ _ e).1)).1))
 
 -- what holds of all tuples with data holds of all members
 members-given : (P : List ℕ → Type 0) (content : Content) → All P (given_in content) → All P (members_in content)
@@ -56,7 +56,7 @@ members-given P (equation_of entries) all = All-nil P
 members-given P (model_with model solver) all = All-nil P
 
 -- A run can resume from a restored state.
-pub can_go_on : (solvers : List (List ℕ)) (save : List ℕ) (saved : Saved) → IsRestored solvers save saved → (file : List ℕ) → CanGoOn solvers (joint_source saved.source.items file) (first_line saved.source.items) saved.store
+pub can_go_on : (solvers : List (List ℕ)) (save : List ℕ) (saved : Saved) → IsRestored solvers save saved → (file : List ℕ) → CanContinue solvers (joint_source saved.source.items file) (first_line saved.source.items) saved.store
 can_go_on solvers save saved restored file =
     let is = restored.is_save.is_saved.is_saved in
     let settings = saved.store.settings in

@@ -17,7 +17,7 @@ use Rattle.gms_rows.specs.Rows.{Definition, definitions}
 use Rattle.gms_exec.specs.Dimensions.{AreOverOne, AreOneDimensional}
 use Rattle.gms_check.specs.Loaded.{loaded}
 use Rattle.gms_save.specs.JointErrors.{resumed}
-use Rattle.gms_save.proofs.LoadedNames.{loaded-declares, same-at, same-read, keeps-behind}
+use Rattle.gms_save.proofs.LoadedNames.{loaded-declares, same-at, same-read, keeps-following}
 use Rattle.gms_restart.specs.Alike.{IsAlike}
 
 -- a symbol in a list of symbols, by its number; without one, the empty symbol
@@ -48,11 +48,11 @@ module _ (saved : State) (joint : Program Frac) (alike : (name : ℕ) → IsAlik
 
   base-same : (set : ℕ) → base_of now set ≡ base_of first set
   base-same set =
-      (alike set).base ∙ sym (same-read (alias_target set) (keeps-behind set) first (declared_state joint) set (loaded-declares frac_value joint))
+      (alike set).base ∙ sym (same-read (alias_target set) (keeps-following set) first (declared_state joint) set (loaded-declares frac_value joint))
 
   domain-same : (set : ℕ) → length (symbol_of now set).domain ≡ length (symbol_of first set).domain
   domain-same set =
-      let base : base_of first set ≡ base_of (declared_state joint) set = same-read (alias_target set) (keeps-behind set) first (declared_state joint) set (loaded-declares frac_value joint) in
+      let base : base_of first set ≡ base_of (declared_state joint) set = same-read (alias_target set) (keeps-following set) first (declared_state joint) set (loaded-declares frac_value joint) in
       (alike set).positions
       ∙ ap (λ (n : ℕ). length (symbol_at (declared_state joint) n).domain) (sym base)
       ∙ sym (ap (λ (s : Symbol). length s.domain) (same-at first (declared_state joint) (base_of first set) (loaded-declares frac_value joint)))

@@ -10,7 +10,7 @@ use Rattle.gms_host.specs.declared.host.Failed.{Failed}
 use Rattle.gms_host.specs.declared.host.Failed.TheVariants.{Fault, Memory}
 use Rattle.gms_host.specs.Meaning.{Counts, Files, Meaning, Outside, Rose}
 use Rattle.gms_host.specs.Rules.{ClosesOutput, CountsReading, CountsWriting, IsThere, OpensOutput, with_kept, with_opened, with_output, with_said}
-use Rattle.gms_host.specs.Spooling.{SaysFront}
+use Rattle.gms_host.specs.Spooling.{PrintsPrefix}
 use Rattle.gms_host.proofs.Counting.{all_done, done_with, rose_later}
 use Rattle.gms_lex.specs.Tokens.{most_source_bytes}
 use Rattle.gms_parse.specs.Outcomes.{IsSourceFault}
@@ -24,12 +24,12 @@ use Rattle.gms_gen.specs.Generator.{generated_model_text}
 use Rattle.gms_command.specs.CommandLine.{Asked, Origin, in_file, restarted, generated, read_fault_line, request_of}
 use Rattle.gms_store.specs.State.{State}
 use Rattle.gms_run.specs.Solving.{Solving, SolvesNothing}
-use Rattle.gms_run.specs.Scripts.{Script, Matter, scripted, unrestored, Taken, from_start, from_save, script_of, first_line, joint_script, joint_source, IsMatter, IsUnrestored}
-use Rattle.gms_run.specs.ProgramsToRun.{Job}
-use Rattle.gms_run.specs.Listings.{AreClosing, IsExecuted, IsWrittenPrefix, IsJob, IsListing, IsRefusalListing, SavesLast, SavesSo, ShowsRefusal, ShowsWhy, TellsRanges, TellsRun, refusal_text, refused_text, save_file}
+use Rattle.gms_run.specs.Scripts.{Script, LoadedInput, scripted, unrestored, RunInput, from_start, from_save, script_of, first_line, joint_script, joint_source, IsLoadedInput, IsUnrestored}
+use Rattle.gms_run.specs.ProgramsToRun.{ProgramToRun}
+use Rattle.gms_run.specs.Listings.{AreClosing, IsExecuted, IsWrittenPrefix, IsProgramToRun, IsListing, IsRefusalListing, SavesLast, SavesSo, ShowsRefusal, ShowsWhy, TellsRanges, TellsRun, refusal_text, refused_text, save_file}
 use Rattle.gms_run.specs.Statuses.{CountsSo, EndsByNoFault, HasOrigin, IsFileOf, IsReadFault, IsReadyFor, IsReported, IsRun, IsInputOf, IsUnread, IsUnreadOf, IsUnwritten, IsUnwrittenFile, IsWriteFault, OfRequest, RanSo, SaysLine, with_file, with_listing, with_read, with_save, with_saved, with_source_read, with_taken}
-use Rattle.gms_run.specs.InnerReports.{CountsMention, CountsRun, EndsAs, IsUnreadFile, Lists, LosesSave, RanBehind, RanOf, ReadsFile, WritesSave}
-use Rattle.gms_run.specs.InnerSteps.{ComesTo}
+use Rattle.gms_run.specs.InnerReports.{CountsMention, CountsRun, EndsAs, IsUnreadFile, Lists, LosesSave, RanAfter, RanOf, ReadsFile, WritesSave}
+use Rattle.gms_run.specs.InnerSteps.{ResultsIn}
 use Rattle.gms_run.proofs.CallResults.{failed_with}
 use Rattle.gq_frac.specs.Frac.{frac_limit}
 
@@ -46,9 +46,9 @@ long_refusal a b text long more r = by_fault r.refused
     by_fault (inr (inr syntactic)) = let few : length a.source ≤ most_source_bytes = syntactic.short in absurd (omega (arith, long, few))
 
 -- nothing is run of a script that is too long
-no_job : (solvers : List (List ℕ)) (script : Script) (job : Job) → most_source_bytes < length script.source → IsJob solvers (scripted script) job → ⊥
-no_job solvers script job long is =
-    let same : is.script ≡ script = one_script (sym is.to_run) in
+no_job : (solvers : List (List ℕ)) (script : Script) (to_run : ProgramToRun) → most_source_bytes < length script.source → IsProgramToRun solvers (scripted script) to_run → ⊥
+no_job solvers script to_run long is =
+    let same : is.script ≡ script = one_script (sym is.of_script) in
     let few : length is.script.source ≤ most_source_bytes = is.accepted.is_program.short in
     let size : length is.script.source ≡ length script.source = ap (λ (s : Script). length s.source) same in
     omega (arith, few, size, long)
@@ -68,7 +68,7 @@ module _ (solving : Solving) (a b : Script) (long : most_source_bytes < length a
 
   -- neither is executed
   no_run : (text : List ℕ) → IsExecuted solving (scripted a) text → ⊥
-  no_run text run = no_job solving.before.names a run.job long run.is_job
+  no_run text run = no_job solving.before.names a run.to_run long run.is_to_run
 
   -- the same is listed
   long_listing : (status : Status) (text : List ℕ) → IsListing status solving (scripted a) text → IsListing status solving (scripted b) text
@@ -86,8 +86,8 @@ module _ (solving : Solving) (a b : Script) (long : most_source_bytes < length a
 
   long_ranges : (asked : Bool) (status : Status) (text : List ℕ) → TellsRanges asked status solving (scripted a) text → TellsRanges asked status solving (scripted b) text
   long_ranges false status text said = said
-  long_ranges true Done text said = absurd (no_job solving.before.names a said.job long said.is_job)
-  long_ranges true Execution text said = absurd (no_job solving.before.names a said.job long said.is_job)
+  long_ranges true Done text said = absurd (no_job solving.before.names a said.to_run long said.is_to_run)
+  long_ranges true Execution text said = absurd (no_job solving.before.names a said.to_run long said.is_to_run)
   long_ranges true Compile text said = said
   long_ranges true Usage text said = said
   long_ranges true ReadFault text said = said
@@ -96,8 +96,8 @@ module _ (solving : Solving) (a b : Script) (long : most_source_bytes < length a
   long_told : (o : Origin) (status : Status) (line : List ℕ) → TellsRun status solving o (scripted a) line → TellsRun status solving o (scripted b) line
   long_told (in_file file) status line told = told
   long_told (restarted saved file) status line told = told
-  long_told (generated size) Done line told = absurd (no_job solving.before.names a told.job long told.is_job)
-  long_told (generated size) Execution line told = absurd (no_job solving.before.names a told.job long told.is_job)
+  long_told (generated size) Done line told = absurd (no_job solving.before.names a told.to_run long told.is_to_run)
+  long_told (generated size) Execution line told = absurd (no_job solving.before.names a told.to_run long told.is_to_run)
   long_told (generated size) Compile line told = told
   long_told (generated size) Usage line told = told
   long_told (generated size) ReadFault line told = told
@@ -114,7 +114,7 @@ module _ (solving : Solving) (a b : Script) (long : most_source_bytes < length a
     where
       by : (file : Option (List ℕ)) → IfSome file (λ f. SavesLast solving (scripted a) save) → IfSome file (λ f. SavesLast solving (scripted b) save)
       by None is = tt
-      by (Some file) is = absurd (no_job solving.before.names a is.job long is.is_job)
+      by (Some file) is = absurd (no_job solving.before.names a is.to_run long is.is_to_run)
 
   long_reported : (status : Status) (old new : Outside) (request : Asked) → IsReported status solving old new request (scripted a) → IsReported status solving old new request (scripted b)
   long_reported status old new request r =
@@ -123,11 +123,11 @@ module _ (solving : Solving) (a b : Script) (long : most_source_bytes < length a
   -- what could not be written is the same
   long_unwritten : (old new : Outside) (request : Asked) → IsWriteFault solving old new request (scripted a) → IsWriteFault solving old new request (scripted b)
   long_unwritten old new request (inl u) = inl u
-  long_unwritten old new request (inr (inl u)) = inr (inl (record { text = u.text; prefix = u.prefix; due = long_front u.text (length u.prefix.added) u.due }))
+  long_unwritten old new request (inr (inl u)) = inr (inl (record { text = u.text; prefix = u.prefix; expected = long_front u.text (length u.prefix.added) u.expected }))
   long_unwritten old new request (inr (inr (inl u))) = inr (inr (inl (record { status = u.status; text = u.text; listing = long_listing u.status u.text u.listing; outside = u.outside })))
-  long_unwritten old new request (inr (inr (inr (inl u)))) = absurd (no_job solving.before.names a u.saves.job long u.saves.is_job)
+  long_unwritten old new request (inr (inr (inr (inl u)))) = absurd (no_job solving.before.names a u.saves.to_run long u.saves.is_to_run)
   long_unwritten old new request (inr (inr (inr (inr u)))) =
-      inr (inr (inr (inr (record { status = u.status; text = u.text; listing = long_listing u.status u.text u.listing; save = u.save; saves = long_saves u.status request u.save u.saves; lines = u.lines; closing = long_closing u.status request u.lines u.closing; front = u.front }))))
+      inr (inr (inr (inr (record { status = u.status; text = u.text; listing = long_listing u.status u.text u.listing; save = u.save; saves = long_saves u.status request u.save u.saves; lines = u.lines; closing = long_closing u.status request u.lines u.closing; beginning = u.beginning }))))
 
   -- What a run did of a script that is too long it did of another.
   pub long_ran : (status : Status) (old new : Outside) (request : Asked) → RanSo status solving old new request (scripted a) → RanSo status solving old new request (scripted b)
@@ -165,41 +165,41 @@ module _ (status : Status) (solving : Solving) (old new : Outside) (request : As
 
       too_long : (a b : List ℕ) → most_source_bytes < length b → most_source_bytes < length (joint_source a b)
       too_long a b h =
-          let seam : length b ≤ length (10 ∷ 59 ∷ 10 ∷ b) = longer (10 ∷ 59 ∷ 10 ∷ []) b in
+          let joining : length b ≤ length (10 ∷ 59 ∷ 10 ∷ b) = longer (10 ∷ 59 ∷ 10 ∷ []) b in
           let joint : length (10 ∷ 59 ∷ 10 ∷ b) ≤ length (joint_source a b) = longer a (10 ∷ 59 ∷ 10 ∷ b) in
-          omega (arith, h, seam, joint)
+          omega (arith, h, joining, joint)
 
   -- what was run of a save and the first bytes of a file is what was run of the save and the file
   pub file_whole : (save whole : List ℕ) → RanOf status solving old new request (from_save save (take (most_source_bytes + 1) whole)) → RanOf status solving old new request (from_save save whole)
-  file_whole save whole r = by r.matter r.is_matter r.ran
+  file_whole save whole r = by r.loaded_input r.is_loaded_input r.ran
     where
-      by : (m : Matter) → IsMatter solving.before.names (from_save save (take (most_source_bytes + 1) whole)) m → RanSo status solving old new request m → RanOf status solving old new request (from_save save whole)
-      by (unrestored fault) is ran = record { matter = unrestored fault; is_matter = is; ran = ran }
+      by : (m : LoadedInput) → IsLoadedInput solving.before.names (from_save save (take (most_source_bytes + 1) whole)) m → RanSo status solving old new request m → RanOf status solving old new request (from_save save whole)
+      by (unrestored fault) is ran = record { loaded_input = unrestored fault; is_loaded_input = is; ran = ran }
       by (scripted script) is ran =
           record {
-            matter = scripted (joint_script is.saved.source.items is.saved.store whole);
-            is_matter = record { saved = is.saved; short = is.short; restored = is.restored; back = is.back; joint = refl };
+            loaded_input = scripted (joint_script is.saved.source.items is.saved.store whole);
+            is_loaded_input = record { saved = is.saved; short = is.short; restored = is.restored; back = is.back; joint = refl };
             ran = joint_whole is.saved.source.items is.saved.store whole (subst (λ (s : Script). RanSo status solving old new request (scripted s)) is.joint ran);
           }
 
   -- what was run of the first bytes of a save was run of the save
   pub save_whole : (whole file : List ℕ) → RanOf status solving old new request (from_save (take (most_save_bytes + 1) whole) file) → RanOf status solving old new request (from_save whole file)
-  save_whole whole file = of_whole most_save_bytes whole (λ b. RanOf status solving old new request (from_save b file)) (λ long more r. by long more r.matter r.is_matter r.ran)
+  save_whole whole file = of_whole most_save_bytes whole (λ b. RanOf status solving old new request (from_save b file)) (λ long more r. by long more r.loaded_input r.is_loaded_input r.ran)
     where
       same_fault : (fault : SaveFault) → most_save_bytes < length (take (most_save_bytes + 1) whole) → most_save_bytes < length whole → IsUnrestored solving.before.names (take (most_save_bytes + 1) whole) fault → IsUnrestored solving.before.names whole fault
       same_fault SaveTooLong long more is = record { answer = more; back = λ source program state solver save. more }
       same_fault SaveShape long more is = let few : length (take (most_save_bytes + 1) whole) ≤ most_save_bytes = is.answer.0 in absurd (omega (arith, few, long))
       same_fault SaveSolver long more is = let few : length (take (most_save_bytes + 1) whole) ≤ most_save_bytes = is.answer.0 in absurd (omega (arith, few, long))
 
-      by : most_save_bytes < length (take (most_save_bytes + 1) whole) → most_save_bytes < length whole → (m : Matter) → IsMatter solving.before.names (from_save (take (most_save_bytes + 1) whole) file) m → RanSo status solving old new request m → RanOf status solving old new request (from_save whole file)
+      by : most_save_bytes < length (take (most_save_bytes + 1) whole) → most_save_bytes < length whole → (m : LoadedInput) → IsLoadedInput solving.before.names (from_save (take (most_save_bytes + 1) whole) file) m → RanSo status solving old new request m → RanOf status solving old new request (from_save whole file)
       by long more (scripted script) is ran = let few : length (take (most_save_bytes + 1) whole) ≤ most_save_bytes = is.short in absurd (omega (arith, few, long))
-      by long more (unrestored fault) is ran = record { matter = unrestored fault; is_matter = same_fault fault long more is; ran = ran }
+      by long more (unrestored fault) is ran = record { loaded_input = unrestored fault; is_loaded_input = same_fault fault long more is; ran = ran }
 
 -- a line that was printed after a file was read, or was not
 says_later : {A : Type 0} {r : Result A Failed} (old mid new : Meaning) (before : Outside) (line : List ℕ) (there : Type 0) → CountsReading r there old.counts mid.counts → SaysLine mid new before line → SaysLine old new before line
 says_later old mid new before line there counts said =
     let faults : mid.counts.write_faults ≡ old.counts.write_faults = ap (λ (c : Counts). c.write_faults) counts.rest in
-    record { front = said.front; whole = elim said.whole [ inl all ↦ inl all | inr rose ↦ inr (subst (λ n. Rose n new.counts.write_faults) faults rose) ] }
+    record { beginning = said.beginning; whole = elim said.whole [ inl all ↦ inl all | inr rose ↦ inr (subst (λ n. Rose n new.counts.write_faults) faults rose) ] }
 
 says_from : {A : Type 0} {r : Result A Failed} (old mid new : Meaning) (line : List ℕ) (there : Type 0) → CountsReading r there old.counts mid.counts → SaysLine mid new mid.outside line → SaysLine old new mid.outside line
 says_from old mid new line there counts said = says_later old mid new mid.outside line there counts said
@@ -207,11 +207,11 @@ says_from old mid new line there counts said = says_later old mid new mid.outsid
 -- ---- for a request
 
 -- What a run of the input did is what it did for a request.
-pub of_request : (status : Status) (solving : Solving) (old new : Meaning) (request : Asked) (taken : Taken) → IsInputOf old.outside request.source taken → RanOf status solving (with_taken old.outside request.source taken) new.outside request taken → OfRequest status solving old new request
-of_request Done solving old new request taken is r = record { taken = taken; is_taken = is; matter = r.matter; is_matter = r.is_matter; ran = r.ran }
-of_request Compile solving old new request taken is r = record { taken = taken; is_taken = is; matter = r.matter; is_matter = r.is_matter; ran = r.ran }
-of_request Execution solving old new request taken is r = record { taken = taken; is_taken = is; matter = r.matter; is_matter = r.is_matter; ran = r.ran }
-of_request WriteFault solving old new request taken is r = record { taken = taken; is_taken = is; matter = r.matter; is_matter = r.is_matter; ran = r.ran }
+pub of_request : (status : Status) (solving : Solving) (old new : Meaning) (request : Asked) (taken : RunInput) → IsInputOf old.outside request.source taken → RanOf status solving (with_taken old.outside request.source taken) new.outside request taken → OfRequest status solving old new request
+of_request Done solving old new request taken is r = record { taken = taken; is_taken = is; loaded_input = r.loaded_input; is_loaded_input = r.is_loaded_input; ran = r.ran }
+of_request Compile solving old new request taken is r = record { taken = taken; is_taken = is; loaded_input = r.loaded_input; is_loaded_input = r.is_loaded_input; ran = r.ran }
+of_request Execution solving old new request taken is r = record { taken = taken; is_taken = is; loaded_input = r.loaded_input; is_loaded_input = r.is_loaded_input; ran = r.ran }
+of_request WriteFault solving old new request taken is r = record { taken = taken; is_taken = is; loaded_input = r.loaded_input; is_loaded_input = r.is_loaded_input; ran = r.ran }
 of_request Usage solving old new request taken is r = absurd r.ran
 of_request ReadFault solving old new request taken is r = absurd r.ran
 
@@ -226,7 +226,7 @@ of_file (Ok status) solving old mid new request file source bytes in_it same rea
     let ran_so : RanSo status solving (with_taken old.outside request.source (from_start whole)) new.outside request (scripted (script_of (take (most_source_bytes + 1) whole))) =
     subst (λ (o : Outside). RanSo status solving o new.outside request (scripted (script_of (take (most_source_bytes + 1) whole)))) place (subst (λ (b : List ℕ). RanSo status solving mid.outside new.outside request (scripted (script_of b))) taken ran) in
     of_request status solving old new request (from_start whole) is
-    (record { matter = scripted (script_of whole); is_matter = refl; ran = ran_whole status solving (with_taken old.outside request.source (from_start whole)) new.outside request whole ran_so })
+    (record { loaded_input = scripted (script_of whole); is_loaded_input = refl; ran = ran_whole status solving (with_taken old.outside request.source (from_start whole)) new.outside request whole ran_so })
 of_file (Err e) solving old mid new request file source bytes in_it same read ran = tt
 
 -- And for a model that was generated, without any call.
@@ -234,14 +234,14 @@ pub of_generated : (r : Result Status AllocError) (solving : Solving) (old new :
     IfOk r (λ status. RanSo status solving old.outside new.outside request (scripted (script_of source))) → IfOk r (λ status. OfRequest status solving old new request)
 of_generated (Ok status) solving old new request size source e is ran =
     of_request status solving old new request (from_start source) (subst (λ (o : Origin). IsInputOf old.outside o (from_start source)) (sym e) is)
-    (record { matter = scripted (script_of source); is_matter = refl; ran = subst (λ (o : Outside). RanSo status solving o new.outside request (scripted (script_of source))) (ap (λ (o : Origin). with_taken old.outside o (from_start source)) (sym e)) ran })
+    (record { loaded_input = scripted (script_of source); is_loaded_input = refl; ran = subst (λ (o : Outside). RanSo status solving o new.outside request (scripted (script_of source))) (ap (λ (o : Origin). with_taken old.outside o (from_start source)) (sym e)) ran })
 of_generated (Err x) solving old new request size source e is ran = tt
 
 -- A file that resumes from a restored save.
 pub of_joint : (r : Result Status AllocError) (solving : Solving) (old new : Outside) (request : Asked) (save file : List ℕ) (saved : Saved) → length save ≤ most_save_bytes → IsRestored solving.before.names save saved → GivesBack solving.before.names save (Ok saved) →
     IfOk r (λ status. RanSo status solving old new request (scripted (joint_script saved.source.items saved.store file))) → IfOk r (λ status. RanOf status solving old new request (from_save save file))
 of_joint (Ok status) solving old new request save file saved short restored back ran =
-    record { matter = scripted (joint_script saved.source.items saved.store file); is_matter = record { saved = saved; short = short; restored = restored; back = back; joint = refl }; ran = ran }
+    record { loaded_input = scripted (joint_script saved.source.items saved.store file); is_loaded_input = record { saved = saved; short = short; restored = restored; back = back; joint = refl }; ran = ran }
 of_joint (Err e) solving old new request save file saved short restored back ran = tt
 
 -- A joint script is that of the saved source, the saved state and the file.
@@ -255,12 +255,12 @@ ran_joint r solving old new request source file before line state saved is begin
 -- What could not be restored is listed so.
 pub of_unrestored : (r : Result Status AllocError) (solving : Solving) (old new : Outside) (request : Asked) (save file : List ℕ) (fault : SaveFault) → IsUnrestored solving.before.names save fault →
     IfOk r (λ status. RanSo status solving old new request (unrestored fault)) → IfOk r (λ status. RanOf status solving old new request (from_save save file))
-of_unrestored (Ok status) solving old new request save file fault is ran = record { matter = unrestored fault; is_matter = is; ran = ran }
+of_unrestored (Ok status) solving old new request save file fault is ran = record { loaded_input = unrestored fault; is_loaded_input = is; ran = ran }
 of_unrestored (Err e) solving old new request save file fault is ran = tt
 
 -- A run of a file that was read after its save is the run of that file.
 pub of_behind : (r : Result Status AllocError) (solving : Solving) (old mid new : Meaning) (request : Asked) (save file : List ℕ) (source : Vec ℕ Global) (bytes : List ℕ) → bytes ≡ source.items → ReadsFile (most_source_bytes + 1) (done_with source) old.outside mid.outside file →
-    IfOk r (λ status. RanOf status solving mid.outside new.outside request (from_save save bytes)) → IfOk r (λ status. RanBehind status solving old new request save file)
+    IfOk r (λ status. RanOf status solving mid.outside new.outside request (from_save save bytes)) → IfOk r (λ status. RanAfter status solving old new request save file)
 of_behind (Err e) solving old mid new request save file source bytes same read ran = tt
 of_behind (Ok status) solving old mid new request save file source bytes same read ran = by status ran
   where
@@ -277,7 +277,7 @@ of_behind (Ok status) solving old mid new request save file source bytes same re
       ),
     )
 
-    by : (s : Status) → RanOf s solving mid.outside new.outside request (from_save save bytes) → RanBehind s solving old new request save file
+    by : (s : Status) → RanOf s solving mid.outside new.outside request (from_save save bytes) → RanAfter s solving old new request save file
     by Done r = of_status Done r
     by Compile r = of_status Compile r
     by Execution r = of_status Execution r
@@ -287,14 +287,14 @@ of_behind (Ok status) solving old mid new request save file source bytes same re
 
 -- A file that resumes from a save could not be read, and the read fault line was printed.
 pub unread_behind : (r : Result Status AllocError) (solving : Solving) (old mid new : Meaning) (request : Asked) (save file : List ℕ) → IsUnread old.outside mid.outside file → CountsReading (let x : Result (Vec ℕ Global) Failed = Err Fault in x) (IsThere old.outside file) old.counts mid.counts →
-    IfOk r (λ status. status ≡ ReadFault) → OnOk r (SaysLine mid new mid.outside (read_fault_line file)) → SolvesNothing solving → IfOk r (λ status. RanBehind status solving old new request save file)
+    IfOk r (λ status. status ≡ ReadFault) → OnOk r (SaysLine mid new mid.outside (read_fault_line file)) → SolvesNothing solving → IfOk r (λ status. RanAfter status solving old new request save file)
 unread_behind (Ok status) solving old mid new request save file not counts same said none =
-    subst (λ s. RanBehind s solving old new request save file) (sym same) (record { before = mid.outside; unread = not; said = says_from old mid new (read_fault_line file) (IsThere old.outside file) counts said }, none)
+    subst (λ s. RanAfter s solving old new request save file) (sym same) (record { before = mid.outside; unread = not; said = says_from old mid new (read_fault_line file) (IsThere old.outside file) counts said }, none)
 unread_behind (Err e) solving old mid new request save file not counts same said none = tt
 
 -- A run of the first bytes of a save, and of the file after it, is what was run for a request.
 pub of_restart : (r : Result Status AllocError) (solving : Solving) (old mid new : Meaning) (request : Asked) (saved file : List ℕ) (save : Vec ℕ Global) (bytes : List ℕ) → request.source ≡ restarted saved file → bytes ≡ save.items → ReadsFile (most_save_bytes + 1) (done_with save) old.outside mid.outside saved →
-    CountsReading (done_with save) (IsThere old.outside saved) old.counts mid.counts → IfOk r (λ status. RanBehind status solving mid new request bytes file) → IfOk r (λ status. OfRequest status solving old new request)
+    CountsReading (done_with save) (IsThere old.outside saved) old.counts mid.counts → IfOk r (λ status. RanAfter status solving mid new request bytes file) → IfOk r (λ status. OfRequest status solving old new request)
 of_restart (Err e) solving old mid new request saved file save bytes in_it same read counts ran = tt
 of_restart (Ok status) solving old mid new request saved file save bytes in_it same read counts ran = by status ran
   where
@@ -324,7 +324,7 @@ of_restart (Ok status) solving old mid new request saved file save bytes in_it s
           said = says_later old mid new u.before (read_fault_line file) (IsThere old.outside saved) counts u.said;
         }
 
-    by : (s : Status) → RanBehind s solving mid new request bytes file → OfRequest s solving old new request
+    by : (s : Status) → RanAfter s solving mid new request bytes file → OfRequest s solving old new request
     by Done r = of_status Done r
     by Compile r = of_status Compile r
     by Execution r = of_status Execution r
@@ -335,23 +335,23 @@ of_restart (Ok status) solving old mid new request saved file save bytes in_it s
 -- ---- reports
 
 -- A report is what its status says.
-pub reports_so : (status : Status) (solving : Solving) (old new : Outside) (request : Asked) (matter : Matter) → IsReported status solving old new request matter → RanSo status solving old new request matter
-reports_so Done solving old new request matter r = r
-reports_so Compile solving old new request matter r = r
-reports_so Execution solving old new request matter r = r
-reports_so Usage solving old new request matter r = absurd r.listing
-reports_so ReadFault solving old new request matter r = absurd r.listing
-reports_so WriteFault solving old new request matter r = absurd r.listing
+pub reports_so : (status : Status) (solving : Solving) (old new : Outside) (request : Asked) (loaded_input : LoadedInput) → IsReported status solving old new request loaded_input → RanSo status solving old new request loaded_input
+reports_so Done solving old new request loaded_input r = r
+reports_so Compile solving old new request loaded_input r = r
+reports_so Execution solving old new request loaded_input r = r
+reports_so Usage solving old new request loaded_input r = absurd r.listing
+reports_so ReadFault solving old new request loaded_input r = absurd r.listing
+reports_so WriteFault solving old new request loaded_input r = absurd r.listing
 
 -- a run did what its report resulted in
-pub ran_so : (reported : Result Status Failed) (r : Result Status AllocError) (solving : Solving) (old new : Outside) (request : Asked) (matter : Matter) → EndsAs reported r →
-    ComesTo reported (λ status. IsReported status solving old new request matter) (IsWriteFault solving old new request matter) → IfOk r (λ status. RanSo status solving old new request matter)
-ran_so (Ok status) r solving old new request matter is done =
-    subst (λ (x : Result Status AllocError). IfOk x (λ s. RanSo s solving old new request matter)) (sym is) (reports_so status solving old new request matter done)
-ran_so (Err Fault) r solving old new request matter is broken =
-    subst (λ (x : Result Status AllocError). IfOk x (λ s. RanSo s solving old new request matter)) (sym is) broken
-ran_so (Err Memory) r solving old new request matter (e, is) broken =
-    subst (λ (x : Result Status AllocError). IfOk x (λ s. RanSo s solving old new request matter)) (sym is) tt
+pub ran_so : (reported : Result Status Failed) (r : Result Status AllocError) (solving : Solving) (old new : Outside) (request : Asked) (loaded_input : LoadedInput) → EndsAs reported r →
+    ResultsIn reported (λ status. IsReported status solving old new request loaded_input) (IsWriteFault solving old new request loaded_input) → IfOk r (λ status. RanSo status solving old new request loaded_input)
+ran_so (Ok status) r solving old new request loaded_input is done =
+    subst (λ (x : Result Status AllocError). IfOk x (λ s. RanSo s solving old new request loaded_input)) (sym is) (reports_so status solving old new request loaded_input done)
+ran_so (Err Fault) r solving old new request loaded_input is broken =
+    subst (λ (x : Result Status AllocError). IfOk x (λ s. RanSo s solving old new request loaded_input)) (sym is) broken
+ran_so (Err Memory) r solving old new request loaded_input (e, is) broken =
+    subst (λ (x : Result Status AllocError). IfOk x (λ s. RanSo s solving old new request loaded_input)) (sym is) tt
 
 -- ---- the steps of a report
 
@@ -360,21 +360,21 @@ opened_as : (old mid : Outside) (name output : List ℕ) → name ≡ output →
 opened_as old mid name output same e = e ∙ ap (with_opened old) same
 
 -- the output was not opened
-pub unopened : (solving : Solving) (old new : Outside) (request : Asked) (matter : Matter) (name : List ℕ) (failed : Failed) → name ≡ request.output → SolvesNothing solving → OpensOutput (Err failed) old new name → IsWriteFault solving old new request matter
-unopened solving old new request matter name failed same none opened =
+pub unopened : (solving : Solving) (old new : Outside) (request : Asked) (loaded_input : LoadedInput) (name : List ℕ) (failed : Failed) → name ≡ request.output → SolvesNothing solving → OpensOutput (Err failed) old new name → IsWriteFault solving old new request loaded_input
+unopened solving old new request loaded_input name failed same none opened =
     inl (record { none = none; outside = subst (λ (n : List ℕ). OpensOutput (Err failed) old new n) same opened })
 
 -- the listing was not written whole
-pub unwritten : (solving : Solving) (old mid new : Outside) (request : Asked) (matter : Matter) (name : List ℕ) → name ≡ request.output → mid ≡ with_opened old name → IsUnwritten solving mid new matter → IsWriteFault solving old new request matter
-unwritten solving old mid new request matter name same opened u = inr (inl (subst (λ (o : Outside). IsUnwritten solving o new matter) (opened_as old mid name request.output same opened) u))
+pub unwritten : (solving : Solving) (old mid new : Outside) (request : Asked) (loaded_input : LoadedInput) (name : List ℕ) → name ≡ request.output → mid ≡ with_opened old name → IsUnwritten solving mid new loaded_input → IsWriteFault solving old new request loaded_input
+unwritten solving old mid new request loaded_input name same opened u = inr (inl (subst (λ (o : Outside). IsUnwritten solving o new loaded_input) (opened_as old mid name request.output same opened) u))
 
-module _ (status : Status) (solving : Solving) (old mid wrote : Outside) (request : Asked) (matter : Matter) (name : List ℕ) (same : name ≡ request.output) (opened : mid ≡ with_opened old name) (lists : Lists status solving mid wrote matter) where
+module _ (status : Status) (solving : Solving) (old mid wrote : Outside) (request : Asked) (loaded_input : LoadedInput) (name : List ℕ) (same : name ≡ request.output) (opened : mid ≡ with_opened old name) (lists : Lists status solving mid wrote loaded_input) where
   -- what was written
   written : wrote ≡ with_listing old request.output lists.text
   written = lists.written ∙ ap (λ (o : Outside). with_output o lists.text) (opened_as old mid name request.output same opened)
 
   -- the output was not closed well
-  pub unclosed : (new : Outside) (failed : Failed) → ClosesOutput (Err failed) wrote new → IsWriteFault solving old new request matter
+  pub unclosed : (new : Outside) (failed : Failed) → ClosesOutput (Err failed) wrote new → IsWriteFault solving old new request loaded_input
   unclosed new failed closed =
       inr (inr (inl (record { status = status; text = lists.text; listing = lists.listing; outside = closed ∙ ap (λ (o : Outside). record o { writing = false }) written })))
 
@@ -383,7 +383,7 @@ module _ (status : Status) (solving : Solving) (old mid wrote : Outside) (reques
     kept = closed ∙ ap with_kept written
 
     -- the save was not written to its file
-    pub unsaved : (new : Outside) (save : List ℕ) → SavesSo status solving request matter save → LosesSave status request shut new save → IsWriteFault solving old new request matter
+    pub unsaved : (new : Outside) (save : List ℕ) → SavesSo status solving request loaded_input save → LosesSave status request shut new save → IsWriteFault solving old new request loaded_input
     unsaved new save saves lost =
         inr (inr (inr (inl (record {
           status = status;
@@ -392,29 +392,29 @@ module _ (status : Status) (solving : Solving) (old mid wrote : Outside) (reques
           name = lost.name;
           named = lost.named;
           save = save;
-          saves = subst (λ (file : Option (List ℕ)). IfSome file (λ f. SavesLast solving matter save)) lost.named saves;
+          saves = subst (λ (file : Option (List ℕ)). IfSome file (λ f. SavesLast solving loaded_input save)) lost.named saves;
           outside = subst (λ (o : Outside). IsUnwrittenFile o new lost.name save) kept lost.outside;
         }))))
 
-    module _ (done : Outside) (save : List ℕ) (saves : SavesSo status solving request matter save) (saved : WritesSave status request shut done save) (lines : List ℕ) (closing : AreClosing status solving request matter lines) where
+    module _ (done : Outside) (save : List ℕ) (saves : SavesSo status solving request loaded_input save) (saved : WritesSave status request shut done save) (lines : List ℕ) (closing : AreClosing status solving request loaded_input lines) where
       stored : done ≡ with_save (with_file old request.output lists.text) (save_file status request) save
       stored = saved ∙ ap (λ (o : Outside). with_save o (save_file status request) save) kept
 
       -- the closing lines were not said whole
-      pub unsaid : (new : Outside) → SaysFront done new lines → IsWriteFault solving old new request matter
-      unsaid new front =
-          inr (inr (inr (inr (record { status = status; text = lists.text; listing = lists.listing; save = save; saves = saves; lines = lines; closing = closing; front = subst (λ (o : Outside). SaysFront o new lines) stored front }))))
+      pub unsaid : (new : Outside) → PrintsPrefix done new lines → IsWriteFault solving old new request loaded_input
+      unsaid new beginning =
+          inr (inr (inr (inr (record { status = status; text = lists.text; listing = lists.listing; save = save; saves = saves; lines = lines; closing = closing; beginning = subst (λ (o : Outside). PrintsPrefix o new lines) stored beginning }))))
 
       -- all was done
-      pub reported : (new : Outside) → new ≡ with_said done lines → IsReported status solving old new request matter
+      pub reported : (new : Outside) → new ≡ with_said done lines → IsReported status solving old new request loaded_input
       reported new said =
           record { text = lists.text; listing = lists.listing; save = save; saves = saves; lines = lines; closing = closing; outside = said ∙ ap (λ (o : Outside). with_said o lines) stored }
 
 -- ---- saves
 
 -- The save was written to its file, or not.
-pub saves_file : (r : Result (Unit {0}) Failed) (status : Status) (request : Asked) (old new : Outside) (name bytes : List ℕ) → save_file status request ≡ Some name → ComesTo r (λ done. new ≡ with_file old name bytes) (IsUnwrittenFile old new name bytes) →
-    ComesTo r (λ done. WritesSave status request old new bytes) (LosesSave status request old new bytes)
+pub saves_file : (r : Result (Unit {0}) Failed) (status : Status) (request : Asked) (old new : Outside) (name bytes : List ℕ) → save_file status request ≡ Some name → ResultsIn r (λ done. new ≡ with_file old name bytes) (IsUnwrittenFile old new name bytes) →
+    ResultsIn r (λ done. WritesSave status request old new bytes) (LosesSave status request old new bytes)
 saves_file (Ok done) status request old new name bytes named is = is ∙ ap (λ (file : Option (List ℕ)). with_save old file bytes) (sym named)
 saves_file (Err Fault) status request old new name bytes named is = record { name = name; named = named; outside = is }
 saves_file (Err Memory) status request old new name bytes named is = tt
@@ -437,11 +437,11 @@ unread (Err e) solving old mid new request file not counts same said none = tt
 -- A line that was printed whole.
 pub says_whole : (old new : Meaning) (line : List ℕ) → new.outside ≡ with_said old.outside line → SaysLine old new old.outside line
 says_whole old new line said =
-    record { front = ([], record { bytes = line; said = said; split = sym (append-nil line) }); whole = inl said }
+    record { beginning = ([], record { bytes = line; said = said; split = sym (append-nil line) }); whole = inl said }
 
 -- A line whose saying a fault ended.
-pub says_front : (old new : Meaning) (line : List ℕ) → SaysFront old.outside new.outside line → Rose old.counts.write_faults new.counts.write_faults → SaysLine old new old.outside line
-says_front old new line front rose = record { front = front; whole = inr rose }
+pub prints_prefix : (old new : Meaning) (line : List ℕ) → PrintsPrefix old.outside new.outside line → Rose old.counts.write_faults new.counts.write_faults → SaysLine old new old.outside line
+prints_prefix old new line beginning rose = record { beginning = beginning; whole = inr rose }
 
 -- ---- counts
 
@@ -494,13 +494,13 @@ counts_reported status old new c is =
     met WriteFault (inr (inr e)) = let z : ⊥ = cc in absurd z
 
 -- a report has the listing of one of three statuses
-pub reported_status : (status : Status) (solving : Solving) (old new : Outside) (request : Asked) (matter : Matter) → IsReported status solving old new request matter → (status ≡ Done) ⊎ ((status ≡ Compile) ⊎ (status ≡ Execution))
-reported_status Done solving old new request matter r = inl refl
-reported_status Compile solving old new request matter r = inr (inl refl)
-reported_status Execution solving old new request matter r = inr (inr refl)
-reported_status Usage solving old new request matter r = absurd r.listing
-reported_status ReadFault solving old new request matter r = absurd r.listing
-reported_status WriteFault solving old new request matter r = absurd r.listing
+pub reported_status : (status : Status) (solving : Solving) (old new : Outside) (request : Asked) (loaded_input : LoadedInput) → IsReported status solving old new request loaded_input → (status ≡ Done) ⊎ ((status ≡ Compile) ⊎ (status ≡ Execution))
+reported_status Done solving old new request loaded_input r = inl refl
+reported_status Compile solving old new request loaded_input r = inr (inl refl)
+reported_status Execution solving old new request loaded_input r = inr (inr refl)
+reported_status Usage solving old new request loaded_input r = absurd r.listing
+reported_status ReadFault solving old new request loaded_input r = absurd r.listing
+reported_status WriteFault solving old new request loaded_input r = absurd r.listing
 
 -- what a report counts that a fault ended
 pub counts_fault : (old new : Counts) → CountsWriting (let r : Result Status Failed = Err Fault in r) old new → CountsRun (let r : Result Status AllocError = Ok WriteFault in r) (old.reliable ≡ true) old new
@@ -516,13 +516,13 @@ pub counts_memory : (e : AllocError) (r : Result Status Failed) (old new : Count
 counts_memory e r old new c = record { said = tt; stay = λ t. c.rest ∙ ap (λ n. record old { write_faults = n }) (c.own.steady t); unmet = λ t. tt }
 
 -- the counts of a run, by the result of its report
-pub counts_so : (reported : Result Status Failed) (r : Result Status AllocError) (solving : Solving) (old new : Outside) (request : Asked) (matter : Matter) (first last : Counts) → EndsAs reported r → CountsWriting reported first last →
-    ComesTo reported (λ status. IsReported status solving old new request matter) (IsWriteFault solving old new request matter) → CountsRun r (first.reliable ≡ true) first last
-counts_so (Ok status) r solving old new request matter first last is counts done =
-    subst (λ (x : Result Status AllocError). CountsRun x (first.reliable ≡ true) first last) (sym is) (counts_reported status first last counts (reported_status status solving old new request matter done))
-counts_so (Err Fault) r solving old new request matter first last is counts broken =
+pub counts_so : (reported : Result Status Failed) (r : Result Status AllocError) (solving : Solving) (old new : Outside) (request : Asked) (loaded_input : LoadedInput) (first last : Counts) → EndsAs reported r → CountsWriting reported first last →
+    ResultsIn reported (λ status. IsReported status solving old new request loaded_input) (IsWriteFault solving old new request loaded_input) → CountsRun r (first.reliable ≡ true) first last
+counts_so (Ok status) r solving old new request loaded_input first last is counts done =
+    subst (λ (x : Result Status AllocError). CountsRun x (first.reliable ≡ true) first last) (sym is) (counts_reported status first last counts (reported_status status solving old new request loaded_input done))
+counts_so (Err Fault) r solving old new request loaded_input first last is counts broken =
     subst (λ (x : Result Status AllocError). CountsRun x (first.reliable ≡ true) first last) (sym is) (counts_fault first last counts)
-counts_so (Err Memory) r solving old new request matter first last (e, is) counts broken =
+counts_so (Err Memory) r solving old new request loaded_input first last (e, is) counts broken =
     subst (λ (x : Result Status AllocError). CountsRun x (first.reliable ≡ true) first last) (sym is) (counts_memory e (failed_with Status Memory) first last counts)
 
 -- and what it counts where nothing was done before
@@ -538,8 +538,8 @@ reliable_still p t = ap (λ (c : Counts). c.reliable) p.rest ∙ t
 
 -- the counts of a run after a file was read
 counts_read_on : {A : Type 0} (x : A) (there sure later : Type 0) (r : Result Status AllocError) (old mid new : Counts) → (sure → (old.reliable ≡ true) × there) → (sure → later) → CountsReading (done_with x) there old mid → CountsRun r later mid new → CountsRun r sure old new
-counts_read_on x there sure later r old mid new before behind p q =
-    record { said = by r q.said; stay = λ t. q.stay (behind t) ∙ first (before t); unmet = λ t. q.unmet (behind t) }
+counts_read_on x there sure later r old mid new before following p q =
+    record { said = by r q.said; stay = λ t. q.stay (following t) ∙ first (before t); unmet = λ t. q.unmet (following t) }
   where
     first : (old.reliable ≡ true) × there → mid ≡ old
     first t = p.rest ∙ ap (λ n. record old { read_faults = n }) (p.own.steady t)

@@ -28,10 +28,10 @@ use Rattle.gms_restart.proofs.OwnLoaded.{has-its-labels}
 use Rattle.gms_restart.proofs.Placing.{IsFirst, first-placed, loaded-chooses, run-chooses}
 use Rattle.gms_restart.proofs.Saved.{state-kept}
 use Rattle.gms_restart.specs.LastStates.{later_state}
-use Rattle.lp_slot.specs.SolverNames.{IsSolverName, may_stand_in_name}
+use Rattle.lp_slot.specs.SolverNames.{IsSolverName, is_solver_name_byte}
 use Rattle.gms_run.specs.Solving.{Solving, numbers_of}
 use Rattle.gms_run.specs.Scripts.{Script, errors_of_script, first_line, first_state, joint_source, statements_to_run}
-use Rattle.gms_run.specs.ProgramsToRun.{Job, course_of, job_of, save_text, solver_name}
+use Rattle.gms_run.specs.ProgramsToRun.{ProgramToRun, course_of, program_to_run, save_text, solver_name}
 use Rattle.gms_run.specs.Listings.{IsAcceptedScript}
 use Rattle.gms_run.specs.InnerReports.{IsGoneOn, KeepsState}
 
@@ -45,7 +45,7 @@ name-saved : (name : List ℕ) → IsSolverName name → is_solver_name name ≡
 name-saved [] is = absurd (let e : false ≡ true = is.letter in cc)
 name-saved (first ∷ rest) is =
     and_from (is_ascii_alphabetic first) (list_all is_solver_byte rest && nat_le (length rest) 62) is.letter
-    (and_from (list_all is_solver_byte rest) (nat_le (length rest) 62) ((and_parts (may_stand_in_name first) (list_all may_stand_in_name rest) is.plain).1) (short-rest (length rest) (omega (arith, is.short))))
+    (and_from (list_all is_solver_byte rest) (nat_le (length rest) 62) ((and_parts (is_solver_name_byte first) (list_all is_solver_name_byte rest) is.plain).1) (short-rest (length rest) (omega (arith, is.short))))
 
 -- what a save has for the solver of a place
 solver-saved : (names : List (List ℕ)) (place : ℕ) → All IsSolverName names → is_solver_name (unwrap_or (slice_get names place) (codes "none")) ≡ true
@@ -91,39 +91,39 @@ counts-as state program declares =
     ∙ ap length (declares ∙ loaded-declares frac_value program)
     ∙ declared-count program
 
-module _ (solving : Solving) (script : Script) (job : Job) (accepted : IsAcceptedScript solving.before.names script job.program) (is_job : job ≡ job_of script job.program) where
+module _ (solving : Solving) (script : Script) (to_run : ProgramToRun) (accepted : IsAcceptedScript solving.before.names script to_run.program) (is_to_run : to_run ≡ program_to_run script to_run.program) where
   abbrev world : World Frac
-  world = record { program = job.program; solvers = solving.before.names }
+  world = record { program = to_run.program; solvers = solving.before.names }
 
   -- the state in which a script's program ends
   abbrev ended : Option State → State
-  ended saved = (run_from frac_value frac_limit world (first_state saved job.program) (numbers_of solving.answers) (statements_to_run saved script.line job.program)).state
+  ended saved = (run_from frac_value frac_limit world (first_state saved to_run.program) (numbers_of solving.answers) (statements_to_run saved script.line to_run.program)).state
 
-  ended-is : (course_of job solving).state ≡ ended script.saved
+  ended-is : (course_of to_run solving).state ≡ ended script.saved
   ended-is =
-      ap₂ (λ (state : State) (statements : List (Stmt Frac)). (run_from frac_value frac_limit world state (numbers_of solving.answers) statements).state) (ap (λ (j : Job). j.state) is_job) (ap (λ (j : Job). j.statements) is_job)
+      ap₂ (λ (state : State) (statements : List (Stmt Frac)). (run_from frac_value frac_limit world state (numbers_of solving.answers) statements).state) (ap (λ (j : ProgramToRun). j.state) is_to_run) (ap (λ (j : ProgramToRun). j.statements) is_to_run)
 
   -- the numbers of the names of a state fit
   abbrev FitsThere : State → Type 0
-  FitsThere state = (name : ℕ) → name < length job.program.names → (t : List ℕ) → fits_at frac_limit (symbol_of state name).content t ≡ true
+  FitsThere state = (name : ℕ) → name < length to_run.program.names → (t : List ℕ) → fits_at frac_limit (symbol_of state name).content t ≡ true
 
   abbrev named_by : State → List ℕ
   named_by state = solver_name solving.before.names state
 
   -- it is a saved state of the program, from the start and from a save
-  saved-by : (saved : Option State) → errors_of_script saved script.line job.program solving.before.names ≡ [] → IfSome saved (IsGoneOn solving.before.names script.source script.line) → FitsThere (ended saved) → All IsSolverName solving.before.names → IsSavedBy job.program (ended saved) (named_by (ended saved))
+  saved-by : (saved : Option State) → errors_of_script saved script.line to_run.program solving.before.names ≡ [] → IfSome saved (IsGoneOn solving.before.names script.source script.line) → FitsThere (ended saved) → All IsSolverName solving.before.names → IsSavedBy to_run.program (ended saved) (named_by (ended saved))
   saved-by None none origin fit named =
-      let kept = state-kept frac_value frac_limit world (solving.before.names, none) (has-its-labels frac_limit script.source job.program accepted.is_program) (numbers_of solving.answers) in
+      let kept = state-kept frac_value frac_limit world (solving.before.names, none) (has-its-labels frac_limit script.source to_run.program accepted.is_program) (numbers_of solving.answers) in
       last-saved frac_limit script.source world (numbers_of solving.answers) (named_by (ended None)) accepted.is_program none
-      (fits-each frac_limit (ended None) (length job.program.names) (counts-as (ended None) job.program kept.lasts.later.declares) fit) (solver-saved solving.before.names (ended None).settings.solver named)
+      (fits-each frac_limit (ended None) (length to_run.program.names) (counts-as (ended None) to_run.program kept.lasts.later.declares) fit) (solver-saved solving.before.names (ended None).settings.solver named)
   saved-by (Some state) none origin fit named =
-      let joint : IsProgram frac_limit (joint_source origin.before origin.file) frac_value job.program = subst (λ (source : List ℕ). IsProgram frac_limit source frac_value job.program) origin.joint accepted.is_program in
-      let clean : joint_errors frac_value job.program (first_line origin.before) solving.before.names ≡ [] = ap (λ (n : ℕ). joint_errors frac_value job.program n solving.before.names) (sym origin.begins) ∙ none in
+      let joint : IsProgram frac_limit (joint_source origin.before origin.file) frac_value to_run.program = subst (λ (source : List ℕ). IsProgram frac_limit source frac_value to_run.program) origin.joint accepted.is_program in
+      let clean : joint_errors frac_value to_run.program (first_line origin.before) solving.before.names ≡ [] = ap (λ (n : ℕ). joint_errors frac_value to_run.program n solving.before.names) (sym origin.begins) ∙ none in
       let one : IsAcceptedBy frac_value origin.program = (solvers_chosen origin.program, origin.is_saved.no_error) in
       let kept = later-state-kept frac_limit origin.before origin.file origin.program world origin.is_program joint one clean frac_limit state origin.solver origin.is_saved (numbers_of solving.answers) in
-      subst (λ (s : State). IsSavedBy job.program s (named_by s)) (sym (later-is state origin))
+      subst (λ (s : State). IsSavedBy to_run.program s (named_by s)) (sym (later-is state origin))
       (later-saved frac_limit origin.before origin.file origin.program world state origin.solver (named_by (later state origin)) (numbers_of solving.answers) origin.is_program joint clean origin.is_saved
-      (fits-each frac_limit (later state origin) (length job.program.names) (counts-as (later state origin) job.program kept.lasts.later.declares) (subst FitsThere (later-is state origin) fit)) (solver-saved solving.before.names (later state origin).settings.solver named))
+      (fits-each frac_limit (later state origin) (length to_run.program.names) (counts-as (later state origin) to_run.program kept.lasts.later.declares) (subst FitsThere (later-is state origin) fit)) (solver-saved solving.before.names (later state origin).settings.solver named))
     where
       later : (s : State) → IsGoneOn solving.before.names script.source script.line s → State
       later s gone = later_state frac_value frac_limit (first_line gone.before) world s (numbers_of solving.answers)
@@ -132,24 +132,24 @@ module _ (solving : Solving) (script : Script) (job : Job) (accepted : IsAccepte
       later-is s gone = ap (λ (n : ℕ). later_state frac_value frac_limit n world s (numbers_of solving.answers)) gone.begins
 
   -- The place of the solver that it names is the one that its settings have.
-  pub placed-last : IfSome script.saved (IsGoneOn solving.before.names script.source script.line) → All IsSolverName solving.before.names → place_of_solver solving.before.names (named_by (course_of job solving).state) ≡ Some (course_of job solving).state.settings.solver
+  pub placed-last : IfSome script.saved (IsGoneOn solving.before.names script.source script.line) → All IsSolverName solving.before.names → place_of_solver solving.before.names (named_by (course_of to_run solving).state) ≡ Some (course_of to_run solving).state.settings.solver
   placed-last origin named =
       subst (λ (s : State). IsFirst solving.before.names s.settings.solver) (sym ended-is) (by script.saved origin)
     where
-      chosen : (saved : Option State) → IsFirst solving.before.names (first_state saved job.program).settings.solver → IsFirst solving.before.names (ended saved).settings.solver
+      chosen : (saved : Option State) → IsFirst solving.before.names (first_state saved to_run.program).settings.solver → IsFirst solving.before.names (ended saved).settings.solver
       chosen saved first =
-          run-chooses frac_value frac_limit world named (first_state saved job.program) (numbers_of solving.answers) (statements_to_run saved script.line job.program) first
+          run-chooses frac_value frac_limit world named (first_state saved to_run.program) (numbers_of solving.answers) (statements_to_run saved script.line to_run.program) first
 
       by : (saved : Option State) → IfSome saved (IsGoneOn solving.before.names script.source script.line) → IsFirst solving.before.names (ended saved).settings.solver
-      by None gone = chosen None (loaded-chooses frac_value job.program solving.before.names named)
+      by None gone = chosen None (loaded-chooses frac_value to_run.program solving.before.names named)
       by (Some state) gone = chosen (Some state) (first-placed solving.before.names named gone.solver state.settings.solver gone.placed)
 
   -- The bytes are a save of it.
-  pub saves-state : IfSome script.saved (IsGoneOn solving.before.names script.source script.line) → (bytes : List ℕ) → bytes ≡ save_text job solving → FitsThere (course_of job solving).state → All IsSolverName solving.before.names →
-      IsSaveOf bytes job.source job.program (course_of job solving).state (named_by (course_of job solving).state)
+  pub saves-state : IfSome script.saved (IsGoneOn solving.before.names script.source script.line) → (bytes : List ℕ) → bytes ≡ save_text to_run solving → FitsThere (course_of to_run solving).state → All IsSolverName solving.before.names →
+      IsSaveOf bytes to_run.source to_run.program (course_of to_run solving).state (named_by (course_of to_run solving).state)
   saves-state origin bytes text fit named = record {
-    is_program = subst (λ (source : List ℕ). IsProgram frac_limit source frac_value job.program) (sym (ap (λ (j : Job). j.source) is_job)) accepted.is_program;
-    is_saved = subst (λ (s : State). IsSavedBy job.program s (named_by s)) (sym ended-is) (saved-by script.saved accepted.no_error origin (subst FitsThere ended-is fit) named);
+    is_program = subst (λ (source : List ℕ). IsProgram frac_limit source frac_value to_run.program) (sym (ap (λ (j : ProgramToRun). j.source) is_to_run)) accepted.is_program;
+    is_saved = subst (λ (s : State). IsSavedBy to_run.program s (named_by s)) (sym ended-is) (saved-by script.saved accepted.no_error origin (subst FitsThere ended-is fit) named);
     text = text;
   }
 

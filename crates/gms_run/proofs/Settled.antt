@@ -25,7 +25,7 @@ use Rattle.lp_nocycle.proofs.Answering.{comes_to_end}
 use Rattle.lp_nocycle.proofs.AnsweringTurn.{comes_to_end_by_turn, largest_turns}
 use Rattle.lp_nocycle.proofs.SameForm.{same_count}
 use Rattle.gms_exec.specs.Answering.{AreAnswered, IsAnswered}
-use Rattle.gms_exec.specs.ValidEvents.{IsStanding, IsStandingSolve}
+use Rattle.gms_exec.specs.ValidEvents.{IsValidEvent, IsValidSolve}
 use Rattle.gms_exec.proofs.Quiet.{IsNoSolve}
 use Rattle.gms_exec.proofs.ValidCalls.{answered_by_standing}
 use Rattle.gms_run.specs.Searches.{IsEnough, SearchEnds, SearchesEnd}
@@ -50,7 +50,7 @@ module _ (rules : List SolverRule) (answers : List (Answer Frac)) where
 
   -- ---- what stands
 
-  solve_ends : (lp : Lp Frac) (place : ℕ) (settings : Settings) → IsStandingSolve frac_value frac_limit rules answers lp place settings →
+  solve_ends : (lp : Lp Frac) (place : ℕ) (settings : Settings) → IsValidSolve frac_value frac_limit rules answers lp place settings →
       (rule : SolverRule) → slice_get rules settings.solver ≡ Some rule → IsEnough rule (variable_count (λ (x : Number). x) (lp_numbers frac_value lp)) settings.iterlim →
       IfSome (slice_get answers place) (λ answer. ¬ (IsInterrupted answer.end))
   solve_ends lp place settings is rule chosen enough =
@@ -59,20 +59,20 @@ module _ (rules : List SolverRule) (answers : List (Answer Frac)) where
       subst (λ (o : Option (Answer Frac)). IfSome o (λ answer. ¬ (IsInterrupted answer.end))) (sym is.stands)
       (ends_under lp settings.iterlim is.formed rule is.given under pivots)
 
-  one_ends : (e : OwnEvent Frac) → IsStanding frac_value frac_limit rules answers e → SearchEnds rules answers (event_in frac_value e)
+  one_ends : (e : OwnEvent Frac) → IsValidEvent frac_value frac_limit rules answers e → SearchEnds rules answers (event_in frac_value e)
   one_ends (own.Display line items) is = tt
   one_ends (own.Abort line items) is = tt
   one_ends (own.Fault stop) is = tt
   one_ends (own.Solve line model equations lp answer solver settings level) is = solve_ends lp answer settings is
 
-  all_end : (shown : List (OwnEvent Frac)) → All (IsStanding frac_value frac_limit rules answers) shown → SearchesEnd rules answers (events_in frac_value shown)
+  all_end : (shown : List (OwnEvent Frac)) → All (IsValidEvent frac_value frac_limit rules answers) shown → SearchesEnd rules answers (events_in frac_value shown)
   all_end [] is = All-nil (SearchEnds rules answers)
   all_end (e ∷ shown) is =
-      All-cons (SearchEnds rules answers) (event_in frac_value e) (events_in frac_value shown) (one_ends e (All-head (IsStanding frac_value frac_limit rules answers) e shown is))
-      (all_end shown (All-tail (IsStanding frac_value frac_limit rules answers) e shown is))
+      All-cons (SearchEnds rules answers) (event_in frac_value e) (events_in frac_value shown) (one_ends e (All-head (IsValidEvent frac_value frac_limit rules answers) e shown is))
+      (all_end shown (All-tail (IsValidEvent frac_value frac_limit rules answers) e shown is))
 
   -- Valid events are settled.
-  pub settled_by_standing : (shown : List (OwnEvent Frac)) → All (IsStanding frac_value frac_limit rules answers) shown → AreSettled (events_in frac_value shown)
+  pub settled_by_standing : (shown : List (OwnEvent Frac)) → All (IsValidEvent frac_value frac_limit rules answers) shown → AreSettled (events_in frac_value shown)
   settled_by_standing shown is = (answered_by_standing frac_value frac_limit rules answers shown is, all_end shown is)
 
   -- ---- what is no solve

@@ -9,17 +9,17 @@ use Rattle.gms_host.specs.declared.host.Failed.{Failed}
 use Rattle.gms_host.specs.Meaning.{Counts, Files, Meaning, Outside}
 use Rattle.gms_host.specs.declared.host.Failed.TheVariants.{Fault, Memory}
 use Rattle.gms_host.specs.Rules.{ClosesOutput, CountsReading, GivesFirst, IsInput, OpensInput, with_asked, with_kept, with_opened, with_output}
-use Rattle.gms_host.specs.Spooling.{WritesFront}
+use Rattle.gms_host.specs.Spooling.{WritesPrefix}
 use Rattle.gms_host.proofs.Counting.{all_done, done_with, reading_more, reading_none}
 use Rattle.gms_run.specs.Statuses.{AddsPrefix, IsFileOf, IsUnwrittenFile, with_file, with_listing}
-use Rattle.gms_run.specs.InnerSteps.{ComesTo}
+use Rattle.gms_run.specs.InnerSteps.{ResultsIn}
 use Rattle.gms_run.specs.InnerReports.{ReadsFile, TakesFirst}
 
 module _ (most : ℕ) where
   -- what was read so far of a source, and that the input gives what is left
   pub record ReadSoFar (old now : Meaning) (taken : List ℕ) : Type 0 where
     pub few : length taken ≤ most
-    pub front : IfSome old.outside.input (λ bytes. taken ≡ take (length taken) bytes)
+    pub beginning : IfSome old.outside.input (λ bytes. taken ≡ take (length taken) bytes)
     pub outside : now.outside ≡ record old.outside { input = option_map (λ (bytes : List ℕ). drop (length taken) bytes) old.outside.input }
     pub counts : CountsReading all_done (Unit {0}) old.counts now.counts
 
@@ -38,13 +38,13 @@ module _ (most : ℕ) where
   -- More was read: the first `count` bytes of a buffer.
   pub read_more : (old now next : Meaning) (taken items buffer rest : List ℕ) (count : ℕ) → ReadSoFar old now taken → count ≤ length buffer → IfSome now.outside.input (λ bytes. GivesFirst bytes count buffer) × (next.outside ≡ record now.outside { input = option_map (λ (bytes : List ℕ). drop count bytes) now.outside.input }) →
       CountsReading (done_with count) (Unit {0}) now.counts next.counts → items ≡ taken ++ take count (buffer ++ rest) → length buffer + length taken ≤ most → ReadSoFar old next items
-  read_more old now next taken items buffer rest count so room r counts e few =
-      let e' : items ≡ taken ++ take count buffer = e ∙ ap (λ (x : List ℕ). taken ++ x) (take-append-le count buffer rest room) in
-      let n : length items ≡ length taken + count = ap length e' ∙ omega (arith, length-append taken (take count buffer), length-take count buffer, room) in
+  read_more old now next taken items buffer rest count so within_bound r counts e few =
+      let e' : items ≡ taken ++ take count buffer = e ∙ ap (λ (x : List ℕ). taken ++ x) (take-append-le count buffer rest within_bound) in
+      let n : length items ≡ length taken + count = ap length e' ∙ omega (arith, length-append taken (take count buffer), length-take count buffer, within_bound) in
       let input : now.outside.input ≡ option_map (λ (bytes : List ℕ). drop (length taken) bytes) old.outside.input = ap (λ (o : Outside). o.input) so.outside in
       record {
-        few = omega (arith, n, room, few);
-        front = front_more old.outside.input taken items buffer count so.front (subst (λ (o : Option (List ℕ)). IfSome o (λ bytes. GivesFirst bytes count buffer)) input r.0) n e';
+        few = omega (arith, n, within_bound, few);
+        beginning = front_more old.outside.input taken items buffer count so.beginning (subst (λ (o : Option (List ℕ)). IfSome o (λ bytes. GivesFirst bytes count buffer)) input r.0) n e';
         outside =
             r.1
             ∙ ap (λ (o : Outside). record o { input = option_map (λ (bytes : List ℕ). drop count bytes) now.outside.input }) so.outside
@@ -69,26 +69,26 @@ module _ (most : ℕ) where
       outside : (next.outside) ≡ record old.outside { input = option_map (λ (bytes : List ℕ). drop count bytes) now.outside.input }
       outside = r.1 ∙ ap (λ (o : Outside). record o { input = option_map (λ (bytes : List ℕ). drop count bytes) now.outside.input }) so.outside
 
-      Taken : Option (List ℕ) → Type 0
-      Taken i = (whole : List ℕ) × (IfSome i (λ bytes. whole ≡ bytes) × ((items ≡ take (most) whole) × (next.outside ≡ record old.outside { input = option_map (λ (_ : List ℕ). drop (most) whole) i })))
+      RunInput : Option (List ℕ) → Type 0
+      RunInput i = (whole : List ℕ) × (IfSome i (λ bytes. whole ≡ bytes) × ((items ≡ take (most) whole) × (next.outside ≡ record old.outside { input = option_map (λ (_ : List ℕ). drop (most) whole) i })))
 
-      by : (i : Option (List ℕ)) → old.outside.input ≡ i → Taken old.outside.input
+      by : (i : Option (List ℕ)) → old.outside.input ≡ i → RunInput old.outside.input
       by None e0 =
           let now_none : now.outside.input ≡ None = input ∙ ap (option_map (λ (bytes : List ℕ). drop (length items) bytes)) e0 in
-          subst Taken (sym e0) (items, (tt, (sym (take_all (most) items so.few), outside ∙ ap (λ (j : Option (List ℕ)). record old.outside { input = option_map (λ (bytes : List ℕ). drop count bytes) j }) now_none)))
+          subst RunInput (sym e0) (items, (tt, (sym (take_all (most) items so.few), outside ∙ ap (λ (j : Option (List ℕ)). record old.outside { input = option_map (λ (bytes : List ℕ). drop count bytes) j }) now_none)))
       by (Some bytes) e0 =
           let now_some : now.outside.input ≡ Some (drop (length items) bytes) = input ∙ ap (option_map (λ (b : List ℕ). drop (length items) b)) e0 in
           let gives : GivesFirst (drop (length items) bytes) count buffer = subst (λ (o : Option (List ℕ)). IfSome o (λ b. GivesFirst b count buffer)) now_some r.0 in
           let none : drop (length items) bytes ≡ [] = gives.end.0 e in
           let n : length (drop (length items) bytes) ≡ length {A = ℕ} [] = ap length none in
           let short : length bytes ≤ length items = omega (arith, n, length-drop (length items) bytes) in
-          let front : items ≡ take (length items) bytes = subst (λ (o : Option (List ℕ)). IfSome o (λ b. items ≡ take (length items) b)) e0 so.front in
-          subst Taken (sym e0) (
+          let beginning : items ≡ take (length items) bytes = subst (λ (o : Option (List ℕ)). IfSome o (λ b. items ≡ take (length items) b)) e0 so.beginning in
+          subst RunInput (sym e0) (
             bytes,
             (
               refl,
               (
-                front ∙ take_all (length items) bytes short ∙ sym (take_all (most) bytes (omega (arith, short, so.few))),
+                beginning ∙ take_all (length items) bytes short ∙ sym (take_all (most) bytes (omega (arith, short, so.few))),
                 outside ∙ ap (λ (j : Option (List ℕ)). record old.outside { input = option_map (λ (b : List ℕ). drop count b) j }) now_some
                     ∙ ap (λ (b : List ℕ). record old.outside { input = Some b }) (ap (λ (k : ℕ). drop k (drop (length items) bytes)) e ∙ none ∙ sym (drop_all (most) bytes (omega (arith, short, so.few)))),
               ),
@@ -105,14 +105,14 @@ module _ (most : ℕ) where
       all : length items ≡ most
       all = omega (arith, full, so.few)
 
-      Taken : Option (List ℕ) → Type 0
-      Taken i = (whole : List ℕ) × (IfSome i (λ bytes. whole ≡ bytes) × ((items ≡ take (most) whole) × (now.outside ≡ record old.outside { input = option_map (λ (_ : List ℕ). drop (most) whole) i })))
+      RunInput : Option (List ℕ) → Type 0
+      RunInput i = (whole : List ℕ) × (IfSome i (λ bytes. whole ≡ bytes) × ((items ≡ take (most) whole) × (now.outside ≡ record old.outside { input = option_map (λ (_ : List ℕ). drop (most) whole) i })))
 
-      by : (i : Option (List ℕ)) → old.outside.input ≡ i → Taken old.outside.input
-      by None e0 = subst Taken (sym e0) (items, (tt, (sym (take_all (most) items so.few), so.outside ∙ ap (λ (j : Option (List ℕ)). record old.outside { input = option_map (λ (bytes : List ℕ). drop (length items) bytes) j }) e0)))
+      by : (i : Option (List ℕ)) → old.outside.input ≡ i → RunInput old.outside.input
+      by None e0 = subst RunInput (sym e0) (items, (tt, (sym (take_all (most) items so.few), so.outside ∙ ap (λ (j : Option (List ℕ)). record old.outside { input = option_map (λ (bytes : List ℕ). drop (length items) bytes) j }) e0)))
       by (Some bytes) e0 =
-          let front : items ≡ take (length items) bytes = subst (λ (o : Option (List ℕ)). IfSome o (λ b. items ≡ take (length items) b)) e0 so.front in
-          subst Taken (sym e0) (bytes, (refl, (front ∙ ap (λ (k : ℕ). take k bytes) all, so.outside ∙ ap (λ (j : Option (List ℕ)). record old.outside { input = option_map (λ (b : List ℕ). drop (length items) b) j }) e0 ∙ ap (λ (k : ℕ). record old.outside { input = Some (drop k bytes) }) all)))
+          let beginning : items ≡ take (length items) bytes = subst (λ (o : Option (List ℕ)). IfSome o (λ b. items ≡ take (length items) b)) e0 so.beginning in
+          subst RunInput (sym e0) (bytes, (refl, (beginning ∙ ap (λ (k : ℕ). take k bytes) all, so.outside ∙ ap (λ (j : Option (List ℕ)). record old.outside { input = option_map (λ (b : List ℕ). drop (length items) b) j }) e0 ∙ ap (λ (k : ℕ). record old.outside { input = Some (drop k bytes) }) all)))
 
   -- the input is still open while it is read
   pub reads_on : (old now : Meaning) (taken : List ℕ) → ReadSoFar old now taken → old.outside.reading ≡ true → now.outside.reading ≡ true
@@ -123,7 +123,7 @@ module _ (most : ℕ) where
   read_start old =
       record {
         few = omega arith;
-        front = by_front old.outside.input;
+        beginning = by_front old.outside.input;
         outside = ap (λ (i : Option (List ℕ)). record old.outside { input = i }) (same old.outside.input);
         counts = reading_none tt (Unit {0}) old.counts;
       }
@@ -196,19 +196,19 @@ module _ (most : ℕ) where
 -- ---- files that are written
 
 -- The bytes were not all written to an opened file.
-pub unwritten_file : (old mid new : Outside) (name bytes : List ℕ) → mid ≡ with_opened old name → WritesFront mid new bytes → AddsPrefix (with_opened old name) new bytes
-unwritten_file old mid new name bytes opened front =
-    record { added = front.1.bytes; missing = front.0; split = front.1.split; outside = front.1.written ∙ ap (λ (o : Outside). with_output o front.1.bytes) opened }
+pub unwritten_file : (old mid new : Outside) (name bytes : List ℕ) → mid ≡ with_opened old name → WritesPrefix mid new bytes → AddsPrefix (with_opened old name) new bytes
+unwritten_file old mid new name bytes opened beginning =
+    record { added = beginning.1.bytes; missing = beginning.0; split = beginning.1.split; outside = beginning.1.written ∙ ap (λ (o : Outside). with_output o beginning.1.bytes) opened }
 
 -- They were, and the file was closed, or was not closed well.
 pub closes_file : (r : Result (Unit {0}) Failed) (old mid wrote new : Outside) (name bytes : List ℕ) → mid ≡ with_opened old name → wrote ≡ with_output mid bytes → ClosesOutput r wrote new →
-    ComesTo r (λ done. new ≡ with_file old name bytes) (IsUnwrittenFile old new name bytes)
+    ResultsIn r (λ done. new ≡ with_file old name bytes) (IsUnwrittenFile old new name bytes)
 closes_file r old mid wrote new name bytes opened written = by r
   where
     whole : wrote ≡ with_listing old name bytes
     whole = written ∙ ap (λ (o : Outside). with_output o bytes) opened
 
-    by : (x : Result (Unit {0}) Failed) → ClosesOutput x wrote new → ComesTo x (λ done. new ≡ with_file old name bytes) (IsUnwrittenFile old new name bytes)
+    by : (x : Result (Unit {0}) Failed) → ClosesOutput x wrote new → ResultsIn x (λ done. new ≡ with_file old name bytes) (IsUnwrittenFile old new name bytes)
     by (Ok done) closed = closed ∙ ap with_kept whole
     by (Err Fault) closed = inr (inr (closed ∙ ap (λ (o : Outside). record o { writing = false }) whole))
     by (Err Memory) closed = tt

@@ -9,7 +9,7 @@ use Rattle.gms_host.specs.declared.host.Failed.{Failed}
 use Rattle.gms_host.specs.declared.host.Failed.TheVariants.{Fault as FailedSo, Memory}
 use Rattle.gms_host.specs.Meaning.{Meaning, Outside, Counts}
 use Rattle.gms_host.specs.Rules.{with_output, with_said}
-use Rattle.gms_host.specs.Spooling.{Passes, SaysFront}
+use Rattle.gms_host.specs.Spooling.{Passes, PrintsPrefix}
 use Rattle.gms_ast.specs.declared.program.Program.{Program}
 use Rattle.gms_check.specs.declared.error.CompileError.{CompileError}
 use Rattle.gms_store.specs.State.{State, fits_at, members_in, symbol_at, symbol_of}
@@ -30,15 +30,15 @@ use Rattle.gms_command.specs.CommandLine.{Asked, Origin, in_file, restarted, gen
 use Rattle.gms_run.specs.declared.status.Status.{Status}
 use Rattle.gms_run.specs.declared.status.Status.TheVariants.{Compile, ReadFault, WriteFault}
 use Rattle.gms_run.specs.declared.script.Script.{Script as OwnScript}
-use Rattle.gms_run.specs.declared.script.Matter.{Matter as OwnMatter}
-use Rattle.gms_run.specs.declared.script.Matter.TheVariants.{ToRun, Unrestored}
+use Rattle.gms_run.specs.declared.script.LoadedInput.{LoadedInput as OwnMatter}
+use Rattle.gms_run.specs.declared.script.LoadedInput.TheVariants.{ToRun, Unrestored}
 use Rattle.gms_run.specs.Solving.{Solving, SolvesNothing, numbers_of}
-use Rattle.gms_run.specs.Scripts.{Script, Matter, scripted, unrestored, Taken, from_save, IsMatter, first_line, first_state, joint_source}
+use Rattle.gms_run.specs.Scripts.{Script, LoadedInput, scripted, unrestored, RunInput, from_save, IsLoadedInput, first_line, first_state, joint_source}
 use Rattle.gms_run.specs.ProgramsToRun.{solver_name, status_code}
 use Rattle.gms_run.specs.Listings.{AreRemarks, IsAcceptedScript, IsListing, IsModelLine, SavesSo, errors_text, save_file}
 use Rattle.gms_run.specs.declared.execution.Run.{Run}
 use Rattle.gms_run.specs.InnerRuns.{Moment, pending, solved_between}
-use Rattle.gms_run.specs.InnerSteps.{ComesTo}
+use Rattle.gms_run.specs.InnerSteps.{ResultsIn}
 use Rattle.gms_run.specs.Statuses.{CountsSo, EndsByNoFault, IsFileOf, IsReported, IsRun, IsUnread, IsUnwritten, IsUnwrittenFile, IsWriteFault, OfRequest, RanSo, SaysLine, with_read, with_save, with_source_read}
 
 -- ---- views of arguments
@@ -54,9 +54,9 @@ script_in script state =
     record { source = script.source.now; file = script.file.now; line = script.line; saved = saved_if script.joint state }
 
 -- the view of a loaded input
-abbrev pub matter_in : OwnMatter → State → Matter
-matter_in (ToRun script) state = scripted (script_in script state)
-matter_in (Unrestored fault) state = unrestored fault
+abbrev pub loaded_input_in : OwnMatter → State → LoadedInput
+loaded_input_in (ToRun script) state = scripted (script_in script state)
+loaded_input_in (Unrestored fault) state = unrestored fault
 
 -- The source is joint: a file follows the source of a program, and begins at this line. The state
 -- is a saved one of that program, and its settings have the place of the solver that the save
@@ -75,7 +75,7 @@ pub record IsGoneOn (solvers : List (List ℕ)) (source : List ℕ) (line : ℕ)
 -- A run of a joint source can resume from this saved state. The settings choose one of the solvers,
 -- the members of a set are as long as it has positions, and if the source is a program, the state
 -- declares its names as the program does.
-pub record CanGoOn (solvers : List (List ℕ)) (source : List ℕ) (line : ℕ) (state : State) : Type 0 where
+pub record CanContinue (solvers : List (List ℕ)) (source : List ℕ) (line : ℕ) (state : State) : Type 0 where
   pub origin : IsGoneOn solvers source line state
   pub settings : AreValidSettings (length solvers) state.settings
   pub arity : (name : ℕ) → All (λ t. length t ≡ length (symbol_at state name).domain) (members_in (symbol_at state name).content)
@@ -84,12 +84,12 @@ pub record CanGoOn (solvers : List (List ℕ)) (source : List ℕ) (line : ℕ) 
 -- a run of a source can resume from this state; without a state nothing is required
 abbrev pub IsSound : List (List ℕ) → List ℕ → ℕ → Option State → Type 0
 IsSound solvers source line None = Unit {0}
-IsSound solvers source line (Some state) = CanGoOn solvers source line state
+IsSound solvers source line (Some state) = CanContinue solvers source line state
 
 -- a run of a loaded input can resume from its saved state, if it has one
-abbrev pub IsSoundMatter : List (List ℕ) → Matter → Type 0
-IsSoundMatter solvers (scripted script) = IsSound solvers script.source script.line script.saved
-IsSoundMatter solvers (unrestored fault) = Unit {0}
+abbrev pub IsSoundInput : List (List ℕ) → LoadedInput → Type 0
+IsSoundInput solvers (scripted script) = IsSound solvers script.source script.line script.saved
+IsSoundInput solvers (unrestored fault) = Unit {0}
 
 -- A run begins a program in this state. The script is accepted, the names of the solvers can be
 -- written in a source, and the state is the program's first. A saved state that it resumes from is
@@ -118,7 +118,7 @@ ReadsFile most (Err _) old new file = IsUnread old new file
 -- a line was printed, or after a failure a prefix of it
 abbrev pub SaysAll : Result (Unit {0}) Failed → Outside → Outside → List ℕ → Type 0
 SaysAll (Ok _) old new line = new ≡ with_said old line
-SaysAll (Err _) old new line = SaysFront old new line
+SaysAll (Err _) old new line = PrintsPrefix old new line
 
 -- the save of a run was written, if it is to be saved
 abbrev pub WritesSave : Status → Asked → Outside → Outside → List ℕ → Type 0
@@ -134,39 +134,39 @@ pub record LosesSave (status : Status) (request : Asked) (old new : Outside) (by
 
 -- The listing before its last line is written, except for what is pending; without a compile error
 -- at most one spool is pending.
-pub record Prepares (status : Status) (solving : Solving) (old new : Outside) (matter : Matter) (pending : List ℕ) : Type 0 where
+pub record Prepares (status : Status) (solving : Solving) (old new : Outside) (loaded_input : LoadedInput) (pending : List ℕ) : Type 0 where
   pub body : List ℕ
-  pub listing : IsListing status solving matter (body ++ end_text (status_code status) (length solving.answers))
+  pub listing : IsListing status solving loaded_input (body ++ end_text (status_code status) (length solving.answers))
   pub passes : Passes old new body pending
-  pub room : (status ≡ Compile) ⊎ (length pending ≤ 4096)
+  pub within_bound : (status ≡ Compile) ⊎ (length pending ≤ 4096)
 
 -- The loaded input was listed except for the last line, or a prefix of its listing was written.
-abbrev pub ListsBody : Result Status Failed → Matter → Moment → Moment → Type 0
-ListsBody result matter old new =
-    ComesTo result
-    (λ status. Prepares status (solved_between old new) old.host.outside new.host.outside matter (pending new.run))
-    (IsUnwritten (solved_between old new) old.host.outside new.host.outside matter)
+abbrev pub ListsBody : Result Status Failed → LoadedInput → Moment → Moment → Type 0
+ListsBody result loaded_input old new =
+    ResultsIn result
+    (λ status. Prepares status (solved_between old new) old.host.outside new.host.outside loaded_input (pending new.run))
+    (IsUnwritten (solved_between old new) old.host.outside new.host.outside loaded_input)
 
 -- The whole listing of the loaded input was added to the output.
-pub record Lists (status : Status) (solving : Solving) (old new : Outside) (matter : Matter) : Type 0 where
+pub record Lists (status : Status) (solving : Solving) (old new : Outside) (loaded_input : LoadedInput) : Type 0 where
   pub text : List ℕ
-  pub listing : IsListing status solving matter text
+  pub listing : IsListing status solving loaded_input text
   pub written : new ≡ with_output old text
 
 -- The whole listing of the loaded input was written, or a prefix of it.
-abbrev pub ListsAll : Result Status Failed → Matter → Moment → Moment → Type 0
-ListsAll result matter old new =
-    ComesTo result
-    (λ status. Lists status (solved_between old new) old.host.outside new.host.outside matter)
-    (IsUnwritten (solved_between old new) old.host.outside new.host.outside matter)
+abbrev pub ListsAll : Result Status Failed → LoadedInput → Moment → Moment → Type 0
+ListsAll result loaded_input old new =
+    ResultsIn result
+    (λ status. Lists status (solved_between old new) old.host.outside new.host.outside loaded_input)
+    (IsUnwritten (solved_between old new) old.host.outside new.host.outside loaded_input)
 
 -- The listing was written, the requested save of the last state too, and the closing lines were
 -- printed; or a write failed.
-abbrev pub Reports : Result Status Failed → Asked → Matter → Moment → Moment → Type 0
-Reports result request matter old new =
-    ComesTo result
-    (λ status. IsReported status (solved_between old new) old.host.outside new.host.outside request matter)
-    (IsWriteFault (solved_between old new) old.host.outside new.host.outside request matter)
+abbrev pub Reports : Result Status Failed → Asked → LoadedInput → Moment → Moment → Type 0
+Reports result request loaded_input old new =
+    ResultsIn result
+    (λ status. IsReported status (solved_between old new) old.host.outside new.host.outside request loaded_input)
+    (IsWriteFault (solved_between old new) old.host.outside new.host.outside request loaded_input)
 
 -- the errors of a program are listed after the echo of its script; without errors nothing is listed
 abbrev pub ListsErrors : Bool → List CompileError → Script → List ℕ → List ℕ → Type 0
@@ -174,14 +174,14 @@ ListsErrors true errors script before after = (errors ≢ []) × (after ≡ befo
 ListsErrors false errors script before after = (errors ≡ []) × (after ≡ before)
 
 -- What follows a listing: the remarks that are printed, and the save of the last state.
-pub record Follows (status : Status) (solving : Solving) (request : Asked) (matter : Matter) (text bytes : List ℕ) : Type 0 where
-  pub remarks : AreRemarks status solving request matter text
-  pub saves : SavesSo status solving request matter bytes
+pub record Follows (status : Status) (solving : Solving) (request : Asked) (loaded_input : LoadedInput) (text bytes : List ℕ) : Type 0 where
+  pub remarks : AreRemarks status solving request loaded_input text
+  pub saves : SavesSo status solving request loaded_input bytes
 
 -- what follows the listing is prepared in the run
-abbrev pub HasRest : Result Status Failed → Asked → Matter → Moment → Moment → Type 0
-HasRest result request matter old new =
-    IfOk result (λ status. Follows status (solved_between old new) request matter (string_bytes new.run.remarks) new.run.save.items)
+abbrev pub HasRest : Result Status Failed → Asked → LoadedInput → Moment → Moment → Type 0
+HasRest result request loaded_input old new =
+    IfOk result (λ status. Follows status (solved_between old new) request loaded_input (string_bytes new.run.remarks) new.run.save.items)
 
 -- the end of a run, by the result of its report: a fault of the host is a write fault, and out of
 -- memory has no status
@@ -191,10 +191,10 @@ EndsAs (Err FailedSo) end = end ≡ Ok WriteFault
 EndsAs (Err Memory) end = (e : AllocError) × (end ≡ Err e)
 
 -- The input was run: it was loaded, and what it gives to run was run.
-pub record RanOf (status : Status) (solving : Solving) (old new : Outside) (request : Asked) (taken : Taken) : Type 0 where
-  pub matter : Matter
-  pub is_matter : IsMatter solving.before.names taken matter
-  pub ran : RanSo status solving old new request matter
+pub record RanOf (status : Status) (solving : Solving) (old new : Outside) (request : Asked) (taken : RunInput) : Type 0 where
+  pub loaded_input : LoadedInput
+  pub is_loaded_input : IsLoadedInput solving.before.names taken loaded_input
+  pub ran : RanSo status solving old new request loaded_input
 
 -- A file could not be read, and the read fault line was printed.
 pub record IsUnreadFile (old new : Meaning) (file : List ℕ) : Type 0 where
@@ -204,27 +204,27 @@ pub record IsUnreadFile (old new : Meaning) (file : List ℕ) : Type 0 where
 
 -- what a run did after it read a save: the file that resumes from the save was read and run, or it
 -- could not be read
-abbrev pub RanBehind : Status → Solving → Meaning → Meaning → Asked → List ℕ → List ℕ → Type 0
-RanBehind ReadFault solving old new request save file = IsUnreadFile old new file × SolvesNothing solving
-RanBehind status solving old new request save file =
+abbrev pub RanAfter : Status → Solving → Meaning → Meaning → Asked → List ℕ → List ℕ → Type 0
+RanAfter ReadFault solving old new request save file = IsUnreadFile old new file × SolvesNothing solving
+RanAfter status solving old new request save file =
     (source : List ℕ) × (IsFileOf old.outside file source × RanOf status solving (with_source_read old.outside file source) new.outside request (from_save save source))
 
 -- ---- requests
 
 -- the loaded input was run as the status says, unless memory ran out
-abbrev pub RunsMatter : Result Status AllocError → Asked → Matter → Moment → Moment → Type 0
-RunsMatter result request matter old new =
-    IfOk result (λ status. RanSo status (solved_between old new) old.host.outside new.host.outside request matter)
+abbrev pub RunsMatter : Result Status AllocError → Asked → LoadedInput → Moment → Moment → Type 0
+RunsMatter result request loaded_input old new =
+    IfOk result (λ status. RanSo status (solved_between old new) old.host.outside new.host.outside request loaded_input)
 
 -- the same of the input that was read
-abbrev pub RunsTaken : Result Status AllocError → Asked → Taken → Moment → Moment → Type 0
+abbrev pub RunsTaken : Result Status AllocError → Asked → RunInput → Moment → Moment → Type 0
 RunsTaken result request taken old new =
     IfOk result (λ status. RanOf status (solved_between old new) old.host.outside new.host.outside request taken)
 
 -- the same of a file after a save
 abbrev pub RunsAfter : Result Status AllocError → Asked → List ℕ → List ℕ → Moment → Moment → Type 0
 RunsAfter result request save file old new =
-    IfOk result (λ status. RanBehind status (solved_between old new) old.host new.host request save file)
+    IfOk result (λ status. RanAfter status (solved_between old new) old.host new.host request save file)
 
 -- the same of a request
 abbrev pub RunsRequest : Result Status AllocError → Asked → Moment → Moment → Type 0

@@ -12,8 +12,8 @@ use Rattle.lp_slot.specs.declared.solver.SolverRule.{SolverRule}
 use Rattle.gms_run.specs.declared.execution.Run.{Run}
 use Rattle.gms_run.specs.declared.status.Status.{Status}
 use Rattle.gms_run.specs.Solving.{Solvers, Solving, solver_views}
-use Rattle.gms_run.specs.ProgramsToRun.{Job}
-use Rattle.gms_run.specs.InnerSteps.{Between, BreaksBehind, ComesTo, EndsBehind, IsListed}
+use Rattle.gms_run.specs.ProgramsToRun.{ProgramToRun}
+use Rattle.gms_run.specs.InnerSteps.{Between, BreaksAfter, ResultsIn, EndsAfter, IsListed}
 
 -- ---- runs
 
@@ -40,8 +40,8 @@ between solvers run =
 
 -- A statement of a program was executed and listed; the solvers are given before it and after it.
 abbrev pub ListsStatement : Bool → Program Frac → Stmt Frac → Solvers → Run → Solvers → Run → Type 0
-ListsStatement goes_on program s before old after new =
-    IsListed goes_on (of_statement frac_value frac_limit (record { program = program; solvers = before.names }) s []) program before.rules (between before old) (between after new) old.outlet.listing new.outlet.listing
+ListsStatement continues program s before old after new =
+    IsListed continues (of_statement frac_value frac_limit (record { program = program; solvers = before.names }) s []) program before.rules (between before old) (between after new) old.outlet.listing new.outlet.listing
 
 -- ---- moments
 
@@ -63,8 +63,8 @@ solved_between old new = record { before = old.solvers; after = new.solvers; ans
 
 -- The statements of a program to run were executed after the pending text: to their end, or up to
 -- a statement whose listing was not written.
-abbrev pub ExecutesJob : Result Status Failed → Job → Moment → Moment → Type 0
-ExecutesJob result job old new =
-    ComesTo result
-    (λ status. EndsBehind status job (solved_between old new) new.run.store new.run.solved.items old.host.outside new.host.outside (pending old.run) (pending new.run))
-    (BreaksBehind job (solved_between old new) old.host.outside new.host.outside (pending old.run))
+abbrev pub ExecutesJob : Result Status Failed → ProgramToRun → Moment → Moment → Type 0
+ExecutesJob result to_run old new =
+    ResultsIn result
+    (λ status. EndsAfter status to_run (solved_between old new) new.run.store new.run.solved.items old.host.outside new.host.outside (pending old.run) (pending new.run))
+    (BreaksAfter to_run (solved_between old new) old.host.outside new.host.outside (pending old.run))

@@ -23,8 +23,8 @@ use Rattle.gms_range_lines.specs.RangeTexts.{SaysRanges}
 use Rattle.gms_run.specs.declared.status.Status.{Status}
 use Rattle.gms_run.specs.declared.status.Status.TheVariants.{Done, Usage, Compile, Execution, ReadFault, WriteFault}
 use Rattle.gms_run.specs.Solving.{Solving, SolvesNothing, numbers_of, places_of, programs_of, solves_in}
-use Rattle.gms_run.specs.Scripts.{Script, Matter, scripted, unrestored, errors_of_script}
-use Rattle.gms_run.specs.ProgramsToRun.{Job, job_of, course_of, job_text, save_text, solver_name, IsRunSolved, IsCutOff, HaltsSo, status_code}
+use Rattle.gms_run.specs.Scripts.{Script, LoadedInput, scripted, unrestored, errors_of_script}
+use Rattle.gms_run.specs.ProgramsToRun.{ProgramToRun, program_to_run, course_of, program_listing, save_text, solver_name, IsRunSolved, IsCutOff, HaltsSo, status_code}
 
 -- ---- what is accepted
 
@@ -34,11 +34,11 @@ pub record IsAcceptedScript (solvers : List (List ℕ)) (script : Script) (progr
   pub no_error : errors_of_script script.saved script.line program solvers ≡ []
 
 -- The program that is run of the loaded input, where it is accepted.
-pub record IsJob (solvers : List (List ℕ)) (matter : Matter) (job : Job) : Type 0 where
+pub record IsProgramToRun (solvers : List (List ℕ)) (loaded_input : LoadedInput) (to_run : ProgramToRun) : Type 0 where
   pub script : Script
-  pub to_run : matter ≡ scripted script
-  pub accepted : IsAcceptedScript solvers script job.program
-  pub is_job : job ≡ job_of script job.program
+  pub of_script : loaded_input ≡ scripted script
+  pub accepted : IsAcceptedScript solvers script to_run.program
+  pub is_to_run : to_run ≡ program_to_run script to_run.program
 
 -- ---- what is refused
 
@@ -72,55 +72,55 @@ pub record ShowsErrors (solvers : List (List ℕ)) (script : Script) (text : Lis
   pub listing : text ≡ errors_listing script.line script.file (errors_of_script script.saved script.line program solvers)
 
 -- the text is the listing that says why nothing can be run
-abbrev pub ShowsWhy : List (List ℕ) → Matter → List ℕ → Type 0
+abbrev pub ShowsWhy : List (List ℕ) → LoadedInput → List ℕ → Type 0
 ShowsWhy solvers (scripted script) text = ShowsRefusal script text ⊎ ShowsErrors solvers script text
 ShowsWhy solvers (unrestored fault) text = text ≡ refused_text (unrestored_text fault)
 
 -- The loaded input is not accepted: the text is the listing that says why, and nothing is solved.
-abbrev pub IsRefusalListing : Solving → Matter → List ℕ → Type 0
-IsRefusalListing solving matter text = ShowsWhy solving.before.names matter text × SolvesNothing solving
+abbrev pub IsRefusalListing : Solving → LoadedInput → List ℕ → Type 0
+IsRefusalListing solving loaded_input text = ShowsWhy solving.before.names loaded_input text × SolvesNothing solving
 
 -- ---- listings
 
 -- The loaded input is accepted, its program was run with these answers, and the text is the listing
 -- of that run.
-pub record IsExecuted (solving : Solving) (matter : Matter) (text : List ℕ) : Type 0 where
-  pub job : Job
-  pub is_job : IsJob solving.before.names matter job
-  pub solved : IsRunSolved job solving
-  pub listing : text ≡ job_text job solving
+pub record IsExecuted (solving : Solving) (loaded_input : LoadedInput) (text : List ℕ) : Type 0 where
+  pub to_run : ProgramToRun
+  pub is_to_run : IsProgramToRun solving.before.names loaded_input to_run
+  pub solved : IsRunSolved to_run solving
+  pub listing : text ≡ program_listing to_run solving
 
 -- the program halted so that the run ends with this status
-abbrev pub EndsSo : (status : Status) (solving : Solving) (matter : Matter) (text : List ℕ) → IsExecuted solving matter text → Type 0
-EndsSo status solving matter text run = HaltsSo status (course_of run.job solving).halted
+abbrev pub EndsSo : (status : Status) (solving : Solving) (loaded_input : LoadedInput) (text : List ℕ) → IsExecuted solving loaded_input text → Type 0
+EndsSo status solving loaded_input text run = HaltsSo status (course_of run.to_run solving).halted
 
 -- the text is the listing of the loaded input for a run that ends with this status; the other
 -- statuses have none
-abbrev pub IsListing : Status → Solving → Matter → List ℕ → Type 0
-IsListing Compile solving matter text = IsRefusalListing solving matter text
-IsListing Done solving matter text = (run : IsExecuted solving matter text) × EndsSo Done solving matter text run
-IsListing Execution solving matter text = (run : IsExecuted solving matter text) × EndsSo Execution solving matter text run
-IsListing Usage solving matter text = ⊥
-IsListing ReadFault solving matter text = ⊥
-IsListing WriteFault solving matter text = ⊥
+abbrev pub IsListing : Status → Solving → LoadedInput → List ℕ → Type 0
+IsListing Compile solving loaded_input text = IsRefusalListing solving loaded_input text
+IsListing Done solving loaded_input text = (run : IsExecuted solving loaded_input text) × EndsSo Done solving loaded_input text run
+IsListing Execution solving loaded_input text = (run : IsExecuted solving loaded_input text) × EndsSo Execution solving loaded_input text run
+IsListing Usage solving loaded_input text = ⊥
+IsListing ReadFault solving loaded_input text = ⊥
+IsListing WriteFault solving loaded_input text = ⊥
 
 -- The text is the expected listing of the loaded input, and exactly `written` bytes of it were
 -- written.
-abbrev pub IsWrittenPrefix : Solving → Matter → List ℕ → ℕ → Type 0
-IsWrittenPrefix solving matter text written =
-    IsRefusalListing solving matter text ⊎ ((run : IsExecuted solving matter text) × IsCutOff run.job solving written)
+abbrev pub IsWrittenPrefix : Solving → LoadedInput → List ℕ → ℕ → Type 0
+IsWrittenPrefix solving loaded_input text written =
+    IsRefusalListing solving loaded_input text ⊎ ((run : IsExecuted solving loaded_input text) × IsCutOff run.to_run solving written)
 
 -- ---- saves
 
 -- The bytes are the save of the last state of the run: a save of this state by the definition of
 -- saves. The solver that it names has the place that the state's settings have, so that `restore`
 -- with the same solvers gives this state back.
-pub record SavesLast (solving : Solving) (matter : Matter) (bytes : List ℕ) : Type 0 where
-  pub job : Job
-  pub is_job : IsJob solving.before.names matter job
-  pub text : bytes ≡ save_text job solving
-  pub is_save : IsSaveOf bytes job.source job.program (course_of job solving).state (solver_name solving.before.names (course_of job solving).state)
-  pub placed : place_of_solver solving.before.names (solver_name solving.before.names (course_of job solving).state) ≡ Some (course_of job solving).state.settings.solver
+pub record SavesLast (solving : Solving) (loaded_input : LoadedInput) (bytes : List ℕ) : Type 0 where
+  pub to_run : ProgramToRun
+  pub is_to_run : IsProgramToRun solving.before.names loaded_input to_run
+  pub text : bytes ≡ save_text to_run solving
+  pub is_save : IsSaveOf bytes to_run.source to_run.program (course_of to_run solving).state (solver_name solving.before.names (course_of to_run solving).state)
+  pub placed : place_of_solver solving.before.names (solver_name solving.before.names (course_of to_run solving).state) ≡ Some (course_of to_run solving).state.settings.solver
 
 -- the file for the last state of a run that ends so, if it is saved: every statement was executed,
 -- and the request names a file
@@ -129,8 +129,8 @@ save_file Done request = request.save
 save_file status request = None
 
 -- if the run has a file for its save, the bytes are the save of the last state
-abbrev pub SavesSo : Status → Solving → Asked → Matter → List ℕ → Type 0
-SavesSo status solving request matter bytes = IfSome (save_file status request) (λ file. SavesLast solving matter bytes)
+abbrev pub SavesSo : Status → Solving → Asked → LoadedInput → List ℕ → Type 0
+SavesSo status solving request loaded_input bytes = IfSome (save_file status request) (λ file. SavesLast solving loaded_input bytes)
 
 -- ---- the closing lines
 
@@ -154,53 +154,53 @@ pub record IsModelLine (size : ℕ) (program : Program Frac) (last : State) (ans
   pub text : line ≡ generated_line size (model_status program last) objective (pivots_of answers)
 
 -- The line on the run of a program.
-pub record TellsModel (solving : Solving) (size : ℕ) (matter : Matter) (line : List ℕ) : Type 0 where
-  pub job : Job
-  pub is_job : IsJob solving.before.names matter job
-  pub told : IsModelLine size job.program (course_of job solving).state solving.answers line
+pub record TellsModel (solving : Solving) (size : ℕ) (loaded_input : LoadedInput) (line : List ℕ) : Type 0 where
+  pub to_run : ProgramToRun
+  pub is_to_run : IsProgramToRun solving.before.names loaded_input to_run
+  pub told : IsModelLine size to_run.program (course_of to_run solving).state solving.answers line
 
 -- what is printed of a generated model: the line on its run, if it was run
-abbrev pub TellsSize : Status → Solving → ℕ → Matter → List ℕ → Type 0
-TellsSize Done solving size matter line = TellsModel solving size matter line
-TellsSize Execution solving size matter line = TellsModel solving size matter line
-TellsSize _ solving size matter line = line ≡ []
+abbrev pub TellsSize : Status → Solving → ℕ → LoadedInput → List ℕ → Type 0
+TellsSize Done solving size loaded_input line = TellsModel solving size loaded_input line
+TellsSize Execution solving size loaded_input line = TellsModel solving size loaded_input line
+TellsSize _ solving size loaded_input line = line ≡ []
 
 -- what is printed of a run before the closing line: nothing, except for a generated model
-abbrev pub TellsRun : Status → Solving → Origin → Matter → List ℕ → Type 0
-TellsRun status solving (in_file file) matter line = line ≡ []
-TellsRun status solving (restarted saved file) matter line = line ≡ []
-TellsRun status solving (generated size) matter line = TellsSize status solving size matter line
+abbrev pub TellsRun : Status → Solving → Origin → LoadedInput → List ℕ → Type 0
+TellsRun status solving (in_file file) loaded_input line = line ≡ []
+TellsRun status solving (restarted saved file) loaded_input line = line ≡ []
+TellsRun status solving (generated size) loaded_input line = TellsSize status solving size loaded_input line
 
 -- the solves that the run of a program shows with these answers, in order
-abbrev pub solves_of : Job → Solving → List Solved
-solves_of job solving = solves_in (course_of job solving).events
+abbrev pub solves_of : ProgramToRun → Solving → List Solved
+solves_of to_run solving = solves_in (course_of to_run solving).events
 
 -- The solves take the answers in order, one each. The text says, from their linear programs and
 -- these answers, how far each right side and each cost of each optimum may move.
-pub record TellsSpans (solving : Solving) (matter : Matter) (text : List ℕ) : Type 0 where
-  pub job : Job
-  pub is_job : IsJob solving.before.names matter job
-  pub in_order : places_of (solves_of job solving) ≡ range_with_len 0 (length solving.answers)
-  pub said : SaysRanges job.program.names job.program.labels frac_limit 1 (programs_of (solves_of job solving)) (numbers_of solving.answers) text
+pub record TellsSpans (solving : Solving) (loaded_input : LoadedInput) (text : List ℕ) : Type 0 where
+  pub to_run : ProgramToRun
+  pub is_to_run : IsProgramToRun solving.before.names loaded_input to_run
+  pub in_order : places_of (solves_of to_run solving) ≡ range_with_len 0 (length solving.answers)
+  pub said : SaysRanges to_run.program.names to_run.program.labels frac_limit 1 (programs_of (solves_of to_run solving)) (numbers_of solving.answers) text
 
 -- what is printed of ranges for an input that was run; for any other, nothing
-abbrev pub TellsRangesOf : Status → Solving → Matter → List ℕ → Type 0
-TellsRangesOf Done solving matter text = TellsSpans solving matter text
-TellsRangesOf Execution solving matter text = TellsSpans solving matter text
-TellsRangesOf _ solving matter text = text ≡ []
+abbrev pub TellsRangesOf : Status → Solving → LoadedInput → List ℕ → Type 0
+TellsRangesOf Done solving loaded_input text = TellsSpans solving loaded_input text
+TellsRangesOf Execution solving loaded_input text = TellsSpans solving loaded_input text
+TellsRangesOf _ solving loaded_input text = text ≡ []
 
 -- what is printed of ranges, if they are requested
-abbrev pub TellsRanges : Bool → Status → Solving → Matter → List ℕ → Type 0
-TellsRanges true status solving matter text = TellsRangesOf status solving matter text
-TellsRanges false status solving matter text = text ≡ []
+abbrev pub TellsRanges : Bool → Status → Solving → LoadedInput → List ℕ → Type 0
+TellsRanges true status solving loaded_input text = TellsRangesOf status solving loaded_input text
+TellsRanges false status solving loaded_input text = text ≡ []
 
 -- the remarks on a run, which are printed before the closing line: its ranges, and a line on a
 -- generated model
-abbrev pub AreRemarks : Status → Solving → Asked → Matter → List ℕ → Type 0
-AreRemarks status solving request matter remarks =
-    (ranges line : List ℕ) × TellsRanges request.ranges status solving matter ranges × TellsRun status solving request.source matter line × (remarks ≡ ranges ++ line)
+abbrev pub AreRemarks : Status → Solving → Asked → LoadedInput → List ℕ → Type 0
+AreRemarks status solving request loaded_input remarks =
+    (ranges line : List ℕ) × TellsRanges request.ranges status solving loaded_input ranges × TellsRun status solving request.source loaded_input line × (remarks ≡ ranges ++ line)
 
 -- what is printed at the end of a run whose listing was written: the remarks and the closing line
-abbrev pub AreClosing : Status → Solving → Asked → Matter → List ℕ → Type 0
-AreClosing status solving request matter lines =
-    (remarks : List ℕ) × AreRemarks status solving request matter remarks × (lines ≡ remarks ++ closing_line (status_code status) (length solving.answers) request.output)
+abbrev pub AreClosing : Status → Solving → Asked → LoadedInput → List ℕ → Type 0
+AreClosing status solving request loaded_input lines =
+    (remarks : List ℕ) × AreRemarks status solving request loaded_input remarks × (lines ≡ remarks ++ closing_line (status_code status) (length solving.answers) request.output)

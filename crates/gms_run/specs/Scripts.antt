@@ -27,14 +27,14 @@ pub record Script : Type 0 where
   pub saved : Option State
 
 -- the loaded input: a script, or the fault of a save that cannot be restored
-pub data Matter : Type 0 where
-  scripted : Script → Matter
-  unrestored : SaveFault → Matter
+pub data LoadedInput : Type 0 where
+  scripted : Script → LoadedInput
+  unrestored : SaveFault → LoadedInput
 
 -- the input: a source that is run from its start, or a save and a file that resumes from it
-pub data Taken : Type 0 where
-  from_start : List ℕ → Taken
-  from_save : List ℕ → List ℕ → Taken
+pub data RunInput : Type 0 where
+  from_start : List ℕ → RunInput
+  from_save : List ℕ → List ℕ → RunInput
 
 -- ---- scripts
 
@@ -63,11 +63,11 @@ pub record IsUnrestored (solvers : List (List ℕ)) (save : List ℕ) (fault : S
   pub back : GivesBack solvers save (let r : Result Saved SaveFaultOrMemory = Err (Fault fault) in r)
 
 -- the loaded input, with solvers of these names
-abbrev pub IsMatter : List (List ℕ) → Taken → Matter → Type 0
-IsMatter solvers (from_start source) (scripted script) = script ≡ script_of source
-IsMatter solvers (from_start source) (unrestored fault) = ⊥
-IsMatter solvers (from_save save file) (scripted script) = IsJoint solvers save file script
-IsMatter solvers (from_save save file) (unrestored fault) = IsUnrestored solvers save fault
+abbrev pub IsLoadedInput : List (List ℕ) → RunInput → LoadedInput → Type 0
+IsLoadedInput solvers (from_start source) (scripted script) = script ≡ script_of source
+IsLoadedInput solvers (from_start source) (unrestored fault) = ⊥
+IsLoadedInput solvers (from_save save file) (scripted script) = IsJoint solvers save file script
+IsLoadedInput solvers (from_save save file) (unrestored fault) = IsUnrestored solvers save fault
 
 -- ---- programs of scripts
 

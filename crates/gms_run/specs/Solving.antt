@@ -65,7 +65,7 @@ paths_of k answers (other ∷ events) = paths_of k answers events
 
 -- Solvers after these events: their number, names and rules are unchanged, and to the paths of each
 -- the pivots of each answer that it gave are appended.
-pub record HaveGrown (old new : Solvers) (answers : List (Answer Frac)) (events : List Event) : Type 0 where
+pub record HavePathsExtended (old new : Solvers) (answers : List (Answer Frac)) (events : List Event) : Type 0 where
   pub names : new.names ≡ old.names
   pub rules : new.rules ≡ old.rules
   pub paths : (k : ℕ) → slice_get new.paths k ≡ option_map (λ before. before ++ paths_of k answers events) (slice_get old.paths k)

@@ -6,7 +6,7 @@ use Rattle.gq_frac.specs.declared.frac.Frac.{Frac}
 use Rattle.gq_frac.specs.Frac.{frac_value, frac_limit}
 use Rattle.gms_host.specs.Meaning.{Meaning, Outside, Counts, Files, Rose}
 use Rattle.gms_host.specs.Rules.{IsThere, with_asked, with_emptied, with_kept, with_opened, with_output, with_said}
-use Rattle.gms_host.specs.Spooling.{SaysFront}
+use Rattle.gms_host.specs.Spooling.{PrintsPrefix}
 use Rattle.gms_ast.specs.declared.program.Program.{Program}
 use Rattle.gms_lex.specs.Tokens.{most_source_bytes}
 use Rattle.gms_gen.specs.Generator.{generated_model_text}
@@ -18,9 +18,9 @@ use Rattle.gms_command.specs.CommandLine.{Asked, Origin, in_file, restarted, gen
 use Rattle.gms_run.specs.declared.status.Status.{Status}
 use Rattle.gms_run.specs.declared.status.Status.TheVariants.{Done, Usage, Compile, Execution, ReadFault, WriteFault}
 use Rattle.gms_run.specs.Solving.{Solving, SolvesNothing}
-use Rattle.gms_run.specs.Scripts.{Script, Matter, Taken, from_start, from_save, script_of, joint_script, errors_of_script, IsMatter}
-use Rattle.gms_run.specs.ProgramsToRun.{Job, course_of, HaltsSo}
-use Rattle.gms_run.specs.Listings.{IsJob, IsListing, IsWrittenPrefix, AreClosing, SavesLast, SavesSo, save_file}
+use Rattle.gms_run.specs.Scripts.{Script, LoadedInput, RunInput, from_start, from_save, script_of, joint_script, errors_of_script, IsLoadedInput}
+use Rattle.gms_run.specs.ProgramsToRun.{ProgramToRun, course_of, HaltsSo}
+use Rattle.gms_run.specs.Listings.{IsProgramToRun, IsListing, IsWrittenPrefix, AreClosing, SavesLast, SavesSo, save_file}
 
 -- ---- the input
 
@@ -30,7 +30,7 @@ IsFileOf o file bytes = IfSome o.files (λ files. files_map.get files file ≡ S
 
 -- the input of a request: the bytes of a file, or of a save and a file, or the text of a generated
 -- model
-abbrev pub IsInputOf : Outside → Origin → Taken → Type 0
+abbrev pub IsInputOf : Outside → Origin → RunInput → Type 0
 IsInputOf o (in_file file) (from_start source) = IsFileOf o file source
 IsInputOf o (restarted saved file) (from_save save source) = IsFileOf o saved save × IsFileOf o file source
 IsInputOf o (generated size) (from_start source) = source ≡ generated_model_text size size size
@@ -52,7 +52,7 @@ with_saved o file save = with_read (most_save_bytes + 1) o file save
 
 -- the host's state after reading the input: a save is read before the file that resumes from it,
 -- and a generated model is not read
-abbrev pub with_taken : Outside → Origin → Taken → Outside
+abbrev pub with_taken : Outside → Origin → RunInput → Outside
 with_taken o (in_file file) (from_start source) = with_source_read o file source
 with_taken o (restarted saved file) (from_save save source) = with_source_read (with_saved o saved save) file source
 with_taken o origin taken = o
@@ -62,7 +62,7 @@ with_taken o origin taken = o
 -- A line was printed and nothing else was done; or a prefix of it was printed, and a fault of
 -- writing was counted.
 pub record SaysLine (old new : Meaning) (before : Outside) (line : List ℕ) : Type 0 where
-  pub front : SaysFront before new.outside line
+  pub beginning : PrintsPrefix before new.outside line
   pub whole : (new.outside ≡ with_said before line) ⊎ Rose old.counts.write_faults new.counts.write_faults
 
 -- A file could not be read: it was requested or not, and how much of the input was taken is open.
@@ -126,13 +126,13 @@ with_report o output text name bytes lines = with_said (with_save (with_file o o
 
 -- The listing of the loaded input was written to the requested output, which is closed and kept.
 -- After that the last state was saved, if it is to be, and then the closing lines were printed.
-pub record IsReported (status : Status) (solving : Solving) (old new : Outside) (request : Asked) (matter : Matter) : Type 0 where
+pub record IsReported (status : Status) (solving : Solving) (old new : Outside) (request : Asked) (loaded_input : LoadedInput) : Type 0 where
   pub text : List ℕ
-  pub listing : IsListing status solving matter text
+  pub listing : IsListing status solving loaded_input text
   pub save : List ℕ
-  pub saves : SavesSo status solving request matter save
+  pub saves : SavesSo status solving request loaded_input save
   pub lines : List ℕ
-  pub closing : AreClosing status solving request matter lines
+  pub closing : AreClosing status solving request loaded_input lines
   pub outside : new ≡ with_report old request.output text (save_file status request) save lines
 
 -- The output could not be opened: it is empty, its name was requested or not, and nothing was
@@ -142,65 +142,65 @@ pub record IsUnopened (solving : Solving) (old new : Outside) (request : Asked) 
   pub outside : IsUnopenedFile old new request.output
 
 -- A listing was not written whole: a prefix of the expected text was added to the opened output.
-pub record IsUnwritten (solving : Solving) (opened new : Outside) (matter : Matter) : Type 0 where
+pub record IsUnwritten (solving : Solving) (opened new : Outside) (loaded_input : LoadedInput) : Type 0 where
   pub text : List ℕ
   pub prefix : AddsPrefix opened new text
-  pub due : IsWrittenPrefix solving matter text (length prefix.added)
+  pub expected : IsWrittenPrefix solving loaded_input text (length prefix.added)
 
 -- The whole listing was written, but the output was not closed well.
-pub record IsUnclosed (solving : Solving) (old new : Outside) (request : Asked) (matter : Matter) : Type 0 where
+pub record IsUnclosed (solving : Solving) (old new : Outside) (request : Asked) (loaded_input : LoadedInput) : Type 0 where
   pub status : Status
   pub text : List ℕ
-  pub listing : IsListing status solving matter text
+  pub listing : IsListing status solving loaded_input text
   pub outside : new ≡ record (with_listing old request.output text) { writing = false }
 
 -- The whole listing was written, and its output is closed and kept. The save of the last state was
 -- not written to its file, or the file was not closed well.
-pub record IsUnsaved (solving : Solving) (old new : Outside) (request : Asked) (matter : Matter) : Type 0 where
+pub record IsUnsaved (solving : Solving) (old new : Outside) (request : Asked) (loaded_input : LoadedInput) : Type 0 where
   pub status : Status
   pub text : List ℕ
-  pub listing : IsListing status solving matter text
+  pub listing : IsListing status solving loaded_input text
   pub name : List ℕ
   pub named : save_file status request ≡ Some name
   pub save : List ℕ
-  pub saves : SavesLast solving matter save
+  pub saves : SavesLast solving loaded_input save
   pub outside : IsUnwrittenFile (with_file old request.output text) new name save
 
 -- The whole listing was written, its output is closed and kept, and the last state was saved, if it
 -- is to be. Of the closing lines a prefix was printed.
-pub record IsUnsaid (solving : Solving) (old new : Outside) (request : Asked) (matter : Matter) : Type 0 where
+pub record IsUnsaid (solving : Solving) (old new : Outside) (request : Asked) (loaded_input : LoadedInput) : Type 0 where
   pub status : Status
   pub text : List ℕ
-  pub listing : IsListing status solving matter text
+  pub listing : IsListing status solving loaded_input text
   pub save : List ℕ
-  pub saves : SavesSo status solving request matter save
+  pub saves : SavesSo status solving request loaded_input save
   pub lines : List ℕ
-  pub closing : AreClosing status solving request matter lines
-  pub front : SaysFront (with_save (with_file old request.output text) (save_file status request) save) new lines
+  pub closing : AreClosing status solving request loaded_input lines
+  pub beginning : PrintsPrefix (with_save (with_file old request.output text) (save_file status request) save) new lines
 
 -- a run that could not write, by how far it came
-abbrev pub IsWriteFault : Solving → Outside → Outside → Asked → Matter → Type 0
-IsWriteFault solving old new request matter =
+abbrev pub IsWriteFault : Solving → Outside → Outside → Asked → LoadedInput → Type 0
+IsWriteFault solving old new request loaded_input =
     IsUnopened solving old new request
-    ⊎ (IsUnwritten solving (with_opened old request.output) new matter ⊎ (IsUnclosed solving old new request matter ⊎ (IsUnsaved solving old new request matter ⊎ IsUnsaid solving old new request matter)))
+    ⊎ (IsUnwritten solving (with_opened old request.output) new loaded_input ⊎ (IsUnclosed solving old new request loaded_input ⊎ (IsUnsaved solving old new request loaded_input ⊎ IsUnsaid solving old new request loaded_input)))
 
 -- the run of a loaded input, by its status
-abbrev pub RanSo : Status → Solving → Outside → Outside → Asked → Matter → Type 0
-RanSo Done solving old new request matter = IsReported Done solving old new request matter
-RanSo Compile solving old new request matter = IsReported Compile solving old new request matter
-RanSo Execution solving old new request matter = IsReported Execution solving old new request matter
-RanSo WriteFault solving old new request matter = IsWriteFault solving old new request matter
-RanSo _ solving old new request matter = ⊥
+abbrev pub RanSo : Status → Solving → Outside → Outside → Asked → LoadedInput → Type 0
+RanSo Done solving old new request loaded_input = IsReported Done solving old new request loaded_input
+RanSo Compile solving old new request loaded_input = IsReported Compile solving old new request loaded_input
+RanSo Execution solving old new request loaded_input = IsReported Execution solving old new request loaded_input
+RanSo WriteFault solving old new request loaded_input = IsWriteFault solving old new request loaded_input
+RanSo _ solving old new request loaded_input = ⊥
 
 -- ---- the statuses
 
 -- The requested input was read and run. If the host hides its files, some input was.
 pub record IsRunOf (status : Status) (solving : Solving) (old new : Outside) (request : Asked) : Type 0 where
-  pub taken : Taken
+  pub taken : RunInput
   pub is_taken : IsInputOf old request.source taken
-  pub matter : Matter
-  pub is_matter : IsMatter solving.before.names taken matter
-  pub ran : RanSo status solving (with_taken old request.source taken) new request matter
+  pub loaded_input : LoadedInput
+  pub is_loaded_input : IsLoadedInput solving.before.names taken loaded_input
+  pub ran : RanSo status solving (with_taken old request.source taken) new request loaded_input
 
 -- what a run with this status did for a request
 abbrev pub OfRequest : Status → Solving → Meaning → Meaning → Asked → Type 0
@@ -247,7 +247,7 @@ HasFile o file bytes = (files : Files) × (o.files ≡ Some files) × (files_map
 
 -- this input is what a host that exposes its files holds: the bytes of files, or the text of a
 -- generated model
-abbrev pub IsContentOf : Outside → Origin → Taken → Type 0
+abbrev pub IsContentOf : Outside → Origin → RunInput → Type 0
 IsContentOf o (in_file file) (from_start source) = HasFile o file source
 IsContentOf o (restarted saved file) (from_save save source) = HasFile o saved save × HasFile o file source
 IsContentOf o (generated size) (from_start source) = source ≡ generated_model_text size size size
@@ -273,7 +273,7 @@ pub record IsGoodSave (solvers : List (List ℕ)) (save : List ℕ) : Type 0 whe
 
 -- the input can be run: it is a program without errors, and if it resumes from a save, the save can
 -- be restored
-abbrev pub CanRun : List (List ℕ) → Taken → Type 0
+abbrev pub CanRun : List (List ℕ) → RunInput → Type 0
 CanRun solvers (from_start source) = IsGood solvers (script_of source)
 CanRun solvers (from_save save file) =
     IsGoodSave solvers save × ((saved : Saved) → IsRestored solvers save saved → IsGood solvers (joint_script saved.source.items saved.store file))
@@ -282,7 +282,7 @@ CanRun solvers (from_save save file) =
 pub record NamesSource (old : Outside) (words : List (List ℕ)) : Type 0 where
   pub request : Asked
   pub named : request_of words ≡ Some request
-  pub taken : Taken
+  pub taken : RunInput
   pub found : IsContentOf old request.source taken
 
 -- The arguments name what can be run.
@@ -293,12 +293,12 @@ pub record NamesProgram (solvers : List (List ℕ)) (old : Outside) (words : Lis
 -- ---- execution errors
 
 -- The input can be run, and its run with the solvers' answers is stopped by an execution error.
-pub record IsStopped (solving : Solving) (taken : Taken) : Type 0 where
-  pub matter : Matter
-  pub is_matter : IsMatter solving.before.names taken matter
-  pub job : Job
-  pub is_job : IsJob solving.before.names matter job
-  pub halts : HaltsSo Execution (course_of job solving).halted
+pub record IsStopped (solving : Solving) (taken : RunInput) : Type 0 where
+  pub loaded_input : LoadedInput
+  pub is_loaded_input : IsLoadedInput solving.before.names taken loaded_input
+  pub to_run : ProgramToRun
+  pub is_to_run : IsProgramToRun solving.before.names loaded_input to_run
+  pub halts : HaltsSo Execution (course_of to_run solving).halted
 
 -- ---- faults of the host
 

@@ -7,7 +7,7 @@ ghost use Rattle.gms_range_lines.specs.Answered.{AreSomeAnswers};
 ghost use Rattle.gms_command.specs.CommandLine.{asked_by, closing_line, origin};
 ghost use Rattle.gms_host.specs.Rules.{CountsWriting};
 ghost use Rattle.gms_run.specs.InnerReports.{IsRanged, IsRemarked, IsSave, IsTold, LosesSave, WritesSave};
-ghost use Rattle.gms_run.specs.InnerSteps.{ComesTo};
+ghost use Rattle.gms_run.specs.InnerSteps.{ResultsIn};
 ghost use Rattle.gms_run.specs.ProgramsToRun.{solver_name, status_code};
 ghost use Rattle.gms_run.specs.Listings.{IsModelLine, model_status, objective_level, pivots_of, save_file};
 
@@ -204,7 +204,7 @@ pub(crate) fn write_save<H: Host>(
     request: Request,
     bytes: &[u8],
 ) -> Result<(), Failed>
-    ensures outside { ComesTo result (λ done. WritesSave status (asked_by request.entry) (H.meaning host.old).outside (H.meaning host.new).outside bytes.now) (LosesSave status (asked_by request.entry) (H.meaning host.old).outside (H.meaning host.new).outside bytes.now) }
+    ensures outside { ResultsIn result (λ done. WritesSave status (asked_by request.entry) (H.meaning host.old).outside (H.meaning host.new).outside bytes.now) (LosesSave status (asked_by request.entry) (H.meaning host.old).outside (H.meaning host.new).outside bytes.now) }
     ensures counts { CountsWriting result (H.meaning host.old).counts (H.meaning host.new).counts }
 {
     match save_file(status, request) {

@@ -8,16 +8,16 @@ ghost use Rattle.gms_event.specs.Events.{stops};
 ghost use Rattle.gms_store.specs.State.{State};
 ghost use Rattle.gms_exec.specs.Dimensions.{AreOneDimensional};
 ghost use Rattle.gms_exec.specs.Run.{of_statement};
-ghost use Rattle.gms_exec.specs.ValidEvents.{ShowsStanding};
+ghost use Rattle.gms_exec.specs.ValidEvents.{ShowsValidEvents};
 ghost use Rattle.gms_exec.specs.Stepping.{AreValidSettings, Answered, Runs, UnlessMemory};
 ghost use Rattle.gms_list.specs.Conditions.{IsListable};
 ghost use Rattle.gms_list.specs.ListingText.{echo_text, event_text, events_text};
 ghost use Rattle.gms_host.specs.Rules.{CountsWriting};
-ghost use Rattle.gms_host.specs.Spooling.{Passes, WritesFront};
+ghost use Rattle.gms_host.specs.Spooling.{Passes, WritesPrefix};
 ghost use Rattle.gms_command.specs.CommandLine.{asked_by};
 ghost use Rattle.gms_run.specs.InnerReports.{Begins, HasRemarks, HasRest, HasSave, ListsBody, script_in};
 ghost use Rattle.gms_run.specs.InnerRuns.{ExecutesJob, IsFresh, IsUnsolved, ListsStatement, moment, pending};
-ghost use Rattle.gms_run.specs.InnerSteps.{CanExecute, ComesTo, programs_in, work};
+ghost use Rattle.gms_run.specs.InnerSteps.{CanExecute, ResultsIn, programs_in, work};
 ghost use Rattle.gms_run.specs.Scripts.{scripted, statements_to_run};
 ghost use Rattle.gms_run.specs.Solving.{numbers_of, solver_views};
 
@@ -143,7 +143,7 @@ fn step_alone(
     ensures solvers { UnlessMemory result (Answered frac_value frac_limit name rule paths solvers.old.items solvers.new.items
         (record { state = store.old; events = events.old.items; answers = answers.old.items })
         (record { state = store.new; events = events.new.items; answers = answers.new.items })) }
-    ensures standing { UnlessMemory result (ShowsStanding frac_value frac_limit (map rule solvers.old.items) answers.new.items events.old.items events.new.items) }
+    ensures valid { UnlessMemory result (ShowsValidEvents frac_value frac_limit (map rule solvers.old.items) answers.new.items events.old.items events.new.items) }
     ensures settings { UnlessMemory result (AreValidSettings (length solvers.old.items) store.new.settings) }
     ensures plain { UnlessMemory result (AreOneDimensional store.new program.now.statements.items) }
 {
@@ -173,9 +173,9 @@ fn pass_echo<H: Host>(
 ) -> Result<(), Failed>
     requires open { (H.meaning host.old).outside.writing ≡ true }
     requires empty { outlet.old.spool ++ outlet.old.listing ≡ [] }
-    ensures outside { ComesTo result (λ _. Passes (H.meaning host.old).outside (H.meaning host.new).outside (echo_text script.entry.line script.entry.file.now) outlet.new.spool) (WritesFront (H.meaning host.old).outside (H.meaning host.new).outside (echo_text script.entry.line script.entry.file.now)) }
+    ensures outside { ResultsIn result (λ _. Passes (H.meaning host.old).outside (H.meaning host.new).outside (echo_text script.entry.line script.entry.file.now) outlet.new.spool) (WritesPrefix (H.meaning host.old).outside (H.meaning host.new).outside (echo_text script.entry.line script.entry.file.now)) }
     ensures none { OnOk result (outlet.new.listing ≡ []) }
-    ensures room { OnOk result (length outlet.new.spool ≤ 4096) }
+    ensures within_bound { OnOk result (length outlet.new.spool ≤ 4096) }
     ensures counts { CountsWriting result (H.meaning host.old).counts (H.meaning host.new).counts }
 {
     outlet.listing.echo_from(alloc, script.file, script.line)?;
@@ -210,7 +210,7 @@ impl Run {
     ) -> Result<bool, AllocError>
         requires few { length solvers.old.items < 2 ^ 32 }
         requires can_execute { CanExecute program.now (length solvers.old.items) self.old.store }
-        ensures listed { IfOk result (λ goes_on. ListsStatement goes_on program.now s.now (solver_views name rule paths solvers.old.items) self.old (solver_views name rule paths solvers.new.items) self.new) }
+        ensures listed { IfOk result (λ continues. ListsStatement continues program.now s.now (solver_views name rule paths solvers.old.items) self.old (solver_views name rule paths solvers.new.items) self.new) }
         ensures spool { OnOk result (self.new.outlet.spool ≡ self.old.outlet.spool) }
         ensures can_execute { OnOk result (CanExecute program.now (length solvers.old.items) self.new.store) }
     {
@@ -249,16 +249,16 @@ impl Run {
         requires few { length solvers.old.items < 2 ^ 32 }
         requires can_execute { CanExecute program.now (length solvers.old.items) self.old.store }
         requires unsolved { IsUnsolved self.old }
-        requires room { length (pending self.old) ≤ 4096 }
+        requires within_bound { length (pending self.old) ≤ 4096 }
         ensures outside { ExecutesJob result (work program.now self.old.store list.now)
             (moment name rule paths (H.meaning host.old) solvers.old.items self.old)
             (moment name rule paths (H.meaning host.new) solvers.new.items self.new) }
         ensures counts { CountsWriting result (H.meaning host.old).counts (H.meaning host.new).counts }
     {
         for s in list {
-            let goes_on = self.statement(alloc, program, s, solvers)?;
+            let continues = self.statement(alloc, program, s, solvers)?;
             self.outlet.pass(host)?;
-            if !goes_on {
+            if !continues {
                 return Ok(Status::Execution);
             }
         }
@@ -279,7 +279,7 @@ impl Run {
         requires few { length solvers.old.items < 2 ^ 32 }
         requires can_execute { CanExecute program.now (length solvers.old.items) self.old.store }
         requires unsolved { IsUnsolved self.old }
-        requires room { length (pending self.old) ≤ 4096 }
+        requires within_bound { length (pending self.old) ≤ 4096 }
         ensures outside { (state : State) → ExecutesJob result (work program.now self.old.store (statements_to_run (script_in script.entry state).saved script.entry.line program.now))
             (moment name rule paths (H.meaning host.old) solvers.old.items self.old)
             (moment name rule paths (H.meaning host.new) solvers.new.items self.new) }

@@ -1,9 +1,9 @@
 //! The path of a listing to the output: its text, and the spool through which it is written.
 ghost use Rattle.std.specs.Prelude.{◌≡◌, ◌≤◌, ◌++◌, [], true, length, IfOk, OnOk};
 ghost use Rattle.gms_host.specs.Rules.{CountsWriting, with_output};
-ghost use Rattle.gms_host.specs.Spooling.{PutsThrough, WritesFront};
+ghost use Rattle.gms_host.specs.Spooling.{PutsThrough, WritesPrefix};
 ghost use Rattle.gms_list.specs.ListingText.{end_text};
-ghost use Rattle.gms_run.specs.InnerSteps.{ComesTo};
+ghost use Rattle.gms_run.specs.InnerSteps.{ResultsIn};
 ghost use Rattle.gms_run.specs.ProgramsToRun.{status_code};
 
 use crate::status::Status;
@@ -45,7 +45,7 @@ impl Outlet {
         requires { (H.meaning host.old).outside.writing ≡ true }
         ensures outside { PutsThrough result (H.meaning host.old).outside (H.meaning host.new).outside (self.old.spool ++ self.old.listing) self.new.spool }
         ensures none { OnOk result (self.new.listing ≡ []) }
-        ensures room { length self.new.spool ≤ 4096 }
+        ensures within_bound { length self.new.spool ≤ 4096 }
         ensures counts { CountsWriting result (H.meaning host.old).counts (H.meaning host.new).counts }
     {
         self.spool.put(host, self.listing.bytes())?;
@@ -62,8 +62,8 @@ impl Outlet {
         solves: usize,
     ) -> Result<(), Failed>
         requires { (H.meaning host.old).outside.writing ≡ true }
-        ensures outside { ComesTo result (λ done. (H.meaning host.new).outside ≡ with_output (H.meaning host.old).outside (self.old.spool ++ self.old.listing ++ end_text (status_code status) solves))
-            (WritesFront (H.meaning host.old).outside (H.meaning host.new).outside (self.old.spool ++ self.old.listing ++ end_text (status_code status) solves)) }
+        ensures outside { ResultsIn result (λ done. (H.meaning host.new).outside ≡ with_output (H.meaning host.old).outside (self.old.spool ++ self.old.listing ++ end_text (status_code status) solves))
+            (WritesPrefix (H.meaning host.old).outside (H.meaning host.new).outside (self.old.spool ++ self.old.listing ++ end_text (status_code status) solves)) }
         ensures counts { CountsWriting result (H.meaning host.old).counts (H.meaning host.new).counts }
     {
         self.listing.close(alloc, status.code(), solves)?;

@@ -7,7 +7,7 @@ ghost use Rattle.gms_store.specs.State.{State};
 ghost use Rattle.gms_parse.specs.Outcomes.{IsProgram};
 ghost use Rattle.gms_command.specs.CommandLine.{asked_by};
 ghost use Rattle.lp_slot.specs.SolverNames.{IsSolverName};
-ghost use Rattle.gms_run.specs.InnerReports.{HasRest, IsSoundMatter, ListsAll, ListsBody, ListsErrors, matter_in, script_in};
+ghost use Rattle.gms_run.specs.InnerReports.{HasRest, IsSoundInput, ListsAll, ListsBody, ListsErrors, loaded_input_in, script_in};
 ghost use Rattle.gms_run.specs.InnerRuns.{IsFresh, moment};
 ghost use Rattle.gms_list.specs.ListingText.{has_echo};
 ghost use Rattle.gms_run.specs.Listings.{refusal_text, unrestored_text};
@@ -16,7 +16,7 @@ ghost use Rattle.gms_run.specs.Scripts.{errors_of_script, scripted};
 use crate::execution::Run;
 use crate::outlet::Outlet;
 use crate::restart::{begin, errors_of};
-use crate::script::{Matter, Script};
+use crate::script::{LoadedInput, Script};
 use crate::status::Status;
 use gms_ast::Program;
 use gms_check::CompileError;
@@ -152,7 +152,7 @@ fn checked<H: Host>(
     requires few { length solvers.old.items < 2 ^ 32 }
     requires fresh { IsFresh run.old }
     requires is_program { IsProgram frac_limit script.source.now frac_value program.now }
-    requires sound { IsSoundMatter (map name solvers.old.items) (scripted (script_in script run.old.store)) }
+    requires sound { IsSoundInput (map name solvers.old.items) (scripted (script_in script run.old.store)) }
     ensures outside { ListsBody result (scripted (script_in script.entry run.old.store))
         (moment name rule paths (H.meaning host.old) solvers.old.items run.old)
         (moment name rule paths (H.meaning host.new) solvers.new.items run.new) }
@@ -182,7 +182,7 @@ fn parsed<H: Host>(
     requires open { (H.meaning host.old).outside.writing ≡ true }
     requires few { length solvers.old.items < 2 ^ 32 }
     requires fresh { IsFresh run.old }
-    requires sound { IsSoundMatter (map name solvers.old.items) (scripted (script_in script run.old.store)) }
+    requires sound { IsSoundInput (map name solvers.old.items) (scripted (script_in script run.old.store)) }
     ensures outside { ListsBody result (scripted (script_in script.entry run.old.store))
         (moment name rule paths (H.meaning host.old) solvers.old.items run.old)
         (moment name rule paths (H.meaning host.new) solvers.new.items run.new) }
@@ -207,25 +207,25 @@ fn listed<H: Host>(
     alloc: Global,
     host: &mut H,
     request: Request,
-    matter: Matter,
+    loaded_input: LoadedInput,
     solvers: &mut Vec<Box<dyn LpSolver>>,
     run: &mut Run,
 ) -> Result<Status, Failed>
     requires open { (H.meaning host.old).outside.writing ≡ true }
     requires few { length solvers.old.items < 2 ^ 32 }
     requires fresh { IsFresh run.old }
-    requires sound { IsSoundMatter (map name solvers.old.items) (matter_in matter run.old.store) }
-    ensures outside { ListsBody result (matter_in matter.entry run.old.store)
+    requires sound { IsSoundInput (map name solvers.old.items) (loaded_input_in loaded_input run.old.store) }
+    ensures outside { ListsBody result (loaded_input_in loaded_input.entry run.old.store)
         (moment name rule paths (H.meaning host.old) solvers.old.items run.old)
         (moment name rule paths (H.meaning host.new) solvers.new.items run.new) }
-    ensures follows { HasRest result (asked_by request.entry) (matter_in matter.entry run.old.store)
+    ensures follows { HasRest result (asked_by request.entry) (loaded_input_in loaded_input.entry run.old.store)
         (moment name rule paths (H.meaning host.old) solvers.old.items run.old)
         (moment name rule paths (H.meaning host.new) solvers.new.items run.new) }
     ensures counts { CountsWriting result (H.meaning host.old).counts (H.meaning host.new).counts }
 {
-    match matter {
-        Matter::ToRun(script) => parsed(alloc, host, request, script, solvers, run),
-        Matter::Unrestored(fault) => {
+    match loaded_input {
+        LoadedInput::ToRun(script) => parsed(alloc, host, request, script, solvers, run),
+        LoadedInput::Unrestored(fault) => {
             list_unrestored(alloc, fault, &mut run.outlet.listing)?;
             Ok(Status::Compile)
         }
@@ -238,23 +238,23 @@ pub(crate) fn report<H: Host>(
     alloc: Global,
     host: &mut H,
     request: Request,
-    matter: Matter,
+    loaded_input: LoadedInput,
     solvers: &mut Vec<Box<dyn LpSolver>>,
     run: &mut Run,
 ) -> Result<Status, Failed>
     requires open { (H.meaning host.old).outside.writing ≡ true }
     requires few { length solvers.old.items < 2 ^ 32 }
     requires fresh { IsFresh run.old }
-    requires sound { IsSoundMatter (map name solvers.old.items) (matter_in matter run.old.store) }
-    ensures outside { ListsAll result (matter_in matter.entry run.old.store)
+    requires sound { IsSoundInput (map name solvers.old.items) (loaded_input_in loaded_input run.old.store) }
+    ensures outside { ListsAll result (loaded_input_in loaded_input.entry run.old.store)
         (moment name rule paths (H.meaning host.old) solvers.old.items run.old)
         (moment name rule paths (H.meaning host.new) solvers.new.items run.new) }
-    ensures follows { HasRest result (asked_by request.entry) (matter_in matter.entry run.old.store)
+    ensures follows { HasRest result (asked_by request.entry) (loaded_input_in loaded_input.entry run.old.store)
         (moment name rule paths (H.meaning host.old) solvers.old.items run.old)
         (moment name rule paths (H.meaning host.new) solvers.new.items run.new) }
     ensures counts { CountsWriting result (H.meaning host.old).counts (H.meaning host.new).counts }
 {
-    let status = listed(alloc, host, request, matter, solvers, run)?;
+    let status = listed(alloc, host, request, loaded_input, solvers, run)?;
     let solves = run.answers.len();
     run.outlet.end(alloc, host, status, solves)?;
     Ok(status)

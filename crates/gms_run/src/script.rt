@@ -27,7 +27,7 @@ pub(crate) struct Script<'a> {
 
 /// The loaded input.
 #[derive(Clone, Copy)]
-pub(crate) enum Matter<'a> {
+pub(crate) enum LoadedInput<'a> {
     /// A source.
     ToRun(Script<'a>),
     /// Nothing, because a save cannot be restored.

@@ -5,7 +5,7 @@ ghost use Rattle.gms_host.specs.Rules.{CountsWriting, IsThere};
 ghost use Rattle.gms_lex.specs.Tokens.{most_source_bytes};
 ghost use Rattle.gms_command.specs.CommandLine.{texts, request_of, asked_by, in_file, restarted, generated, read_fault_line};
 ghost use Rattle.gms_run.specs.Headline.{HasListing, WritesListing, file_alone};
-ghost use Rattle.gms_run.specs.InnerReports.{CanGoOn, CountsMention, CountsRun, EndsAs, IsSoundMatter, Reports, RunsAfter, RunsMatter, RunsRequest, RunsTaken, RunsWords, matter_in};
+ghost use Rattle.gms_run.specs.InnerReports.{CanContinue, CountsMention, CountsRun, EndsAs, IsSoundInput, Reports, RunsAfter, RunsMatter, RunsRequest, RunsTaken, RunsWords, loaded_input_in};
 ghost use Rattle.gms_run.specs.InnerRuns.{IsFresh, moment};
 ghost use Rattle.gms_run.specs.Laws.{RunIsAnsweredRightly};
 ghost use Rattle.gms_run.specs.Scripts.{first_line, from_save, joint_script, joint_source, script_of, scripted};
@@ -16,7 +16,7 @@ use crate::closing::{push_closing, write_save};
 use crate::execution::Run;
 use crate::report::report;
 use crate::restart::restored;
-use crate::script::{Matter, Script, first_line, joint_source};
+use crate::script::{LoadedInput, Script, first_line, joint_source};
 use crate::status::Status;
 use crate::transfer::{read_file, say_line};
 use gms_command::{Request, Source, output_of, read_fault_line, request_of, usage_line};
@@ -46,22 +46,22 @@ fn write_report<H: Host>(
     alloc: Global,
     host: &mut H,
     request: Request,
-    matter: Matter,
+    loaded_input: LoadedInput,
     output: &str,
     solvers: &mut Vec<Box<dyn LpSolver>>,
     run: &mut Run,
 ) -> Result<Status, Failed>
     requires few { length solvers.old.items < 2 ^ 32 }
     requires fresh { IsFresh run.old }
-    requires sound { IsSoundMatter (map name solvers.old.items) (matter_in matter run.old.store) }
+    requires sound { IsSoundInput (map name solvers.old.items) (loaded_input_in loaded_input run.old.store) }
     requires named { output.now ≡ (asked_by request).output }
-    ensures outside { Reports result (asked_by request.entry) (matter_in matter.entry run.old.store)
+    ensures outside { Reports result (asked_by request.entry) (loaded_input_in loaded_input.entry run.old.store)
         (moment name rule paths (H.meaning host.old) solvers.old.items run.old)
         (moment name rule paths (H.meaning host.new) solvers.new.items run.new) }
     ensures counts { CountsWriting result (H.meaning host.old).counts (H.meaning host.new).counts }
 {
     host.open_out(output)?;
-    let status = report(alloc, host, request, matter, solvers, run)?;
+    let status = report(alloc, host, request, loaded_input, solvers, run)?;
     host.close_out()?;
     write_save(host, status, request, run.save.as_slice())?;
     push_closing(alloc, status, run.answers.len(), output, &mut run.remarks)?;
@@ -104,25 +104,25 @@ fn report_read_fault<H: Host>(alloc: Global, host: &mut H, file: &str) -> Result
 }
 
 /// Runs the loaded input for a request.
-fn run_matter<H: Host>(
+fn run_loaded<H: Host>(
     alloc: Global,
     host: &mut H,
     request: Request,
-    matter: Matter,
+    loaded_input: LoadedInput,
     solvers: &mut Vec<Box<dyn LpSolver>>,
     run: &mut Run,
 ) -> Result<Status, AllocError>
     requires few { length solvers.old.items < 2 ^ 32 }
     requires fresh { IsFresh run.old }
-    requires sound { IsSoundMatter (map name solvers.old.items) (matter_in matter run.old.store) }
-    ensures ran { RunsMatter result (asked_by request.entry) (matter_in matter.entry run.old.store)
+    requires sound { IsSoundInput (map name solvers.old.items) (loaded_input_in loaded_input run.old.store) }
+    ensures ran { RunsMatter result (asked_by request.entry) (loaded_input_in loaded_input.entry run.old.store)
         (moment name rule paths (H.meaning host.old) solvers.old.items run.old)
         (moment name rule paths (H.meaning host.new) solvers.new.items run.new) }
     ensures counts { CountsRun result ((H.meaning host.old).counts.reliable ≡ true) (H.meaning host.old).counts (H.meaning host.new).counts }
 {
     let output = output_of(alloc, request)?;
     let name = output.as_str();
-    status_of(write_report(alloc, host, request, matter, name, solvers, run))
+    status_of(write_report(alloc, host, request, loaded_input, name, solvers, run))
 }
 
 /// Runs a source from its start for a request.
@@ -147,8 +147,8 @@ fn run_source<H: Host>(
         line: 1,
         joint: false,
     };
-    let matter = Matter::ToRun(script);
-    run_matter(alloc, host, request, matter, solvers, run)
+    let loaded_input = LoadedInput::ToRun(script);
+    run_loaded(alloc, host, request, loaded_input, solvers, run)
 }
 
 /// Runs a file that resumes from a restored state, for a request.
@@ -164,7 +164,7 @@ fn run_joint<H: Host>(
     requires few { length solvers.old.items < 2 ^ 32 }
     requires fresh { IsFresh run.old }
     requires short { length saved.old.source.items ≤ most_source_bytes }
-    requires sound { CanGoOn (map name solvers.old.items) (joint_source saved.old.source.items file.now) (first_line saved.old.source.items) saved.old.store }
+    requires sound { CanContinue (map name solvers.old.items) (joint_source saved.old.source.items file.now) (first_line saved.old.source.items) saved.old.store }
     ensures ran { RunsMatter result (asked_by request.entry) (scripted (joint_script saved.old.source.items saved.old.store file.now))
         (moment name rule paths (H.meaning host.old) solvers.old.items run.old)
         (moment name rule paths (H.meaning host.new) solvers.new.items run.new) }
@@ -178,9 +178,9 @@ fn run_joint<H: Host>(
         line,
         joint: true,
     };
-    let matter = Matter::ToRun(script);
+    let loaded_input = LoadedInput::ToRun(script);
     swap(&mut run.store, &mut saved.store);
-    run_matter(alloc, host, request, matter, solvers, run)
+    run_loaded(alloc, host, request, loaded_input, solvers, run)
 }
 
 /// Runs a file that resumes from a save, for a request.
@@ -204,8 +204,8 @@ fn run_save<H: Host>(
         Ok(mut saved) => run_joint(alloc, host, request, &mut saved, file, solvers, run),
         Err(SaveFaultOrMemory::Memory) => Err(AllocError),
         Err(SaveFaultOrMemory::Fault(fault)) => {
-            let matter = Matter::Unrestored(fault);
-            run_matter(alloc, host, request, matter, solvers, run)
+            let loaded_input = LoadedInput::Unrestored(fault);
+            run_loaded(alloc, host, request, loaded_input, solvers, run)
         }
     }
 }
@@ -236,7 +236,7 @@ fn run_file<H: Host>(
 }
 
 /// Runs the requested file after the save that was read.
-fn run_behind<H: Host>(
+fn run_after_save<H: Host>(
     alloc: Global,
     host: &mut H,
     request: Request,
@@ -283,7 +283,7 @@ fn run_restart<H: Host>(
         Err(Failed::Fault) => return report_read_fault(alloc, host, saved),
         Err(Failed::Memory) => return Err(AllocError),
     };
-    run_behind(alloc, host, request, save, file, solvers, run)
+    run_after_save(alloc, host, request, save, file, solvers, run)
 }
 
 /// Runs the generated model of the requested size.

@@ -3,7 +3,7 @@ ghost use Rattle.std.specs.Prelude.{◌≡◌, ◌<◌, ◌^◌, ◌+◌, true};
 ghost use Rattle.gms_host.specs.Rules.{CountsReading, CountsWriting, IsThere};
 ghost use Rattle.gms_host.specs.Spooling.{WritesAll};
 ghost use Rattle.gms_run.specs.InnerReports.{ReadsFile, SaysAll, TakesFirst};
-ghost use Rattle.gms_run.specs.InnerSteps.{ComesTo};
+ghost use Rattle.gms_run.specs.InnerSteps.{ResultsIn};
 ghost use Rattle.gms_run.specs.Statuses.{IsUnwrittenFile, with_file};
 
 use gms_host::{Failed, Host};
@@ -22,8 +22,8 @@ fn read_most<H: Host>(alloc: Global, host: &mut H, most: usize) -> Result<Vec<u8
     let mut source = Vec::new(alloc);
     let mut buffer = [0u8; BUFFER_BYTES];
     while source.len() <= most {
-        let room = (most + 1 - source.len()).min(BUFFER_BYTES);
-        let count = host.read(&mut buffer[..room])?;
+        let within_bound = (most + 1 - source.len()).min(BUFFER_BYTES);
+        let count = host.read(&mut buffer[..within_bound])?;
         if count == 0 {
             return Ok(source);
         }
@@ -63,7 +63,7 @@ fn write_all<H: Host>(host: &mut H, bytes: &[u8]) -> Result<(), Failed>
 
 /// Writes a file of a name, and closes it.
 pub(crate) fn write_file<H: Host>(host: &mut H, file: &str, bytes: &[u8]) -> Result<(), Failed>
-    ensures outside { ComesTo result (λ done. (H.meaning host.new).outside ≡ with_file (H.meaning host.old).outside file.now bytes.now) (IsUnwrittenFile (H.meaning host.old).outside (H.meaning host.new).outside file.now bytes.now) }
+    ensures outside { ResultsIn result (λ done. (H.meaning host.new).outside ≡ with_file (H.meaning host.old).outside file.now bytes.now) (IsUnwrittenFile (H.meaning host.old).outside (H.meaning host.new).outside file.now bytes.now) }
     ensures counts { CountsWriting result (H.meaning host.old).counts (H.meaning host.new).counts }
 {
     host.open_out(file)?;

@@ -14,7 +14,7 @@ use Rattle.gms_eval.specs.Bindings.{Pairs, label_of, controlled}
 use Rattle.gms_eval.specs.Faults.{Answer, ◌and_then◌}
 use Rattle.gms_eval.specs.References.{tuple_of}
 use Rattle.gms_eval.specs.Value.{value, values, labels, domain, control_over}
-use Rattle.gms_rows.specs.Rows.{each_once, sets_among}
+use Rattle.gms_rows.specs.Rows.{distinct_numbers, sets_among}
 use Rattle.gms_exec.specs.Assignment.{newly_controlled, where_taken, given_under, element_under, given_elements, given_by}
 use Rattle.gms_exec.specs.Given.{Given, member, AllGiven}
 use Rattle.gms_exec.specs.Membership.{joined_membership, in_sum, in_product, membership, memberships}
@@ -87,6 +87,6 @@ module _ (test : ℕ → Bool) (one other : State) (agree : AgreeOn test one oth
     pub given-same : (at : Place) (binding : Pairs) (condition : Option (tree.Tree F)) → Each test (condition_names condition) → given_by v limit other at binding target condition right_at right ≡ given_by v limit one at binding target condition right_at right
     given-same at binding condition holds =
         let sets = newly_controlled binding target.indices in
-        ap (λ (elements : Answer (List (List ℕ))). over_all (given_elements v limit other) elements (λ element. element_under v limit other target right_at right (controlled binding sets element))) (where-same test one other agree v limit sets condition (filter-each test (λ set. is_none (label_of binding set)) (each_once (sets_among target.indices)) (sets-each test target.indices indices)) holds binding at)
+        ap (λ (elements : Answer (List (List ℕ))). over_all (given_elements v limit other) elements (λ element. element_under v limit other target right_at right (controlled binding sets element))) (where-same test one other agree v limit sets condition (filter-each test (λ set. is_none (label_of binding set)) (distinct_numbers (sets_among target.indices)) (sets-each test target.indices indices)) holds binding at)
         ∙ ap (over_all (given_elements v limit other) (domain v limit one binding at (control_over sets condition))) (fun_ext (λ element. element-same (controlled binding sets element)))
         ∙ ap (λ there. over_all there (domain v limit one binding at (control_over sets condition)) (λ element. element_under v limit one target right_at right (controlled binding sets element))) (fun_ext there-same)

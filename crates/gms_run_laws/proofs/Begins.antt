@@ -16,7 +16,7 @@ use Rattle.gms_run_laws.specs.Agreeing.{declares, HasAll}
 use Rattle.gms_run_laws.proofs.Changing.{read, over-at, over-length, same-lists, chosen-declared, chosen-undeclared}
 use Rattle.gms_run_laws.proofs.TidyLoaded.{loaded-well}
 use Rattle.gms_run_laws.specs.Extensions.{DeclaresItsOwn, TypesNone}
-use Rattle.gms_run_laws.proofs.Keeping.{Keeps, keep-behind}
+use Rattle.gms_run_laws.proofs.Keeping.{Keeps, keep-following}
 use Rattle.gms_run_laws.proofs.Padding.{padded-after}
 
 -- a state has all of another, if it has the other's symbol for each name that the other declares,
@@ -42,5 +42,5 @@ module _ {F : Type 0} (v : F → Number) (saved joint : World F) (firsts others 
       let first = loaded v saved.program in
       let more = length joint.program.names in
       let padded = padded-after (length saved.program.names) v more few saved.program.statements.items own in
-      let keeps = keep-behind first v joint.program accepted firsts others statements types (subst (Keeps first) (sym (states more)) (record { kept = λ n is. padded.same n; many = padded.few })) in
+      let keeps = keep-following first v joint.program accepted firsts others statements types (subst (Keeps first) (sym (states more)) (record { kept = λ n is. padded.same n; many = padded.few })) in
       has-all (loaded v joint.program) first keeps.many ((loaded-well v joint.program).settings ∙ sym (loaded-well v saved.program).settings) keeps.kept

@@ -14,8 +14,8 @@ use Rattle.lp_core.specs.declared.answer.End.{End}
 use Rattle.lp_core.specs.declared.program.Lp.{Lp}
 use Rattle.gms_exec.specs.Given.{AllGiven, with_given, fitting, after_given}
 use Rattle.gms_exec.specs.Solved.{Point, with_point, statuses_of, points_of, after_end}
-use Rattle.gms_exec.proofs.Assigned.{behind-given}
-use Rattle.gms_exec.proofs.Levels.{behind-fitted}
+use Rattle.gms_exec.proofs.Assigned.{following-given}
+use Rattle.gms_exec.proofs.Levels.{following-fitted}
 use Rattle.gms_exec.proofs.Symbols.{at-after}
 use Rattle.gms_run_laws.specs.Agreeing.{AgreeOn, declares, IsClosed, HasAll}
 use Rattle.gms_run_laws.proofs.FormKeys.{of_name}
@@ -169,7 +169,7 @@ module _ (first base : State) where
     over-given a b kind name all is over =
         over-change a b over name is (λ s. with_content s (with_given kind (fitting s all) s.content)) (record {
           declared = λ s. undeclared-given kind (fitting s all) s.content;
-          alike = λ s m. behind-given kind (fitting s all) s.content m;
+          alike = λ s m. following-given kind (fitting s all) s.content m;
         })
 
     undeclared-statuses : (content : Content) (model solver : ℕ) → is_undeclared (with_statuses content model solver) ≡ is_undeclared content
@@ -181,20 +181,20 @@ module _ (first base : State) where
     undeclared-statuses (equation_of entries) model solver = refl
     undeclared-statuses (model_with m s) model solver = refl
 
-    behind-statuses : (content : Content) (model solver m : ℕ) → alias_target m (with_statuses content model solver) ≡ alias_target m content
-    behind-statuses undeclared model solver m = refl
-    behind-statuses (alias_of base) model solver m = refl
-    behind-statuses (set_of members) model solver m = refl
-    behind-statuses (parameter_of entries) model solver m = refl
-    behind-statuses (variable_of type entries) model solver m = refl
-    behind-statuses (equation_of entries) model solver m = refl
-    behind-statuses (model_with k s) model solver m = refl
+    following-statuses : (content : Content) (model solver m : ℕ) → alias_target m (with_statuses content model solver) ≡ alias_target m content
+    following-statuses undeclared model solver m = refl
+    following-statuses (alias_of base) model solver m = refl
+    following-statuses (set_of members) model solver m = refl
+    following-statuses (parameter_of entries) model solver m = refl
+    following-statuses (variable_of type entries) model solver m = refl
+    following-statuses (equation_of entries) model solver m = refl
+    following-statuses (model_with k s) model solver m = refl
 
     over-statuses : (a b : State) (name model solver : ℕ) → declares first name ≡ true → Over a b → Over (after_statuses a name model solver) (after_statuses b name model solver)
     over-statuses a b name model solver is over =
         over-change a b over name is (λ s. with_content s (with_statuses s.content model solver)) (record {
           declared = λ s. undeclared-statuses s.content model solver;
-          alike = λ s m. behind-statuses s.content model solver m;
+          alike = λ s m. following-statuses s.content model solver m;
         })
 
     undeclared-put : (content : Content) (t : List ℕ) (x : Attributes) → is_undeclared (with_attributes content t x) ≡ is_undeclared content
@@ -221,7 +221,7 @@ module _ (first base : State) where
     put-change : (point : Point) → IsChange (put point)
     put-change point = record {
       declared = λ s. undeclared-fitted s point.key.tuple (with_marginal (with_level (attributes_in s.content point.key.tuple) point.level) point.marginal);
-      alike = λ s m. behind-fitted s point.key.tuple (with_marginal (with_level (attributes_in s.content point.key.tuple) point.level) point.marginal) m;
+      alike = λ s m. following-fitted s point.key.tuple (with_marginal (with_level (attributes_in s.content point.key.tuple) point.level) point.marginal) m;
     }
 
     over-points : (those : List Point) → ArePut (of_name (declares first)) those → (a b : State) → Over a b → Over (fold with_point a those) (fold with_point b those)

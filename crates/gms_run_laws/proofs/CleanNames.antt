@@ -5,7 +5,7 @@ use Rattle.gms_labels.specs.declared.place.Place.{Place}
 use Rattle.gms_ast.specs.Trees as tree
 use Rattle.gms_scope.specs.Names.{has_no_declaration}
 use Rattle.gms_check.specs.declared.error.ErrorKind.TheVariants.{UnknownName}
-use Rattle.gms_check.specs.declared.contexts.Standing.{Standing}
+use Rattle.gms_check.specs.declared.contexts.Context.{Context}
 use Rattle.gms_check.specs.Past.{Known}
 use Rattle.gms_check.specs.Contexts.{as_number, as_condition, as_part, as_inner, as_guarded, as_denied}
 use Rattle.gms_check.specs.Uses.{place_by_mark, index_sets, sets_of_control, steps, uses, part_uses, amount_uses, control_uses, shift_uses, condition_uses}
@@ -26,39 +26,39 @@ module _ {F : Type 0} (known : Known F) where
       (ap not (neither-first (has_no_declaration known.state n) (list_any (has_no_declaration known.state) ns) none), none-unknown ns (neither-second (has_no_declaration known.state n) (list_any (has_no_declaration known.state) ns) none))
 
   mutual
-    pub names-clean : (e : tree.Tree F) (standing : Standing) (at : Place) (around : List ℕ) → AreClean known (uses standing at around e) → Each test (names_in_tree e)
-    names-clean (tree.number n) standing at around clean = tt
-    names-clean tree.plus_infinity standing at around clean = tt
-    names-clean tree.not_available standing at around clean = tt
-    names-clean tree.yes standing at around clean = tt
-    names-clean tree.no standing at around clean = tt
-    names-clean (tree.reference place name suffix indices) standing at around clean =
+    pub names-clean : (e : tree.Tree F) (context : Context) (at : Place) (around : List ℕ) → AreClean known (uses context at around e) → Each test (names_in_tree e)
+    names-clean (tree.number n) context at around clean = tt
+    names-clean tree.plus_infinity context at around clean = tt
+    names-clean tree.not_available context at around clean = tt
+    names-clean tree.yes context at around clean = tt
+    names-clean tree.no context at around clean = tt
+    names-clean (tree.reference place name suffix indices) context at around clean =
         let all = none-unknown (name ∷ index_sets indices) (clean.0 UnknownName) in (all.0, indices-clean indices around all.1 clean.1)
-    names-clean (tree.place_in_set place set) standing at around clean = none-unknown (set ∷ []) (clean.0 UnknownName)
-    names-clean (tree.size_of_set place set) standing at around clean = none-unknown (set ∷ []) (clean.0 UnknownName)
-    names-clean (tree.call place function args) standing at around clean = parts-clean args (as_inner standing) place around clean.1
-    names-clean (tree.fold_over place op control body) standing at around clean =
-        each-both test (control_names control) (names_in_tree body) (control-clean control place around (clean-left known (control_uses place around control) (uses (as_inner standing) place (around ++ sets_of_control control) body) clean.1))
-        (names-clean body (as_inner standing) place (around ++ sets_of_control control) (clean-right known (control_uses place around control) (uses (as_inner standing) place (around ++ sets_of_control control) body) clean.1))
-    names-clean (tree.negated operand) standing at around clean = names-clean operand (as_part standing) at around clean
-    names-clean (tree.sum parts) standing at around clean = parts-clean parts (as_part standing) at around clean
-    names-clean (tree.product parts) standing at around clean =
-        parts-clean parts (as_part standing) at around (clean-left known (part_uses (as_part standing) at around parts) (steps standing at parts) clean)
-    names-clean (tree.power parts) standing at around clean =
-        parts-clean parts (as_part standing) at around (clean-left known (part_uses (as_part standing) at around parts) (steps standing at parts) clean)
-    names-clean (tree.relation parts) standing at around clean = parts-clean parts as_number at around clean.1
-    names-clean (tree.not_so operand) standing at around clean = names-clean operand (as_denied standing) at around clean
-    names-clean (tree.all_of parts) standing at around clean = parts-clean parts as_condition at around clean.1
-    names-clean (tree.one_of parts) standing at around clean = parts-clean parts as_condition at around clean.1
-    names-clean (tree.guarded operand guards) standing at around clean =
-        each-both test (names_in_tree operand) (part_names guards) (names-clean operand (as_guarded standing) at around (clean-left known (uses (as_guarded standing) at around operand) (part_uses as_condition at around guards) clean))
-        (parts-clean guards as_condition at around (clean-right known (uses (as_guarded standing) at around operand) (part_uses as_condition at around guards) clean))
+    names-clean (tree.place_in_set place set) context at around clean = none-unknown (set ∷ []) (clean.0 UnknownName)
+    names-clean (tree.size_of_set place set) context at around clean = none-unknown (set ∷ []) (clean.0 UnknownName)
+    names-clean (tree.call place function args) context at around clean = parts-clean args (as_inner context) place around clean.1
+    names-clean (tree.fold_over place op control body) context at around clean =
+        each-both test (control_names control) (names_in_tree body) (control-clean control place around (clean-left known (control_uses place around control) (uses (as_inner context) place (around ++ sets_of_control control) body) clean.1))
+        (names-clean body (as_inner context) place (around ++ sets_of_control control) (clean-right known (control_uses place around control) (uses (as_inner context) place (around ++ sets_of_control control) body) clean.1))
+    names-clean (tree.negated operand) context at around clean = names-clean operand (as_part context) at around clean
+    names-clean (tree.sum parts) context at around clean = parts-clean parts (as_part context) at around clean
+    names-clean (tree.product parts) context at around clean =
+        parts-clean parts (as_part context) at around (clean-left known (part_uses (as_part context) at around parts) (steps context at parts) clean)
+    names-clean (tree.power parts) context at around clean =
+        parts-clean parts (as_part context) at around (clean-left known (part_uses (as_part context) at around parts) (steps context at parts) clean)
+    names-clean (tree.relation parts) context at around clean = parts-clean parts as_number at around clean.1
+    names-clean (tree.not_so operand) context at around clean = names-clean operand (as_denied context) at around clean
+    names-clean (tree.all_of parts) context at around clean = parts-clean parts as_condition at around clean.1
+    names-clean (tree.one_of parts) context at around clean = parts-clean parts as_condition at around clean.1
+    names-clean (tree.guarded operand guards) context at around clean =
+        each-both test (names_in_tree operand) (part_names guards) (names-clean operand (as_guarded context) at around (clean-left known (uses (as_guarded context) at around operand) (part_uses as_condition at around guards) clean))
+        (parts-clean guards as_condition at around (clean-right known (uses (as_guarded context) at around operand) (part_uses as_condition at around guards) clean))
 
-    parts-clean : (parts : tree.Parts F) (standing : Standing) (at : Place) (around : List ℕ) → AreClean known (part_uses standing at around parts) → Each test (part_names parts)
-    parts-clean tree.no_part standing at around clean = tt
-    parts-clean (tree.part mark e rest) standing at around clean =
-        each-both test (names_in_tree e) (part_names rest) (names-clean e standing (place_by_mark mark at) around (clean-left known (uses standing (place_by_mark mark at) around e) (part_uses standing at around rest) clean))
-        (parts-clean rest standing at around (clean-right known (uses standing (place_by_mark mark at) around e) (part_uses standing at around rest) clean))
+    parts-clean : (parts : tree.Parts F) (context : Context) (at : Place) (around : List ℕ) → AreClean known (part_uses context at around parts) → Each test (part_names parts)
+    parts-clean tree.no_part context at around clean = tt
+    parts-clean (tree.part mark e rest) context at around clean =
+        each-both test (names_in_tree e) (part_names rest) (names-clean e context (place_by_mark mark at) around (clean-left known (uses context (place_by_mark mark at) around e) (part_uses context at around rest) clean))
+        (parts-clean rest context at around (clean-right known (uses context (place_by_mark mark at) around e) (part_uses context at around rest) clean))
 
     indices-clean : (indices : tree.Indices F) (around : List ℕ) → Each test (index_sets indices) → AreClean known (amount_uses around indices) → Each test (index_names indices)
     indices-clean tree.no_index around all clean = tt

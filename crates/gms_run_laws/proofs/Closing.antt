@@ -125,23 +125,23 @@ closed-model state name closed = by (is_undeclared (symbol_at state name).conten
 -- ---- data
 
 -- a datum changes nothing of what a name stands for
-pub behind-member : (n : ℕ) (t : List ℕ) (c : Content) → alias_target n (with_membership c t true) ≡ alias_target n c
-behind-member n t undeclared = refl
-behind-member n t (alias_of base) = refl
-behind-member n t (set_of members) = refl
-behind-member n t (parameter_of entries) = refl
-behind-member n t (variable_of type entries) = refl
-behind-member n t (equation_of entries) = refl
-behind-member n t (model_with model solver) = refl
+pub following-member : (n : ℕ) (t : List ℕ) (c : Content) → alias_target n (with_membership c t true) ≡ alias_target n c
+following-member n t undeclared = refl
+following-member n t (alias_of base) = refl
+following-member n t (set_of members) = refl
+following-member n t (parameter_of entries) = refl
+following-member n t (variable_of type entries) = refl
+following-member n t (equation_of entries) = refl
+following-member n t (model_with model solver) = refl
 
-pub behind-value : (n : ℕ) (t : List ℕ) (x : Extended) (c : Content) → alias_target n (with_value c t x) ≡ alias_target n c
-behind-value n t x undeclared = refl
-behind-value n t x (alias_of base) = refl
-behind-value n t x (set_of members) = refl
-behind-value n t x (parameter_of entries) = refl
-behind-value n t x (variable_of type entries) = refl
-behind-value n t x (equation_of entries) = refl
-behind-value n t x (model_with model solver) = refl
+pub following-value : (n : ℕ) (t : List ℕ) (x : Extended) (c : Content) → alias_target n (with_value c t x) ≡ alias_target n c
+following-value n t x undeclared = refl
+following-value n t x (alias_of base) = refl
+following-value n t x (set_of members) = refl
+following-value n t x (parameter_of entries) = refl
+following-value n t x (variable_of type entries) = refl
+following-value n t x (equation_of entries) = refl
+following-value n t x (model_with model solver) = refl
 
 closed-datum : (state : State) (name : ℕ) (t : List ℕ) (new : Content) → IsWithDatum t (symbol_of state name).content new → ((n : ℕ) → alias_target n new ≡ alias_target n (symbol_of state name).content) → IsClosed state → IsClosed (put_at state (base_of state name) (if_fits (symbol_of state name) t new))
 closed-datum state name t new datum same closed =
@@ -153,10 +153,10 @@ module _ {F : Type 0} (v : F → Number) where
   closed-data [] state name closed = closed
   closed-data ((t, None) ∷ ds) state name closed =
       let s = symbol_of state name in
-      closed-data ds (put_at state (base_of state name) (if_fits s t (with_membership s.content t true))) name (closed-datum state name t (with_membership s.content t true) (datum-member t s.content) (λ n. behind-member n t s.content) closed)
+      closed-data ds (put_at state (base_of state name) (if_fits s t (with_membership s.content t true))) name (closed-datum state name t (with_membership s.content t true) (datum-member t s.content) (λ n. following-member n t s.content) closed)
   closed-data ((t, Some x) ∷ ds) state name closed =
       let s = symbol_of state name in
-      closed-data ds (put_at state (base_of state name) (if_fits s t (with_value s.content t (value_shown v x)))) name (closed-datum state name t (with_value s.content t (value_shown v x)) (datum-value t (value_shown v x) s.content) (λ n. behind-value n t (value_shown v x) s.content) closed)
+      closed-data ds (put_at state (base_of state name) (if_fits s t (with_value s.content t (value_shown v x)))) name (closed-datum state name t (with_value s.content t (value_shown v x)) (datum-value t (value_shown v x) s.content) (λ n. following-value n t (value_shown v x) s.content) closed)
 
   closed-given : (state : State) (name : ℕ) (given : Result (ExpandedData F) SetFault) → IsClosed state → IsClosed (with_data v state name given)
   closed-given state name (Ok given) closed = closed-data given state name closed

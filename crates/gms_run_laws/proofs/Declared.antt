@@ -8,7 +8,7 @@ use Rattle.gms_ast.specs.declared.program.Program.{Program}
 use Rattle.gms_ast.specs.declared.program.Stmt.{Stmt}
 use Rattle.gms_store.specs.Declarations.{blank_state, is_undeclared}
 use Rattle.gms_store.specs.State.{Symbol, symbol_at}
-use Rattle.gms_check.specs.Checked.{StandsAfter}
+use Rattle.gms_check.specs.Checked.{FollowsIn}
 use Rattle.gms_check.specs.Loaded.{loaded, sound}
 use Rattle.gms_check.specs.Past.{after_statement, state_after}
 use Rattle.gms_check.proofs.Growing.{IsLater, Grows, grows-past}
@@ -20,7 +20,7 @@ later-declared old new (inl none) is = absurd (let e : ◌≡◌ {A = Bool} fals
 later-declared old new (inr after) is = ap not after.declared
 
 module _ {F : Type 0} (value : F → Number) (program : Program F) where
-  pub declared-later : (before : List (Stmt F)) (statement : Stmt F) → StandsAfter program before statement → (n : ℕ) → declares (state_after value (length program.names) (sound before)) n ≡ true → declares (loaded value program) n ≡ true
+  pub declared-later : (before : List (Stmt F)) (statement : Stmt F) → FollowsIn program before statement → (n : ℕ) → declares (state_after value (length program.names) (sound before)) n ≡ true → declares (loaded value program) n ≡ true
   declared-later before statement stands n is =
       let rest : List (Stmt F) = statement ∷ stands.0 in
       let blank = blank_state (length program.names) in

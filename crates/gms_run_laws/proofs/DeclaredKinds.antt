@@ -10,7 +10,7 @@ use Rattle.gms_store.specs.State.{State, Content, undeclared, alias_of, set_of, 
 use Rattle.gms_store.specs.Declarations.{is_undeclared, kind_in}
 use Rattle.gms_scope.specs.Names.{is_equation, has_no_declaration, declared_kind, positions}
 use Rattle.gms_save_text.specs.Validity.{emptied, declared_symbols}
-use Rattle.gms_check.specs.Checked.{StandsAfter}
+use Rattle.gms_check.specs.Checked.{FollowsIn}
 use Rattle.gms_check.specs.Kinds.{is_variable_kind}
 use Rattle.gms_check.specs.Loaded.{loaded, sound}
 use Rattle.gms_check.specs.Past.{state_after}
@@ -59,7 +59,7 @@ same-kinds a b same n =
     ∙ ap read same
     ∙ (ap (λ (s : Symbol). kind_in s.content) (blanked-at b.symbols n) ∙ emptied-kind (symbol_at b n).content)
 
-module _ {F : Type 0} (v : F → Number) (limit : ℕ) (world : World F) (state : State) (lasts : IsLasting v world.program state) (before : List (Stmt F)) (statement : Stmt F) (stands : StandsAfter world.program before statement) where
+module _ {F : Type 0} (v : F → Number) (limit : ℕ) (world : World F) (state : State) (lasts : IsLasting v world.program state) (before : List (Stmt F)) (statement : Stmt F) (stands : FollowsIn world.program before statement) where
   -- what is declared where the statement stands
   abbrev then_state : State
   then_state = state_after v (length world.program.names) (sound before)

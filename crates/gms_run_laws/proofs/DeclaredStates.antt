@@ -67,8 +67,8 @@ module _ {F : Type 0} (program : Program F) (P : State → Type 0) (each_item : 
       by (Act-F.Abort condition items) = subst Q (sym (rolls-Abort condition items)) (λ is. p)
 
   module _ (v : F → Number) (accepted : IsAccepted v program) where
-    abbrev known_behind : List (Stmt F) → Known F
-    known_behind before = known_after v program accepted.0 (sound before)
+    abbrev known_later : List (Stmt F) → Known F
+    known_later before = known_after v program accepted.0 (sound before)
 
     abbrev count : ℕ
     count = length program.names
@@ -77,13 +77,13 @@ module _ {F : Type 0} (program : Program F) (P : State → Type 0) (each_item : 
     state-then before statement =
         ap (state_after v count) (map-append {B = Stmt F × Bool} (λ (statement : Stmt F). (statement, true)) before (statement ∷ [])) ∙ fold-append (after_statement v) (blank_state count) (sound before) ((statement, true) ∷ [])
 
-    over-walk : (before rest : List (Stmt F)) → program.statements.items ≡ before ++ rest → P (state_after v count (sound before)) → P (loaded v program)
-    over-walk before [] is p =
+    over-traversal : (before rest : List (Stmt F)) → program.statements.items ≡ before ++ rest → P (state_after v count (sound before)) → P (loaded v program)
+    over-traversal before [] is p =
         subst (λ (statements : List (Stmt F)). P (state_after v count (sound statements))) (sym (is ∙ append-nil before)) p
-    over-walk before (statement ∷ rest) is p =
+    over-traversal before (statement ∷ rest) is p =
         let none = after-sound v program accepted.0 before [] statement rest (sym (ap (λ (statements : List (Stmt F)). errors_after v program accepted.0 [] statements) is) ∙ accepted.1) in
-        over-walk (before ++ statement ∷ []) rest (is ∙ sym (append_assoc before (statement ∷ []) rest)) (subst P (sym (state-then before statement)) (over-act (known_behind before) statement refl none p))
+        over-traversal (before ++ statement ∷ []) rest (is ∙ sym (append_assoc before (statement ∷ []) rest)) (subst P (sym (state-then before statement)) (over-act (known_later before) statement refl none p))
 
     -- what holds where nothing is declared holds where the run begins
     pub over-accepted : P (blank_state (length program.names)) → P (loaded v program)
-    over-accepted blank = over-walk [] program.statements.items refl blank
+    over-accepted blank = over-traversal [] program.statements.items refl blank

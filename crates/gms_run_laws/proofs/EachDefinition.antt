@@ -14,7 +14,7 @@ use Rattle.gms_ast.specs.declared.program.Program.{Program}
 use Rattle.gms_ast.specs.declared.program.Side.{Side}
 use Rattle.gms_ast.specs.declared.program.Stmt.{Stmt}
 use Rattle.gms_ast.specs.declared.word.Named.{Named}
-use Rattle.gms_check.specs.Checked.{StandsAfter}
+use Rattle.gms_check.specs.Checked.{FollowsIn}
 use Rattle.gms_check.proofs.Growing.{by_parts}
 use Rattle.gms_rows.specs.ModelPoints.{definitions_of_model}
 use Rattle.gms_rows.specs.Rows.{Definition, defined_at, definitions, definition_of, equations_of}
@@ -34,12 +34,12 @@ module _ {F : Type 0} (P : Definition F → Type 0) where
   each-definition ds (name ∷ names) all =
       All-append P (definition_of ds name) (flat_map (definition_of ds) names) (one-definition ds name all) (each-definition ds names all)
 
-module _ {F : Type 0} (program : Program F) (P : Definition F → Type 0) (each : (before : List (Stmt F)) (at : Place) (equation : Named) (indices : List (Index F)) (condition : Option (Expr F)) (left_at : Place) (left : Expr F) (side : Side) (right_at : Place) (right : Expr F) → StandsAfter program before (record { at = at; act = Define equation indices condition left_at left side right_at right }) → All P (defined_at at (Define equation indices condition left_at left side right_at right))) where
-  of-act : (before : List (Stmt F)) (at : Place) (act : Act F) → StandsAfter program before (record { at = at; act = act }) → All P (defined_at at act)
+module _ {F : Type 0} (program : Program F) (P : Definition F → Type 0) (each : (before : List (Stmt F)) (at : Place) (equation : Named) (indices : List (Index F)) (condition : Option (Expr F)) (left_at : Place) (left : Expr F) (side : Side) (right_at : Place) (right : Expr F) → FollowsIn program before (record { at = at; act = Define equation indices condition left_at left side right_at right }) → All P (defined_at at (Define equation indices condition left_at left side right_at right))) where
+  of-act : (before : List (Stmt F)) (at : Place) (act : Act F) → FollowsIn program before (record { at = at; act = act }) → All P (defined_at at act)
   of-act before at act = by_parts Q by act
     where
       Q : Act F → Type 0
-      Q a = StandsAfter program before (record { at = at; act = a }) → All P (defined_at at a)
+      Q a = FollowsIn program before (record { at = at; act = a }) → All P (defined_at at a)
 
       by : (layer : Act-F F (Act F) (Stmt F)) → Q (roll-Act F layer)
       by (Act-F.Declare kind items) = subst Q (sym (rolls-Declare kind items)) (λ stands. All-nil P)

@@ -10,7 +10,7 @@ use Rattle.gms_ast.specs.Trees.{Tree, signed}
 use Rattle.gms_ast.specs.Trees as tree
 use Rattle.gms_store.specs.State.{State, symbol_at}
 use Rattle.gms_scope.specs.Names.{is_equation, has_no_declaration, declared_kind, positions}
-use Rattle.gms_check.specs.declared.contexts.Standing.{Standing}
+use Rattle.gms_check.specs.declared.contexts.Context.{Context}
 use Rattle.gms_check.specs.Domains.{index_count}
 use Rattle.gms_check.specs.Kinds.{is_variable_kind}
 use Rattle.gms_check.specs.Past.{Known}
@@ -24,7 +24,7 @@ use Rattle.gms_eval.specs.Nodes.{unmarked, sum_step, product_step, in_order, eac
 use Rattle.gms_eval.specs.References.{all_there, tuple_of}
 use Rattle.gms_eval.specs.Value.{values, labels, domain, sets_of}
 use Rattle.lp_form.specs.declared.key.Key.{Key}
-use Rattle.gms_rows.specs.Affine.{has_variables, is_variable_content, in_front, part_place, joined_forms, plus, times, element_form, form_of_constant, linear, forms, affine}
+use Rattle.gms_rows.specs.Affine.{has_variables, is_variable_content, values_first, part_place, joined_forms, plus, times, element_form, form_of_constant, linear, forms, affine}
 use Rattle.gms_rows.specs.Forms.{Form, zero_form, scaled_form, sum_of_forms}
 use Rattle.gms_rows.specs.Rows.{Definition, sense_of, row_form}
 use Rattle.gms_run_laws.proofs.FormKeys.{OkHas, EachHas, then-has, after-has, either-has, IsKeyed, IsElement as IsPassing, PartHas, constant-keyed, element-keyed, sum-keyed, scaled-keyed, plus-keyed, times-keyed, joined-keyed, chained-keyed, constant_at-keyed}
@@ -91,46 +91,46 @@ module _ {F : Type 0} (v : F → Number) (limit : ℕ) (known : Known F) (state 
   -- ---- forms
 
   mutual
-    linear-elements : (e : Tree F) → has_variables state e ≡ true → (standing : Standing) (near : Place) (around : List ℕ) → AreClean known (uses standing near around e) → (at : Place) (binding : Pairs) → OkHas Keyed (linear v limit state at binding e)
-    linear-elements (tree.reference place name suffix.None indices) has standing near around clean at binding =
-        let sound = sound-use known (reading standing around name suffix.None indices) clean.0 in
+    linear-elements : (e : Tree F) → has_variables state e ≡ true → (context : Context) (near : Place) (around : List ℕ) → AreClean known (uses context near around e) → (at : Place) (binding : Pairs) → OkHas Keyed (linear v limit state at binding e)
+    linear-elements (tree.reference place name suffix.None indices) has context near around clean at binding =
+        let sound = sound-use known (reading context around name suffix.None indices) clean.0 in
         known-has Keyed (in_order (labels v limit state binding indices)) (λ those. Ok (element_form name (tuple_of those)))
         (λ those e. element-keyed Column name (tuple_of those) (passing name (tuple_of those) (λ t there. column name t sound.declared has (tuple-length those t there ∙ labels-count v limit state binding indices those e ∙ sound.fitting.count))))
-    linear-elements (tree.fold_over place op control body) has standing near around clean at binding =
-        let inside = clean-right known (control_uses place around control) (uses (as_inner standing) place (around ++ sets_over control) body) clean.1 in
+    linear-elements (tree.fold_over place op control body) has context near around clean at binding =
+        let inside = clean-right known (control_uses place around control) (uses (as_inner context) place (around ++ sets_over control) body) clean.1 in
         after-has Keyed (domain v limit state binding place control) (λ elements. joined_forms (plus limit binding) (Some zero_form) (map (λ element. (signed place false, linear v limit state place (controlled binding (sets_of control) element) body)) elements))
         (λ elements. joined-keyed Column (plus limit binding) (plus-keyed Column limit binding) (Some zero_form) (map (λ element. (signed place false, linear v limit state place (controlled binding (sets_of control) element) body)) elements) (constant-keyed Column (whole (pos 0)))
-        (map-has (PartHas Column) (λ element. (signed place false, linear v limit state place (controlled binding (sets_of control) element) body)) (λ element. linear-elements body has (as_inner standing) place (around ++ sets_over control) inside place (controlled binding (sets_of control) element)) elements))
-    linear-elements (tree.negated operand) has standing near around clean at binding =
-        then-has Keyed Keyed (linear v limit state at binding operand) (λ form. scaled_form limit at binding false form (neg_ℚ (whole (pos 1)))) (linear-elements operand has (as_part standing) near around clean at binding) (λ form keyed. scaled-keyed Column limit at binding false form (neg_ℚ (whole (pos 1))) keyed)
-    linear-elements (tree.sum parts) has standing near around clean at binding =
-        chained-keyed Column binding (sum_step limit binding) (plus limit binding) (plus-keyed Column limit binding) (in_front state parts) (values v limit state binding parts) (forms v limit state binding parts) (forms-elements parts (as_part standing) near around clean binding)
-    linear-elements (tree.product parts) has standing near around clean at binding =
-        let there = clean-left known (part_uses (as_part standing) near around parts) (steps standing near parts) clean in
-        chained-keyed Column binding (product_step limit binding) (times limit binding) (times-keyed Column limit binding) (in_front state parts) (values v limit state binding parts) (forms v limit state binding parts) (forms-elements parts (as_part standing) near around there binding)
-    linear-elements (tree.guarded operand guards) has standing near around clean at binding =
-        let inside = clean-left known (uses (as_guarded standing) near around operand) (part_uses as_condition near around guards) clean in
+        (map-has (PartHas Column) (λ element. (signed place false, linear v limit state place (controlled binding (sets_of control) element) body)) (λ element. linear-elements body has (as_inner context) place (around ++ sets_over control) inside place (controlled binding (sets_of control) element)) elements))
+    linear-elements (tree.negated operand) has context near around clean at binding =
+        then-has Keyed Keyed (linear v limit state at binding operand) (λ form. scaled_form limit at binding false form (neg_ℚ (whole (pos 1)))) (linear-elements operand has (as_part context) near around clean at binding) (λ form keyed. scaled-keyed Column limit at binding false form (neg_ℚ (whole (pos 1))) keyed)
+    linear-elements (tree.sum parts) has context near around clean at binding =
+        chained-keyed Column binding (sum_step limit binding) (plus limit binding) (plus-keyed Column limit binding) (values_first state parts) (values v limit state binding parts) (forms v limit state binding parts) (forms-elements parts (as_part context) near around clean binding)
+    linear-elements (tree.product parts) has context near around clean at binding =
+        let there = clean-left known (part_uses (as_part context) near around parts) (steps context near parts) clean in
+        chained-keyed Column binding (product_step limit binding) (times limit binding) (times-keyed Column limit binding) (values_first state parts) (values v limit state binding parts) (forms v limit state binding parts) (forms-elements parts (as_part context) near around there binding)
+    linear-elements (tree.guarded operand guards) has context near around clean at binding =
+        let inside = clean-left known (uses (as_guarded context) near around operand) (part_uses as_condition near around guards) clean in
         after-has Keyed (each_holds (unmarked (values v limit state binding guards))) (λ hold. if hold then linear v limit state at binding operand else Ok zero_form)
-        (λ hold. either-has (OkHas Keyed) hold (linear v limit state at binding operand) (Ok zero_form) (linear-elements operand has (as_guarded standing) near around inside at binding) (constant-keyed Column (whole (pos 0))))
-    linear-elements other has standing near around clean at binding = absurd (cc)
+        (λ hold. either-has (OkHas Keyed) hold (linear v limit state at binding operand) (Ok zero_form) (linear-elements operand has (as_guarded context) near around inside at binding) (constant-keyed Column (whole (pos 0))))
+    linear-elements other has context near around clean at binding = absurd (cc)
 
-    forms-elements : (parts : tree.Parts F) (standing : Standing) (near : Place) (around : List ℕ) → AreClean known (part_uses standing near around parts) → (binding : Pairs) → EachHas (PartHas Column) (forms v limit state binding parts)
-    forms-elements tree.no_part standing near around clean binding = tt
-    forms-elements (tree.part mark e rest) standing near around clean binding = (
+    forms-elements : (parts : tree.Parts F) (context : Context) (near : Place) (around : List ℕ) → AreClean known (part_uses context near around parts) → (binding : Pairs) → EachHas (PartHas Column) (forms v limit state binding parts)
+    forms-elements tree.no_part context near around clean binding = tt
+    forms-elements (tree.part mark e rest) context near around clean binding = (
       either-known (OkHas Keyed) (has_variables state e) (linear v limit state (part_place mark) binding e) (form_of_constant v limit state (part_place mark) binding e)
-          (λ has. linear-elements e has standing (use_place mark near) around (clean-left known (uses standing (use_place mark near) around e) (part_uses standing near around rest) clean) (part_place mark) binding)
+          (λ has. linear-elements e has context (use_place mark near) around (clean-left known (uses context (use_place mark near) around e) (part_uses context near around rest) clean) (part_place mark) binding)
           (constant_at-keyed Column v limit state (part_place mark) binding e),
-      forms-elements rest standing near around (clean-right known (uses standing (use_place mark near) around e) (part_uses standing near around rest) clean) binding,
+      forms-elements rest context near around (clean-right known (uses context (use_place mark near) around e) (part_uses context near around rest) clean) binding,
     )
 
-  affine-elements : (e : Tree F) (standing : Standing) (near : Place) (around : List ℕ) → AreClean known (uses standing near around e) → (at : Place) (binding : Pairs) → OkHas Keyed (affine v limit state at binding e)
-  affine-elements e standing near around clean at binding =
+  affine-elements : (e : Tree F) (context : Context) (near : Place) (around : List ℕ) → AreClean known (uses context near around e) → (at : Place) (binding : Pairs) → OkHas Keyed (affine v limit state at binding e)
+  affine-elements e context near around clean at binding =
       either-known (OkHas Keyed) (has_variables state e) (linear v limit state at binding e) (form_of_constant v limit state at binding e)
-      (λ has. linear-elements e has standing near around clean at binding) (constant_at-keyed Column v limit state at binding e)
+      (λ has. linear-elements e has context near around clean at binding) (constant_at-keyed Column v limit state at binding e)
 
   -- ---- rows
 
-  module _ (d : Definition F) (left_standing right_standing : Standing) (around : List ℕ) (defined : IsClean known (defining d.equation d.indices)) (left : AreClean known (uses left_standing d.left_at around d.left)) (right : AreClean known (uses right_standing d.right_at around d.right)) where
+  module _ (d : Definition F) (left_standing right_standing : Context) (around : List ℕ) (defined : IsClean known (defining d.equation d.indices)) (left : AreClean known (uses left_standing d.left_at around d.left)) (right : AreClean known (uses right_standing d.right_at around d.right)) where
     form-elements : (binding : Pairs) → OkHas Keyed (row_form v limit state d binding)
     form-elements binding =
         then-has Keyed Keyed (affine v limit state d.left_at binding d.left) (λ one. affine v limit state d.right_at binding d.right and_then λ other. sum_of_forms limit d.right_at binding true one other) (affine-elements d.left left_standing d.left_at around left d.left_at binding)

@@ -37,7 +37,7 @@ use Rattle.gms_check.specs.Uses.{listing}
 use Rattle.gms_check.proofs.Growing.{by_parts}
 use Rattle.gms_check.proofs.NoErrors.{AreClean, are-clean}
 use Rattle.gms_check.proofs.Soundness.{after-sound}
-use Rattle.gms_rows.specs.Rows.{each_once, listed_equations, found, equations_declared_by, models_of, equations_from}
+use Rattle.gms_rows.specs.Rows.{distinct_numbers, listed_equations, found, equations_declared_by, models_of, equations_from}
 use Rattle.gms_run_laws.specs.Names.{Each}
 use Rattle.gms_run_laws.proofs.Eaches.{each-left, each-right, each-both}
 use Rattle.gms_run_laws.proofs.ModelRows.{filter-each}
@@ -218,9 +218,9 @@ AllEquations test (s ∷ statements) = (Each test (equations_declared_by s.act) 
 -- ---- the equations of a model, by both definitions
 
 -- what holds of each element of a list holds of each after repetitions are removed
-once-each : (test : ℕ → Bool) (ns : List ℕ) → Each test ns → Each test (each_once ns)
+once-each : (test : ℕ → Bool) (ns : List ℕ) → Each test ns → Each test (distinct_numbers ns)
 once-each test [] all = tt
-once-each test (n ∷ ns) all = (all.0, filter-each test (λ m. not (m == n)) (each_once ns) (once-each test ns all.1))
+once-each test (n ∷ ns) all = (all.0, filter-each test (λ m. not (m == n)) (distinct_numbers ns) (once-each test ns all.1))
 
 -- filtering by a test that all pass changes nothing
 all-left : (p : ℕ → Bool) (ns : List ℕ) → Each p ns → filter p ns ≡ ns
@@ -239,10 +239,10 @@ module _ (names : ℕ) (is : ℕ → Bool) (ok : ℕ → Bool) (m : ℕ) (below 
   known_models models = map kept (filter of_table models)
 
   -- the equations of the first of some models, by the check's word and by that of the rows
-  first-model : (declared : List ℕ) (models : List ModelDecl) (rest : List (ℕ × List ℕ)) (es : List ℕ) → Each is declared → AllListed is models → found (each_once declared) m models ≡ Some es → Each ok (declared_equations (known_models (map (entry declared) models ++ rest)) m) → Each ok es
+  first-model : (declared : List ℕ) (models : List ModelDecl) (rest : List (ℕ × List ℕ)) (es : List ℕ) → Each is declared → AllListed is models → found (distinct_numbers declared) m models ≡ Some es → Each ok (declared_equations (known_models (map (entry declared) models ++ rest)) m) → Each ok es
   first-model declared [] rest es all listed there oks = absurd (cc)
   first-model declared (model ∷ models) rest es all listed_all there oks =
-      by (model.named.name == m) refl there oks (λ behind oks. first-model declared models rest es all listed_all.1 behind oks)
+      by (model.named.name == m) refl there oks (λ following oks. first-model declared models rest es all listed_all.1 following oks)
     where
       own_equations : List ℕ
       own_equations = equations_listed declared true model
@@ -254,7 +254,7 @@ module _ (names : ℕ) (is : ℕ → Bool) (ok : ℕ → Bool) (m : ℕ) (below 
           pick true = all
           pick false = listed_all.0
 
-      here : (b : Bool) → Each ok (if b then declared else numbers_of_names model.equations) → Each ok (if b then each_once declared else each_once (map (λ (equation : Named). equation.name) model.equations))
+      here : (b : Bool) → Each ok (if b then declared else numbers_of_names model.equations) → Each ok (if b then distinct_numbers declared else distinct_numbers (map (λ (equation : Named). equation.name) model.equations))
       here true oks = once-each ok declared oks
       here false oks = once-each ok (numbers_of_names model.equations) oks
 
@@ -269,22 +269,22 @@ module _ (names : ℕ) (is : ℕ → Bool) (ok : ℕ → Bool) (m : ℕ) (below 
               other true same = absurd (both_ways (nat_lt model.named.name names) e (ap (λ n. nat_lt n names) (eqb-true model.named.name m same) ∙ below))
               other false same = refl
 
-      by : (b : Bool) → (model.named.name == m) ≡ b → (if b then Some (listed_equations (each_once declared) model) else found (each_once declared) m models) ≡ Some es → Each ok (declared_equations (known_models (map (entry declared) (model ∷ models) ++ rest)) m) →
-          (found (each_once declared) m models ≡ Some es → Each ok (declared_equations (known_models (map (entry declared) models ++ rest)) m) → Each ok es) → Each ok es
+      by : (b : Bool) → (model.named.name == m) ≡ b → (if b then Some (listed_equations (distinct_numbers declared) model) else found (distinct_numbers declared) m models) ≡ Some es → Each ok (declared_equations (known_models (map (entry declared) (model ∷ models) ++ rest)) m) →
+          (found (distinct_numbers declared) m models ≡ Some es → Each ok (declared_equations (known_models (map (entry declared) models ++ rest)) m) → Each ok es) → Each ok es
       by true same there oks next =
-          let e : listed_equations (each_once declared) model ≡ es = cc in
+          let e : listed_equations (distinct_numbers declared) model ≡ es = cc in
           subst (Each ok) e (here model.all (subst (Each ok) (own ∙ ap (λ (b : Bool). if b then filter is own_equations else declared_equations (known_models (map (entry declared) models ++ rest)) m) same ∙ all-left is own_equations its) oks))
       by false same there oks next =
           next there (subst (Each ok) (own ∙ ap (λ (b : Bool). if b then filter is own_equations else declared_equations (known_models (map (entry declared) models ++ rest)) m) same) oks)
 
   -- models of other names are passed over
-  other-models : (declared : List ℕ) (models : List ModelDecl) (rest : List (ℕ × List ℕ)) → found (each_once declared) m models ≡ None → declared_equations (known_models (map (entry declared) models ++ rest)) m ≡ declared_equations (known_models rest) m
+  other-models : (declared : List ℕ) (models : List ModelDecl) (rest : List (ℕ × List ℕ)) → found (distinct_numbers declared) m models ≡ None → declared_equations (known_models (map (entry declared) models ++ rest)) m ≡ declared_equations (known_models rest) m
   other-models declared [] rest none = refl
   other-models declared (model ∷ models) rest none =
-      by (model.named.name == m) refl none (λ behind. other-models declared models rest behind)
+      by (model.named.name == m) refl none (λ following. other-models declared models rest following)
     where
-      by : (b : Bool) → (model.named.name == m) ≡ b → (if b then Some (listed_equations (each_once declared) model) else found (each_once declared) m models) ≡ None →
-          (found (each_once declared) m models ≡ None → declared_equations (known_models (map (entry declared) models ++ rest)) m ≡ declared_equations (known_models rest) m) → declared_equations (known_models (map (entry declared) (model ∷ models) ++ rest)) m ≡ declared_equations (known_models rest) m
+      by : (b : Bool) → (model.named.name == m) ≡ b → (if b then Some (listed_equations (distinct_numbers declared) model) else found (distinct_numbers declared) m models) ≡ None →
+          (found (distinct_numbers declared) m models ≡ None → declared_equations (known_models (map (entry declared) models ++ rest)) m ≡ declared_equations (known_models rest) m) → declared_equations (known_models (map (entry declared) (model ∷ models) ++ rest)) m ≡ declared_equations (known_models rest) m
       by true same none next = absurd (cc)
       by false same none next = table (nat_lt model.named.name names)
         where
@@ -298,7 +298,7 @@ module _ (names : ℕ) (is : ℕ → Bool) (ok : ℕ → Bool) (m : ℕ) (below 
   pub model-equations : {F : Type 0} (declared : List ℕ) (statements others : List (Stmt F)) → declares_model m statements ≡ true → Each is declared → AllEquations is statements → Each ok (declared_equations (known_models (models_after declared (sound statements))) m) → Each ok (equations_from declared m (statements ++ others))
   model-equations declared [] others there all each oks = absurd (cc)
   model-equations declared (s ∷ statements) others there all each oks =
-      by (found (each_once declared) m (models_of s.act)) refl (λ behind more oks. model-equations (declared ++ equations_declared_by s.act) statements others behind more each.1 oks)
+      by (found (distinct_numbers declared) m (models_of s.act)) refl (λ following more oks. model-equations (declared ++ equations_declared_by s.act) statements others following more each.1 oks)
     where
       rest : List (ℕ × List ℕ)
       rest = models_after (declared ++ equations_declared s.act) (sound statements)
@@ -306,7 +306,7 @@ module _ (names : ℕ) (is : ℕ → Bool) (ok : ℕ → Bool) (m : ℕ) (below 
       oks_here : Each ok (declared_equations (known_models (map (entry declared) (models_of s.act) ++ rest)) m)
       oks_here = subst (λ (ms : List (ℕ × List ℕ)). Each ok (declared_equations (known_models (ms ++ rest)) m)) (models-same declared s.act) oks
 
-      by : (o : Option (List ℕ)) → found (each_once declared) m (models_of s.act) ≡ o →
+      by : (o : Option (List ℕ)) → found (distinct_numbers declared) m (models_of s.act) ≡ o →
           (declares_model m statements ≡ true → Each is (declared ++ equations_declared_by s.act) → Each ok (declared_equations (known_models (models_after (declared ++ equations_declared_by s.act) (sound statements))) m) → Each ok (equations_from (declared ++ equations_declared_by s.act) m (statements ++ others))) →
           Each ok (elim o [ Some equations ↦ equations | None ↦ equations_from (declared ++ equations_declared_by s.act) m (statements ++ others) ])
       by (Some equations) e next = first-model declared (models_of s.act) rest equations all each.0.1 e oks_here
@@ -315,7 +315,7 @@ module _ (names : ℕ) (is : ℕ → Bool) (ok : ℕ → Bool) (m : ℕ) (below 
           (subst (λ (ds : List ℕ). Each ok (declared_equations (known_models (models_after (declared ++ ds) (sound statements))) m)) (equations-same s.act) (subst (Each ok) (other-models declared (models_of s.act) rest e) oks_here))
         where
           later : (has_model m (models_of s.act) || declares_model m statements) ≡ true → declares_model m statements ≡ true
-          later both = or-right (has_model m (models_of s.act)) (declares_model m statements) (none-found m (each_once declared) (models_of s.act) e) both
+          later both = or-right (has_model m (models_of s.act)) (declares_model m statements) (none-found m (distinct_numbers declared) (models_of s.act) e) both
 
 -- ---- the equations of an accepted program
 

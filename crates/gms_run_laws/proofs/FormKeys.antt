@@ -25,7 +25,7 @@ use Rattle.lp_form.specs.declared.key.Key.{Key}
 use Rattle.lp_form.specs.Forms as steps
 use Rattle.lp_form.specs.Keys.{key_cmp, same_key}
 use Rattle.lp_form.proofs.KeyOrder.{key_cmp-total, same_key-is, same_key_refl}
-use Rattle.gms_rows.specs.Affine.{has_variables, in_front, form_of, part_place, is_inverse, Join, with_next, joined_forms, front, chained, plus, times, element_form, form_of_constant, linear, forms, affine}
+use Rattle.gms_rows.specs.Affine.{has_variables, values_first, form_of, part_place, is_inverse, Join, with_next, joined_forms, prefix, chained, plus, times, element_form, form_of_constant, linear, forms, affine}
 use Rattle.gms_rows.specs.Forms.{Form, constant_form, zero_form, column_form, number_of_key, is_number, is_not_zero, numbers_at, keys_of_two, entrywise, entries_of_two, entries_by, number_in_form, where_fits, sum_of_forms, scaled_form, multiple, product_of_forms, quotient_of}
 use Rattle.gms_rows.specs.InnerContracts.{is_among}
 use Rattle.gms_run_laws.specs.Names.{Each, names_in_tree, part_names, control_names}
@@ -247,15 +247,15 @@ module _ (test : Key → Bool) where
       then-has IsKeyed IsKeyed part.1 (λ form. with_next join part.0 so_far form and_then λ next. joined_forms join (Some next) parts) all.0
       (λ form has. then-has IsKeyed IsKeyed (with_next join part.0 so_far form) (λ next. joined_forms join (Some next) parts) (next-keyed join keyed part.0 so_far form so has) (λ next has. joined-keyed join keyed (Some next) parts has all.1))
 
-  front-keyed : (binding : Pairs) (step : ValueStep) (values : Marked) → OkHas SoFar (front binding step values)
-  front-keyed binding step [] = tt
-  front-keyed binding step (first ∷ rest) =
+  prefix-keyed : (binding : Pairs) (step : ValueStep) (values : Marked) → OkHas SoFar (prefix binding step values)
+  prefix-keyed binding step [] = tt
+  prefix-keyed binding step (first ∷ rest) =
       after-has SoFar (chain step (first ∷ rest)) (λ x. form_of (part_place first.0) binding x and_then λ form. Ok (Some form))
       (λ x. then-has IsKeyed SoFar (form_of (part_place first.0) binding x) (λ form. Ok (Some form)) (of-keyed (part_place first.0) binding x) (λ form has. has))
 
   pub chained-keyed : (binding : Pairs) (step : ValueStep) (join : Join) → JoinsKeyed join → (count : ℕ) (values : Marked) (forms : List (Mark × Answer Form)) → EachHas PartHas forms → OkHas IsKeyed (chained binding step join count values forms)
   chained-keyed binding step join keyed count values forms all =
-      then-has SoFar IsKeyed (front binding step (take count values)) (λ so_far. joined_forms join so_far (drop count forms)) (front-keyed binding step (take count values))
+      then-has SoFar IsKeyed (prefix binding step (take count values)) (λ so_far. joined_forms join so_far (drop count forms)) (prefix-keyed binding step (take count values))
       (λ so_far so. joined-keyed join keyed so_far (drop count forms) so (drop-has PartHas count forms all))
 
   -- ---- expressions
@@ -298,9 +298,9 @@ module _ (test : Key → Bool) where
       linear-keyed (tree.negated operand) at binding passes =
           then-has IsKeyed IsKeyed (linear v limit state at binding operand) (λ form. scaled_form limit at binding false form (neg_ℚ (whole (pos 1)))) (linear-keyed operand at binding passes) (λ form has. scaled-keyed limit at binding false form (neg_ℚ (whole (pos 1))) has)
       linear-keyed (tree.sum parts) at binding passes =
-          chained-keyed binding (sum_step limit binding) (plus limit binding) (plus-keyed limit binding) (in_front state parts) (values v limit state binding parts) (forms v limit state binding parts) (forms-keyed parts binding passes)
+          chained-keyed binding (sum_step limit binding) (plus limit binding) (plus-keyed limit binding) (values_first state parts) (values v limit state binding parts) (forms v limit state binding parts) (forms-keyed parts binding passes)
       linear-keyed (tree.product parts) at binding passes =
-          chained-keyed binding (product_step limit binding) (times limit binding) (times-keyed limit binding) (in_front state parts) (values v limit state binding parts) (forms v limit state binding parts) (forms-keyed parts binding passes)
+          chained-keyed binding (product_step limit binding) (times limit binding) (times-keyed limit binding) (values_first state parts) (values v limit state binding parts) (forms v limit state binding parts) (forms-keyed parts binding passes)
       linear-keyed (tree.guarded operand guards) at binding passes =
           after-has IsKeyed (each_holds (unmarked (values v limit state binding guards))) (λ hold. if hold then linear v limit state at binding operand else Ok zero_form)
           (λ hold. either-has (OkHas IsKeyed) hold (linear v limit state at binding operand) (Ok zero_form) (linear-keyed operand at binding passes) (constant-keyed (whole (pos 0))))

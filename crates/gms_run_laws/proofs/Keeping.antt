@@ -41,7 +41,7 @@ use Rattle.gms_run_laws.specs.Names.{Each}
 use Rattle.gms_run_laws.proofs.Eaches.{each-left, each-right}
 use Rattle.gms_run_laws.proofs.LoadedPositions.{gains-again, IsWithDatum, datum-member, datum-value, either-new}
 use Rattle.gms_run_laws.specs.Extensions.{typed_by}
-use Rattle.gms_run_laws.proofs.Closing.{own, new-itself, behind-member, behind-value}
+use Rattle.gms_run_laws.proofs.Closing.{own, new-itself, following-member, following-value}
 
 free-itself : (c : Content) (m : ℕ) → is_free c ≡ true → alias_target m c ≡ m
 free-itself undeclared m e = refl
@@ -177,10 +177,10 @@ module _ (first : State) where
       own-data [] s own_now = own_now
       own-data ((t, None) ∷ ds) s own_now =
           let x = symbol_of s name in
-          own-data ds (put_at s (base_of s name) (if_fits x t (with_membership x.content t true))) (own-content s t (with_membership x.content t true) (datum-member t x.content) (behind-member name t x.content) own_now)
+          own-data ds (put_at s (base_of s name) (if_fits x t (with_membership x.content t true))) (own-content s t (with_membership x.content t true) (datum-member t x.content) (following-member name t x.content) own_now)
       own-data ((t, Some value) ∷ ds) s own_now =
           let x = symbol_of s name in
-          own-data ds (put_at s (base_of s name) (if_fits x t (with_value x.content t (value_shown v value)))) (own-content s t (with_value x.content t (value_shown v value)) (datum-value t (value_shown v value) x.content) (behind-value name t (value_shown v value) x.content) own_now)
+          own-data ds (put_at s (base_of s name) (if_fits x t (with_value x.content t (value_shown v value)))) (own-content s t (with_value x.content t (value_shown v value)) (datum-value t (value_shown v value) x.content) (following-value name t (value_shown v value) x.content) own_now)
 
       keep-data : (s : State) (given : Result (ExpandedData F) SetFault) → IsOwn s → Keeps (with_data v s name given)
       keep-data s (Ok given) own_now = (own-data given s own_now).keeps
@@ -313,10 +313,10 @@ module _ (first : State) where
           ap (state_after v count) (map-append {B = Stmt F × Bool} (λ (statement : Stmt F). (statement, true)) before (statement ∷ [])) ∙ fold-append (after_statement v) (blank_state count) (sound before) ((statement, true) ∷ [])
 
       -- Later statements keep it, up to the state in which the joint program begins.
-      pub keep-behind : (before rest : List (Stmt F)) → joint.statements.items ≡ before ++ rest → NoVariables (flat_map (λ (statement : Stmt F). typed_by statement.act) rest) → Keeps (state_after v count (sound before)) → Keeps (loaded v joint)
-      keep-behind before [] is typed keeps =
+      pub keep-following : (before rest : List (Stmt F)) → joint.statements.items ≡ before ++ rest → NoVariables (flat_map (λ (statement : Stmt F). typed_by statement.act) rest) → Keeps (state_after v count (sound before)) → Keeps (loaded v joint)
+      keep-following before [] is typed keeps =
           subst (λ (statements : List (Stmt F)). Keeps (state_after v count (sound statements))) (sym (is ∙ append-nil before)) keeps
-      keep-behind before (statement ∷ rest) is typed keeps =
+      keep-following before (statement ∷ rest) is typed keeps =
           let none = after-sound v joint accepted.0 before [] statement rest (sym (ap (λ (statements : List (Stmt F)). errors_after v joint accepted.0 [] statements) is) ∙ accepted.1) in
-          keep-behind (before ++ statement ∷ []) rest (is ∙ sym (append_assoc before (statement ∷ []) rest)) (each-right (λ n. not (is_variable (symbol_at first n).content)) (typed_by statement.act) (flat_map (λ (statement : Stmt F). typed_by statement.act) rest) typed)
+          keep-following (before ++ statement ∷ []) rest (is ∙ sym (append_assoc before (statement ∷ []) rest)) (each-right (λ n. not (is_variable (symbol_at first n).content)) (typed_by statement.act) (flat_map (λ (statement : Stmt F). typed_by statement.act) rest) typed)
           (subst Keeps (sym (state-then before statement)) (keep-act (known_after v joint accepted.0 (sound before)) statement (each-left (λ n. not (is_variable (symbol_at first n).content)) (typed_by statement.act) (flat_map (λ (statement : Stmt F). typed_by statement.act) rest) typed) none keeps))

@@ -18,7 +18,7 @@ use Rattle.lp_core.specs.WellFormed.{standard_rows, standard_columns}
 use Rattle.lp_form.specs.declared.key.Key.{Key}
 use Rattle.gms_rows.specs.ModelPoints.{definitions_of_model}
 use Rattle.gms_rows.specs.ProgramLp.{ordered_keys, column_keys, placed, program_of, sized_program, program_lp, too_many}
-use Rattle.gms_rows.specs.Rows.{Definition, FormRow, each_once, sets_among, present_rows, row_under, rows_of_definition, rows_of_model}
+use Rattle.gms_rows.specs.Rows.{Definition, FormRow, distinct_numbers, sets_among, present_rows, row_under, rows_of_definition, rows_of_model}
 use Rattle.gms_rows.proofs.ColumnKeys.{among-ordered}
 use Rattle.gms_exec.specs.Solved as solved
 use Rattle.gms_run_laws.proofs.FormKeys.{OkHas, EachHas, then-has, after-has, in_order-has, AreKeys, among-key, keys-from_among, IsKeyed}
@@ -91,7 +91,7 @@ module _ (test : Key → Bool) (Q : Key → Type 0) where
 
     rows-keyed : (d : Definition F) → HasRows d → OkHas (EachHas HasKeys) (rows_of_definition v limit state d)
     rows-keyed d each =
-        let sets = each_once (sets_among d.indices) in
+        let sets = distinct_numbers (sets_among d.indices) in
         after-has (EachHas HasKeys) (domain v limit state [] d.at (control_over sets d.condition)) (λ elements. in_order (map (λ element. row_under v limit state d (controlled [] sets element)) elements) and_then λ rows. Ok (present_rows rows))
         (λ elements. then-has (EachHas MayHaveKeys) (EachHas HasKeys) (in_order (map (λ element. row_under v limit state d (controlled [] sets element)) elements)) (λ rows. Ok (present_rows rows))
         (in_order-has MayHaveKeys (map (λ element. row_under v limit state d (controlled [] sets element)) elements) (each-row d each sets elements))

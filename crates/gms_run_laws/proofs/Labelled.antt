@@ -55,9 +55,9 @@ stands-first (p ∷ b) more set is = by (p.0 == set) (stands-first b more set) i
     by true rest is = refl
     by false rest is = rest is
 
-stands-behind : (b more : Pairs) (set : ℕ) → is_some (label_of more set) ≡ true → is_some (label_of (b ++ more) set) ≡ true
-stands-behind [] more set is = is
-stands-behind (p ∷ b) more set is = by (p.0 == set) (stands-behind b more set is)
+stands-following : (b more : Pairs) (set : ℕ) → is_some (label_of more set) ≡ true → is_some (label_of (b ++ more) set) ≡ true
+stands-following [] more set is = is
+stands-following (p ∷ b) more set is = by (p.0 == set) (stands-following b more set is)
   where
     by : (same : Bool) → is_some (label_of (b ++ more) set) ≡ true → is_some (if same then Some p.1 else label_of (b ++ more) set) ≡ true
     by true rest = refl
@@ -71,7 +71,7 @@ paired-stand (s ∷ sets) (l ∷ labels) long =
     let rest = paired-stand sets labels (omega (arith, long)) in
     All-cons (λ set. is_some (label_of (paired (s ∷ sets) (l ∷ labels)) set) ≡ true) s sets
     (ap (λ (same : Bool). is_some (if same then Some l else label_of (paired sets labels) s)) (eq-eqb s s refl))
-    (λ k d below. stands-behind ((s, l) ∷ []) (paired sets labels) (get_or sets k d) (rest k d below))
+    (λ k d below. stands-following ((s, l) ∷ []) (paired sets labels) (get_or sets k d) (rest k d below))
 
 pub element-stands : (state : State) (b : Pairs) (around sets element : List ℕ) → StandForLabels b around → has (elements state sets) element ≡ true → StandForLabels (controlled b sets element) (around ++ sets)
 element-stands state b around sets element stand there =
@@ -79,7 +79,7 @@ element-stands state b around sets element stand there =
     let own = paired-stand sets element (element-length state sets element there) in
     All-append (λ set. is_some (label_of (b ++ pairs) set) ≡ true) around sets
     (λ k d below. stands-first b pairs (get_or around k d) (stand k d below))
-    (λ k d below. stands-behind b pairs (get_or sets k d) (own k d below))
+    (λ k d below. stands-following b pairs (get_or sets k d) (own k d below))
 
 -- ---- labels of indices
 

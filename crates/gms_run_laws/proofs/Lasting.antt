@@ -15,7 +15,7 @@ use Rattle.gms_ast.specs.declared.program.Stmt.{Stmt}
 use Rattle.gms_store.specs.State.{State, base_of}
 use Rattle.gms_scope.specs.DynamicSets.{assigned_names, assigned_step}
 use Rattle.gms_save_text.specs.Validity.{are_in_range}
-use Rattle.gms_check.specs.LeftSides.{StandsIn}
+use Rattle.gms_check.specs.LeftSides.{IsNestedIn}
 use Rattle.gms_check.specs.Loaded.{loaded}
 use Rattle.gms_check.specs.Past.{is_among}
 use Rattle.gms_exec.specs.Run.{World}
@@ -27,9 +27,9 @@ use Rattle.gms_run_laws.proofs.TidyLoaded.{loaded-well}
 
 -- ---- names among those of a program
 
-among-behind : (xs ys : List ℕ) (n : ℕ) → is_among ys n ≡ true → is_among (xs ++ ys) n ≡ true
-among-behind [] ys n there = there
-among-behind (x ∷ xs) ys n there = or_right (x == n) (is_among (xs ++ ys) n) (among-behind xs ys n there)
+among-following : (xs ys : List ℕ) (n : ℕ) → is_among ys n ≡ true → is_among (xs ++ ys) n ≡ true
+among-following [] ys n there = there
+among-following (x ∷ xs) ys n there = or_right (x == n) (is_among (xs ++ ys) n) (among-following xs ys n there)
 
 -- each of some names that hold something
 abbrev Each : (ℕ → Type 0) → List ℕ → Type 0
@@ -76,7 +76,7 @@ module _ {F : Type 0} (P : ℕ → Type 0) where
       ∙ flat-assigned body.items
 
   -- and of those in its loops
-  each-inside : (depth : ℕ) (inner outer : Stmt F) → StandsIn depth inner outer → Each P (assigned_names outer) → Each P (assigned_names inner)
+  each-inside : (depth : ℕ) (inner outer : Stmt F) → IsNestedIn depth inner outer → Each P (assigned_names outer) → Each P (assigned_names inner)
   each-inside zero inner outer same all = subst (λ s. Each P (assigned_names s)) same all
   each-inside (suc depth) inner outer inside all =
       let body = subst (Each P) (assigned-loop outer inside.control inside.body inside.loop) all in

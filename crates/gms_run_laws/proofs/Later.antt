@@ -29,32 +29,32 @@ use Rattle.gms_exec.specs.Assignment.{target_of, after_assignment}
 use Rattle.gms_exec.specs.Showing.{all_shown}
 use Rattle.gms_exec.specs.Solved.{after_end}
 use Rattle.lp_core.specs.declared.answer.Answer.{Answer}
-use Rattle.gms_exec.specs.Run.{Course, Halt, World, OfAct, OfStatement, in_state, with_event, stopped_by, while_it_runs, with_evaluated, one_after_another, for_each, display, abort, abort_where, over_elements, answered, solve, act_step, statement_step, of_statement, labels_in, run_from}
-use Rattle.gms_run_laws.specs.JointRun.{later_event, preceded_by, behind_run}
+use Rattle.gms_exec.specs.Run.{Course, Halt, World, OfAct, OfStatement, in_state, with_event, stopped_by, while_it_runs, with_evaluated, in_sequence, for_each, display, abort, abort_where, over_elements, answered, solve, act_step, statement_step, of_statement, labels_in, run_from}
+use Rattle.gms_run_laws.specs.JointRun.{later_event, preceded_by, run_after}
 
 -- a statement, or an act, does the same after events that were shown before
 abbrev pub IsLater : OfStatement → Type 0
-IsLater s = (k : ℕ) (front : List Event) (binding : Pairs) (c : Course) → s binding (preceded_by k front c) ≡ preceded_by k front (s binding c)
+IsLater s = (k : ℕ) (prefix : List Event) (binding : Pairs) (c : Course) → s binding (preceded_by k prefix c) ≡ preceded_by k prefix (s binding c)
 
 abbrev IsLaterAct : OfAct → Type 0
-IsLaterAct act = (k : ℕ) (front : List Event) (at : Place) (binding : Pairs) (c : Course) → act at binding (preceded_by k front c) ≡ preceded_by k front (act at binding c)
+IsLaterAct act = (k : ℕ) (prefix : List Event) (at : Place) (binding : Pairs) (c : Course) → act at binding (preceded_by k prefix c) ≡ preceded_by k prefix (act at binding c)
 
 -- one event is shown
-shows_later : (k : ℕ) (front : List Event) (c : Course) (e : Event) → with_event (preceded_by k front c) (later_event k e) ≡ preceded_by k front (with_event c e)
-shows_later k front c e =
+shows_later : (k : ℕ) (prefix : List Event) (c : Course) (e : Event) → with_event (preceded_by k prefix c) (later_event k e) ≡ preceded_by k prefix (with_event c e)
+shows_later k prefix c e =
     ap (λ (es : List Event). record { state = c.state; events = es; left = c.left; taken = k + c.taken; halted = c.halted })
-    (append_assoc front (map (later_event k) c.events) (later_event k e ∷ []) ∙ ap (λ (es : List Event). front ++ es) (sym (map-append (later_event k) c.events (e ∷ []))))
+    (append_assoc prefix (map (later_event k) c.events) (later_event k e ∷ []) ∙ ap (λ (es : List Event). prefix ++ es) (sym (map-append (later_event k) c.events (e ∷ []))))
 
 -- a step with a value, or a stop by a fault
-later_value : {A : Type 0} (k : ℕ) (front : List Event) (r : Evaluated A) (next other : A → Course) (c : Course) → ((x : A) → other x ≡ preceded_by k front (next x)) → with_evaluated r other (preceded_by k front c) ≡ preceded_by k front (with_evaluated r next c)
-later_value k front (Ok x) next other c same = same x
-later_value k front (Err fault) next other c same = refl
+later_value : {A : Type 0} (k : ℕ) (prefix : List Event) (r : Evaluated A) (next other : A → Course) (c : Course) → ((x : A) → other x ≡ preceded_by k prefix (next x)) → with_evaluated r other (preceded_by k prefix c) ≡ preceded_by k prefix (with_evaluated r next c)
+later_value k prefix (Ok x) next other c same = same x
+later_value k prefix (Err fault) next other c same = refl
 
 -- a step that is taken only where nothing halts the run
-later_runs : (k : ℕ) (front : List Event) (next : Course → Course) (c : Course) → next (preceded_by k front c) ≡ preceded_by k front (next c) → while_it_runs next (preceded_by k front c) ≡ preceded_by k front (while_it_runs next c)
-later_runs k front next c same = by_halt c.halted
+later_runs : (k : ℕ) (prefix : List Event) (next : Course → Course) (c : Course) → next (preceded_by k prefix c) ≡ preceded_by k prefix (next c) → while_it_runs next (preceded_by k prefix c) ≡ preceded_by k prefix (while_it_runs next c)
+later_runs k prefix next c same = by_halt c.halted
   where
-    by_halt : (h : Option Halt) → elim h [ None ↦ next (preceded_by k front c) | Some halt ↦ preceded_by k front c ] ≡ preceded_by k front (elim h [ None ↦ next c | Some halt ↦ c ])
+    by_halt : (h : Option Halt) → elim h [ None ↦ next (preceded_by k prefix c) | Some halt ↦ preceded_by k prefix c ] ≡ preceded_by k prefix (elim h [ None ↦ next c | Some halt ↦ c ])
     by_halt None = same
     by_halt (Some halt) = refl
 
@@ -64,58 +64,58 @@ AreLater [] = Unit {0}
 AreLater (s ∷ ss) = IsLater s × AreLater ss
 
 -- statements in sequence
-pub later_all : (ss : List OfStatement) → AreLater ss → IsLater (one_after_another ss)
-later_all [] are k front binding c = refl
-later_all (s ∷ ss) are k front binding c =
-    ap (one_after_another ss binding) (later_runs k front (s binding) c (are.0 k front binding c)) ∙ later_all ss are.1 k front binding (while_it_runs (s binding) c)
+pub later_all : (ss : List OfStatement) → AreLater ss → IsLater (in_sequence ss)
+later_all [] are k prefix binding c = refl
+later_all (s ∷ ss) are k prefix binding c =
+    ap (in_sequence ss binding) (later_runs k prefix (s binding) c (are.0 k prefix binding c)) ∙ later_all ss are.1 k prefix binding (while_it_runs (s binding) c)
 
 -- the body of a loop, for each element
 later_each : (sets : List ℕ) (body : List OfStatement) (elements : List (List ℕ)) → AreLater body → IsLater (for_each sets body elements)
-later_each sets body [] are k front binding c = refl
-later_each sets body (element ∷ elements) are k front binding c =
-    ap (for_each sets body elements binding) (later_all body are k front (controlled binding sets element) c) ∙ later_each sets body elements are k front binding (one_after_another body (controlled binding sets element) c)
+later_each sets body [] are k prefix binding c = refl
+later_each sets body (element ∷ elements) are k prefix binding c =
+    ap (for_each sets body elements binding) (later_all body are k prefix (controlled binding sets element) c) ∙ later_each sets body elements are k prefix binding (in_sequence body (controlled binding sets element) c)
 
 module _ {F : Type 0} (number_of : F → Number) (limit : ℕ) (world : World F) where
   later_display : (labels : ℕ) (items : List Show) → IsLaterAct (display number_of limit labels items)
-  later_display labels items k front at binding c =
-      later_value k front (all_shown labels c.state binding items) (λ shown. with_event c (displays at.line shown)) (λ shown. with_event (preceded_by k front c) (displays at.line shown)) c (λ shown. shows_later k front c (displays at.line shown))
+  later_display labels items k prefix at binding c =
+      later_value k prefix (all_shown labels c.state binding items) (λ shown. with_event c (displays at.line shown)) (λ shown. with_event (preceded_by k prefix c) (displays at.line shown)) c (λ shown. shows_later k prefix c (displays at.line shown))
 
   later_abort : (labels : ℕ) (items : List Show) → IsLaterAct (abort number_of limit labels items)
-  later_abort labels items k front at binding c =
-      later_value k front (all_shown labels c.state binding items) (λ shown. stopped_by (with_event c (aborts at.line shown)) (faulted Aborted at binding nothing nothing)) (λ shown. stopped_by (with_event (preceded_by k front c) (aborts at.line shown)) (faulted Aborted at binding nothing nothing)) c
-      (λ shown. ap (λ d. stopped_by d (faulted Aborted at binding nothing nothing)) (shows_later k front c (aborts at.line shown)))
+  later_abort labels items k prefix at binding c =
+      later_value k prefix (all_shown labels c.state binding items) (λ shown. stopped_by (with_event c (aborts at.line shown)) (faulted Aborted at binding nothing nothing)) (λ shown. stopped_by (with_event (preceded_by k prefix c) (aborts at.line shown)) (faulted Aborted at binding nothing nothing)) c
+      (λ shown. ap (λ d. stopped_by d (faulted Aborted at binding nothing nothing)) (shows_later k prefix c (aborts at.line shown)))
 
   later_abort_where : (labels : ℕ) (condition : Option (tree.Tree F)) (items : List Show) → IsLaterAct (abort_where number_of limit labels condition items)
-  later_abort_where labels None items k front at binding c = later_abort labels items k front at binding c
-  later_abort_where labels (Some condition) items k front at binding c =
-      later_value k front (holds number_of limit c.state binding condition) (λ so. if so then abort number_of limit labels items at binding c else c) (λ so. if so then abort number_of limit labels items at binding (preceded_by k front c) else preceded_by k front c) c by_truth
+  later_abort_where labels None items k prefix at binding c = later_abort labels items k prefix at binding c
+  later_abort_where labels (Some condition) items k prefix at binding c =
+      later_value k prefix (holds number_of limit c.state binding condition) (λ so. if so then abort number_of limit labels items at binding c else c) (λ so. if so then abort number_of limit labels items at binding (preceded_by k prefix c) else preceded_by k prefix c) c by_truth
     where
-      by_truth : (so : Bool) → (if so then abort number_of limit labels items at binding (preceded_by k front c) else preceded_by k front c) ≡ preceded_by k front (if so then abort number_of limit labels items at binding c else c)
-      by_truth true = later_abort labels items k front at binding c
+      by_truth : (so : Bool) → (if so then abort number_of limit labels items at binding (preceded_by k prefix c) else preceded_by k prefix c) ≡ preceded_by k prefix (if so then abort number_of limit labels items at binding c else c)
+      by_truth true = later_abort labels items k prefix at binding c
       by_truth false = refl
 
-  later_answered : (k : ℕ) (front : List Event) (solvers : List (List ℕ)) (model : ℕ) (equations : List ℕ) (objective : ℕ) (at : Place) (c : Course) (lp : Lp Number) → answered number_of limit solvers model equations objective at (preceded_by k front c) lp ≡ preceded_by k front (answered number_of limit solvers model equations objective at c lp)
-  later_answered k front solvers model equations objective at c lp = by_left c.left refl
+  later_answered : (k : ℕ) (prefix : List Event) (solvers : List (List ℕ)) (model : ℕ) (equations : List ℕ) (objective : ℕ) (at : Place) (c : Course) (lp : Lp Number) → answered number_of limit solvers model equations objective at (preceded_by k prefix c) lp ≡ preceded_by k prefix (answered number_of limit solvers model equations objective at c lp)
+  later_answered k prefix solvers model equations objective at c lp = by_left c.left refl
     where
-      by_left : (left : List (Answer Number)) → c.left ≡ left → answered number_of limit solvers model equations objective at (preceded_by k front c) lp ≡ preceded_by k front (answered number_of limit solvers model equations objective at c lp)
+      by_left : (left : List (Answer Number)) → c.left ≡ left → answered number_of limit solvers model equations objective at (preceded_by k prefix c) lp ≡ preceded_by k prefix (answered number_of limit solvers model equations objective at c lp)
       by_left [] e = rw e refl
       by_left (answer ∷ left) e =
           let state = after_end c.state model lp answer.end in
           let solved : ℕ → Event = λ place. solves (record { line = at.line; model = model; equations = equations; lp = lp; answer = place; solver = slice_index_or solvers c.state.settings.solver []; settings = c.state.settings; objective_level = (attributes_of state objective []).level }) in
           rw e (ap₂ (λ (es : List Event) (n : ℕ). record { state = state; events = es; left = left; taken = n; halted = c.halted })
-          (append_assoc front (map (later_event k) c.events) (solved (k + c.taken) ∷ []) ∙ ap (λ (es : List Event). front ++ es) (sym (map-append (later_event k) c.events (solved c.taken ∷ []))))
+          (append_assoc prefix (map (later_event k) c.events) (solved (k + c.taken) ∷ []) ∙ ap (λ (es : List Event). prefix ++ es) (sym (map-append (later_event k) c.events (solved c.taken ∷ []))))
           (omega arith))
 
   later_solve : (solvers : List (List ℕ)) (statements : List (Stmt F)) (model objective : ℕ) (maximize : Bool) → IsLaterAct (solve number_of limit solvers statements model objective maximize)
-  later_solve [] statements model objective maximize k front at binding c = refl
-  later_solve (solver ∷ solvers) statements model objective maximize k front at binding c =
-      later_value k front (program_lp number_of limit c.state statements model objective maximize at) (answered number_of limit (solver ∷ solvers) model (equations_of statements model) objective at c) (answered number_of limit (solver ∷ solvers) model (equations_of statements model) objective at (preceded_by k front c)) c
-      (λ lp. later_answered k front (solver ∷ solvers) model (equations_of statements model) objective at c lp)
+  later_solve [] statements model objective maximize k prefix at binding c = refl
+  later_solve (solver ∷ solvers) statements model objective maximize k prefix at binding c =
+      later_value k prefix (program_lp number_of limit c.state statements model objective maximize at) (answered number_of limit (solver ∷ solvers) model (equations_of statements model) objective at c) (answered number_of limit (solver ∷ solvers) model (equations_of statements model) objective at (preceded_by k prefix c)) c
+      (λ lp. later_answered k prefix (solver ∷ solvers) model (equations_of statements model) objective at c lp)
 
   later_loop : (control : tree.Control F) (body : List OfStatement) → AreLater body → IsLaterAct (over_elements number_of limit control body)
-  later_loop control body are k front at binding c =
-      later_value k front (domain number_of limit c.state binding at control) (λ elements. for_each (sets_of control) body elements binding c) (λ elements. for_each (sets_of control) body elements binding (preceded_by k front c)) c
-      (λ elements. later_each (sets_of control) body elements are k front binding c)
+  later_loop control body are k prefix at binding c =
+      later_value k prefix (domain number_of limit c.state binding at control) (λ elements. for_each (sets_of control) body elements binding c) (λ elements. for_each (sets_of control) body elements binding (preceded_by k prefix c)) c
+      (λ elements. later_each (sets_of control) body elements are k prefix binding c)
 
   -- an act, and a statement, of the program
   abbrev of_act : Act F → OfAct
@@ -135,11 +135,11 @@ module _ {F : Type 0} (number_of : F → Number) (limit : ℕ) (world : World F)
 
   -- an act that does nothing
   later_nothing : IsLaterAct (λ at binding c. c)
-  later_nothing k front at binding c = refl
+  later_nothing k prefix at binding c = refl
 
   later_assign : (target : Target F) (condition : Option (Expr F)) (right_at : Place) (right : Expr F) → IsLaterAct (λ at binding c. with_evaluated (after_assignment number_of limit c.state at binding (target_of target) (option_map tree_of condition) right_at (tree_of right)) (in_state c) c)
-  later_assign target condition right_at right k front at binding c =
-      later_value k front (after_assignment number_of limit c.state at binding (target_of target) (option_map tree_of condition) right_at (tree_of right)) (in_state c) (in_state (preceded_by k front c)) c (λ state. refl)
+  later_assign target condition right_at right k prefix at binding c =
+      later_value k prefix (after_assignment number_of limit c.state at binding (target_of target) (option_map tree_of condition) right_at (tree_of right)) (in_state c) (in_state (preceded_by k prefix c)) c (λ state. refl)
 
   -- an act does, if the statements of its loop do
   by_layer : (y : Act-F F ((a : Act F) × IsLaterAct (of_act a)) ((s : Stmt F) × Q s)) → IsLaterAct (of_act (roll-Act F (map-Act F ((a : Act F) × IsLaterAct (of_act a)) ((s : Stmt F) × Q s) (Act F) (Stmt F) (λ e. e.0) (λ e. e.0) y)))
@@ -149,7 +149,7 @@ module _ {F : Type 0} (number_of : F → Number) (limit : ℕ) (world : World F)
   by_layer (Act-F.Define equation indices condition left_at left side right_at right) = rolled (Act-F.Define equation indices condition left_at left side right_at right) _ (fold-roll-Act F OfAct OfStatement (act_step number_of limit world) (statement_step number_of limit) (Act-F.Define equation indices condition left_at left side right_at right)) later_nothing
   by_layer (Act-F.Assign target condition right_at (Value right)) = rolled (Act-F.Assign target condition right_at (Value right)) _ (fold-roll-Act F OfAct OfStatement (act_step number_of limit world) (statement_step number_of limit) (Act-F.Assign target condition right_at (Value right))) (later_assign target condition right_at right)
   by_layer (Act-F.Display items) = rolled (Act-F.Display items) _ (fold-roll-Act F OfAct OfStatement (act_step number_of limit world) (statement_step number_of limit) (Act-F.Display items)) (later_display (labels_in world) items)
-  by_layer (Act-F.Options settings) = rolled (Act-F.Options settings) _ (fold-roll-Act F OfAct OfStatement (act_step number_of limit world) (statement_step number_of limit) (Act-F.Options settings)) (λ k front at binding c. refl)
+  by_layer (Act-F.Options settings) = rolled (Act-F.Options settings) _ (fold-roll-Act F OfAct OfStatement (act_step number_of limit world) (statement_step number_of limit) (Act-F.Options settings)) (λ k prefix at binding c. refl)
   by_layer (Act-F.Abort condition items) = rolled (Act-F.Abort condition items) _ (fold-roll-Act F OfAct OfStatement (act_step number_of limit world) (statement_step number_of limit) (Act-F.Abort condition items)) (later_abort_where (labels_in world) (option_map tree_of condition) items)
   by_layer (Act-F.Solve model word objective maximize) = rolled (Act-F.Solve model word objective maximize) _ (fold-roll-Act F OfAct OfStatement (act_step number_of limit world) (statement_step number_of limit) (Act-F.Solve model word objective maximize)) (later_solve world.solvers world.program.statements.items model.name objective.name maximize)
   by_layer (Act-F.Loop control body) = rolled (map-Act F ((a : Act F) × IsLaterAct (of_act a)) ((s : Stmt F) × Q s) (Act F) (Stmt F) (λ e. e.0) (λ e. e.0) (Act-F.Loop control body)) _ (fold-roll-Act F OfAct OfStatement (act_step number_of limit world) (statement_step number_of limit) (map-Act F ((a : Act F) × IsLaterAct (of_act a)) ((s : Stmt F) × Q s) (Act F) (Stmt F) (λ e. e.0) (λ e. e.0) (Act-F.Loop control body))) (later_loop (control_tree control) _ (body_behind body.items))
@@ -158,7 +158,7 @@ module _ {F : Type 0} (number_of : F → Number) (limit : ℕ) (world : World F)
   by_statement : (y : Stmt-F F ((a : Act F) × IsLaterAct (of_act a)) ((s : Stmt F) × Q s)) → Q (roll-Stmt F (map-Stmt F ((a : Act F) × IsLaterAct (of_act a)) ((s : Stmt F) × Q s) (Act F) (Stmt F) (λ e. e.0) (λ e. e.0) y))
   by_statement y =
       let z = map-Stmt F ((a : Act F) × IsLaterAct (of_act a)) ((s : Stmt F) × Q s) (Act F) (Stmt F) (λ e. e.0) (λ e. e.0) y in
-      subst IsLater (sym (fold-roll-Stmt F OfAct OfStatement (act_step number_of limit world) (statement_step number_of limit) z)) (λ k front binding c. y.act.1 k front y.at binding c)
+      subst IsLater (sym (fold-roll-Stmt F OfAct OfStatement (act_step number_of limit world) (statement_step number_of limit) z)) (λ k prefix binding c. y.act.1 k prefix y.at binding c)
 
   -- Each statement does the same after what was shown before.
   pub later_statement : (s : Stmt F) → Q s
@@ -178,17 +178,17 @@ module _ {F : Type 0} (number_of : F → Number) (limit : ℕ) (world : World F)
       ap (λ (h : Option Halt). record { state = c.state; events = c.events; left = c.left; taken = c.taken; halted = h }) none
       ∙ ap₂ (λ (es : List Event) (n : ℕ). record { state = c.state; events = es; left = c.left; taken = n; halted = None }) (sym (append-nil c.events)) (omega arith)
 
-  fold-append : (first others : List OfStatement) (binding : Pairs) (c : Course) → one_after_another (first ++ others) binding c ≡ one_after_another others binding (one_after_another first binding c)
+  fold-append : (first others : List OfStatement) (binding : Pairs) (c : Course) → in_sequence (first ++ others) binding c ≡ in_sequence others binding (in_sequence first binding c)
   fold-append [] others binding c = refl
   fold-append (s ∷ first) others binding c = fold-append first others binding (while_it_runs (s binding) c)
 
   -- The run of statements followed by others continues where that of the first ended.
-  pub joined : (state : State) (answers : List (Answer Number)) (first others : List (Stmt F)) → (run_from number_of limit world state answers first).halted ≡ None → run_from number_of limit world state answers (first ++ others) ≡ behind_run (run_from number_of limit world state answers first) (run_from number_of limit world (run_from number_of limit world state answers first).state (run_from number_of limit world state answers first).left others)
+  pub joined : (state : State) (answers : List (Answer Number)) (first others : List (Stmt F)) → (run_from number_of limit world state answers first).halted ≡ None → run_from number_of limit world state answers (first ++ others) ≡ run_after (run_from number_of limit world state answers first) (run_from number_of limit world (run_from number_of limit world state answers first).state (run_from number_of limit world state answers first).left others)
   joined state answers first others none =
       let of = of_statement number_of limit world in
       let c = run_from number_of limit world state answers first in
       let start : Course = record { state = state; events = []; left = answers; taken = 0; halted = None } in
-      ap (λ ss. one_after_another ss [] start) (map-append of first others)
+      ap (λ ss. in_sequence ss [] start) (map-append of first others)
       ∙ fold-append (map of first) (map of others) [] start
-      ∙ ap (one_after_another (map of others) []) (begins_there c none)
+      ∙ ap (in_sequence (map of others) []) (begins_there c none)
       ∙ later_all (map of others) (are_later others) c.taken c.events [] (record { state = c.state; events = []; left = c.left; taken = 0; halted = None })

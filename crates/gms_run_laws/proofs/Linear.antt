@@ -13,7 +13,7 @@ use Rattle.gms_eval.specs.Bindings.{Pairs, controlled}
 use Rattle.gms_eval.specs.Faults.{Answer, ◌and_then◌}
 use Rattle.gms_eval.specs.References.{tuple_of}
 use Rattle.gms_eval.specs.Value.{values, domain, sets_of}
-use Rattle.gms_rows.specs.Affine.{has_variables, some_has_variables, in_front, is_variable_content, is_plain, form_of, part_place, Join, joined_forms, chained, plus, times, element_form, form_of_constant, linear, forms, affine}
+use Rattle.gms_rows.specs.Affine.{has_variables, some_has_variables, values_first, is_variable_content, is_plain, form_of, part_place, Join, joined_forms, chained, plus, times, element_form, form_of_constant, linear, forms, affine}
 use Rattle.gms_rows.specs.Forms.{Form, zero_form, scaled_form}
 use Rattle.gms_run_laws.specs.Agreeing.{AgreeOn}
 use Rattle.gms_run_laws.specs.Names.{Each, names_in_tree, part_names, control_names}
@@ -50,22 +50,22 @@ module _ (test : ℕ → Bool) (one other : State) (agree : AgreeOn test one oth
         ap (λ (h : Bool). h || some_has_variables other rest) (has-same part (each-left test (names_in_tree part) (part_names rest) all))
         ∙ ap (λ (h : Bool). has_variables one part || h) (some-same rest (each-right test (names_in_tree part) (part_names rest) all))
 
-  front-same : (parts : tree.Parts F) → Each test (part_names parts) → in_front other parts ≡ in_front one parts
-  front-same tree.no_part all = refl
-  front-same (tree.part mark part rest) all =
-      ap (λ (h : Bool). if h then 0 else in_front other rest + 1) (has-same part (each-left test (names_in_tree part) (part_names rest) all))
-      ∙ ap (λ (n : ℕ). if has_variables one part then 0 else n + 1) (front-same rest (each-right test (names_in_tree part) (part_names rest) all))
+  prefix-same : (parts : tree.Parts F) → Each test (part_names parts) → values_first other parts ≡ values_first one parts
+  prefix-same tree.no_part all = refl
+  prefix-same (tree.part mark part rest) all =
+      ap (λ (h : Bool). if h then 0 else values_first other rest + 1) (has-same part (each-left test (names_in_tree part) (part_names rest) all))
+      ∙ ap (λ (n : ℕ). if has_variables one part then 0 else n + 1) (prefix-same rest (each-right test (names_in_tree part) (part_names rest) all))
 
   module _ (v : F → Number) (limit : ℕ) where
     constant-same : (e : tree.Tree F) → Each test (names_in_tree e) → (at : Place) (binding : Pairs) → form_of_constant v limit other at binding e ≡ form_of_constant v limit one at binding e
     constant-same e all at binding = ap (λ (x : Answer Extended). x and_then form_of at binding) (value-same test one other agree v limit e all binding)
 
     chained-same : (parts : tree.Parts F) → Each test (part_names parts) → (binding : Pairs) (step : ValueStep) (join : Join) → forms v limit other binding parts ≡ forms v limit one binding parts →
-        chained binding step join (in_front other parts) (values v limit other binding parts) (forms v limit other binding parts) ≡ chained binding step join (in_front one parts) (values v limit one binding parts) (forms v limit one binding parts)
+        chained binding step join (values_first other parts) (values v limit other binding parts) (forms v limit other binding parts) ≡ chained binding step join (values_first one parts) (values v limit one binding parts) (forms v limit one binding parts)
     chained-same parts all binding step join same =
-        ap (λ (n : ℕ). chained binding step join n (values v limit other binding parts) (forms v limit other binding parts)) (front-same parts all)
-        ∙ ap (λ (xs : Marked). chained binding step join (in_front one parts) xs (forms v limit other binding parts)) (values-same test one other agree v limit parts all binding)
-        ∙ ap (chained binding step join (in_front one parts) (values v limit one binding parts)) same
+        ap (λ (n : ℕ). chained binding step join n (values v limit other binding parts) (forms v limit other binding parts)) (prefix-same parts all)
+        ∙ ap (λ (xs : Marked). chained binding step join (values_first one parts) xs (forms v limit other binding parts)) (values-same test one other agree v limit parts all binding)
+        ∙ ap (chained binding step join (values_first one parts) (values v limit one binding parts)) same
 
     mutual
       linear-same : (e : tree.Tree F) → Each test (names_in_tree e) → (at : Place) (binding : Pairs) → linear v limit other at binding e ≡ linear v limit one at binding e

@@ -15,7 +15,7 @@ use Rattle.gms_ast.specs.TreeView.{tree_of}
 use Rattle.gms_store.specs.State.{State, Content, undeclared, alias_of, set_of, parameter_of, variable_of, equation_of, model_with, symbol_at}
 use Rattle.gms_scope.specs.Names.{has_no_declaration}
 use Rattle.gms_save_text.specs.Validity.{declared_symbols}
-use Rattle.gms_check.specs.Checked.{StandsAfter}
+use Rattle.gms_check.specs.Checked.{FollowsIn}
 use Rattle.gms_check.specs.CompileErrors.{errors_after, known_after}
 use Rattle.gms_check.specs.Loaded.{IsAccepted, loaded, sound}
 use Rattle.gms_check.specs.Kinds.{is_variable_kind}
@@ -65,7 +65,7 @@ module _ {F : Type 0} (v : F → Number) (limit : ℕ) (world : World F) (accept
   known_before before = known_after v program accepted.0 (sound before)
 
   -- a name that is declared then is a variable exactly where it is one now
-  kinds : (before : List (Stmt F)) (statement : Stmt F) → StandsAfter program before statement → (n : ℕ) → has_no_declaration (known_before before).state n ≡ false → is_variable_content (symbol_at state n).content ≡ checked_names.is_variable (symbol_at (known_before before).state n).content
+  kinds : (before : List (Stmt F)) (statement : Stmt F) → FollowsIn program before statement → (n : ℕ) → has_no_declaration (known_before before).state n ≡ false → is_variable_content (symbol_at state n).content ≡ checked_names.is_variable (symbol_at (known_before before).state n).content
   kinds before statement stands n declared =
       same-variables state (loaded v program) lasts.later.declares n
       ∙ same-word (symbol_at (loaded v program) n).content
@@ -79,7 +79,7 @@ module _ {F : Type 0} (v : F → Number) (limit : ℕ) (world : World F) (accept
   if-no-lag false d fine = All-cons IsFine d [] fine (All-nil IsFine)
 
   of-define : (before : List (Stmt F)) (at : Place) (equation : Named) (indices : List (Index F)) (condition : Option (Expr F)) (left_at : Place) (left : Expr F) (side : Side) (right_at : Place) (right : Expr F) →
-      StandsAfter program before (record { at = at; act = Define equation indices condition left_at left side right_at right }) → All IsFine (defined_at at (Define equation indices condition left_at left side right_at right))
+      FollowsIn program before (record { at = at; act = Define equation indices condition left_at left side right_at right }) → All IsFine (defined_at at (Define equation indices condition left_at left side right_at right))
   of-define before at equation indices condition left_at left side right_at right stands =
       let statement : Stmt F = record { at = at; act = Define equation indices condition left_at left side right_at right } in
       let known = known_before before in

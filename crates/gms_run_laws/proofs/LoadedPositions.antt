@@ -32,7 +32,7 @@ use Rattle.gms_set.specs.declared.fault.SetError.TheVariants.{BadRange, Repeated
 use Rattle.gms_set.specs.declared.fault.SetFault.{SetFault}
 use Rattle.gms_set.specs.Expansion.{ExpandedData, error_of, has_outside, has_repeat, is_outside, tuples_of, unless, with_items, expanded}
 use Rattle.gms_set.specs.Expansion as expansion
-use Rattle.gms_save_text.specs.Validity.{stands_at}
+use Rattle.gms_save_text.specs.Validity.{fits_position}
 use Rattle.gms_scope.specs.Data.{with_datum}
 use Rattle.gms_scope.specs.Names.{has_no_declaration}
 use Rattle.gms_check.specs.declared.error.ErrorKind.TheVariants.{Redeclared}
@@ -47,7 +47,7 @@ use Rattle.gms_check.proofs.Growing.{put-at}
 use Rattle.gms_check.proofs.IndexSetsStay.{none-declared}
 use Rattle.gms_check.proofs.NoErrors.{AreClean}
 use Rattle.gms_check.proofs.Soundness.{neither-first, neither-second}
-use Rattle.gms_run_laws.specs.LastStates.{StandAt}
+use Rattle.gms_run_laws.specs.LastStates.{FitPositions}
 use Rattle.gms_run_laws.proofs.DeclaredStates.{over-accepted}
 
 -- ---- states with more members
@@ -56,11 +56,11 @@ use Rattle.gms_run_laws.proofs.DeclaredStates.{over-accepted}
 abbrev AreGaining : State → State → Type 0
 AreGaining old new = (set : ℕ) (u : List ℕ) → has (members_of old set) u ≡ true → has (members_of new set) u ≡ true
 
-label-gaining : (old new : State) → AreGaining old new → (set : Option ℕ) (label : ℕ) → stands_at old set label ≡ true → stands_at new set label ≡ true
+label-gaining : (old new : State) → AreGaining old new → (set : Option ℕ) (label : ℕ) → fits_position old set label ≡ true → fits_position new set label ≡ true
 label-gaining old new gain None label e = refl
 label-gaining old new gain (Some set) label e = gain set (label ∷ []) e
 
-stand-gaining : (old new : State) → AreGaining old new → (domain : List (Option ℕ)) (t : List ℕ) → StandAt old domain t → StandAt new domain t
+stand-gaining : (old new : State) → AreGaining old new → (domain : List (Option ℕ)) (t : List ℕ) → FitPositions old domain t → FitPositions new domain t
 stand-gaining old new gain [] t stand = tt
 stand-gaining old new gain (set ∷ domain) [] stand = tt
 stand-gaining old new gain (set ∷ domain) (label ∷ t) stand =
@@ -110,11 +110,11 @@ gaining old new each set u there = elim (each set).alike [
 ]
 
 -- each tuple with data of a symbol is in its domain
-abbrev IsStanding : State → Symbol → Type 0
-IsStanding state symbol = (t : List ℕ) → has (given_in symbol.content) t ≡ true → StandAt state symbol.domain t
+abbrev IsValidEvent : State → Symbol → Type 0
+IsValidEvent state symbol = (t : List ℕ) → has (given_in symbol.content) t ≡ true → FitPositions state symbol.domain t
 
-abbrev AreStanding : State → Type 0
-AreStanding state = (n : ℕ) → IsStanding state (symbol_at state n)
+abbrev AreValidEvents : State → Type 0
+AreValidEvents state = (n : ℕ) → IsValidEvent state (symbol_at state n)
 
 module _ (state : State) (name : ℕ) (new : Symbol) (gains : Gains (symbol_at state name) new) where
   pub gains-put : (n : ℕ) → Gains (symbol_at state n) (symbol_at (put_at state name new) n)
@@ -126,13 +126,13 @@ module _ (state : State) (name : ℕ) (new : Symbol) (gains : Gains (symbol_at s
   gaining-put : AreGaining state (put_at state name new)
   gaining-put = gaining state (put_at state name new) gains-put
 
-  standing-put : IsStanding state new → AreStanding state → AreStanding (put_at state name new)
-  standing-put own all n t there =
+  context-put : IsValidEvent state new → AreValidEvents state → AreValidEvents (put_at state name new)
+  context-put own all n t there =
       stand-gaining state (put_at state name new) gaining-put (symbol_at (put_at state name new) n).domain t (by (put-at state name new n))
     where
-      by : ((symbol_at (put_at state name new) n ≡ symbol_at state n) ⊎ ((n ≡ name) × (symbol_at (put_at state name new) n ≡ new))) → StandAt state (symbol_at (put_at state name new) n).domain t
-      by (inl same) = subst (IsStanding state) (sym same) (all n) t there
-      by (inr changed) = subst (IsStanding state) (sym changed.1) own t there
+      by : ((symbol_at (put_at state name new) n ≡ symbol_at state n) ⊎ ((n ≡ name) × (symbol_at (put_at state name new) n ≡ new))) → FitPositions state (symbol_at (put_at state name new) n).domain t
+      by (inl same) = subst (IsValidEvent state) (sym same) (all n) t there
+      by (inr changed) = subst (IsValidEvent state) (sym changed.1) own t there
 
 -- ---- declarations
 
@@ -197,36 +197,36 @@ gains-again k domain s = by (is_undeclared s.content) refl
     by false there =
         let quiet = quiet-retyped s.content k in record { members = quiet.members; declared = λ e. quiet.declared ∙ e; alike = inr quiet.behind_same }
 
-own-again : (k : DeclKind) (domain : List (Option ℕ)) (state : State) (s : Symbol) → IsStanding state s → IsStanding state (declared_again k domain s)
+own-again : (k : DeclKind) (domain : List (Option ℕ)) (state : State) (s : Symbol) → IsValidEvent state s → IsValidEvent state (declared_again k domain s)
 own-again k domain state s stand = by (is_undeclared s.content)
   where
-    by : (b : Bool) → IsStanding state (cond b (symbol_of_kind k domain) (with_content s (retyped s.content (content_of k))))
+    by : (b : Bool) → IsValidEvent state (cond b (symbol_of_kind k domain) (with_content s (retyped s.content (content_of k))))
     by true = λ t there. absurd (none-given k t there)
     by false = λ t there. stand t ((quiet-retyped s.content k).given t there)
 
-standing-declare : (k : DeclKind) (domain : List (Option ℕ)) (state : State) (name : ℕ) → AreStanding state → AreStanding (declare k domain state name)
-standing-declare k domain state name all =
+context-declare : (k : DeclKind) (domain : List (Option ℕ)) (state : State) (name : ℕ) → AreValidEvents state → AreValidEvents (declare k domain state name)
+context-declare k domain state name all =
     let s = symbol_at state name in
-    standing-put state name (declared_again k domain s) (gains-again k domain s) (own-again k domain state s (all name)) all
+    context-put state name (declared_again k domain s) (gains-again k domain s) (own-again k domain state s (all name)) all
 
-standing-join : (state : State) (old new : ℕ) → can_join state old new ≡ true → AreStanding state → AreStanding (join_name state old new)
-standing-join state old new can all =
+context-join : (state : State) (old new : ℕ) → can_join state old new ≡ true → AreValidEvents state → AreValidEvents (join_name state old new)
+context-join state old new can all =
     let alias = alias_symbol (base_of state old) in
-    standing-put state new alias (gains-fresh (symbol_at state new) alias ((and_parts (is_set (symbol_at state old).content) (is_undeclared (symbol_at state new).content) can).1)) (λ t there. absurd (has-none [] t refl there)) all
+    context-put state new alias (gains-fresh (symbol_at state new) alias ((and_parts (is_set (symbol_at state old).content) (is_undeclared (symbol_at state new).content) can).1)) (λ t there. absurd (has-none [] t refl there)) all
 
-standing-alias : (state : State) (first second : ℕ) → AreStanding state → AreStanding (declare_alias state first second)
-standing-alias state first second all = by (can_join state first second) (can_join state second first) refl refl
+context-alias : (state : State) (first second : ℕ) → AreValidEvents state → AreValidEvents (declare_alias state first second)
+context-alias state first second all = by (can_join state first second) (can_join state second first) refl refl
   where
-    by : (a b : Bool) → can_join state first second ≡ a → can_join state second first ≡ b → AreStanding (cond a (join_name state first second) (cond b (join_name state second first) (declare kind.Set [] (declare kind.Set [] state first) second)))
-    by true b can other = standing-join state first second can all
-    by false true none can = standing-join state second first can all
-    by false false none other = standing-declare kind.Set [] (declare kind.Set [] state first) second (standing-declare kind.Set [] state first all)
+    by : (a b : Bool) → can_join state first second ≡ a → can_join state second first ≡ b → AreValidEvents (cond a (join_name state first second) (cond b (join_name state second first) (declare kind.Set [] (declare kind.Set [] state first) second)))
+    by true b can other = context-join state first second can all
+    by false true none can = context-join state second first can all
+    by false false none other = context-declare kind.Set [] (declare kind.Set [] state first) second (context-declare kind.Set [] state first all)
 
-standing-model : (state : State) (name : ℕ) → AreStanding state → AreStanding (declare_model state name)
-standing-model state name all = by (is_undeclared (symbol_at state name).content) refl
+context-model : (state : State) (name : ℕ) → AreValidEvents state → AreValidEvents (declare_model state name)
+context-model state name all = by (is_undeclared (symbol_at state name).content) refl
   where
-    by : (b : Bool) → is_undeclared (symbol_at state name).content ≡ b → AreStanding (cond b (put_at state name model_symbol) state)
-    by true none = standing-put state name model_symbol (gains-fresh (symbol_at state name) model_symbol none) (λ t there. absurd (has-none [] t refl there)) all
+    by : (b : Bool) → is_undeclared (symbol_at state name).content ≡ b → AreValidEvents (cond b (put_at state name model_symbol) state)
+    by true none = context-put state name model_symbol (gains-fresh (symbol_at state name) model_symbol none) (λ t there. absurd (has-none [] t refl there)) all
     by false there = all
 
 -- ---- data
@@ -302,7 +302,7 @@ datum-value t x (model_with m s) = datum-none t (model_with m s)
 -- a tuple at which data of a name may be given: its labels are in the name's domain, or data change
 -- nothing of the name
 abbrev IsReady : State → ℕ → List ℕ → Type 0
-IsReady state name t = (is_deaf (symbol_of state name).content ≡ true) ⊎ StandAt state (symbol_of state name).domain t
+IsReady state name t = (is_deaf (symbol_of state name).content ≡ true) ⊎ FitPositions state (symbol_of state name).domain t
 
 -- symbols over one domain, of which data change something or not
 abbrev AreSimilar : Symbol → Symbol → Type 0
@@ -332,25 +332,25 @@ module _ (state : State) (name : ℕ) (t : List ℕ) (new : Content) (datum : Is
   similar-new : AreSimilar new_symbol old_symbol
   similar-new = either-new (λ (s : Symbol). AreSimilar s old_symbol) (refl, datum.deaf) (refl, refl)
 
-  behind-new : (n : ℕ) → alias_target n new_symbol.content ≡ alias_target n old_symbol.content
-  behind-new n = either-new (λ (s : Symbol). alias_target n s.content ≡ alias_target n old_symbol.content) (datum.behind_same n) refl
+  following-new : (n : ℕ) → alias_target n new_symbol.content ≡ alias_target n old_symbol.content
+  following-new n = either-new (λ (s : Symbol). alias_target n s.content ≡ alias_target n old_symbol.content) (datum.behind_same n) refl
 
-  own-new : IsReady state name t → IsStanding state old_symbol → IsStanding state new_symbol
-  own-new ready own = either-new (IsStanding state) (λ u there. by u ready (datum.given u there)) own
+  own-new : IsReady state name t → IsValidEvent state old_symbol → IsValidEvent state new_symbol
+  own-new ready own = either-new (IsValidEvent state) (λ u there. by u ready (datum.given u there)) own
     where
-      by : (u : List ℕ) → IsReady state name t → ((t ≡ u) × (is_deaf old_symbol.content ≡ false)) ⊎ (has (given_in old_symbol.content) u ≡ true) → StandAt state old_symbol.domain u
+      by : (u : List ℕ) → IsReady state name t → ((t ≡ u) × (is_deaf old_symbol.content ≡ false)) ⊎ (has (given_in old_symbol.content) u ≡ true) → FitPositions state old_symbol.domain u
       by u (inl deaf) (inl this) = absurd (both_ways (is_deaf old_symbol.content) this.1 deaf)
-      by u (inr stand) (inl this) = subst (StandAt state old_symbol.domain) this.0 stand
+      by u (inr stand) (inl this) = subst (FitPositions state old_symbol.domain) this.0 stand
       by u ready (inr there) = own u there
 
-  standing-datum : IsReady state name t → AreStanding state → AreStanding next
-  standing-datum ready all =
-      standing-put state (base_of state name) new_symbol gains-new (own-new ready (all (base_of state name))) all
+  context-datum : IsReady state name t → AreValidEvents state → AreValidEvents next
+  context-datum ready all =
+      context-put state (base_of state name) new_symbol gains-new (own-new ready (all (base_of state name))) all
 
   base-next : base_of next name ≡ base_of state name
   base-next = elim (put-at state (base_of state name) new_symbol name) [
     | inl same ↦ ap (λ (s : Symbol). alias_target name s.content) same
-    | inr changed ↦ ap (λ (s : Symbol). alias_target name s.content) changed.1 ∙ behind-new name ∙ sym (ap (λ n. alias_target name (symbol_at state n).content) changed.0)
+    | inr changed ↦ ap (λ (s : Symbol). alias_target name s.content) changed.1 ∙ following-new name ∙ sym (ap (λ n. alias_target name (symbol_at state n).content) changed.0)
   ]
 
   similar-next : AreSimilar (symbol_of next name) old_symbol
@@ -364,7 +364,7 @@ module _ (state : State) (name : ℕ) (t : List ℕ) (new : Content) (datum : Is
   ready-next : (u : List ℕ) → IsReady state name u → IsReady next name u
   ready-next u (inl deaf) = inl (similar-next.1 ∙ deaf)
   ready-next u (inr stand) =
-      inr (subst (λ (domain : List (Option ℕ)). StandAt next domain u) (sym similar-next.0) (stand-gaining state next (gaining-put state (base_of state name) new_symbol gains-new) old_symbol.domain u stand))
+      inr (subst (λ (domain : List (Option ℕ)). FitPositions next domain u) (sym similar-next.0) (stand-gaining state next (gaining-put state (base_of state name) new_symbol gains-new) old_symbol.domain u stand))
 
 module _ {F : Type 0} where
   -- each tuple of data is ready
@@ -377,27 +377,27 @@ module _ {F : Type 0} where
   all-ready state later name each (d ∷ ds) ready = (each d.0 ready.0, all-ready state later name each ds ready.1)
 
 module _ {F : Type 0} (v : F → Number) where
-  standing-data : (ds : ExpandedData F) (state : State) (name : ℕ) → AreReady state name ds → AreStanding state → AreStanding (fold (with_datum v name) state ds)
-  standing-data [] state name ready all = all
-  standing-data ((t, None) ∷ ds) state name ready all =
+  context-data : (ds : ExpandedData F) (state : State) (name : ℕ) → AreReady state name ds → AreValidEvents state → AreValidEvents (fold (with_datum v name) state ds)
+  context-data [] state name ready all = all
+  context-data ((t, None) ∷ ds) state name ready all =
       let s = symbol_of state name in
       let new = with_membership s.content t true in
       let datum = datum-member t s.content in
-      standing-data ds (put_at state (base_of state name) (if_fits s t new)) name (all-ready state (put_at state (base_of state name) (if_fits s t new)) name (ready-next state name t new datum) ds ready.1) (standing-datum state name t new datum ready.0 all)
-  standing-data ((t, Some x) ∷ ds) state name ready all =
+      context-data ds (put_at state (base_of state name) (if_fits s t new)) name (all-ready state (put_at state (base_of state name) (if_fits s t new)) name (ready-next state name t new datum) ds ready.1) (context-datum state name t new datum ready.0 all)
+  context-data ((t, Some x) ∷ ds) state name ready all =
       let s = symbol_of state name in
       let new = with_value s.content t (value_shown v x) in
       let datum = datum-value t (value_shown v x) s.content in
-      standing-data ds (put_at state (base_of state name) (if_fits s t new)) name (all-ready state (put_at state (base_of state name) (if_fits s t new)) name (ready-next state name t new datum) ds ready.1) (standing-datum state name t new datum ready.0 all)
+      context-data ds (put_at state (base_of state name) (if_fits s t new)) name (all-ready state (put_at state (base_of state name) (if_fits s t new)) name (ready-next state name t new datum) ds ready.1) (context-datum state name t new datum ready.0 all)
 
 -- ---- data that items give
 
 module _ (state : State) (set : Option ℕ) (domain : List (Option ℕ)) where
-  stand-with : (label : ℕ) (ts : List (List ℕ)) → is_outside state set label ≡ false → AllByRecursion (StandAt state domain) ts → AllByRecursion (StandAt state (set ∷ domain)) (map (λ tuple. label ∷ tuple) ts)
+  stand-with : (label : ℕ) (ts : List (List ℕ)) → is_outside state set label ≡ false → AllByRecursion (FitPositions state domain) ts → AllByRecursion (FitPositions state (set ∷ domain)) (map (λ tuple. label ∷ tuple) ts)
   stand-with label [] inside all = tt
   stand-with label (t ∷ ts) inside all = ((stands set inside, all.0), stand-with label ts inside all.1)
     where
-      stands : (set : Option ℕ) → is_outside state set label ≡ false → stands_at state set label ≡ true
+      stands : (set : Option ℕ) → is_outside state set label ≡ false → fits_position state set label ≡ true
       stands None e = refl
       stands (Some set) e = not-false (has (members_of state set) (label ∷ [])) e
         where
@@ -405,21 +405,21 @@ module _ (state : State) (set : Option ℕ) (domain : List (Option ℕ)) where
           not-false true e = refl
           not-false false e = absurd (cc)
 
-  stand-joined : (ts us : List (List ℕ)) → AllByRecursion (StandAt state (set ∷ domain)) ts → AllByRecursion (StandAt state (set ∷ domain)) us → AllByRecursion (StandAt state (set ∷ domain)) (ts ++ us)
+  stand-joined : (ts us : List (List ℕ)) → AllByRecursion (FitPositions state (set ∷ domain)) ts → AllByRecursion (FitPositions state (set ∷ domain)) us → AllByRecursion (FitPositions state (set ∷ domain)) (ts ++ us)
   stand-joined [] us a b = b
   stand-joined (t ∷ ts) us a b = (a.0, stand-joined ts us a.1 b)
 
-  stand-pieces : (ts : List (List ℕ)) (labels : List ℕ) → list_any (is_outside state set) labels ≡ false → AllByRecursion (StandAt state domain) ts → AllByRecursion (StandAt state (set ∷ domain)) (flat_map (λ label. map (λ tuple. label ∷ tuple) ts) labels)
+  stand-pieces : (ts : List (List ℕ)) (labels : List ℕ) → list_any (is_outside state set) labels ≡ false → AllByRecursion (FitPositions state domain) ts → AllByRecursion (FitPositions state (set ∷ domain)) (flat_map (λ label. map (λ tuple. label ∷ tuple) ts) labels)
   stand-pieces ts [] inside all = tt
   stand-pieces ts (label ∷ labels) inside all =
       stand-joined (map (λ tuple. label ∷ tuple) ts) (flat_map (λ label. map (λ tuple. label ∷ tuple) ts) labels) (stand-with label ts (neither-first (is_outside state set label) (list_any (is_outside state set) labels) inside) all) (stand-pieces ts labels (neither-second (is_outside state set label) (list_any (is_outside state set) labels) inside) all)
 
 -- tuples of no position
-stand-anywhere : (state : State) (ts : List (List ℕ)) → AllByRecursion (StandAt state []) ts
+stand-anywhere : (state : State) (ts : List (List ℕ)) → AllByRecursion (FitPositions state []) ts
 stand-anywhere state [] = tt
 stand-anywhere state (t ∷ ts) = (tt, stand-anywhere state ts)
 
-stand-product : (state : State) (domain : List (Option ℕ)) (parts : List (List ℕ)) → has_outside state domain parts ≡ false → AllByRecursion (StandAt state domain) (tuple_product parts)
+stand-product : (state : State) (domain : List (Option ℕ)) (parts : List (List ℕ)) → has_outside state domain parts ≡ false → AllByRecursion (FitPositions state domain) (tuple_product parts)
 stand-product state [] parts inside = stand-anywhere state (tuple_product parts)
 stand-product state (set ∷ domain) [] inside = (tt, tt)
 stand-product state (set ∷ domain) (labels ∷ rest) inside =
@@ -429,9 +429,9 @@ module _ {F : Type 0} (state : State) (domain : List (Option ℕ)) where
   -- each tuple of data fits these positions
   abbrev AreThere : ExpandedData F → Type 0
   AreThere [] = Unit {0}
-  AreThere (d ∷ ds) = StandAt state domain d.0 × AreThere ds
+  AreThere (d ∷ ds) = FitPositions state domain d.0 × AreThere ds
 
-  there-joined : (ds : ExpandedData F) (x : Option (Ext F)) (ts : List (List ℕ)) → AreThere ds → AllByRecursion (StandAt state domain) ts → AreThere (ds ++ expansion.tuples_with_value x ts)
+  there-joined : (ds : ExpandedData F) (x : Option (Ext F)) (ts : List (List ℕ)) → AreThere ds → AllByRecursion (FitPositions state domain) ts → AreThere (ds ++ expansion.tuples_with_value x ts)
   there-joined [] x [] a b = tt
   there-joined [] x (t ∷ ts) a b = (b.0, there-joined [] x ts tt b.1)
   there-joined (d ∷ ds) x ts a b = (a.0, there-joined ds x ts a.1 b)
@@ -525,10 +525,10 @@ module _ (k : DeclKind) (domain : List (Option ℕ)) (state : State) (name : ℕ
       ap (λ n. symbol_at named n) (ap (λ (s : Symbol). alias_target name s.content) is ∙ own) ∙ is
 
   -- a new name is over the domain in which the data stand
-  ready-new : is_undeclared (symbol_at state name).content ≡ true → (t : List ℕ) → StandAt state (positions_of k domain) t → IsReady named name t
+  ready-new : is_undeclared (symbol_at state name).content ≡ true → (t : List ℕ) → FitPositions state (positions_of k domain) t → IsReady named name t
   ready-new none t stand = elim (put-at state name (declared_again k domain (symbol_at state name)) name) [
     | inl same ↦ inl (ap (λ (s : Symbol). is_deaf s.content) (own-symbol (symbol_at state name) same (own-name (symbol_at state name).content name none)) ∙ deaf-undeclared (symbol_at state name).content none)
-    | inr changed ↦ inr (subst (λ (s : Symbol). StandAt named s.domain t) (sym (own-symbol (symbol_of_kind k domain) (changed.1 ∙ ap (λ (b : Bool). cond b (symbol_of_kind k domain) (with_content (symbol_at state name) (retyped (symbol_at state name).content (content_of k)))) none) (own-kind k name))) (stand-gaining state named (gaining-put state name (declared_again k domain (symbol_at state name)) (gains-again k domain (symbol_at state name))) (positions_of k domain) t stand))
+    | inr changed ↦ inr (subst (λ (s : Symbol). FitPositions named s.domain t) (sym (own-symbol (symbol_of_kind k domain) (changed.1 ∙ ap (λ (b : Bool). cond b (symbol_of_kind k domain) (with_content (symbol_at state name) (retyped (symbol_at state name).content (content_of k)))) none) (own-kind k name))) (stand-gaining state named (gaining-put state name (declared_again k domain (symbol_at state name)) (gains-again k domain (symbol_at state name))) (positions_of k domain) t stand))
   ]
 
   -- data change nothing of a variable that gets a type
@@ -551,8 +551,8 @@ module _ (k : DeclKind) (domain : List (Option ℕ)) (state : State) (name : ℕ
     all-typed free (d ∷ ds) = (ready-typed free d.0, all-typed free ds)
 
 module _ {F : Type 0} (k : DeclKind) where
-  standing-item : (program : Program F) (known : Known F) (item : Decl F) → known.assigned ≡ of_program program (is_among (dynamic_sets program)) → AreClean known (item_uses known k item) → AreStanding known.state → AreStanding (with_item known.value k known.state item)
-  standing-item program known item same clean all =
+  context-item : (program : Program F) (known : Known F) (item : Decl F) → known.assigned ≡ of_program program (is_among (dynamic_sets program)) → AreClean known (item_uses known k item) → AreValidEvents known.state → AreValidEvents (with_item known.value k known.state item)
+  context-item program known item same clean all =
       by (has_no_declaration known.state name) refl (expanded known.state positions_there item.items) refl
     where
       name : ℕ
@@ -564,8 +564,8 @@ module _ {F : Type 0} (k : DeclKind) where
       positions_there : List (Option ℕ)
       positions_there = positions_of k domain
 
-      declared : AreStanding (declare k domain known.state name)
-      declared = standing-declare k domain known.state name all
+      declared : AreValidEvents (declare k domain known.state name)
+      declared = context-declare k domain known.state name all
 
       first-of-two : (a b : Bool) → not a && not b ≡ false → a ≡ false → b ≡ true
       first-of-two true b e none = absurd (cc)
@@ -576,14 +576,14 @@ module _ {F : Type 0} (k : DeclKind) where
       first-holds true b e = refl
       first-holds false b e = absurd (cc)
 
-      by : (unknown : Bool) → has_no_declaration known.state name ≡ unknown → (given : Result (ExpandedData F) SetFault) → expanded known.state positions_there item.items ≡ given → AreStanding (with_data known.value (with_name known.value k known.state item) name given)
+      by : (unknown : Bool) → has_no_declaration known.state name ≡ unknown → (given : Result (ExpandedData F) SetFault) → expanded known.state positions_there item.items ≡ given → AreValidEvents (with_data known.value (with_name known.value k known.state item) name given)
       by unknown is (Err fault) e = declared
       by true none (Ok given) e =
-          standing-data known.value given (declare k domain known.state name) name (all-new k domain known.state name none given (items-there known.state positions_there item.items [] given tt e)) declared
+          context-data known.value given (declare k domain known.state name) name (all-new k domain known.state name none given (items-there known.state positions_there item.items [] given tt e)) declared
       by false there (Ok given) e =
           let typed = first-of-two (has_no_declaration known.state name) (may_be_typed known k name domain) (clean.0 Redeclared) there in
           let free = first-holds (is_free (symbol_at known.state name).content) (is_variable (content_of k) && repeats_domain known.state domain (positions known.state name)) typed in
-          standing-data known.value given (declare k domain known.state name) name (all-typed k domain known.state name free given) declared
+          context-data known.value given (declare k domain known.state name) name (all-typed k domain known.state name free given) declared
 
 -- ---- the state in which a run begins
 
@@ -597,9 +597,9 @@ all-from_has P (u ∷ tuples) each =
     or-second false b e = e
 
 -- each label of a tuple with data fits its position
-pub loaded-stands : {F : Type 0} (v : F → Number) (program : Program F) (name : ℕ) → IsAccepted v program → All (StandAt (loaded v program) (symbol_at (loaded v program) name).domain) (given_in (symbol_at (loaded v program) name).content)
+pub loaded-stands : {F : Type 0} (v : F → Number) (program : Program F) (name : ℕ) → IsAccepted v program → All (FitPositions (loaded v program) (symbol_at (loaded v program) name).domain) (given_in (symbol_at (loaded v program) name).content)
 loaded-stands v program name accepted =
     let blank = blank_state (length program.names) in
-    let empty : AreStanding blank = λ n. subst (IsStanding blank) (sym (none-declared (length program.names) n)) (λ t there. absurd (has-none [] t refl there)) in
+    let empty : AreValidEvents blank = λ n. subst (IsValidEvent blank) (sym (none-declared (length program.names) n)) (λ t there. absurd (has-none [] t refl there)) in
     let state = loaded v program in
-    all-from_has (StandAt state (symbol_at state name).domain) (given_in (symbol_at state name).content) (over-accepted program AreStanding (λ k. standing-item k program) standing-alias standing-model v accepted empty name)
+    all-from_has (FitPositions state (symbol_at state name).domain) (given_in (symbol_at state name).content) (over-accepted program AreValidEvents (λ k. context-item k program) context-alias context-model v accepted empty name)

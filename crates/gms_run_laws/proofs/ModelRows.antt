@@ -19,7 +19,7 @@ use Rattle.gms_rows.specs.Affine.{affine}
 use Rattle.gms_rows.specs.Forms.{Form, sum_of_forms}
 use Rattle.gms_rows.specs.ModelPoints.{definitions_of_model}
 use Rattle.gms_rows.specs.ProgramLp.{column_keys, column_of, placed, place_of_key, program_of, sized_program, program_lp}
-use Rattle.gms_rows.specs.Rows.{Definition, FormRow, each_once, sets_among, sense_of, present_rows, row_form, row_under, rows_of_definition, rows_of_model}
+use Rattle.gms_rows.specs.Rows.{Definition, FormRow, distinct_numbers, sets_among, sense_of, present_rows, row_form, row_under, rows_of_definition, rows_of_model}
 use Rattle.gms_run_laws.specs.Agreeing.{AgreeOn}
 use Rattle.gms_run_laws.specs.Names.{Each, names_in_tree, index_names, condition_names, definition_names}
 use Rattle.gms_run_laws.proofs.Eaches.{each-left, each-right}
@@ -39,9 +39,9 @@ module _ (test : ℕ → Bool) where
       by true rest = (all.0, rest)
       by false rest = rest
 
-  once-each : (ns : List ℕ) → Each test ns → Each test (each_once ns)
+  once-each : (ns : List ℕ) → Each test ns → Each test (distinct_numbers ns)
   once-each [] all = tt
-  once-each (n ∷ ns) all = (all.0, filter-each (λ m. not (m == n)) (each_once ns) (once-each ns all.1))
+  once-each (n ∷ ns) all = (all.0, filter-each (λ m. not (m == n)) (distinct_numbers ns) (once-each ns all.1))
 
   among-each : {F : Type 0} (indices : tree.Indices F) → Each test (index_names indices) → Each test (sets_among indices)
   among-each tree.no_index all = tt
@@ -50,7 +50,7 @@ module _ (test : ℕ → Bool) where
   among-each (tree.lagged set op at amount rest) all =
       (all.0, among-each rest (each-right test (names_in_tree amount) (index_names rest) all.1))
 
-  pub sets-each : {F : Type 0} (indices : tree.Indices F) → Each test (index_names indices) → Each test (each_once (sets_among indices))
+  pub sets-each : {F : Type 0} (indices : tree.Indices F) → Each test (index_names indices) → Each test (distinct_numbers (sets_among indices))
   sets-each indices all = once-each (sets_among indices) (among-each indices all)
 
 -- ---- rows
@@ -84,7 +84,7 @@ module _ (ok : Key → Bool) {F : Type 0} (v : F → Number) (limit : ℕ) (stat
 
   abbrev pub DefinitionPasses : Definition F → Type 0
   DefinitionPasses d =
-      let sets = each_once (sets_among d.indices) in
+      let sets = distinct_numbers (sets_among d.indices) in
       OkHas (EachHas (λ element. RowPasses d (controlled [] sets element))) (domain v limit state [] d.at (control_over sets d.condition))
 
   row-keyed : (d : Definition F) (binding : Pairs) → RowPasses d binding → OkHas (MayHaveKeys ok) (row_under v limit state d binding)
@@ -111,7 +111,7 @@ module _ (ok : Key → Bool) {F : Type 0} (v : F → Number) (limit : ℕ) (stat
 
   definition-keyed : (d : Definition F) → DefinitionPasses d → OkHas (EachHas (HasKeys ok)) (rows_of_definition v limit state d)
   definition-keyed d passes =
-      let sets = each_once (sets_among d.indices) in
+      let sets = distinct_numbers (sets_among d.indices) in
       then-has (EachHas (λ element. RowPasses d (controlled [] sets element))) (EachHas (HasKeys ok)) (domain v limit state [] d.at (control_over sets d.condition)) (λ elements. in_order (map (λ element. row_under v limit state d (controlled [] sets element)) elements) and_then λ rows. Ok (present_rows rows)) passes
       (λ elements all. then-has (EachHas (MayHaveKeys ok)) (EachHas (HasKeys ok)) (in_order (map (λ element. row_under v limit state d (controlled [] sets element)) elements)) (λ rows. Ok (present_rows rows))
       (in_order-has (MayHaveKeys ok) (map (λ element. row_under v limit state d (controlled [] sets element)) elements) (each-row d sets elements all))
@@ -158,7 +158,7 @@ module _ (test : ℕ → Bool) {F : Type 0} (v : F → Number) (limit : ℕ) whe
 
       definition-same : rows_of_definition v limit other d ≡ rows_of_definition v limit one d
       definition-same =
-          let sets = each_once (sets_among d.indices) in
+          let sets = distinct_numbers (sets_among d.indices) in
           ap (λ (elements : Answer (List (List ℕ))). over_all elements (λ element. row_under v limit other d (controlled [] sets element))) (where-same test one other agree v limit sets d.condition (sets-each test d.indices parts.indices) parts.condition [] d.at)
           ∙ ap (over_all (domain v limit one [] d.at (control_over sets d.condition))) (fun_ext (λ element. row-same (controlled [] sets element)))
 
@@ -177,7 +177,7 @@ module _ (test : ℕ → Bool) {F : Type 0} (v : F → Number) (limit : ℕ) whe
   definitions-named state [] all = tt
   definitions-named state (d ∷ ds) all =
       let parts = parts-of test d (each-left test (definition_names d) (flat_map definition_names ds) all) in
-      let sets = each_once (sets_among d.indices) in (
+      let sets = distinct_numbers (sets_among d.indices) in (
         ok-any (EachHas (λ element. RowPasses (of_name test) v limit state d (controlled [] sets element))) (domain v limit state [] d.at (control_over sets d.condition))
             (each-any (λ element. RowPasses (of_name test) v limit state d (controlled [] sets element)) (λ element. row-named state d parts (controlled [] sets element))),
         definitions-named state ds (each-right test (definition_names d) (flat_map definition_names ds) all),

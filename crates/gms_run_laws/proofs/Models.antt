@@ -27,7 +27,7 @@ use Rattle.gms_check.specs.Loaded.{sound}
 use Rattle.gms_check.specs.Past.{with_data, with_item, with_name, after_act, after_statement, state_after}
 use Rattle.gms_check.proofs.Growing.{put-at, by_parts}
 use Rattle.gms_check.proofs.IndexSetsStay.{none-declared}
-use Rattle.gms_rows.specs.Rows.{each_once, listed_equations, found, equations_declared_by, models_of, equations_from}
+use Rattle.gms_rows.specs.Rows.{distinct_numbers, listed_equations, found, equations_declared_by, models_of, equations_from}
 
 pub or-right : (a b : Bool) → a ≡ false → (a || b) ≡ true → b ≡ true
 or-right true b e both = absurd (cc)
@@ -209,7 +209,7 @@ module _ (m : ℕ) where
   found-there : (declared : List ℕ) (models : List ModelDecl) → has_model models ≡ true → (es : List ℕ) × (found declared m models ≡ Some es)
   found-there declared [] there = absurd (cc)
   found-there declared (model ∷ models) there =
-      by (model.named.name == m) there (λ behind. found-there declared models behind)
+      by (model.named.name == m) there (λ following. found-there declared models following)
     where
       by : (b : Bool) → (b || has_model models) ≡ true → (has_model models ≡ true → (es : List ℕ) × (found declared m models ≡ Some es)) → (es : List ℕ) × ((if b then Some (listed_equations declared model) else found declared m models) ≡ Some es)
       by true there next = (listed_equations declared model, refl)
@@ -245,17 +245,17 @@ module _ (m : ℕ) where
     declares_model statements = list_any (λ (s : Stmt F). has_model (models_of s.act)) statements
 
     -- Statements after those that declare a model change none of its equations.
-    pub equations-front : (declared : List ℕ) (statements others : List (Stmt F)) → declares_model statements ≡ true → equations_from declared m (statements ++ others) ≡ equations_from declared m statements
-    equations-front declared [] others there = absurd (cc)
-    equations-front declared (s ∷ statements) others there =
-        by (found (each_once declared) m (models_of s.act)) refl (λ behind. equations-front (declared ++ equations_declared_by s.act) statements others behind)
+    pub equations-prefix : (declared : List ℕ) (statements others : List (Stmt F)) → declares_model statements ≡ true → equations_from declared m (statements ++ others) ≡ equations_from declared m statements
+    equations-prefix declared [] others there = absurd (cc)
+    equations-prefix declared (s ∷ statements) others there =
+        by (found (distinct_numbers declared) m (models_of s.act)) refl (λ following. equations-prefix (declared ++ equations_declared_by s.act) statements others following)
       where
-        by : (o : Option (List ℕ)) → found (each_once declared) m (models_of s.act) ≡ o →
+        by : (o : Option (List ℕ)) → found (distinct_numbers declared) m (models_of s.act) ≡ o →
             (declares_model statements ≡ true → equations_from (declared ++ equations_declared_by s.act) m (statements ++ others) ≡ equations_from (declared ++ equations_declared_by s.act) m statements) →
             ◌≡◌ {A = List ℕ} (elim o [ Some equations ↦ equations | None ↦ equations_from (declared ++ equations_declared_by s.act) m (statements ++ others) ]) (elim o [ Some equations ↦ equations | None ↦ equations_from (declared ++ equations_declared_by s.act) m statements ])
         by (Some equations) is next = refl
         by None is next =
-            next (or-right (has_model (models_of s.act)) (declares_model statements) (none-found (each_once declared) (models_of s.act) is) there)
+            next (or-right (has_model (models_of s.act)) (declares_model statements) (none-found (distinct_numbers declared) (models_of s.act) is) there)
 
     free-act : (v : F → Number) (s : State) → IsModelFree s → (act : Act F) → has_model (models_of act) ≡ false → IsModelFree (after_act v s act)
     free-act v s free act = by_parts P by act

@@ -15,8 +15,8 @@ use Rattle.gms_tuple.specs.TupleOrder.{IsOrdered}
 use Rattle.gms_tuple.proofs.Members.{Contains-has}
 use Rattle.gms_store.specs.State.{State, members_of}
 use Rattle.gms_scope.specs.Names.{is_index_set}
-use Rattle.gms_check.specs.Checked.{StandsAfter}
-use Rattle.gms_check.specs.LeftSides.{AreLeftIndices, is_fixed_amount}
+use Rattle.gms_check.specs.Checked.{FollowsIn}
+use Rattle.gms_check.specs.LeftSides.{AreTargetIndices, is_fixed_amount}
 use Rattle.gms_check.specs.Loaded.{IsAccepted, loaded, sound}
 use Rattle.gms_check.specs.CompileErrors.{known_after}
 use Rattle.gms_check.specs.Past.{state_after}
@@ -47,12 +47,12 @@ simple-set old new stays set over =
     (members.0, λ member there. All-contains (λ (t : List ℕ). length t ≡ 1) (members_of new set) member members.1 (Contains-has (members_of new set) member there))
 
 -- the members of a set that is an index set before a statement, in each state of a run
-pub index-members : {F : Type 0} (v : F → Number) (limit : ℕ) (world : World F) (before : List (Stmt F)) (statement : Stmt F) (set : ℕ) (state : State) → StandsAfter world.program before statement → is_index_set (state_after v (length world.program.names) (sound before)) set ≡ true → IsLasting v world.program state → IsOrdered (members_of state set) × AreSingles (members_of state set)
+pub index-members : {F : Type 0} (v : F → Number) (limit : ℕ) (world : World F) (before : List (Stmt F)) (statement : Stmt F) (set : ℕ) (state : State) → FollowsIn world.program before statement → is_index_set (state_after v (length world.program.names) (sound before)) set ≡ true → IsLasting v world.program state → IsOrdered (members_of state set) × AreSingles (members_of state set)
 index-members v limit world before statement set state stands one lasts =
     over-one (loaded v world.program) state lasts.stays set (index-set-loaded v world.program before statement stands set one)
 
 -- a set that is an index set before a statement is one in each state of a run
-pub index-simple : {F : Type 0} (v : F → Number) (limit : ℕ) (world : World F) (before : List (Stmt F)) (statement : Stmt F) (set : ℕ) (state : State) → StandsAfter world.program before statement → is_index_set (state_after v (length world.program.names) (sound before)) set ≡ true → IsLasting v world.program state → IsSimple state set
+pub index-simple : {F : Type 0} (v : F → Number) (limit : ℕ) (world : World F) (before : List (Stmt F)) (statement : Stmt F) (set : ℕ) (state : State) → FollowsIn world.program before statement → is_index_set (state_after v (length world.program.names) (sound before)) set ≡ true → IsLasting v world.program state → IsSimple state set
 index-simple v limit world before statement set state stands one lasts =
     simple-set (loaded v world.program) state lasts.stays set (index-set-loaded v world.program before statement stands set one)
 
@@ -62,7 +62,7 @@ module _ {F : Type 0} where
   fixed-amount (tree.reference at name suffix.None tree.no_index) e = refl
   fixed-amount amount e = absurd (cc)
 
-  left-simple : (old new : State) → ((set : ℕ) → is_index_set old set ≡ true → IsSimple new set) → (indices : tree.Indices F) → AreLeftIndices old indices → AreLeft new indices
+  left-simple : (old new : State) → ((set : ℕ) → is_index_set old set ≡ true → IsSimple new set) → (indices : tree.Indices F) → AreTargetIndices old indices → AreLeft new indices
   left-simple old new simple tree.no_index are = tt
   left-simple old new simple (tree.label n rest) are = left-simple old new simple rest are
   left-simple old new simple (tree.set set rest) are = (simple set are.0, left-simple old new simple rest are.1)

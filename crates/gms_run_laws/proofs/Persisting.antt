@@ -30,7 +30,7 @@ use Rattle.lp_core.specs.declared.program.Lp.{Lp}
 use Rattle.gms_exec.specs.Assignment.{given_by, target_of}
 use Rattle.gms_exec.specs.Given.{AllGiven, after_given}
 use Rattle.gms_exec.specs.Options.{after_options}
-use Rattle.gms_exec.specs.Run.{Course, Halt, World, OfAct, OfStatement, in_state, while_it_runs, with_evaluated, one_after_another, for_each, display, abort, abort_where, over_elements, answered, solve, act_step, statement_step, of_statement, labels_in}
+use Rattle.gms_exec.specs.Run.{Course, Halt, World, OfAct, OfStatement, in_state, while_it_runs, with_evaluated, in_sequence, for_each, display, abort, abort_where, over_elements, answered, solve, act_step, statement_step, of_statement, labels_in}
 use Rattle.gms_exec.specs.Showing.{all_shown}
 use Rattle.gms_exec.specs.Solved.{after_end}
 
@@ -56,14 +56,14 @@ module _ (P : State → Type 0) where
       by None = keep p
       by (Some halt) = p
 
-  pub all-keep : (ss : List OfStatement) → EachKeeps ss → Keeps (one_after_another ss)
+  pub all-keep : (ss : List OfStatement) → EachKeeps ss → Keeps (in_sequence ss)
   all-keep [] each binding c p = p
   all-keep (s ∷ ss) each binding c p = all-keep ss each.1 binding (while_it_runs (s binding) c) (while-keeps (s binding) c (each.0 binding c) p)
 
   each-keeps : (sets : List ℕ) (body : List OfStatement) (elements : List (List ℕ)) → EachKeeps body → Keeps (for_each sets body elements)
   each-keeps sets body [] each binding c p = p
   each-keeps sets body (element ∷ elements) each binding c p =
-      each-keeps sets body elements each binding (one_after_another body (controlled binding sets element) c) (all-keep body each (controlled binding sets element) c p)
+      each-keeps sets body elements each binding (in_sequence body (controlled binding sets element) c) (all-keep body each (controlled binding sets element) c p)
 
   value-keeps : {A : Type 0} (r : Evaluated A) (next : A → Course) (c : Course) → ((x : A) → P (next x).state) → P c.state → P (with_evaluated r next c).state
   value-keeps (Ok x) next c each p = each x

@@ -6,7 +6,7 @@ use Rattle.lp_core.specs.declared.answer.End.{End}
 use Rattle.lp_core.specs.declared.answer.End.TheVariants.{Optimal, Infeasible, Unbounded, Interrupted, Refused}
 use Rattle.lp_core.specs.declared.program.Lp.{Lp}
 use Rattle.lp_form.specs.declared.key.Key.{Key}
-use Rattle.gms_exec.specs.Solved.{Point, points_of, points, keys_of_columns, row_keys, behind_first}
+use Rattle.gms_exec.specs.Solved.{Point, points_of, points, keys_of_columns, row_keys, after_first}
 use Rattle.gms_run_laws.proofs.FormKeys.{AreKeys, EachHas}
 use Rattle.gms_run_laws.proofs.RowElements.{IsOver}
 
@@ -16,7 +16,7 @@ module _ (test : Key → Bool) where
 
   points-put : (keys : List Key) (levels marginals : List Number) → AreKeys test keys → ArePut (points keys levels marginals)
   points-put [] levels marginals all = tt
-  points-put (key ∷ keys) levels marginals all = (all.0, points-put keys (behind_first levels) (behind_first marginals) all.1)
+  points-put (key ∷ keys) levels marginals all = (all.0, points-put keys (after_first levels) (after_first marginals) all.1)
 
   both-put : (those others : List Point) → ArePut those → ArePut others → ArePut (those ++ others)
   both-put [] others all more = more

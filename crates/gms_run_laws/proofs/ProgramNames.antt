@@ -16,7 +16,7 @@ use Rattle.gms_ast.specs.declared.program.Stmt.{Stmt, roll-Stmt, map-Stmt}
 use Rattle.gms_ast.specs.declared.word.Named.{Named}
 use Rattle.gms_ast.specs.TreeView.{tree_of, control_tree}
 use Rattle.gms_check.specs.declared.error.ErrorKind.TheVariants.{UnknownName}
-use Rattle.gms_check.specs.Checked.{StandsAfter}
+use Rattle.gms_check.specs.Checked.{FollowsIn}
 use Rattle.gms_check.specs.CompileErrors.{errors_after, known_after}
 use Rattle.gms_check.specs.Loaded.{IsAccepted, loaded, sound}
 use Rattle.gms_check.specs.Past.{Known}
@@ -80,11 +80,11 @@ module _ {F : Type 0} (v : F → Number) (world : World F) (accepted : IsAccepte
   abbrev known_before : List (Stmt F) → Known F
   known_before before = known_after v program accepted.0 (sound before)
 
-  clean-there : (before : List (Stmt F)) (statement : Stmt F) → StandsAfter program before statement → AreClean (known_before before) (statement_uses statement (known_before before).state [])
+  clean-there : (before : List (Stmt F)) (statement : Stmt F) → FollowsIn program before statement → AreClean (known_before before) (statement_uses statement (known_before before).state [])
   clean-there before statement stands =
       statement-clean (known_before before) statement (after-sound v program accepted.0 before [] statement stands.0 (sym (ap (errors_after v program accepted.0 []) stands.1) ∙ accepted.1))
 
-  module _ (before : List (Stmt F)) (statement : Stmt F) (stands : StandsAfter program before statement) where
+  module _ (before : List (Stmt F)) (statement : Stmt F) (stands : FollowsIn program before statement) where
     abbrev known : Known F
     known = known_before before
 
@@ -118,11 +118,11 @@ module _ {F : Type 0} (v : F → Number) (world : World F) (accepted : IsAccepte
   if-no-lag true d all = tt
   if-no-lag false d all = each-both test (definition_names d) [] all tt
 
-  of-act : (before : List (Stmt F)) (at : Place) (act : Act F) → StandsAfter program before (record { at = at; act = act }) → All_named test (defined_at at act)
+  of-act : (before : List (Stmt F)) (at : Place) (act : Act F) → FollowsIn program before (record { at = at; act = act }) → All_named test (defined_at at act)
   of-act before at act = by_parts P by act
     where
       P : Act F → Type 0
-      P a = StandsAfter program before (record { at = at; act = a }) → All_named test (defined_at at a)
+      P a = FollowsIn program before (record { at = at; act = a }) → All_named test (defined_at at a)
 
       by : (layer : Act-F F (Act F) (Stmt F)) → P (roll-Act F layer)
       by (Act-F.Declare kind items) = subst P (sym (rolls-Declare kind items)) (λ stands. tt)
@@ -150,7 +150,7 @@ module _ {F : Type 0} (v : F → Number) (world : World F) (accepted : IsAccepte
 
   -- ---- its statements
 
-  module _ (before : List (Stmt F)) (outer : Stmt F) (stands : StandsAfter program before outer) where
+  module _ (before : List (Stmt F)) (outer : Stmt F) (stands : FollowsIn program before outer) where
     abbrev uses_of : Act F → UsesOfAct F
     uses_of = fold-Act F (UsesOfAct F) (UsesOfStatement F) act_uses_step statement_uses_step
 
@@ -198,9 +198,9 @@ module _ {F : Type 0} (v : F → Number) (world : World F) (accepted : IsAccepte
         rolled x _ _ (uses-is x) (names-is x) (λ at loops clean.
         let around = with_left loops target.indices in
         let known = KnownThen in
-        let standing = right_standing known.state target.name in
+        let context = right_standing known.state target.name in
         let all = none-unknown known (target.name ∷ index_sets (index_list target.indices)) (clean.0 UnknownName) in
-        let lefts = clean-left known (left_uses at around target.indices condition) (uses standing right_at around (tree_of right)) clean.1 in
+        let lefts = clean-left known (left_uses at around target.indices condition) (uses context right_at around (tree_of right)) clean.1 in
         let test_then = declares known.state in
         later before outer stands (target.name ∷ (index_names (index_list target.indices) ++ (condition_names (option_map tree_of condition) ++ names_in_tree (tree_of right)))) (
           all.0,
@@ -208,7 +208,7 @@ module _ {F : Type 0} (v : F → Number) (world : World F) (accepted : IsAccepte
               (left-clean known (index_list target.indices) around all.1 (clean-left known (shift_uses around (index_list target.indices)) (condition_uses at around (option_map tree_of condition)) lefts))
               (each-both test_then (condition_names (option_map tree_of condition)) (names_in_tree (tree_of right))
               (condition-clean known (option_map tree_of condition) at around (clean-right known (shift_uses around (index_list target.indices)) (condition_uses at around (option_map tree_of condition)) lefts))
-              (names-clean known (tree_of right) standing right_at around (clean-right known (left_uses at around target.indices condition) (uses standing right_at around (tree_of right)) clean.1))),
+              (names-clean known (tree_of right) context right_at around (clean-right known (left_uses at around target.indices condition) (uses context right_at around (tree_of right)) clean.1))),
         ))
     by_layer (Act-F.Solve model word objective maximize) =
         let x = Act-F.Solve model word objective maximize in

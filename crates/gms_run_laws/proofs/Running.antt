@@ -31,7 +31,7 @@ use Rattle.gms_rows.specs.Rows.{equations_of}
 use Rattle.gms_exec.specs.Assignment.{given_by, target_of}
 use Rattle.gms_exec.specs.Given.{AllGiven, after_given}
 use Rattle.gms_exec.specs.Options.{after_options}
-use Rattle.gms_exec.specs.Run.{Course, Halt, stopped, waiting, stopped_by, with_event, World, OfAct, OfStatement, in_state, while_it_runs, with_evaluated, one_after_another, for_each, display, abort, abort_where, over_elements, answered, solve, act_step, statement_step, of_statement, run_from, labels_in}
+use Rattle.gms_exec.specs.Run.{Course, Halt, stopped, waiting, stopped_by, with_event, World, OfAct, OfStatement, in_state, while_it_runs, with_evaluated, in_sequence, for_each, display, abort, abort_where, over_elements, answered, solve, act_step, statement_step, of_statement, run_from, labels_in}
 use Rattle.gms_exec.specs.Showing.{all_shown}
 use Rattle.gms_run_laws.specs.Agreeing.{declares, IsClosed, HasAll, DefineAlike, SolveAlike, NameDeclared, EndsAlike}
 use Rattle.gms_run_laws.specs.Names.{Each, names_in_tree, index_names, condition_names, definition_names, control_names, names_step, statement_names, solved_step, models_solved}
@@ -43,7 +43,7 @@ use Rattle.gms_run_laws.proofs.ModelRows.{program-over, program-same}
 use Rattle.gms_run_laws.proofs.RowElements.{IsOver}
 use Rattle.gms_run_laws.proofs.Values.{domain-same}
 
-module _ (first base : State) (behind : List (Answer Number)) (count : ℕ) where
+module _ (first base : State) (following : List (Answer Number)) (count : ℕ) where
   -- ---- runs that are alike so far
 
   -- Two runs are alike so far: the state of the second has all of that of the first; it has the
@@ -51,7 +51,7 @@ module _ (first base : State) (behind : List (Answer Number)) (count : ℕ) wher
   -- all.
   pub record Alike (a b : Course) : Type 0 where
     pub over : Over first base a.state b.state
-    pub left : b.left ≡ a.left ++ behind
+    pub left : b.left ≡ a.left ++ following
     pub taken : b.taken ≡ a.taken
     pub total : a.taken + length a.left ≡ count
 
@@ -84,7 +84,7 @@ module _ (first base : State) (behind : List (Answer Number)) (count : ℕ) wher
       by None e (Some halt) f = λ one other. halted-not halt b.halted f other
       by (Some halt) e k f = λ one other. halted-not halt a.halted e one
 
-  pub all-do : (ss ts : List OfStatement) → EachDo ss ts → (binding : Pairs) (a b : Course) → Comes a b → Comes (one_after_another ss binding a) (one_after_another ts binding b)
+  pub all-do : (ss ts : List OfStatement) → EachDo ss ts → (binding : Pairs) (a b : Course) → Comes a b → Comes (in_sequence ss binding a) (in_sequence ts binding b)
   all-do [] [] each binding a b comes = comes
   all-do [] (t ∷ ts) each binding a b comes = absurd each
   all-do (s ∷ ss) [] each binding a b comes = absurd each
@@ -94,7 +94,7 @@ module _ (first base : State) (behind : List (Answer Number)) (count : ℕ) wher
   each-do : (sets : List ℕ) (ss ts : List OfStatement) → EachDo ss ts → (elements : List (List ℕ)) (binding : Pairs) (a b : Course) → Comes a b → Comes (for_each sets ss elements binding a) (for_each sets ts elements binding b)
   each-do sets ss ts each [] binding a b comes = comes
   each-do sets ss ts each (element ∷ elements) binding a b comes =
-      each-do sets ss ts each elements binding (one_after_another ss (controlled binding sets element) a) (one_after_another ts (controlled binding sets element) b) (all-do ss ts each (controlled binding sets element) a b comes)
+      each-do sets ss ts each elements binding (in_sequence ss (controlled binding sets element) a) (in_sequence ts (controlled binding sets element) b) (all-do ss ts each (controlled binding sets element) a b comes)
 
   -- a step with the same value in both runs, or a stop by the same fault
   taken-both : {A : Type 0} (r : Evaluated A) (next after : A → Course) (a b : Course) → ((x : A) → r ≡ Ok x → Comes (next x) (after x)) → Comes (with_evaluated r next a) (with_evaluated r after b)
@@ -191,7 +191,7 @@ module _ (first base : State) (behind : List (Answer Number)) (count : ℕ) wher
     one_more taken left total = omega (arith, total)
 
     do-answered : (solvers : List (List ℕ)) (model objective : ℕ) (equations others : List ℕ) (at : Place) (lp : Lp Number) → test model ≡ true → IsOver (of_name test) lp → (a b : Course) → Alike a b → (left : List (Answer Number)) → a.taken + length left ≡ count →
-        Comes (answered v limit solvers model equations objective at (record a { left = left }) lp) (answered v limit solvers model others objective at (record b { left = left ++ behind }) lp)
+        Comes (answered v limit solvers model equations objective at (record a { left = left }) lp) (answered v limit solvers model others objective at (record b { left = left ++ following }) lp)
     do-answered solvers model objective equations others at lp is keys a b alike [] total = λ one two. halted-not waiting (Some waiting) refl one
     do-answered solvers model objective equations others at lp is keys a b alike (answer ∷ left) total = λ one two. record {
       over = over-end first base closed a.state b.state model lp answer.end is keys alike.over;
@@ -324,12 +324,12 @@ none-taken : (n : ℕ) → 0 + n ≡ n
 none-taken n = omega arith
 
 -- Where neither run halts they end alike.
-pub ends-alike : {F : Type 0} (v : F → Number) (limit : ℕ) (world other : World F) (first base : State) (answers behind : List (Answer Number)) (statements : List (Stmt F)) → SolveAlike world other statements → NameDeclared world first statements → IsClosed first → HasAll base first →
-    (run_from v limit world first answers statements).halted ≡ None → (run_from v limit other base (answers ++ behind) statements).halted ≡ None →
-    EndsAlike base behind (length answers) (run_from v limit world first answers statements) (run_from v limit other base (answers ++ behind) statements)
-ends-alike v limit world other first base answers behind statements solve_alike named closed has one two =
+pub ends-alike : {F : Type 0} (v : F → Number) (limit : ℕ) (world other : World F) (first base : State) (answers following : List (Answer Number)) (statements : List (Stmt F)) → SolveAlike world other statements → NameDeclared world first statements → IsClosed first → HasAll base first →
+    (run_from v limit world first answers statements).halted ≡ None → (run_from v limit other base (answers ++ following) statements).halted ≡ None →
+    EndsAlike base following (length answers) (run_from v limit world first answers statements) (run_from v limit other base (answers ++ following) statements)
+ends-alike v limit world other first base answers following statements solve_alike named closed has one two =
     let a = run_from v limit world first answers statements in
-    let b = run_from v limit other base (answers ++ behind) statements in
-    let each = do-each first base behind (length answers) closed v limit world other solve_alike.solvers statements named solve_alike.models in
-    let alike = all-do first base behind (length answers) (map (of_statement v limit world) statements) (map (of_statement v limit other) statements) each [] (record { state = first; events = []; left = answers; taken = 0; halted = None }) (record { state = base; events = []; left = answers ++ behind; taken = 0; halted = None }) (λ none never. record { over = over-first first base has; left = refl; taken = refl; total = none-taken (length answers) }) one two in
+    let b = run_from v limit other base (answers ++ following) statements in
+    let each = do-each first base following (length answers) closed v limit world other solve_alike.solvers statements named solve_alike.models in
+    let alike = all-do first base following (length answers) (map (of_statement v limit world) statements) (map (of_statement v limit other) statements) each [] (record { state = first; events = []; left = answers; taken = 0; halted = None }) (record { state = base; events = []; left = answers ++ following; taken = 0; halted = None }) (λ none never. record { over = over-first first base has; left = refl; taken = refl; total = none-taken (length answers) }) one two in
     record { ends = over-is first base has a.state b.state alike.over; left = alike.left; taken = alike.taken; total = alike.total }

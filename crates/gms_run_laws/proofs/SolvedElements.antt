@@ -25,7 +25,7 @@ use Rattle.gms_store.specs.State.{State, base_of, members_of, symbol_at}
 use Rattle.gms_store.specs.Declarations.{is_free}
 use Rattle.gms_scope.specs.Names.{is_index_set, has_no_declaration, declared_kind, positions}
 use Rattle.gms_check.specs.declared.error.ErrorKind.TheVariants.{UnknownName, WrongKind, Objective}
-use Rattle.gms_check.specs.Checked.{StandsAfter}
+use Rattle.gms_check.specs.Checked.{FollowsIn}
 use Rattle.gms_check.specs.CompileErrors.{errors_after, known_after}
 use Rattle.gms_check.specs.Kinds.{is_variable_kind, is_without_positions}
 use Rattle.gms_check.specs.Loaded.{IsAccepted, sound}
@@ -55,8 +55,8 @@ use Rattle.gms_rows.specs.ElementRows.{AreInOrder, sets_of_definition}
 use Rattle.gms_rows.specs.ModelPoints.{definitions_of_model}
 use Rattle.gms_rows.specs.Plain.{ArePlain}
 use Rattle.gms_rows.specs.ProgramLp.{column_keys, column_of, placed, program_of, too_many, sized_program, program_lp}
-use Rattle.gms_rows.specs.Rows.{Definition, FormRow, defined_at, definitions, definition_of, equations_of, each_once, has_lag, sets_among, rows_of_model}
-use Rattle.gms_rows.proofs.Domains.{All-each_once, given, only_value}
+use Rattle.gms_rows.specs.Rows.{Definition, FormRow, defined_at, definitions, definition_of, equations_of, distinct_numbers, has_lag, sets_among, rows_of_model}
+use Rattle.gms_rows.proofs.Domains.{All-distinct_numbers, given, only_value}
 use Rattle.gms_rows.proofs.KeyLists.{keys-ordered}
 use Rattle.gms_rows.proofs.ModelKeys.{model-apart}
 use Rattle.gms_run_laws.proofs.FormKeys.{OkHas, EachHas}
@@ -214,9 +214,9 @@ module _ {F : Type 0} (old new : State) (one : (set : ℕ) → is_index_set old 
       ((one set (All-head (λ index. is_index_set old index ≡ true) set (index_sets rest) sets)).1, plain-indices rest none (All-tail (λ index. is_index_set old index ≡ true) set (index_sets rest) sets))
   plain-indices (tree.lagged set op at amount rest) none sets = absurd (cc)
 
-  ordered-indices : (indices : tree.Indices F) → All (λ index. is_index_set old index ≡ true) (index_sets indices) → AreInOrder new (each_once (sets_among indices))
+  ordered-indices : (indices : tree.Indices F) → All (λ index. is_index_set old index ≡ true) (index_sets indices) → AreInOrder new (distinct_numbers (sets_among indices))
   ordered-indices indices sets =
-      All-each_once (λ set. IsOrdered (members_of new set)) (sets_among indices)
+      All-distinct_numbers (λ set. IsOrdered (members_of new set)) (sets_among indices)
       (subst (All (λ set. IsOrdered (members_of new set))) (among-same indices) (All-weaker (λ index. is_index_set old index ≡ true) (λ set. IsOrdered (members_of new set)) (λ set is. (one set is).0) (index_sets indices) sets))
 
 -- ---- the program of a solve
@@ -248,7 +248,7 @@ module _ {F : Type 0} (v : F → Number) (limit : ℕ) (world : World F) (accept
   if-no-lag false d fine = All-cons IsFine d [] (fine refl) (All-nil IsFine)
 
   of-define : (before : List (Stmt F)) (at : Place) (equation : Named) (indices : List (Index F)) (condition : Option (Expr F)) (left_at : Place) (left : Expr F) (side : Side) (right_at : Place) (right : Expr F) →
-      StandsAfter program before (record { at = at; act = Define equation indices condition left_at left side right_at right }) → All IsFine (defined_at at (Define equation indices condition left_at left side right_at right))
+      FollowsIn program before (record { at = at; act = Define equation indices condition left_at left side right_at right }) → All IsFine (defined_at at (Define equation indices condition left_at left side right_at right))
   of-define before at equation indices condition left_at left side right_at right stands =
       let statement : Stmt F = record { at = at; act = Define equation indices condition left_at left side right_at right } in
       let known = known_before before in

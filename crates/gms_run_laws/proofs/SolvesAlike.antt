@@ -39,7 +39,7 @@ use Rattle.gms_run_laws.specs.Names.{Each, solved_step, models_solved}
 use Rattle.gms_run_laws.proofs.Changing.{within}
 use Rattle.gms_run_laws.proofs.Equations.{IsEquation, padded-then, all-equations, model-equations}
 use Rattle.gms_run_laws.proofs.Padding.{below-of, test-of}
-use Rattle.gms_run_laws.proofs.Models.{has_model, declares_model, equations-front, model-declared}
+use Rattle.gms_run_laws.proofs.Models.{has_model, declares_model, equations-prefix, model-declared}
 
 -- a model is declared
 model-there : (c : Content) → is_model (kind_in c) ≡ true → not (is_undeclared c) ≡ true
@@ -105,15 +105,15 @@ module _ {F : Type 0} where
       no-definition s.at s.act q (definitions statements) (neither-first (defines q s.act) (defined_in statements q) none) ∙ none-defined statements q (neither-second (defines q s.act) (defined_in statements q) none)
 
   -- where no later one defines it, the definition of an equation is that of the first ones
-  definition-front : (ds es : List (Definition F)) (q : ℕ) → definition_of es q ≡ [] → definition_of (ds ++ es) q ≡ definition_of ds q
-  definition-front [] es q none = none
-  definition-front (d ∷ ds) es q none =
-      ap (λ (rest : List (Definition F)). cond (d.equation == q) (d ∷ []) rest) (definition-front ds es q none)
+  definition-prefix : (ds es : List (Definition F)) (q : ℕ) → definition_of es q ≡ [] → definition_of (ds ++ es) q ≡ definition_of ds q
+  definition-prefix [] es q none = none
+  definition-prefix (d ∷ ds) es q none =
+      ap (λ (rest : List (Definition F)). cond (d.equation == q) (d ∷ []) rest) (definition-prefix ds es q none)
 
-  all-front : (test : ℕ → Bool) (ds es : List (Definition F)) → ((q : ℕ) → test q ≡ true → definition_of es q ≡ []) → (qs : List ℕ) → Each test qs → flat_map (definition_of (ds ++ es)) qs ≡ flat_map (definition_of ds) qs
-  all-front test ds es none [] all = refl
-  all-front test ds es none (q ∷ qs) all =
-      ap₂ (λ (one rest : List (Definition F)). one ++ rest) (definition-front ds es q (none q all.0)) (all-front test ds es none qs all.1)
+  all-prefix : (test : ℕ → Bool) (ds es : List (Definition F)) → ((q : ℕ) → test q ≡ true → definition_of es q ≡ []) → (qs : List ℕ) → Each test qs → flat_map (definition_of (ds ++ es)) qs ≡ flat_map (definition_of ds) qs
+  all-prefix test ds es none [] all = refl
+  all-prefix test ds es none (q ∷ qs) all =
+      ap₂ (λ (one rest : List (Definition F)). one ++ rest) (definition-prefix ds es q (none q all.0)) (all-prefix test ds es none qs all.1)
 
 -- ---- what the later statements of a joint program define
 
@@ -156,30 +156,30 @@ module _ {F : Type 0} (v : F → Number) (joint : Program F) (accepted : IsAccep
       by (Act-F.Options settings) = subst P (sym (rolls-Options settings)) (λ same. refl)
       by (Act-F.Abort condition items) = subst P (sym (rolls-Abort condition items)) (λ same. refl)
 
-  not-behind : (before rest : List (Stmt F)) → joint.statements.items ≡ before ++ rest → (q : ℕ) → nat_lt q (length joint.names) ≡ true → defined_in before q ≡ true → defined_in rest q ≡ false
-  not-behind before [] is q below there = refl
-  not-behind before (s ∷ rest) is q below there =
+  not-following : (before rest : List (Stmt F)) → joint.statements.items ≡ before ++ rest → (q : ℕ) → nat_lt q (length joint.names) ≡ true → defined_in before q ≡ true → defined_in rest q ≡ false
+  not-following before [] is q below there = refl
+  not-following before (s ∷ rest) is q below there =
       ap (λ (b : Bool). b || defined_in rest q) (not-again before s rest is q below there)
-      ∙ not-behind (before ++ s ∷ []) rest (is ∙ sym (append_assoc before (s ∷ []) rest)) q below (list_any-append (λ (s : Stmt F). defines q s.act) before (s ∷ []) ∙ or_left (defined_in before q) (defined_in (s ∷ []) q) there)
+      ∙ not-following (before ++ s ∷ []) rest (is ∙ sym (append_assoc before (s ∷ []) rest)) q below (list_any-append (λ (s : Stmt F). defines q s.act) before (s ∷ []) ∙ or_left (defined_in before q) (defined_in (s ∷ []) q) there)
 
 -- ---- models of the saved program
 
 module _ {F : Type 0} (v : F → Number) (saved joint : World F) (others : List (Stmt F)) (accepted : IsAccepted v saved.program) (both : IsAccepted v joint.program) (few : length saved.program.names ≤ length joint.program.names) (own : Each (λ n. nat_lt n (length saved.program.names)) (flat_map (λ (s : Stmt F). names_declared s.act) saved.program.statements.items)) (firsts : List (Stmt F)) (statements : joint.program.statements.items ≡ firsts ++ others) (define_same : (m : ℕ) → definitions_of_model (firsts ++ others) m ≡ definitions_of_model (saved.program.statements.items ++ others) m) (defined_same : (q : ℕ) → defined_in firsts q ≡ defined_in saved.program.statements.items q) where
-  abbrev front : List (Stmt F)
-  front = saved.program.statements.items
+  abbrev prefix : List (Stmt F)
+  prefix = saved.program.statements.items
 
-  module _ (before : List (Stmt F)) (outer : Stmt F) (tail : List (Stmt F)) (stands : front ≡ before ++ outer ∷ tail) where
+  module _ (before : List (Stmt F)) (outer : Stmt F) (tail : List (Stmt F)) (stands : prefix ≡ before ++ outer ∷ tail) where
     abbrev known : Known F
     known = known_after v saved.program accepted.0 (sound before)
 
     -- a model that is solved without an error
-    model-alike : (m : ℕ) → IsClean known (solving m) → definitions_of_model joint.program.statements.items m ≡ definitions_of_model front m
+    model-alike : (m : ℕ) → IsClean known (solving m) → definitions_of_model joint.program.statements.items m ≡ definitions_of_model prefix m
     model-alike m clean =
         ap (λ (ss : List (Stmt F)). definitions_of_model ss m) statements
         ∙ define_same m
-        ∙ ap (λ (ds : List (Definition F)). flat_map (definition_of ds) (equations_of (front ++ others) m)) (flat_map-append (λ (s : Stmt F). defined_at s.at s.act) front others)
-        ∙ ap (flat_map (definition_of (definitions front ++ definitions others))) (equations-front m [] front others declared)
-        ∙ all-front known.defined (definitions front) (definitions others) (λ q is. none-defined others q (behind q is)) (equations_of front m) oks
+        ∙ ap (λ (ds : List (Definition F)). flat_map (definition_of ds) (equations_of (prefix ++ others) m)) (flat_map-append (λ (s : Stmt F). defined_at s.at s.act) prefix others)
+        ∙ ap (flat_map (definition_of (definitions prefix ++ definitions others))) (equations-prefix m [] prefix others declared)
+        ∙ all-prefix known.defined (definitions prefix) (definitions others) (λ q is. none-defined others q (following q is)) (equations_of prefix m) oks
       where
         is_there : is_model (declared_kind known.state m) ≡ true
         is_there = not-false (is_model (declared_kind known.state m)) (clean WrongKind)
@@ -187,7 +187,7 @@ module _ {F : Type 0} (v : F → Number) (saved joint : World F) (others : List 
         declared_before : declares_model m before ≡ true
         declared_before = model-declared m v (length saved.program.names) before is_there
 
-        declared : declares_model m front ≡ true
+        declared : declares_model m prefix ≡ true
         declared =
             ap (declares_model m) stands ∙ list_any-append (λ (s : Stmt F). has_model m (models_of s.act)) before (outer ∷ tail) ∙ or_left (declares_model m before) (declares_model m (outer ∷ tail)) declared_before
 
@@ -197,7 +197,7 @@ module _ {F : Type 0} (v : F → Number) (saved joint : World F) (others : List 
             let b = within known.state m (model-there (symbol_at known.state m).content is_there) in
             test-of m (length saved.program.names) (subst (λ n. m < n) many b)
 
-        oks : Each known.defined (equations_of front m)
+        oks : Each known.defined (equations_of prefix m)
         oks =
             subst (λ (ss : List (Stmt F)). Each known.defined (equations_of ss m)) (sym stands)
             (model-equations (length saved.program.names) (IsEquation known.state) known.defined m below [] before (outer ∷ tail) declared_before tt (all-equations v saved.program accepted own before outer tail stands [] before refl)
@@ -206,16 +206,16 @@ module _ {F : Type 0} (v : F → Number) (saved joint : World F) (others : List 
         further : (q : ℕ) → q < length saved.program.names → q < length joint.program.names
         further q low = omega (arith, low, few)
 
-        behind : (q : ℕ) → known.defined q ≡ true → defined_in others q ≡ false
-        behind q is =
+        following : (q : ℕ) → known.defined q ≡ true → defined_in others q ≡ false
+        following q is =
             let low = (and_parts (nat_lt q (length saved.program.names)) (is_defined (sound before) q) is).0 in
             let there = sym (defined-sound before q) ∙ second-of (nat_lt q (length saved.program.names)) (is_defined (sound before) q) is in
-            not-behind v joint.program both firsts others statements q (test-of q (length joint.program.names) (further q (below-of q (length saved.program.names) low))) (defined_same q ∙ ap (λ (ss : List (Stmt F)). defined_in ss q) stands ∙ list_any-append (λ (s : Stmt F). defines q s.act) before (outer ∷ tail) ∙ or_left (defined_in before q) (defined_in (outer ∷ tail) q) there)
+            not-following v joint.program both firsts others statements q (test-of q (length joint.program.names) (further q (below-of q (length saved.program.names) low))) (defined_same q ∙ ap (λ (ss : List (Stmt F)). defined_in ss q) stands ∙ list_any-append (λ (s : Stmt F). defines q s.act) before (outer ∷ tail) ∙ or_left (defined_in before q) (defined_in (outer ∷ tail) q) there)
 
     -- ---- statements
 
     abbrev Alike : List ℕ → Type 0
-    Alike = DefineAlike front joint.program.statements.items
+    Alike = DefineAlike prefix joint.program.statements.items
 
     abbrev uses_of : Act F → UsesOfAct F
     uses_of = fold-Act F (UsesOfAct F) (UsesOfStatement F) act_uses_step statement_uses_step
@@ -287,11 +287,11 @@ module _ {F : Type 0} (v : F → Number) (saved joint : World F) (others : List 
     outer-alike =
         statement-alike outer [] (statement-clean known outer (after-sound v saved.program accepted.0 before [] outer tail (sym (ap (errors_after v saved.program accepted.0 []) stands) ∙ accepted.1)))
 
-  alike-from : (before rest : List (Stmt F)) → front ≡ before ++ rest → DefineAlike front joint.program.statements.items (flat_map models_solved rest)
+  alike-from : (before rest : List (Stmt F)) → prefix ≡ before ++ rest → DefineAlike prefix joint.program.statements.items (flat_map models_solved rest)
   alike-from before [] is = tt
   alike-from before (outer ∷ tail) is =
       alike-both before outer tail is (models_solved outer) (flat_map models_solved tail) (outer-alike before outer tail is) (alike-from (before ++ outer ∷ []) tail (is ∙ sym (append_assoc before (outer ∷ []) tail)))
 
   -- The saved program's models mean the same in the joint one.
-  pub solves-alike : joint.solvers ≡ saved.solvers → SolveAlike saved joint front
-  solves-alike solvers = record { solvers = solvers; models = alike-from [] front refl }
+  pub solves-alike : joint.solvers ≡ saved.solvers → SolveAlike saved joint prefix
+  solves-alike solvers = record { solvers = solvers; models = alike-from [] prefix refl }

@@ -16,14 +16,14 @@ use Rattle.gms_run_laws.proofs.Lasting.{IsLasting}
 
 -- ---- contents
 
-emptied-behind : (n : ℕ) (content : Content) → alias_target n (emptied content) ≡ alias_target n content
-emptied-behind n undeclared = refl
-emptied-behind n (alias_of base) = refl
-emptied-behind n (set_of members) = refl
-emptied-behind n (parameter_of entries) = refl
-emptied-behind n (variable_of type entries) = refl
-emptied-behind n (equation_of entries) = refl
-emptied-behind n (model_with m s) = refl
+emptied-following : (n : ℕ) (content : Content) → alias_target n (emptied content) ≡ alias_target n content
+emptied-following n undeclared = refl
+emptied-following n (alias_of base) = refl
+emptied-following n (set_of members) = refl
+emptied-following n (parameter_of entries) = refl
+emptied-following n (variable_of type entries) = refl
+emptied-following n (equation_of entries) = refl
+emptied-following n (model_with m s) = refl
 
 -- members are given
 members-all : (P : List ℕ → Type 0) (content : Content) → All P (given_in content) → All P (members_in content)
@@ -60,7 +60,7 @@ module _ (first : State) (assigned : ℕ → Bool) (state : State) (later : IsLa
       let domain : new.domain ≡ old.domain = ap (λ (s : Symbol). s.domain) (same-blanked n) in
       record {
         domain = domain;
-        alike = λ m. sym (emptied-behind m new.content) ∙ ap (λ (s : Symbol). alias_target m s.content) (same-blanked n) ∙ emptied-behind m old.content;
+        alike = λ m. sym (emptied-following m new.content) ∙ ap (λ (s : Symbol). alias_target m s.content) (same-blanked n) ∙ emptied-following m old.content;
         singles = λ one are. members-all (λ (t : List ℕ). length t ≡ 1) new.content (λ k d below. (later.given n).long k d below ∙ ap length domain ∙ one);
         ordered = λ up. members-in_order new.content (later.given n).ordered;
       }

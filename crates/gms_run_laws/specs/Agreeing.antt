@@ -50,8 +50,8 @@ pub record SolveAlike {F : Type 0} (world other : World F) (statements : List (S
 
 -- A run ends where another run with `count` answers ends: its state has all of the other's, and
 -- other names are unchanged; its remaining answers are the other's, followed by these.
-pub record EndsAlike (state : State) (behind : List (Answer Number)) (count : ℕ) (course other : Course) : Type 0 where
+pub record EndsAlike (state : State) (following : List (Answer Number)) (count : ℕ) (course other : Course) : Type 0 where
   pub ends : other.state ≡ overlaid state course.state
-  pub left : other.left ≡ course.left ++ behind
+  pub left : other.left ≡ course.left ++ following
   pub taken : other.taken ≡ course.taken
   pub total : course.taken + length course.left ≡ count

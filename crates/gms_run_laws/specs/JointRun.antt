@@ -13,9 +13,9 @@ later_event k (stops fault) = stops fault
 
 -- a run after `k` earlier answers and these earlier events
 abbrev pub preceded_by : ℕ → List Event → Course → Course
-preceded_by k front course =
-    record { state = course.state; events = front ++ map (later_event k) course.events; left = course.left; taken = k + course.taken; halted = course.halted }
+preceded_by k prefix course =
+    record { state = course.state; events = prefix ++ map (later_event k) course.events; left = course.left; taken = k + course.taken; halted = course.halted }
 
 -- a run after another
-abbrev pub behind_run : Course → Course → Course
-behind_run first course = preceded_by first.taken first.events course
+abbrev pub run_after : Course → Course → Course
+run_after first course = preceded_by first.taken first.events course

@@ -11,7 +11,7 @@ use Rattle.gms_store.specs.Declarations.{is_undeclared}
 use Rattle.gms_scope.specs.DynamicSets.{assigned_names}
 use Rattle.gms_check.specs.Loaded.{loaded}
 use Rattle.gms_check.specs.Past.{is_among}
-use Rattle.gms_save_text.specs.Validity.{declared_symbols, stands_at, are_statuses, are_in_range}
+use Rattle.gms_save_text.specs.Validity.{declared_symbols, fits_position, are_statuses, are_in_range}
 
 -- The tuples with data of a name are in order, have a label for each of its positions, and are
 -- those whose entry differs from an absent one; a model has statuses.
@@ -22,10 +22,10 @@ pub record IsTidy (symbol : Symbol) : Type 0 where
   pub statuses : are_statuses (statuses_in symbol.content).0 (statuses_in symbol.content).1 ≡ true
 
 -- each label of a tuple fits its position: it is a member of the position's set, if it has one
-abbrev pub StandAt : State → List (Option ℕ) → List ℕ → Type 0
-StandAt state [] tuple = Unit {0}
-StandAt state (set ∷ domain) [] = Unit {0}
-StandAt state (set ∷ domain) (label ∷ tuple) = (stands_at state set label ≡ true) × StandAt state domain tuple
+abbrev pub FitPositions : State → List (Option ℕ) → List ℕ → Type 0
+FitPositions state [] tuple = Unit {0}
+FitPositions state (set ∷ domain) [] = Unit {0}
+FitPositions state (set ∷ domain) (label ∷ tuple) = (fits_position state set label ≡ true) × FitPositions state domain tuple
 
 -- A set that is declared, and that the program does not assign.
 pub record IsFixedSet (assigned : ℕ → Bool) (state : State) (set : ℕ) : Type 0 where

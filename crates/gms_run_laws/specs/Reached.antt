@@ -5,8 +5,8 @@ use Rattle.gq_number.specs.Number.{Number}
 use Rattle.gms_ast.specs.declared.program.Program.{Program}
 use Rattle.gms_ast.specs.declared.program.Stmt.{Stmt}
 use Rattle.gms_store.specs.State.{State}
-use Rattle.gms_check.specs.Checked.{StandsAfter}
-use Rattle.gms_check.specs.LeftSides.{StandsIn}
+use Rattle.gms_check.specs.Checked.{FollowsIn}
+use Rattle.gms_check.specs.LeftSides.{IsNestedIn}
 use Rattle.gms_eval.specs.Bindings.{Pairs}
 use Rattle.gms_exec.specs.Run.{Course, World, of_statement}
 
@@ -14,9 +14,9 @@ use Rattle.gms_exec.specs.Run.{Course, World, of_statement}
 pub record IsStatementOf {F : Type 0} (program : Program F) (statement : Stmt F) : Type 0 where
   pub before : List (Stmt F)
   pub outer : Stmt F
-  pub stands : StandsAfter program before outer
+  pub stands : FollowsIn program before outer
   pub depth : ℕ
-  pub inside : StandsIn depth statement outer
+  pub inside : IsNestedIn depth statement outer
 
 -- A state that statements of the program lead to from another, under any labels that sets stand
 -- for.

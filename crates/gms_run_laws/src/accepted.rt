@@ -18,7 +18,7 @@ ghost use Rattle.gms_store.specs.State.{State, given_in, statuses_in, symbol_at}
 ghost use Rattle.gms_store.specs.Declarations.{first_settings};
 ghost use Rattle.gms_scope.specs.DynamicSets.{dynamic_sets};
 ghost use Rattle.gms_scope.specs.Names.{is_index_set};
-ghost use Rattle.gms_check.specs.Checked.{StandsAfter};
+ghost use Rattle.gms_check.specs.Checked.{FollowsIn};
 ghost use Rattle.gms_check.specs.CompileErrors.{of_program};
 ghost use Rattle.gms_check.specs.Domains.{index_count};
 ghost use Rattle.gms_check.specs.Loaded.{IsAccepted, loaded, sound};
@@ -38,7 +38,7 @@ ghost use Rattle.gms_exec.specs.Given.{AllGiven};
 ghost use Rattle.gms_exec.specs.Once.{IsOnce};
 ghost use Rattle.gms_exec.specs.Run.{World, run_from};
 ghost use Rattle.gms_run_laws.specs.Labels.{AreMembers, StandForLabels, SomeGoesPast};
-ghost use Rattle.gms_run_laws.specs.LastStates.{AreFixed, MayBegin, StandAt};
+ghost use Rattle.gms_run_laws.specs.LastStates.{AreFixed, MayBegin, FitPositions};
 ghost use Rattle.gms_run_laws.specs.Reached.{IsReached, IsStatementOf};
 ghost use Rattle.lp_core.specs.declared.answer.Answer.{Answer};
 ghost use Rattle.lp_core.specs.declared.program.Lp.{Lp};
@@ -57,10 +57,10 @@ use gq_field::ExactField;
 /// Ordered Sets".
 pub fn label_laws<F: ExactField>()
     ensures stand { (program : Program F) (before : List (Stmt F)) (statement : Stmt F) (depth : ℕ) (within : List ℕ) (name : ℕ) (suffix : Suffix) (indices : Indices F) (binding : Pairs) →
-        IsAccepted F.value program → StandsAfter program before statement → InStatement depth within (reads name suffix indices) [] statement →
+        IsAccepted F.value program → FollowsIn program before statement → InStatement depth within (reads name suffix indices) [] statement →
         StandForLabels binding within → StandForLabels binding (index_sets indices) }
     ensures few { (program : Program F) (before : List (Stmt F)) (statement : Stmt F) (depth : ℕ) (within : List ℕ) (name : ℕ) (suffix : Suffix) (indices : Indices F) →
-        IsAccepted F.value program → StandsAfter program before statement → InStatement depth within (reads name suffix indices) [] statement →
+        IsAccepted F.value program → FollowsIn program before statement → InStatement depth within (reads name suffix indices) [] statement →
         index_count indices ≤ 10 }
     ensures tuple { (state : State) (binding : Pairs) (indices : Indices F) (those : List (Option ℕ)) →
         StandForLabels binding (index_sets indices) → index_count indices ≤ 10 →
@@ -82,7 +82,7 @@ pub fn run_laws<F: ExactField>()
     ensures last { (world : World F) (state : State) (answers : List (Answer Number)) →
         IsReached F.value F.limit world state (run_from F.value F.limit world state answers world.program.statements.items).state }
     ensures simple { (world : World F) (before : List (Stmt F)) (statement : Stmt F) (set : ℕ) (first state : State) →
-        StandsAfter world.program before statement → is_index_set (state_after F.value (length world.program.names) (sound before)) set ≡ true →
+        FollowsIn world.program before statement → is_index_set (state_after F.value (length world.program.names) (sound before)) set ≡ true →
         MayBegin F.value world.program first → IsReached F.value F.limit world first state → IsSimple state set }
     ensures once { (world : World F) (statement : Stmt F) (target : Target F) (condition : Option (Expr F)) (right_at : Place) (right : Expr F) (first state : State) (binding : Pairs) (given : AllGiven) →
         IsAccepted F.value world.program → IsStatementOf world.program statement →
@@ -115,7 +115,7 @@ pub fn last_laws<F: ExactField>()
         All (λ (t : List ℕ). length t ≤ 10) (given_in (symbol_at state name).content) }
     ensures begins { (program : Program F) (name : ℕ) →
         IsAccepted F.value program →
-        All (StandAt (loaded F.value program) (symbol_at (loaded F.value program) name).domain) (given_in (symbol_at (loaded F.value program) name).content) }
+        All (FitPositions (loaded F.value program) (symbol_at (loaded F.value program) name).domain) (given_in (symbol_at (loaded F.value program) name).content) }
     ensures unsolved { (program : Program F) (name : ℕ) →
         IsAccepted F.value program → statuses_in (symbol_at (loaded F.value program) name).content ≡ (0, 0) }
     ensures settings { (program : Program F) → (loaded F.value program).settings ≡ first_settings }

@@ -5,7 +5,7 @@ ghost use Rattle.gms_ast.specs.declared.program.Stmt.{Stmt};
 ghost use Rattle.gms_store.specs.State.{State};
 ghost use Rattle.lp_core.specs.declared.answer.Answer.{Answer};
 ghost use Rattle.gms_exec.specs.Run.{World, run_from};
-ghost use Rattle.gms_run_laws.specs.JointRun.{behind_run};
+ghost use Rattle.gms_run_laws.specs.JointRun.{run_after};
 
 use gq_field::ExactField;
 
@@ -18,7 +18,7 @@ pub fn joint_laws<F: ExactField>()
     ensures joined { (world : World F) (state : State) (answers : List (Answer Number)) (first others : List (Stmt F)) →
         (run_from F.value F.limit world state answers first).halted ≡ None →
         run_from F.value F.limit world state answers (first ++ others)
-        ≡ behind_run (run_from F.value F.limit world state answers first)
+        ≡ run_after (run_from F.value F.limit world state answers first)
         (run_from F.value F.limit world (run_from F.value F.limit world state answers first).state
         (run_from F.value F.limit world state answers first).left others) }
 {}

@@ -36,10 +36,10 @@ pub fn value_laws<F: ExactField>()
 ///
 /// GAMS User's Guide, "Save and Restart", "GAMS Programs".
 pub fn frame_laws<F: ExactField>()
-    ensures { (world other : World F) (first state : State) (answers behind : List (Answer Number)) (statements : List (Stmt F)) →
+    ensures { (world other : World F) (first state : State) (answers following : List (Answer Number)) (statements : List (Stmt F)) →
         SolveAlike world other statements → NameDeclared world first statements → IsClosed first → HasAll state first →
         (run_from F.value F.limit world first answers statements).halted ≡ None →
-        (run_from F.value F.limit other state (answers ++ behind) statements).halted ≡ None →
-        EndsAlike state behind (length answers) (run_from F.value F.limit world first answers statements)
-        (run_from F.value F.limit other state (answers ++ behind) statements) }
+        (run_from F.value F.limit other state (answers ++ following) statements).halted ≡ None →
+        EndsAlike state following (length answers) (run_from F.value F.limit world first answers statements)
+        (run_from F.value F.limit other state (answers ++ following) statements) }
 {}

@@ -68,17 +68,17 @@ keeps-undeclared (variable_of t entries) = refl
 keeps-undeclared (equation_of entries) = refl
 keeps-undeclared (model_with m s) = refl
 
-pub keeps-behind : (n : ℕ) (c : Content) → alias_target n (emptied c) ≡ alias_target n c
-keeps-behind n undeclared = refl
-keeps-behind n (alias_of base) = refl
-keeps-behind n (set_of members) = refl
-keeps-behind n (parameter_of entries) = refl
-keeps-behind n (variable_of t entries) = refl
-keeps-behind n (equation_of entries) = refl
-keeps-behind n (model_with m s) = refl
+pub keeps-following : (n : ℕ) (c : Content) → alias_target n (emptied c) ≡ alias_target n c
+keeps-following n undeclared = refl
+keeps-following n (alias_of base) = refl
+keeps-following n (set_of members) = refl
+keeps-following n (parameter_of entries) = refl
+keeps-following n (variable_of t entries) = refl
+keeps-following n (equation_of entries) = refl
+keeps-following n (model_with m s) = refl
 
 same-base : (a b : State) (n : ℕ) → declared_symbols a ≡ declared_symbols b → base_of a n ≡ base_of b n
-same-base a b n e = same-read (alias_target n) (keeps-behind n) a b n e
+same-base a b n e = same-read (alias_target n) (keeps-following n) a b n e
 
 -- ---- declarations, side by side
 

@@ -27,8 +27,8 @@ use Rattle.gms_save.proofs.SavedNames.{saved-placed, text-placed}
 use Rattle.gms_save.proofs.SeenPrograms.{same-names, same-saved}
 
 -- the text before the source
-abbrev pub front : List ℕ
-front = saved_line (codes "gams25 save 1")
+abbrev pub prefix : List ℕ
+prefix = saved_line (codes "gams25 save 1")
 
 -- ---- answers
 
@@ -65,20 +65,20 @@ record IsHere (source text : List ℕ) (program : Program Frac) (other : List �
   source_is : source ≡ other
   alike : program_view frac_value program ≡ program_view frac_value found
   saved_in : IsSavedIn program state name
-  behind : text ≡ state_text program.names state name
+  following : text ≡ state_text program.names state name
 
 -- ---- what a reader of the source finds
 
 -- Bytes begin with a source, followed by a text: in each way in which they are the text of a state
 -- with its source.
 abbrev pub Splits : List ℕ → List ℕ → List ℕ → Type 0
-Splits bytes source text = (other rest : List ℕ) → bytes ≡ front ++ (source_text other ++ rest) → (source ≡ other) × (text ≡ rest)
+Splits bytes source text = (other rest : List ℕ) → bytes ≡ prefix ++ (source_text other ++ rest) → (source ≡ other) × (text ≡ rest)
 
 -- no source was read: the bytes are no save
-pub unread : {A : Type 0} (Q : List ℕ → List ℕ → A → Type 0) (r : Result Saved SaveFaultOrMemory) (f : ReadFault) (solvers : List (List ℕ)) (bytes : List ℕ) → length bytes ≤ most_save_bytes → IsErrAnd r (λ e. e ≡ fault_of_reading f) → ((source rest : List ℕ) → bytes ≡ front ++ (source_text source ++ rest) → Finds (Err f) (Q source rest)) → Both solvers bytes r
+pub unread : {A : Type 0} (Q : List ℕ → List ℕ → A → Type 0) (r : Result Saved SaveFaultOrMemory) (f : ReadFault) (solvers : List (List ℕ)) (bytes : List ℕ) → length bytes ≤ most_save_bytes → IsErrAnd r (λ e. e ≡ fault_of_reading f) → ((source rest : List ℕ) → bytes ≡ prefix ++ (source_text source ++ rest) → Finds (Err f) (Q source rest)) → Both solvers bytes r
 unread {A} Q r f solvers bytes short h found = answered r (fault_of_reading f) solvers bytes h (by f found)
   where
-    by : (f : ReadFault) → ((source rest : List ℕ) → bytes ≡ front ++ (source_text source ++ rest) → Finds (Err f) (Q source rest)) → Both solvers bytes (Err (fault_of_reading f))
+    by : (f : ReadFault) → ((source rest : List ℕ) → bytes ≡ prefix ++ (source_text source ++ rest) → Finds (Err f) (Q source rest)) → Both solvers bytes (Err (fault_of_reading f))
     by read.Memory found = memoryless solvers bytes
     by read.Shape found =
         shapeless solvers bytes short (λ source names state solver is. absurd (found source (state_text names state solver) is))
@@ -161,7 +161,7 @@ module _ (solvers : List (List ℕ)) (bytes source text : List ℕ) (short : len
           source_is = parts.0;
           alike = alike;
           saved_in = (same-saved found program (sym alike) state name save.is_saved).is_saved;
-          behind = parts.1 ∙ ap (λ (ns : List (List ℕ)). state_text ns state name) (sym (same-names program found alike));
+          following = parts.1 ∙ ap (λ (ns : List (List ℕ)). state_text ns state name) (sym (same-names program found alike));
         }
 
     module _ (store : State) (solver : List ℕ) (found : IsStateOf program text store solver) where
@@ -170,11 +170,11 @@ module _ (solvers : List (List ℕ)) (bytes source text : List ℕ) (short : len
       same-text : (other : List ℕ) (names : List (List ℕ)) (state : State) (name : List ℕ) → bytes ≡ saved_text other names state name → names ≡ program.names → IsSavedIn program state name → bytes ≡ saved_text source program.names store solver
       same-text other names state name is named saved =
           let parts = splits other (state_text names state name) is in
-          let behind = parts.1 ∙ ap (λ (ns : List (List ℕ)). state_text ns state name) named in
-          let state_is = found.same_state state name saved behind in
-          let solver_is = found.same_solver state name saved behind in
+          let following = parts.1 ∙ ap (λ (ns : List (List ℕ)). state_text ns state name) named in
+          let state_is = found.same_state state name saved following in
+          let solver_is = found.same_solver state name saved following in
           let one : state_text program.names store solver ≡ state_text program.names state name = ap₂ (λ (s : State) (n : List ℕ). state_text program.names s n) state_is solver_is ∙ text-placed program.names state 0 name in
-          is ∙ ap₂ (λ (s rest : List ℕ). front ++ (source_text s ++ rest)) (sym parts.0) (ap (λ (ns : List (List ℕ)). state_text ns state name) named ∙ sym one)
+          is ∙ ap₂ (λ (s rest : List ℕ). prefix ++ (source_text s ++ rest)) (sym parts.0) (ap (λ (ns : List (List ℕ)). state_text ns state name) named ∙ sym one)
 
       -- bytes that are not this text are no save
       pub other-text : (bytes ≡ saved_text source program.names store solver → ⊥) → Both solvers bytes (Err (Fault SaveShape))
@@ -191,7 +191,7 @@ module _ (solvers : List (List ℕ)) (bytes source text : List ℕ) (short : len
         pub no-solver : place_of_solver solvers solver ≡ None → Both solvers bytes (Err (Fault SaveSolver))
         no-solver lacks = (
           (short, record { source = source; program = program; state = store; solver = solver; is_save = save-of; lacks = lacks }),
-          λ other one state name save. let h = here other one state name save in ap (place_of_solver solvers) (sym (found.same_solver state name h.saved_in h.behind)) ∙ lacks,
+          λ other one state name save. let h = here other one state name save in ap (place_of_solver solvers) (sym (found.same_solver state name h.saved_in h.following)) ∙ lacks,
         )
 
         -- or of one that is, and then they are restored
@@ -199,7 +199,7 @@ module _ (solvers : List (List ℕ)) (bytes source text : List ℕ) (short : len
         save-placed place = record {
           is_program = free.is_program;
           is_saved = record { no_error = free.no_error; is_saved = saved-placed program store place solver found.is_saved };
-          text = is ∙ ap (λ (rest : List ℕ). front ++ (source_text source ++ rest)) (sym (text-placed program.names store place solver));
+          text = is ∙ ap (λ (rest : List ℕ). prefix ++ (source_text source ++ rest)) (sym (text-placed program.names store place solver));
         }
 
         module _ (saved : Saved) (place : ℕ) (program_is : saved.program ≡ program) (source_is : saved.source.items ≡ source) (store_is : saved.store ≡ with_solver store place) (placed : place_of_solver solvers solver ≡ Some place) where
@@ -220,8 +220,8 @@ module _ (solvers : List (List ℕ)) (bytes source text : List ℕ) (short : len
               record {
                 source_is = source_is ∙ h.source_is;
                 program_is = ap (program_view frac_value) program_is ∙ h.alike;
-                state_is = store_is ∙ ap (λ (s : State). with_solver s place) (found.same_state state name h.saved_in h.behind) ∙ sym (ap (λ (s : State). with_solver state s.settings.solver) store_is);
-                placed = ap (place_of_solver solvers) (sym (found.same_solver state name h.saved_in h.behind)) ∙ placed ∙ ap (λ (s : State). Some s.settings.solver) (sym store_is);
+                state_is = store_is ∙ ap (λ (s : State). with_solver s place) (found.same_state state name h.saved_in h.following) ∙ sym (ap (λ (s : State). with_solver state s.settings.solver) store_is);
+                placed = ap (place_of_solver solvers) (sym (found.same_solver state name h.saved_in h.following)) ∙ placed ∙ ap (λ (s : State). Some s.settings.solver) (sym store_is);
               }
 
           pub restored : Both solvers bytes (Ok saved)

@@ -20,7 +20,7 @@ use Rattle.gms_check.specs.Loaded.{loaded}
 use Rattle.gms_check.specs.Past.{is_among}
 use Rattle.gms_check.proofs.PastFacts.{stands-first}
 use Rattle.gms_save_text.specs.SavedState.{saved_line, part, parts_from, settings_line, state_text}
-use Rattle.gms_save_text.specs.Validity.{IsGivenWell, are_in_range, declared_symbols, emptied, is_solver_name, stands_in}
+use Rattle.gms_save_text.specs.Validity.{IsGivenWell, are_in_range, declared_symbols, emptied, is_solver_name, fits_domain}
 use Rattle.gms_save.specs.Saves.{with_solver}
 use Rattle.gms_save.specs.InnerRestoreSteps.{IsSavedAt, IsSavedIn}
 use Rattle.gms_save.proofs.LoadedNames.{blanked, declared-count, loaded-declares, same-at}
@@ -145,7 +145,7 @@ module _ (program : Program Frac) (state first : State) (marks : List Bool) (lab
 -- ---- settings
 
 module _ (labels : ℕ) (state : State) (settings : Settings) where
-  stands-settled : (domain : List (Option ℕ)) (tuple : List ℕ) → stands_in labels state domain tuple ≡ stands_in labels (with_settings state settings) domain tuple
+  stands-settled : (domain : List (Option ℕ)) (tuple : List ℕ) → fits_domain labels state domain tuple ≡ fits_domain labels (with_settings state settings) domain tuple
   stands-settled [] [] = refl
   stands-settled [] (label ∷ tuple) = refl
   stands-settled (set ∷ domain) [] = refl
@@ -157,7 +157,7 @@ module _ (labels : ℕ) (state : State) (settings : Settings) where
   given-settled limit symbol well = record {
     ordered = well.ordered;
     few = well.few;
-    stand = All-weaker (λ t. stands_in labels state symbol.domain t ≡ true) (λ t. stands_in labels (with_settings state settings) symbol.domain t ≡ true) (λ t e. sym (stands-settled symbol.domain t) ∙ e) (given_in symbol.content) well.stand;
+    stand = All-weaker (λ t. fits_domain labels state symbol.domain t ≡ true) (λ t. fits_domain labels (with_settings state settings) symbol.domain t ≡ true) (λ t e. sym (stands-settled symbol.domain t) ∙ e) (given_in symbol.content) well.stand;
     fit = well.fit;
     differs = well.differs;
     statuses = well.statuses;

@@ -31,25 +31,25 @@ apart a b other = by (a == b) refl
     by true e = absurd (other (eqb-true a b e))
     by false e = refl
 
-pub place-found : (byte : ℕ) (front rest : List ℕ) → HasNone byte front → bytes_before byte (front ++ byte ∷ rest) ≡ length front
+pub place-found : (byte : ℕ) (prefix rest : List ℕ) → HasNone byte prefix → bytes_before byte (prefix ++ byte ∷ rest) ≡ length prefix
 place-found byte [] rest none = ap (λ t. cond (not t) (1 + bytes_before byte rest) 0) (eq-eqb byte byte refl)
-place-found byte (b ∷ front) rest none =
-    let found = place-found byte front rest none.1 in
-    ap (λ t. cond (not t) (1 + bytes_before byte (front ++ byte ∷ rest)) 0) (apart b byte none.0) ∙ omega (arith, found)
+place-found byte (b ∷ prefix) rest none =
+    let found = place-found byte prefix rest none.1 in
+    ap (λ t. cond (not t) (1 + bytes_before byte (prefix ++ byte ∷ rest)) 0) (apart b byte none.0) ∙ omega (arith, found)
 
 -- the text before the first of these bytes, and the text after it
-pub record IsCut (byte : ℕ) (text front rest : List ℕ) : Type 0 where
+pub record IsCut (byte : ℕ) (text prefix rest : List ℕ) : Type 0 where
   pub within : bytes_before byte text < length text
-  pub front_is : take (bytes_before byte text) text ≡ front
+  pub front_is : take (bytes_before byte text) text ≡ prefix
   pub rest_is : take (length text - (bytes_before byte text + 1)) (drop (bytes_before byte text + 1) text) ≡ rest
 
-pub cut_at : (byte : ℕ) (text front rest : List ℕ) → HasNone byte front → text ≡ front ++ byte ∷ rest → IsCut byte text front rest
-cut_at byte text front rest none is =
-    let place : bytes_before byte text ≡ length front = ap (bytes_before byte) is ∙ place-found byte front rest none in
+pub cut_at : (byte : ℕ) (text prefix rest : List ℕ) → HasNone byte prefix → text ≡ prefix ++ byte ∷ rest → IsCut byte text prefix rest
+cut_at byte text prefix rest none is =
+    let place : bytes_before byte text ≡ length prefix = ap (bytes_before byte) is ∙ place-found byte prefix rest none in
     record {
-      within = let size : length text ≡ length front + suc (length rest) = ap length is ∙ length-append front (byte ∷ rest) in omega (arith, place, size);
-      front_is = ap₂ (λ (n : ℕ) (l : List ℕ). take n l) place is ∙ take_front front (byte ∷ rest);
-      rest_is = tail_range (bytes_before byte text + 1) text ∙ ap (λ n. drop n text) (add-one (bytes_before byte text)) ∙ ap₂ (λ (n : ℕ) (l : List ℕ). drop (suc n) l) place is ∙ drop_behind front byte rest;
+      within = let size : length text ≡ length prefix + suc (length rest) = ap length is ∙ length-append prefix (byte ∷ rest) in omega (arith, place, size);
+      front_is = ap₂ (λ (n : ℕ) (l : List ℕ). take n l) place is ∙ take_front prefix (byte ∷ rest);
+      rest_is = tail_range (bytes_before byte text + 1) text ∙ ap (λ n. drop n text) (add-one (bytes_before byte text)) ∙ ap₂ (λ (n : ℕ) (l : List ℕ). drop (suc n) l) place is ∙ drop_behind prefix byte rest;
     }
 
 -- ---- texts without a byte

@@ -10,31 +10,31 @@ use Rattle.gms_tuple.proofs.Ordered.{ordered-nil}
 use Rattle.gms_store.specs.State.{Content, undeclared, alias_of, set_of, parameter_of, variable_of, equation_of, model_with, Symbol, State, absent}
 use Rattle.gms_store.specs.Declarations.{is_alias}
 use Rattle.gms_store.proofs.Views.{no_difference}
-use Rattle.gms_save_text.specs.Validity.{IsGivenWell, stands_at, stands_in}
+use Rattle.gms_save_text.specs.Validity.{IsGivenWell, fits_position, fits_domain}
 
 module _ (labels : ℕ) (state : State) where
   -- a tuple in a domain has a label for each position
-  stands-length : (domain : List (Option ℕ)) (tuple : List ℕ) → stands_in labels state domain tuple ≡ true → length domain ≡ length tuple
+  stands-length : (domain : List (Option ℕ)) (tuple : List ℕ) → fits_domain labels state domain tuple ≡ true → length domain ≡ length tuple
   stands-length [] [] e = refl
   stands-length [] (label ∷ tuple) e = absurd cc
   stands-length (set ∷ domain) [] e = absurd cc
   stands-length (set ∷ domain) (label ∷ tuple) e =
-      let first = and_parts (nat_lt label labels) (stands_at state set label && stands_in labels state domain tuple) e in
-      let second = and_parts (stands_at state set label) (stands_in labels state domain tuple) first.1 in
+      let first = and_parts (nat_lt label labels) (fits_position state set label && fits_domain labels state domain tuple) e in
+      let second = and_parts (fits_position state set label) (fits_domain labels state domain tuple) first.1 in
       ap suc (stands-length domain tuple second.1)
 
   -- a tuple of another length does not
-  pub stands-not : (domain : List (Option ℕ)) (tuple : List ℕ) → (length domain ≡ length tuple → ⊥) → false ≡ stands_in labels state domain tuple
-  stands-not domain tuple other = by (stands_in labels state domain tuple) refl
+  pub stands-not : (domain : List (Option ℕ)) (tuple : List ℕ) → (length domain ≡ length tuple → ⊥) → false ≡ fits_domain labels state domain tuple
+  stands-not domain tuple other = by (fits_domain labels state domain tuple) refl
     where
-      by : (b : Bool) → stands_in labels state domain tuple ≡ b → false ≡ b
+      by : (b : Bool) → fits_domain labels state domain tuple ≡ b → false ≡ b
       by true e = absurd (other (stands-length domain tuple e))
       by false e = refl
 
   -- from a position on
-  pub stands-next : (domain : List (Option ℕ)) (tuple : List ℕ) (k : ℕ) (set : Option ℕ) (label : ℕ) → k < length domain → length domain ≡ length tuple → stands_in labels state (drop k domain) (drop k tuple) ≡ (nat_lt (get_or tuple k label) labels && (stands_at state (get_or domain k set) (get_or tuple k label) && stands_in labels state (drop (k + 1) domain) (drop (k + 1) tuple)))
+  pub stands-next : (domain : List (Option ℕ)) (tuple : List ℕ) (k : ℕ) (set : Option ℕ) (label : ℕ) → k < length domain → length domain ≡ length tuple → fits_domain labels state (drop k domain) (drop k tuple) ≡ (nat_lt (get_or tuple k label) labels && (fits_position state (get_or domain k set) (get_or tuple k label) && fits_domain labels state (drop (k + 1) domain) (drop (k + 1) tuple)))
   stands-next domain tuple k set label within same =
-      ap₂ (λ (d : List (Option ℕ)) (t : List ℕ). stands_in labels state d t) (drop_more domain k set within) (drop_more tuple k label (omega (arith, same, within)))
+      ap₂ (λ (d : List (Option ℕ)) (t : List ℕ). fits_domain labels state d t) (drop_more domain k set within) (drop_more tuple k label (omega (arith, same, within)))
 
 -- what is the same as a member is one
 pub member_at : (xs : List (List ℕ)) (n : ℕ) (x t : List ℕ) → slice_get xs n ≡ Some x → same_tuple x t ≡ true → has xs t ≡ true

@@ -10,7 +10,7 @@ use Rattle.gms_tuple.specs.TupleSet.{has}
 use Rattle.gms_tuple.proofs.Ordered.{same_tuple_refl}
 use Rattle.gms_tuple.specs.TupleOrder.{same_tuple}
 use Rattle.gms_store.specs.State.{Content, Symbol, State, no_symbol, given_in, differs_in, statuses_in, fits_at}
-use Rattle.gms_save_text.specs.Validity.{IsGivenWell, IsSavedOf, are_statuses, emptied, is_solver_byte, is_solver_name, stands_at, stands_in}
+use Rattle.gms_save_text.specs.Validity.{IsGivenWell, IsSavedOf, are_statuses, emptied, is_solver_byte, is_solver_name, fits_position, fits_domain}
 use Rattle.gms_save_text.specs.Reading.{AreReadable, HasNone, IsReadable, IsReadablePart}
 use Rattle.gms_save_text.proofs.Declared.{AreBlank, IsBlank, blanked}
 
@@ -20,14 +20,14 @@ record Standing (labels arity : ℕ) (t : List ℕ) : Type 0 where
   pub count : length t ≡ arity
   pub small : AllByRecursion (λ label. label < labels) t
 
-standing : (labels : ℕ) (state : State) (domain : List (Option ℕ)) (t : List ℕ) → stands_in labels state domain t ≡ true → Standing labels (length domain) t
-standing labels state [] [] e = record { count = refl; small = tt }
-standing labels state [] (label ∷ t) e = absurd cc
-standing labels state (set ∷ domain) [] e = absurd cc
-standing labels state (set ∷ domain) (label ∷ t) e =
-    let first = and_parts (nat_lt label labels) (stands_at state set label && stands_in labels state domain t) e in
-    let second = and_parts (stands_at state set label) (stands_in labels state domain t) first.1 in
-    let rest = standing labels state domain t second.1 in
+valid : (labels : ℕ) (state : State) (domain : List (Option ℕ)) (t : List ℕ) → fits_domain labels state domain t ≡ true → Standing labels (length domain) t
+valid labels state [] [] e = record { count = refl; small = tt }
+valid labels state [] (label ∷ t) e = absurd cc
+valid labels state (set ∷ domain) [] e = absurd cc
+valid labels state (set ∷ domain) (label ∷ t) e =
+    let first = and_parts (nat_lt label labels) (fits_position state set label && fits_domain labels state domain t) e in
+    let second = and_parts (fits_position state set label) (fits_domain labels state domain t) first.1 in
+    let rest = valid labels state domain t second.1 in
     record { count = ap suc rest.count; small = (ltb-true label labels first.0, rest.small) }
 
 smaller : (labels limit : ℕ) (t : List ℕ) → labels ≤ limit → AllByRecursion (λ label. label < labels) t → AllByRecursion (λ label. label < limit) t
@@ -46,10 +46,10 @@ has_more t u ts e = ap (λ b. same_tuple u t || b) e ∙ by (same_tuple u t)
     by true = refl
     by false = refl
 
-entries : (limit labels : ℕ) (state : State) (domain : List (Option ℕ)) (content : Content) (tuples : List (List ℕ)) → labels ≤ 2 ^ 32 → AllByRecursion (λ t. length t ≤ 10) tuples → AllByRecursion (λ t. stands_in labels state domain t ≡ true) tuples → ((t : List ℕ) → fits_at limit content t ≡ true) → ((t : List ℕ) → has tuples t ≡ true → differs_in content t ≡ true) → AllByRecursion (IsReadable limit (length domain) content) tuples
+entries : (limit labels : ℕ) (state : State) (domain : List (Option ℕ)) (content : Content) (tuples : List (List ℕ)) → labels ≤ 2 ^ 32 → AllByRecursion (λ t. length t ≤ 10) tuples → AllByRecursion (λ t. fits_domain labels state domain t ≡ true) tuples → ((t : List ℕ) → fits_at limit content t ≡ true) → ((t : List ℕ) → has tuples t ≡ true → differs_in content t ≡ true) → AllByRecursion (IsReadable limit (length domain) content) tuples
 entries limit labels state domain content [] small few stand fit differ = tt
 entries limit labels state domain content (t ∷ tuples) small few stand fit differ =
-    let here = standing labels state domain t stand.0 in
+    let here = valid labels state domain t stand.0 in
     let count = here.count in
     let short = few.0 in (
       record {
@@ -79,7 +79,7 @@ module _ (limit labels : ℕ) (state : State) (few : labels ≤ 2 ^ 32) where
         declared = sym blank ∙ sym parts.1;
         ordered = well.ordered;
         entries = subst (λ (d : List (Option ℕ)). AllByRecursion (IsReadable limit (length d) symbol.content) (given_in symbol.content)) parts.0
-            (entries limit labels state symbol.domain symbol.content (given_in symbol.content) few (recursion_from_All (λ t. length t ≤ 10) (given_in symbol.content) well.few) (recursion_from_All (λ t. stands_in labels state symbol.domain t ≡ true) (given_in symbol.content) well.stand) well.fit (λ t e. sym (well.differs t) ∙ e));
+            (entries limit labels state symbol.domain symbol.content (given_in symbol.content) few (recursion_from_All (λ t. length t ≤ 10) (given_in symbol.content) well.few) (recursion_from_All (λ t. fits_domain labels state symbol.domain t ≡ true) (given_in symbol.content) well.stand) well.fit (λ t e. sym (well.differs t) ∙ e));
         model = small.0;
         solver = small.1;
       }

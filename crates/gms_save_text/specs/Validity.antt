@@ -30,16 +30,16 @@ declared_symbols state = map (λ (symbol : Symbol). with_content symbol (emptied
 -- ---- tuples
 
 -- whether a label fits a position: it is a member of the position's set, if it has one
-abbrev pub stands_at : State → Option ℕ → ℕ → Bool
-stands_at state None label = true
-stands_at state (Some set) label = has (members_of state set) (label ∷ [])
+abbrev pub fits_position : State → Option ℕ → ℕ → Bool
+fits_position state None label = true
+fits_position state (Some set) label = has (members_of state set) (label ∷ [])
 
 -- whether the labels of a tuple are below `labels`, and each fits its position; positions and
 -- labels are equally many
-abbrev pub stands_in : ℕ → State → List (Option ℕ) → List ℕ → Bool
-stands_in labels state [] [] = true
-stands_in labels state (set ∷ domain) (label ∷ tuple) = nat_lt label labels && (stands_at state set label && stands_in labels state domain tuple)
-stands_in labels state domain tuple = false
+abbrev pub fits_domain : ℕ → State → List (Option ℕ) → List ℕ → Bool
+fits_domain labels state [] [] = true
+fits_domain labels state (set ∷ domain) (label ∷ tuple) = nat_lt label labels && (fits_position state set label && fits_domain labels state domain tuple)
+fits_domain labels state domain tuple = false
 
 -- ---- statuses, settings, solvers
 
@@ -70,7 +70,7 @@ pub record IsGivenWell (limit labels : ℕ) (state : State) (symbol : Symbol) : 
   pub ordered : IsOrdered (given_in symbol.content)
   -- a tuple has at most 10 labels
   pub few : All (λ t. length t ≤ 10) (given_in symbol.content)
-  pub stand : All (λ t. stands_in labels state symbol.domain t ≡ true) (given_in symbol.content)
+  pub stand : All (λ t. fits_domain labels state symbol.domain t ≡ true) (given_in symbol.content)
   pub fit : (t : List ℕ) → fits_at limit symbol.content t ≡ true
   pub differs : (t : List ℕ) → has (given_in symbol.content) t ≡ differs_in symbol.content t
   pub statuses : are_statuses (statuses_in symbol.content).0 (statuses_in symbol.content).1 ≡ true

@@ -143,8 +143,8 @@ impl<'t> Comparison<'t> {
     {
         self.piece.clear();
         push_source_head(&mut self.piece, source.len())?;
-        let behind = past(self.left, &self.piece);
-        let end = past(behind, source);
+        let following = past(self.left, &self.piece);
+        let end = past(following, source);
         self.left = past(end, b"\n");
         Ok(())
     }

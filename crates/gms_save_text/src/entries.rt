@@ -36,20 +36,20 @@ fn read_entry<'t, F: ExactField>(
         Finds result (λ r. (r.now ≡ rest) × (store.new ≡ after_entry store.old named.name content t)) }
     ensures declared { OnOk result (declared_symbols store.new ≡ declared_symbols store.old) }
 {
-    let (tuple, behind) = tuple_at(alloc, text, named.arity)?;
+    let (tuple, following) = tuple_at(alloc, text, named.arity)?;
     match named.kind {
         SymbolKind::Set => {
-            let rest = strip(behind, b".\n")?;
+            let rest = strip(following, b".\n")?;
             store.set_member(alloc, named.name, &tuple, true)?;
             Ok(rest)
         }
         SymbolKind::Parameter => {
-            let (value, rest) = value_line(behind)?;
+            let (value, rest) = value_line(following)?;
             store.put(alloc, named.name, &tuple, value)?;
             Ok(rest)
         }
         _ => {
-            let (attributes, rest) = attributes_line(behind)?;
+            let (attributes, rest) = attributes_line(following)?;
             store.put_attributes(alloc, named.name, &tuple, attributes)?;
             Ok(rest)
         }

@@ -19,8 +19,8 @@ use std::alloc::Global;
 fn named_at<'t>(text: &'t [u8], word: &[u8], name: &str) -> Result<&'t [u8], ReadFault>
     ensures { (rest : List ℕ) → text.now ≡ word.now ++ (name.now ++ rest) → Finds result (λ r. r.now ≡ rest) }
 {
-    let behind = strip(text, word)?;
-    strip(behind, name.as_bytes())
+    let following = strip(text, word)?;
+    strip(following, name.as_bytes())
 }
 
 /// The number of entries in the first line of the part of a name, and the text after the line.
@@ -29,8 +29,8 @@ fn head_at<'t>(text: &'t [u8], word: &[u8], name: &str) -> Result<(usize, &'t [u
         text.now ≡ saved_line (word.now ++ (name.now ++ (codes " " ++ decimal n))) ++ rest →
         Finds result (λ p. (p.0 ≡ n) × (p.1.now ≡ rest)) }
 {
-    let behind = named_at(text, word, name)?;
-    let digits = strip(behind, b" ")?;
+    let following = named_at(text, word, name)?;
+    let digits = strip(following, b" ")?;
     count_line(digits)
 }
 
@@ -45,8 +45,8 @@ fn read_statuses<'t, F: ExactField>(
         Finds result (λ r. (r.now ≡ rest) × (store.new ≡ after_statuses store.old model m s)) }
     ensures declared { OnOk result (declared_symbols store.new ≡ declared_symbols store.old) }
 {
-    let behind = named_at(text, b"model ", name)?;
-    let digits = strip(behind, b" ")?;
+    let following = named_at(text, b"model ", name)?;
+    let digits = strip(following, b" ")?;
     let (status, others) = byte_before(digits, b' ')?;
     let (solver, rest) = byte_before(others, b'\n')?;
     store.put_status(model, status, solver);
@@ -68,8 +68,8 @@ fn read_part<'t, F: ExactField>(
     ensures declared { OnOk result (declared_symbols store.new ≡ declared_symbols store.old) }
 {
     if store.is_alias(number) {
-        let behind = named_at(text, b"alias ", name)?;
-        return strip(behind, b"\n");
+        let following = named_at(text, b"alias ", name)?;
+        return strip(following, b"\n");
     }
     match store.kind_of(number) {
         SymbolKind::Undeclared => Ok(text),

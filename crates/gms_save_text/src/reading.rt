@@ -13,10 +13,10 @@ use gq_text::{read_exact, read_whole};
 use std::alloc::Global;
 
 /// The text after a prefix.
-pub(crate) fn strip<'t>(text: &'t [u8], front: &[u8]) -> Result<&'t [u8], ReadFault>
-    ensures { (rest : List ℕ) → text.now ≡ front.now ++ rest → Finds result (λ r. r.now ≡ rest) }
+pub(crate) fn strip<'t>(text: &'t [u8], prefix: &[u8]) -> Result<&'t [u8], ReadFault>
+    ensures { (rest : List ℕ) → text.now ≡ prefix.now ++ rest → Finds result (λ r. r.now ≡ rest) }
 {
-    match text.strip_prefix(front) {
+    match text.strip_prefix(prefix) {
         Some(rest) => Ok(rest),
         None => Err(ReadFault::Shape),
     }
@@ -24,8 +24,8 @@ pub(crate) fn strip<'t>(text: &'t [u8], front: &[u8]) -> Result<&'t [u8], ReadFa
 
 /// The text before the first of these bytes, and the text after it.
 pub(crate) fn cut(text: &[u8], byte: u8) -> Result<(&[u8], &[u8]), ReadFault>
-    ensures { (front rest : List ℕ) → HasNone byte front → text.now ≡ front ++ byte ∷ rest →
-        Finds result (λ p. (p.0.now ≡ front) × (p.1.now ≡ rest)) }
+    ensures { (prefix rest : List ℕ) → HasNone byte prefix → text.now ≡ prefix ++ byte ∷ rest →
+        Finds result (λ p. (p.0.now ≡ prefix) × (p.1.now ≡ rest)) }
 {
     let at = place_of(text, byte);
     if at < text.len() {
@@ -110,9 +110,9 @@ pub(crate) fn tuple_at(
     let mut tuple = Tuple::new(alloc);
     let mut left = text;
     for _place in 0..arity {
-        let (label, behind) = number_before(left, b' ')?;
+        let (label, following) = number_before(left, b' ')?;
         tuple.push(alloc, label)?;
-        left = behind;
+        left = following;
     }
     Ok((tuple, left))
 }

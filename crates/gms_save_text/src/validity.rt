@@ -3,7 +3,7 @@ ghost use Rattle.std.specs.Prelude.{◌≡◌, ◌↔◌, ◌&&◌, true, nat_le
 ghost use Rattle.std.specs.List.{list_all};
 ghost use Rattle.gms_tuple.specs.TupleSet.{has};
 ghost use Rattle.gms_store.specs.State.{members_of, symbol_at};
-ghost use Rattle.gms_save_text.specs.Validity.{IsGivenWell, are_in_range, are_statuses, is_solver_byte, is_solver_name, stands_at, stands_in};
+ghost use Rattle.gms_save_text.specs.Validity.{IsGivenWell, are_in_range, are_statuses, is_solver_byte, is_solver_name, fits_position, fits_domain};
 
 use gms_store::{Settings, Store};
 use gms_tuple::{Tuple, TupleSet};
@@ -66,13 +66,13 @@ fn is_solver_byte(byte: u8) -> bool
 }
 
 /// Whether a label fits a position: it is a member of the position's set, if it has one.
-fn stands_at<F: ExactField>(
+fn fits_position<F: ExactField>(
     alloc: Global,
     store: &Store<F>,
     set: Option<u32>,
     label: u32,
 ) -> Result<bool, AllocError>
-    ensures { IfOk result (λ stands. stands ≡ stands_at store.now set label) }
+    ensures { IfOk result (λ stands. stands ≡ fits_position store.now set label) }
 {
     let Some(set) = set else {
         return Ok(true);
@@ -107,21 +107,21 @@ fn is_near(members: &TupleSet, label: u32, tuple: &Tuple) -> bool
 
 /// Whether the labels of a tuple are below `labels`, and each fits its position; positions and
 /// labels are equally many.
-fn stands_in<F: ExactField>(
+fn fits_domain<F: ExactField>(
     alloc: Global,
     store: &Store<F>,
     labels: u32,
     domain: &[Option<u32>],
     tuple: &[u32],
 ) -> Result<bool, AllocError>
-    ensures { IfOk result (λ stands. stands ≡ stands_in labels store.now domain.now tuple.now) }
+    ensures { IfOk result (λ stands. stands ≡ fits_domain labels store.now domain.now tuple.now) }
 {
     if domain.len() != tuple.len() {
         return Ok(false);
     }
     for place in 0..domain.len() {
         let label = tuple[place];
-        if label >= labels || !stands_at(alloc, store, domain[place], label)? {
+        if label >= labels || !fits_position(alloc, store, domain[place], label)? {
             return Ok(false);
         }
     }
@@ -148,7 +148,7 @@ pub fn is_given_well<F: ExactField>(
     let domain = store.domain_of(name);
     let given = store.given(name);
     for place in 0..given.len() {
-        if !stands_in(alloc, store, labels, domain, given.get(place).as_slice())? {
+        if !fits_domain(alloc, store, labels, domain, given.get(place).as_slice())? {
             return Ok(false);
         }
     }

@@ -25,11 +25,11 @@ pub fn read_source(text: &[u8]) -> Result<(&[u8], &[u8]), ReadFault>
 {
     let first = strip(text, b"gams25 save 1\n")?;
     let digits = strip(first, b"source ")?;
-    let (count, behind) = count_line(digits)?;
-    if count > behind.len() {
+    let (count, following) = count_line(digits)?;
+    if count > following.len() {
         return Err(ReadFault::Shape);
     }
-    let (source, end) = behind.split_at(count);
+    let (source, end) = following.split_at(count);
     let rest = strip(end, b"\n")?;
     Ok((source, rest))
 }

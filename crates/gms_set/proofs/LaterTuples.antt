@@ -23,14 +23,14 @@ lacks-later [] t before = refl
 lacks-later (x ∷ xs) t before =
     rw (same_tuple-Less x t (All-head (λ x. tuple_cmp x t ≡ Less) x xs before)) (lacks-later xs t (All-tail (λ x. tuple_cmp x t ≡ Less) x xs before))
 
-pub new-behind : (xs : List (List ℕ)) (t : List ℕ) → IsOrdered (xs ++ t ∷ []) → has xs t ≡ false
-new-behind xs t ordered = lacks-later xs t (All-before_last tuple_cmp xs t ordered)
+pub new-following : (xs : List (List ℕ)) (t : List ℕ) → IsOrdered (xs ++ t ∷ []) → has xs t ≡ false
+new-following xs t ordered = lacks-later xs t (All-before_last tuple_cmp xs t ordered)
 
 -- a tuple after the last of an ordered list is after all
-pub ordered-more : (front : List (List ℕ)) (last t : List ℕ) → IsOrdered (front ++ last ∷ []) → tuple_cmp last t ≡ Less → IsOrdered ((front ++ last ∷ []) ++ t ∷ [])
-ordered-more front last t ordered less =
-    let before = All-weaker (λ x. tuple_cmp x last ≡ Less) (λ x. tuple_cmp x t ≡ Less) (λ x earlier. tuple_cmp-total.trans x last t earlier less) front (All-before_last tuple_cmp front last ordered) in
-    ordered-join (front ++ last ∷ []) t [] ordered (All-append (λ x. tuple_cmp x t ≡ Less) front (last ∷ []) before (All-cons (λ x. tuple_cmp x t ≡ Less) last [] less (All-nil (λ x. tuple_cmp x t ≡ Less)))) ordered-nil (All-nil (λ y. tuple_cmp t y ≡ Less))
+pub ordered-more : (prefix : List (List ℕ)) (last t : List ℕ) → IsOrdered (prefix ++ last ∷ []) → tuple_cmp last t ≡ Less → IsOrdered ((prefix ++ last ∷ []) ++ t ∷ [])
+ordered-more prefix last t ordered less =
+    let before = All-weaker (λ x. tuple_cmp x last ≡ Less) (λ x. tuple_cmp x t ≡ Less) (λ x earlier. tuple_cmp-total.trans x last t earlier less) prefix (All-before_last tuple_cmp prefix last ordered) in
+    ordered-join (prefix ++ last ∷ []) t [] ordered (All-append (λ x. tuple_cmp x t ≡ Less) prefix (last ∷ []) before (All-cons (λ x. tuple_cmp x t ≡ Less) last [] less (All-nil (λ x. tuple_cmp x t ≡ Less)))) ordered-nil (All-nil (λ y. tuple_cmp t y ≡ Less))
 
 pub ordered-one : (t : List ℕ) → IsOrdered (t ∷ [])
 ordered-one t = ordered-cons t [] (All-nil (λ y. tuple_cmp t y ≡ Less)) ordered-nil
@@ -48,12 +48,12 @@ seen-more seen after xs t same more other =
 
 module _ {F : Type 0} where
   -- a tuple after the last of those that are given in order
-  pub given-behind : (given : ExpandedData F) (pair : List ℕ × Option (Ext F)) (t : List ℕ) → slice_get given (length given - 1) ≡ Some pair → IsOrdered (tuples_of given) → tuple_cmp pair.0 t ≡ Less → IsOrdered (tuples_of given ++ t ∷ [])
-  given-behind given pair t last ordered less =
+  pub given-following : (given : ExpandedData F) (pair : List ℕ × Option (Ext F)) (t : List ℕ) → slice_get given (length given - 1) ≡ Some pair → IsOrdered (tuples_of given) → tuple_cmp pair.0 t ≡ Less → IsOrdered (tuples_of given ++ t ∷ [])
+  given-following given pair t last ordered less =
       let whole : tuples_of given ≡ tuples_of (take (length given - 1) given) ++ pair.0 ∷ [] = ap tuples_of (ends-with given pair last) ∙ map-append (λ (pair : List ℕ × Option (Ext F)). pair.0) (take (length given - 1) given) (pair ∷ []) in
       subst (λ xs. IsOrdered (xs ++ t ∷ [])) (sym whole) (ordered-more (tuples_of (take (length given - 1) given)) pair.0 t (subst IsOrdered whole ordered) less)
 
   -- a tuple after none
-  pub none-behind : (given : ExpandedData F) (t : List ℕ) → slice_get given (length given - 1) ≡ None → IsOrdered (tuples_of given ++ t ∷ [])
-  none-behind [] t none = ordered-one t
-  none-behind (pair ∷ given) t none = absurd (none-some _ (sym none ∙ slice_get-get_or (pair ∷ given) (length (pair ∷ given) - 1) pair (omega arith)))
+  pub none-following : (given : ExpandedData F) (t : List ℕ) → slice_get given (length given - 1) ≡ None → IsOrdered (tuples_of given ++ t ∷ [])
+  none-following [] t none = ordered-one t
+  none-following (pair ∷ given) t none = absurd (none-some _ (sym none ∙ slice_get-get_or (pair ∷ given) (length (pair ∷ given) - 1) pair (omega arith)))

@@ -31,4 +31,4 @@ pub one-label : {S : Type 0} (g : S → List ℕ) (from text digits : List ℕ) 
 one-label g from text digits width first place before after label e made is et ed ew =
     let f : ℕ → List ℕ = λ n. text_before_digits from ++ padded_digits (digit_width (digits_of from)) n in
     let now : g label ≡ f (first + place) = is ∙ ap (λ t. t ++ padded_digits width (first + place)) et ∙ ap (λ w. text_before_digits from ++ padded_digits w (first + place)) (ew ∙ ap digit_width ed) in
-    ap (map g) e ∙ map-append g before (label ∷ []) ∙ ap (λ front. front ++ g label ∷ []) made ∙ ap (λ last. map f (range_with_len first place) ++ last ∷ []) now ∙ sym (map-range_with_len_more f first place (first + place) refl)
+    ap (map g) e ∙ map-append g before (label ∷ []) ∙ ap (λ prefix. prefix ++ g label ∷ []) made ∙ ap (λ last. map f (range_with_len first place) ++ last ∷ []) now ∙ sym (map-range_with_len_more f first place (first + place) refl)

@@ -55,10 +55,10 @@ module _ {F : Type 0} where
   -- the tuple at a place is among those given and the tuples before it, so it is a repeat among all
   pub repeat-at : (given : ExpandedData F) (value : Option (Ext F)) (tuples : List (List ℕ)) (i : ℕ) → i < length tuples → has (tuples_of (given ++ tuples_with_value value (take i tuples))) (get_or tuples i []) ≡ true → has_repeat (tuples_of given ++ tuples) ≡ true
   repeat-at given value tuples i l there =
-      let front = tuples_of given ++ take i tuples in
-      let whole : tuples_of given ++ tuples ≡ front ++ get_or tuples i [] ∷ drop (i + 1) tuples =
+      let prefix = tuples_of given ++ take i tuples in
+      let whole : tuples_of given ++ tuples ≡ prefix ++ get_or tuples i [] ∷ drop (i + 1) tuples =
       sym (append_assoc (tuples_of given) (take i tuples) (get_or tuples i [] ∷ drop (i + 1) tuples) ∙ ap (λ ts. tuples_of given ++ ts) (ap (λ ts. take i tuples ++ ts) (sym (drop_more tuples i [] l)) ∙ take-append-drop i tuples)) in
-      ap has_repeat whole ∙ has_repeat-again front (get_or tuples i []) (drop (i + 1) tuples) (sym (ap (λ ts. has ts (get_or tuples i [])) (tuples_of-with given value (take i tuples))) ∙ there)
+      ap has_repeat whole ∙ has_repeat-again prefix (get_or tuples i []) (drop (i + 1) tuples) (sym (ap (λ ts. has ts (get_or tuples i [])) (tuples_of-with given value (take i tuples))) ∙ there)
 
   -- one more tuple after the given ones
   pub tuples_of-push : (given : ExpandedData F) (t : List ℕ) (value : Option (Ext F)) → tuples_of (given ++ (t, value) ∷ []) ≡ tuples_of given ++ t ∷ []

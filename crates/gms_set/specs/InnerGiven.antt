@@ -4,6 +4,6 @@ use Rattle.gms_tuple.specs.TupleOrder.{IsOrdered}
 use Rattle.gms_tuple.specs.TupleSet.{has}
 
 -- the tuples are in order, or there is a set that has exactly them
-abbrev pub AreSeen : Option (List (List ℕ)) → List (List ℕ) → Type 0
-AreSeen None tuples = IsOrdered tuples
-AreSeen (Some seen) tuples = (tuple : List ℕ) → has seen tuple ≡ has tuples tuple
+abbrev pub AreGiven : Option (List (List ℕ)) → List (List ℕ) → Type 0
+AreGiven None tuples = IsOrdered tuples
+AreGiven (Some seen) tuples = (tuple : List ℕ) → has seen tuple ≡ has tuples tuple

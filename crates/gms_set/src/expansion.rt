@@ -32,13 +32,13 @@ pub struct Expansion<F> {
 impl<F> Model for Expansion<F> {
     ghost use Rattle.std.specs.Prelude.{◌≡◌, false};
     ghost use Rattle.gms_set.specs.Expansion.{ExpandedData, has_repeat, tuples_of};
-    ghost use Rattle.gms_set.specs.InnerGiven.{AreSeen};
+    ghost use Rattle.gms_set.specs.InnerGiven.{AreGiven};
 
     ghost Value = { ExpandedData F };
 
     ghost view = { λ e. e.given.items };
 
-    ghost invariant = { λ e. AreSeen e.seen (tuples_of e.given.items) × (has_repeat (tuples_of e.given.items) ≡ false) };
+    ghost invariant = { λ e. AreGiven e.seen (tuples_of e.given.items) × (has_repeat (tuples_of e.given.items) ≡ false) };
 }
 
 impl<F: ExactField> Expansion<F> {

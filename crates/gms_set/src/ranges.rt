@@ -41,7 +41,7 @@ pub fn range(alloc: Global, from: &str, to: &str) -> Result<Vec<String>, SetFaul
 /// The first number of a range, and how many it has.
 fn numbers(from: &str, to: &str) -> Option<(u32, u32)>
     ensures value { result ≡ (if is_range from.now to.now then Some (number_in_label from.now, number_in_label to.now - number_in_label from.now + 1) else None) }
-    ensures room { IfSome result (λ numbers. numbers.0 + numbers.1 ≤ 2 ^ 32) }
+    ensures within_bound { IfSome result (λ numbers. numbers.0 + numbers.1 ≤ 2 ^ 32) }
 {
     let (first_text, first_digits) = parts(from);
     let (last_text, last_digits) = parts(to);
@@ -59,7 +59,7 @@ fn numbers(from: &str, to: &str) -> Option<(u32, u32)>
 
 /// `count` labels, with the text of this one and the numbers from the first on.
 fn labels(alloc: Global, from: &str, first: u32, count: u32) -> Result<Vec<String>, AllocError>
-    requires room { first + count ≤ 2 ^ 32 }
+    requires within_bound { first + count ≤ 2 ^ 32 }
     ensures { IfOk result (λ labels. map string_bytes labels.items
         ≡ map (λ n. text_before_digits from.now ++ padded_digits (digit_width (digits_of from.now)) n) (range_with_len first count)) }
 {

@@ -3,7 +3,7 @@ ghost use Rattle.std.specs.Prelude.{◌≡◌, ◌++◌, ◌∷◌, [], ℕ, Lis
 ghost use Rattle.gms_tuple.specs.TupleOrder.{IsOrdered};
 ghost use Rattle.gms_tuple.specs.TupleSet.{has};
 ghost use Rattle.gms_set.specs.Expansion.{tuples_of};
-ghost use Rattle.gms_set.specs.InnerGiven.{AreSeen};
+ghost use Rattle.gms_set.specs.InnerGiven.{AreGiven};
 
 use gms_tuple::{Tuple, TupleSet};
 use gq_extended::Ext;
@@ -20,11 +20,11 @@ pub fn see<F>(
     given: &[(Tuple, Option<Ext<F>>)],
     tuple: &Tuple,
 ) -> Result<bool, AllocError>
-    requires { AreSeen seen.old (tuples_of given.now) }
+    requires { AreGiven seen.old (tuples_of given.now) }
     ensures new { IfOk result (λ new. new ≡ not (has (tuples_of given.now) tuple.now)) }
-    ensures more { IfOk result (λ new. IsTrue new → AreSeen seen.new (tuples_of given.now ++ tuple.now ∷ [])) }
-    ensures known { IfOk result (λ new. new ≡ false → AreSeen seen.new (tuples_of given.now)) }
-    ensures err { OnErr result (AreSeen seen.new (tuples_of given.now)) }
+    ensures more { IfOk result (λ new. IsTrue new → AreGiven seen.new (tuples_of given.now ++ tuple.now ∷ [])) }
+    ensures known { IfOk result (λ new. new ≡ false → AreGiven seen.new (tuples_of given.now)) }
+    ensures err { OnErr result (AreGiven seen.new (tuples_of given.now)) }
 {
     if let Some(set) = seen {
         let member = tuple.copy(alloc)?;

@@ -4,7 +4,7 @@ use Rattle.std.proofs.lemmas.List.{length-set}
 use Rattle.gq_extended.specs.Extended.{Extended}
 use Rattle.gms_store.specs.State.{Attributes, Content, undeclared, alias_of, set_of, parameter_of, variable_of, equation_of, model_with, Symbol, State, symbol_at, alias_target, base_of, symbol_of, with_symbol, with_content, if_fits, with_value, with_attributes, with_membership, with_statuses, value_in, attributes_in, members_in, statuses_in, value_of, attributes_of, members_of, after_value, after_attributes, after_membership, after_statuses}
 use Rattle.gms_store.specs.Frames.{Keeps}
-use Rattle.gms_store.proofs.Writes.{base-after, symbol-after, reads-same, fits-either, behind-value, behind-attributes, behind-membership}
+use Rattle.gms_store.proofs.Writes.{base-after, symbol-after, reads-same, fits-either, following-value, following-attributes, following-membership}
 
 module _ (state : State) (name : ℕ) (new : Symbol) (alike : (n : ℕ) → alias_target n new.content ≡ alias_target n (symbol_of state name).content) (positions : new.domain ≡ (symbol_of state name).domain) where
   keeps-others : (other : ℕ) → (base_of state other ≡ base_of state name → ⊥) → symbol_of (with_symbol state name new) other ≡ symbol_of state other
@@ -47,7 +47,7 @@ module _ (state : State) (name : ℕ) (t : List ℕ) (x : Extended) where
   valued = if_fits (symbol_of state name) t (with_value (symbol_of state name).content t x)
 
   alike-value : (n : ℕ) → alias_target n valued.content ≡ alias_target n (symbol_of state name).content
-  alike-value n = fitted-read (alias_target n) (symbol_of state name) t (with_value (symbol_of state name).content t x) (behind-value (symbol_of state name).content t x n)
+  alike-value n = fitted-read (alias_target n) (symbol_of state name) t (with_value (symbol_of state name).content t x) (following-value (symbol_of state name).content t x n)
 
   pub value_keeps : Keeps state (after_value state name t x) name
   value_keeps = keeps state name valued alike-value (fitted-positions (symbol_of state name) t (with_value (symbol_of state name).content t x))
@@ -63,7 +63,7 @@ module _ (state : State) (name : ℕ) (t : List ℕ) (on : Bool) where
   joined = if_fits (symbol_of state name) t (with_membership (symbol_of state name).content t on)
 
   alike-membership : (n : ℕ) → alias_target n joined.content ≡ alias_target n (symbol_of state name).content
-  alike-membership n = fitted-read (alias_target n) (symbol_of state name) t (with_membership (symbol_of state name).content t on) (behind-membership (symbol_of state name).content t on n)
+  alike-membership n = fitted-read (alias_target n) (symbol_of state name) t (with_membership (symbol_of state name).content t on) (following-membership (symbol_of state name).content t on n)
 
   pub membership_keeps : Keeps state (after_membership state name t on) name
   membership_keeps = keeps state name joined alike-membership (fitted-positions (symbol_of state name) t (with_membership (symbol_of state name).content t on))
@@ -79,7 +79,7 @@ module _ (state : State) (name : ℕ) (t : List ℕ) (a : Attributes) where
   attributed = if_fits (symbol_of state name) t (with_attributes (symbol_of state name).content t a)
 
   alike-attributes : (n : ℕ) → alias_target n attributed.content ≡ alias_target n (symbol_of state name).content
-  alike-attributes n = fitted-read (alias_target n) (symbol_of state name) t (with_attributes (symbol_of state name).content t a) (behind-attributes (symbol_of state name).content t a n)
+  alike-attributes n = fitted-read (alias_target n) (symbol_of state name) t (with_attributes (symbol_of state name).content t a) (following-attributes (symbol_of state name).content t a n)
 
   pub attributes_keep : Keeps state (after_attributes state name t a) name
   attributes_keep = keeps state name attributed alike-attributes (fitted-positions (symbol_of state name) t (with_attributes (symbol_of state name).content t a))
@@ -94,17 +94,17 @@ module _ (state : State) (name model solver : ℕ) where
   abbrev solved : Symbol
   solved = with_content (symbol_of state name) (with_statuses (symbol_of state name).content model solver)
 
-  behind-statuses : (c : Content) (n : ℕ) → alias_target n (with_statuses c model solver) ≡ alias_target n c
-  behind-statuses undeclared n = refl
-  behind-statuses (alias_of base) n = refl
-  behind-statuses (set_of members) n = refl
-  behind-statuses (parameter_of entries) n = refl
-  behind-statuses (variable_of type entries) n = refl
-  behind-statuses (equation_of entries) n = refl
-  behind-statuses (model_with m s) n = refl
+  following-statuses : (c : Content) (n : ℕ) → alias_target n (with_statuses c model solver) ≡ alias_target n c
+  following-statuses undeclared n = refl
+  following-statuses (alias_of base) n = refl
+  following-statuses (set_of members) n = refl
+  following-statuses (parameter_of entries) n = refl
+  following-statuses (variable_of type entries) n = refl
+  following-statuses (equation_of entries) n = refl
+  following-statuses (model_with m s) n = refl
 
   alike-statuses : (n : ℕ) → alias_target n solved.content ≡ alias_target n (symbol_of state name).content
-  alike-statuses n = behind-statuses (symbol_of state name).content n
+  alike-statuses n = following-statuses (symbol_of state name).content n
 
   pub statuses_keep : Keeps state (after_statuses state name model solver) name
   statuses_keep = keeps state name solved alike-statuses refl

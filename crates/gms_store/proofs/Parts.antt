@@ -21,7 +21,7 @@ use Rattle.gms_tuple.specs.TupleSet.{has, inserted, removed}
 use Rattle.gms_tuple.proofs.Ordered.{tuple_cmp-Equal, same_tuple-Decides, same_tuple-Less, first-before, rest-ordered, ordered-nil, ordered-join}
 use Rattle.gms_tuple.proofs.Members.{same_from_members, has-inserted, has-removed, inserted-known, IsOrdered-inserted, IsOrdered-filter}
 use Rattle.gms_store.specs.State.{Entries}
-use Rattle.gms_store.specs.InnerParts.{written, in_two_parts, StandsAt}
+use Rattle.gms_store.specs.InnerParts.{written, in_two_parts, IsAtPlace}
 use Rattle.gms_store.proofs.Maps.{get-lookup, same_map, same-tie, tie-sym, Writes, removed-inserted}
 use Rattle.gms_store.proofs.Views.{keys-ordered, has-keys_of_map}
 
@@ -85,12 +85,12 @@ module _ {X : Type 0} where
   get-written (Some x) m t q = finite.get-insert tuple_cmp-total m t x q
   get-written None m t q = finite.get-remove tuple_cmp-total m t q
 
-  pub get-parts : (behind : List (List ℕ × Option X)) (tree : List (List ℕ × X)) (q : List ℕ) → finite.get (in_two_parts behind tree) q ≡ unwrap_or (finite.find tuple_cmp q behind) (lookup (is_at (tuple_cmp q)) tree)
+  pub get-parts : (following : List (List ℕ × Option X)) (tree : List (List ℕ × X)) (q : List ℕ) → finite.get (in_two_parts following tree) q ≡ unwrap_or (finite.find tuple_cmp q following) (lookup (is_at (tuple_cmp q)) tree)
   get-parts [] tree q = get-lookup tree q
-  get-parts (e ∷ behind) tree q =
-      get-written e.1 (in_two_parts behind tree) e.0 q
-      ∙ ap (cond (eq_by_cmp tuple_cmp q e.0) e.1) (get-parts behind tree q)
-      ∙ found_first (eq_by_cmp tuple_cmp q e.0) e.1 (finite.find tuple_cmp q behind) (lookup (is_at (tuple_cmp q)) tree)
+  get-parts (e ∷ following) tree q =
+      get-written e.1 (in_two_parts following tree) e.0 q
+      ∙ ap (cond (eq_by_cmp tuple_cmp q e.0) e.1) (get-parts following tree q)
+      ∙ found_first (eq_by_cmp tuple_cmp q e.0) e.1 (finite.find tuple_cmp q following) (lookup (is_at (tuple_cmp q)) tree)
 
   -- a map that has at each tuple what a write leaves there
   by_write : (o : Option X) (m n : Entries X) (t : List ℕ) → ((q : List ℕ) → finite.get n q ≡ cond (eq_by_cmp tuple_cmp q t) o (finite.get m q)) → n ≡ written o m t
@@ -100,143 +100,143 @@ module _ {X : Type 0} where
 
   -- a write to the appended part is a write to the map, if its search finds the new value at the
   -- tuple and is unchanged elsewhere
-  behind_write : (behind new : List (List ℕ × Option X)) (tree : List (List ℕ × X)) (t : List ℕ) (o : Option X) → ((q : List ℕ) → finite.find tuple_cmp q new ≡ cond (eq_by_cmp tuple_cmp q t) (Some o) (finite.find tuple_cmp q behind)) → in_two_parts new tree ≡ written o (in_two_parts behind tree) t
-  behind_write behind new tree t o finds =
-      by_write o (in_two_parts behind tree) (in_two_parts new tree) t (λ q. get-parts new tree q ∙ ap (λ f. unwrap_or f (lookup (is_at (tuple_cmp q)) tree)) (finds q) ∙ sym (found_first (eq_by_cmp tuple_cmp q t) o (finite.find tuple_cmp q behind) (lookup (is_at (tuple_cmp q)) tree)) ∙ ap (cond (eq_by_cmp tuple_cmp q t) o) (sym (get-parts behind tree q)))
+  behind_write : (following new : List (List ℕ × Option X)) (tree : List (List ℕ × X)) (t : List ℕ) (o : Option X) → ((q : List ℕ) → finite.find tuple_cmp q new ≡ cond (eq_by_cmp tuple_cmp q t) (Some o) (finite.find tuple_cmp q following)) → in_two_parts new tree ≡ written o (in_two_parts following tree) t
+  behind_write following new tree t o finds =
+      by_write o (in_two_parts following tree) (in_two_parts new tree) t (λ q. get-parts new tree q ∙ ap (λ f. unwrap_or f (lookup (is_at (tuple_cmp q)) tree)) (finds q) ∙ sym (found_first (eq_by_cmp tuple_cmp q t) o (finite.find tuple_cmp q following) (lookup (is_at (tuple_cmp q)) tree)) ∙ ap (cond (eq_by_cmp tuple_cmp q t) o) (sym (get-parts following tree q)))
 
-  find-pushed : (behind : List (List ℕ × Option X)) (t : List ℕ) (o : Option X) (q : List ℕ) → IsOrdered (keys_of behind ++ t ∷ []) → finite.find tuple_cmp q (behind ++ (t, o) ∷ []) ≡ cond (eq_by_cmp tuple_cmp q t) (Some o) (finite.find tuple_cmp q behind)
+  find-pushed : (following : List (List ℕ × Option X)) (t : List ℕ) (o : Option X) (q : List ℕ) → IsOrdered (keys_of following ++ t ∷ []) → finite.find tuple_cmp q (following ++ (t, o) ∷ []) ≡ cond (eq_by_cmp tuple_cmp q t) (Some o) (finite.find tuple_cmp q following)
   find-pushed [] t o q ordered = refl
-  find-pushed (e ∷ behind) t o q ordered =
-      ap (cond (eq_by_cmp tuple_cmp q e.0) (Some e.1)) (find-pushed behind t o q (rest-ordered e.0 (keys_of behind ++ t ∷ []) ordered))
-      ∙ turned (eq_by_cmp tuple_cmp q e.0) (eq_by_cmp tuple_cmp q t) (Some e.1) (Some o) (finite.find tuple_cmp q behind) (apart q e.0 t (last-of (λ y. tuple_cmp e.0 y ≡ Less) (keys_of behind) t (first-before e.0 (keys_of behind ++ t ∷ []) ordered)))
+  find-pushed (e ∷ following) t o q ordered =
+      ap (cond (eq_by_cmp tuple_cmp q e.0) (Some e.1)) (find-pushed following t o q (rest-ordered e.0 (keys_of following ++ t ∷ []) ordered))
+      ∙ turned (eq_by_cmp tuple_cmp q e.0) (eq_by_cmp tuple_cmp q t) (Some e.1) (Some o) (finite.find tuple_cmp q following) (apart q e.0 t (last-of (λ y. tuple_cmp e.0 y ≡ Less) (keys_of following) t (first-before e.0 (keys_of following ++ t ∷ []) ordered)))
 
   -- a tuple appended after all others, with a value or none
-  pub pushed : (behind : List (List ℕ × Option X)) (tree : List (List ℕ × X)) (t : List ℕ) (o : Option X) → IsOrdered (keys_of behind ++ t ∷ []) → in_two_parts (behind ++ (t, o) ∷ []) tree ≡ written o (in_two_parts behind tree) t
-  pushed behind tree t o ordered = behind_write behind (behind ++ (t, o) ∷ []) tree t o (λ q. find-pushed behind t o q ordered)
+  pub pushed : (following : List (List ℕ × Option X)) (tree : List (List ℕ × X)) (t : List ℕ) (o : Option X) → IsOrdered (keys_of following ++ t ∷ []) → in_two_parts (following ++ (t, o) ∷ []) tree ≡ written o (in_two_parts following tree) t
+  pushed following tree t o ordered = behind_write following (following ++ (t, o) ∷ []) tree t o (λ q. find-pushed following t o q ordered)
 
-  pub keys-pushed : (behind : List (List ℕ × Option X)) (t : List ℕ) (o : Option X) → keys_of (behind ++ (t, o) ∷ []) ≡ keys_of behind ++ t ∷ []
+  pub keys-pushed : (following : List (List ℕ × Option X)) (t : List ℕ) (o : Option X) → keys_of (following ++ (t, o) ∷ []) ≡ keys_of following ++ t ∷ []
   keys-pushed [] t o = refl
-  keys-pushed (e ∷ behind) t o = ap (λ ks. e.0 ∷ ks) (keys-pushed behind t o)
+  keys-pushed (e ∷ following) t o = ap (λ ks. e.0 ∷ ks) (keys-pushed following t o)
 
-  keys-at : (behind : List (List ℕ × Option X)) (i : ℕ) (d : List ℕ × Option X) → get_or (keys_of behind) i d.0 ≡ (get_or behind i d).0
+  keys-at : (following : List (List ℕ × Option X)) (i : ℕ) (d : List ℕ × Option X) → get_or (keys_of following) i d.0 ≡ (get_or following i d).0
   keys-at [] i d = refl
-  keys-at (e ∷ behind) zero d = refl
-  keys-at (e ∷ behind) (suc i) d = keys-at behind i d
+  keys-at (e ∷ following) zero d = refl
+  keys-at (e ∷ following) (suc i) d = keys-at following i d
 
   -- the first of entries in order comes before each other
-  first-below : (e : List ℕ × Option X) (behind : List (List ℕ × Option X)) (i : ℕ) (d : List ℕ × Option X) → IsOrdered (keys_of (e ∷ behind)) → i < length behind → tuple_cmp e.0 (get_or behind i d).0 ≡ Less
-  first-below e behind i d ordered within =
-      subst (λ k. tuple_cmp e.0 k ≡ Less) (keys-at behind i d) (All-get_or (λ y. tuple_cmp e.0 y ≡ Less) (keys_of behind) i d.0 (omega (arith, within, length-keys_of behind)) (first-before e.0 (keys_of behind) ordered))
+  first-below : (e : List ℕ × Option X) (following : List (List ℕ × Option X)) (i : ℕ) (d : List ℕ × Option X) → IsOrdered (keys_of (e ∷ following)) → i < length following → tuple_cmp e.0 (get_or following i d).0 ≡ Less
+  first-below e following i d ordered within =
+      subst (λ k. tuple_cmp e.0 k ≡ Less) (keys-at following i d) (All-get_or (λ y. tuple_cmp e.0 y ≡ Less) (keys_of following) i d.0 (omega (arith, within, length-keys_of following)) (first-before e.0 (keys_of following) ordered))
 
-  find-replaced : (behind : List (List ℕ × Option X)) (place : ℕ) (t : List ℕ) (o : Option X) (q : List ℕ) → IsOrdered (keys_of behind) → place < length behind → ((d : List ℕ × Option X) → (get_or behind place d).0 ≡ t) → finite.find tuple_cmp q (set behind place (t, o)) ≡ cond (eq_by_cmp tuple_cmp q t) (Some o) (finite.find tuple_cmp q behind)
+  find-replaced : (following : List (List ℕ × Option X)) (place : ℕ) (t : List ℕ) (o : Option X) (q : List ℕ) → IsOrdered (keys_of following) → place < length following → ((d : List ℕ × Option X) → (get_or following place d).0 ≡ t) → finite.find tuple_cmp q (set following place (t, o)) ≡ cond (eq_by_cmp tuple_cmp q t) (Some o) (finite.find tuple_cmp q following)
   find-replaced [] place t o q ordered within at = absurd (omega (arith, within))
-  find-replaced (e ∷ behind) zero t o q ordered within at = by (eq_by_cmp tuple_cmp q t) refl
+  find-replaced (e ∷ following) zero t o q ordered within at = by (eq_by_cmp tuple_cmp q t) refl
     where
-      by : (b : Bool) → eq_by_cmp tuple_cmp q t ≡ b → cond b (Some o) (finite.find tuple_cmp q behind) ≡ cond b (Some o) (cond (eq_by_cmp tuple_cmp q e.0) (Some e.1) (finite.find tuple_cmp q behind))
+      by : (b : Bool) → eq_by_cmp tuple_cmp q t ≡ b → cond b (Some o) (finite.find tuple_cmp q following) ≡ cond b (Some o) (cond (eq_by_cmp tuple_cmp q e.0) (Some e.1) (finite.find tuple_cmp q following))
       by true tie = refl
-      by false other = ap (λ b. cond b (Some e.1) (finite.find tuple_cmp q behind)) (sym (ap (eq_by_cmp tuple_cmp q) (at e) ∙ other))
-  find-replaced (e ∷ behind) (suc place) t o q ordered within at =
-      ap (cond (eq_by_cmp tuple_cmp q e.0) (Some e.1)) (find-replaced behind place t o q (rest-ordered e.0 (keys_of behind) ordered) (omega (arith, within)) at)
-      ∙ turned (eq_by_cmp tuple_cmp q e.0) (eq_by_cmp tuple_cmp q t) (Some e.1) (Some o) (finite.find tuple_cmp q behind) (apart q e.0 t (subst (λ k. tuple_cmp e.0 k ≡ Less) (at e) (first-below e behind place e ordered (omega (arith, within)))))
+      by false other = ap (λ b. cond b (Some e.1) (finite.find tuple_cmp q following)) (sym (ap (eq_by_cmp tuple_cmp q) (at e) ∙ other))
+  find-replaced (e ∷ following) (suc place) t o q ordered within at =
+      ap (cond (eq_by_cmp tuple_cmp q e.0) (Some e.1)) (find-replaced following place t o q (rest-ordered e.0 (keys_of following) ordered) (omega (arith, within)) at)
+      ∙ turned (eq_by_cmp tuple_cmp q e.0) (eq_by_cmp tuple_cmp q t) (Some e.1) (Some o) (finite.find tuple_cmp q following) (apart q e.0 t (subst (λ k. tuple_cmp e.0 k ≡ Less) (at e) (first-below e following place e ordered (omega (arith, within)))))
 
   -- a tuple of the appended part, with another value or none
-  pub replaced : (behind : List (List ℕ × Option X)) (tree : List (List ℕ × X)) (place : ℕ) (t : List ℕ) (o : Option X) → IsOrdered (keys_of behind) → StandsAt behind place t → in_two_parts (set behind place (t, o)) tree ≡ written o (in_two_parts behind tree) t
-  replaced behind tree place t o ordered at = behind_write behind (set behind place (t, o)) tree t o (λ q. find-replaced behind place t o q ordered at.0 at.1)
+  pub replaced : (following : List (List ℕ × Option X)) (tree : List (List ℕ × X)) (place : ℕ) (t : List ℕ) (o : Option X) → IsOrdered (keys_of following) → IsAtPlace following place t → in_two_parts (set following place (t, o)) tree ≡ written o (in_two_parts following tree) t
+  replaced following tree place t o ordered at = behind_write following (set following place (t, o)) tree t o (λ q. find-replaced following place t o q ordered at.0 at.1)
 
-  pub keys-replaced : (behind : List (List ℕ × Option X)) (place : ℕ) (t : List ℕ) (o : Option X) → ((d : List ℕ × Option X) → (get_or behind place d).0 ≡ t) → place < length behind → keys_of (set behind place (t, o)) ≡ keys_of behind
+  pub keys-replaced : (following : List (List ℕ × Option X)) (place : ℕ) (t : List ℕ) (o : Option X) → ((d : List ℕ × Option X) → (get_or following place d).0 ≡ t) → place < length following → keys_of (set following place (t, o)) ≡ keys_of following
   keys-replaced [] place t o at within = absurd (omega (arith, within))
-  keys-replaced (e ∷ behind) zero t o at within = ap (λ k. k ∷ keys_of behind) (sym (at e))
-  keys-replaced (e ∷ behind) (suc place) t o at within = ap (λ ks. e.0 ∷ ks) (keys-replaced behind place t o at (omega (arith, within)))
+  keys-replaced (e ∷ following) zero t o at within = ap (λ k. k ∷ keys_of following) (sym (at e))
+  keys-replaced (e ∷ following) (suc place) t o at within = ap (λ ks. e.0 ∷ ks) (keys-replaced following place t o at (omega (arith, within)))
 
   -- a value, or none, put at the place of a tuple
-  pub put_behind : (behind read new : List (List ℕ × Option X)) (tree : List (List ℕ × X)) (place : ℕ) (t : List ℕ) (o : Option X) → IsOrdered (keys_of behind) → read ≡ behind → StandsAt read place t → ((t : List ℕ) → StandsAt behind place t → new ≡ set behind place (t, o)) → in_two_parts new tree ≡ written o (in_two_parts behind tree) t
-  put_behind behind read new tree place t o ordered read-is at puts =
-      let there : StandsAt behind place t = subst (λ b. StandsAt b place t) read-is at in
-      ap (λ b. in_two_parts b tree) (puts t there) ∙ replaced behind tree place t o ordered there
+  pub push_absent : (following read new : List (List ℕ × Option X)) (tree : List (List ℕ × X)) (place : ℕ) (t : List ℕ) (o : Option X) → IsOrdered (keys_of following) → read ≡ following → IsAtPlace read place t → ((t : List ℕ) → IsAtPlace following place t → new ≡ set following place (t, o)) → in_two_parts new tree ≡ written o (in_two_parts following tree) t
+  push_absent following read new tree place t o ordered read-is at puts =
+      let there : IsAtPlace following place t = subst (λ b. IsAtPlace b place t) read-is at in
+      ap (λ b. in_two_parts b tree) (puts t there) ∙ replaced following tree place t o ordered there
 
-  pub keys_put : (behind read new : List (List ℕ × Option X)) (place : ℕ) (t : List ℕ) (o : Option X) → IsOrdered (keys_of behind) → read ≡ behind → StandsAt read place t → ((t : List ℕ) → StandsAt behind place t → new ≡ set behind place (t, o)) → IsOrdered (keys_of new)
-  keys_put behind read new place t o ordered read-is at puts =
-      let there : StandsAt behind place t = subst (λ b. StandsAt b place t) read-is at in
-      subst IsOrdered (sym (ap keys_of (puts t there) ∙ keys-replaced behind place t o there.1 there.0)) ordered
+  pub keys_put : (following read new : List (List ℕ × Option X)) (place : ℕ) (t : List ℕ) (o : Option X) → IsOrdered (keys_of following) → read ≡ following → IsAtPlace read place t → ((t : List ℕ) → IsAtPlace following place t → new ≡ set following place (t, o)) → IsOrdered (keys_of new)
+  keys_put following read new place t o ordered read-is at puts =
+      let there : IsAtPlace following place t = subst (λ b. IsAtPlace b place t) read-is at in
+      subst IsOrdered (sym (ap keys_of (puts t there) ∙ keys-replaced following place t o there.1 there.0)) ordered
 
   -- the tuple that is read at a place is at that place
-  pub stands_read : (behind : List (List ℕ × Option X)) (place : ℕ) (t : List ℕ) (e : List ℕ × Option X) → place < length behind → e ≡ get_or behind place e → e.0 ≡ t → StandsAt behind place t
-  stands_read behind place t e within is same = (within, λ d. ap (λ (e : List ℕ × Option X). e.0) (get_or_default behind place d e within ∙ sym is) ∙ same)
+  pub stands_read : (following : List (List ℕ × Option X)) (place : ℕ) (t : List ℕ) (e : List ℕ × Option X) → place < length following → e ≡ get_or following place e → e.0 ≡ t → IsAtPlace following place t
+  stands_read following place t e within is same = (within, λ d. ap (λ (e : List ℕ × Option X). e.0) (get_or_default following place d e within ∙ sym is) ∙ same)
 
   -- the search for a tuple finds the value at its place
-  find-at : (behind : List (List ℕ × Option X)) (place : ℕ) (t : List ℕ) (d : List ℕ × Option X) → IsOrdered (keys_of behind) → place < length behind → ((d : List ℕ × Option X) → (get_or behind place d).0 ≡ t) → finite.find tuple_cmp t behind ≡ Some (get_or behind place d).1
+  find-at : (following : List (List ℕ × Option X)) (place : ℕ) (t : List ℕ) (d : List ℕ × Option X) → IsOrdered (keys_of following) → place < length following → ((d : List ℕ × Option X) → (get_or following place d).0 ≡ t) → finite.find tuple_cmp t following ≡ Some (get_or following place d).1
   find-at [] place t d ordered within at = absurd (omega (arith, within))
-  find-at (e ∷ behind) zero t d ordered within at =
-      ap (λ b. cond b (Some e.1) (finite.find tuple_cmp t behind)) (ap (eq_by_cmp tuple_cmp t) (at e) ∙ ap is_eq (tied_itself tuple_cmp-total t))
-  find-at (e ∷ behind) (suc place) t d ordered within at =
-      let less : tuple_cmp e.0 t ≡ Less = subst (λ k. tuple_cmp e.0 k ≡ Less) (at e) (first-below e behind place e ordered (omega (arith, within))) in
-      ap (λ b. cond b (Some e.1) (finite.find tuple_cmp t behind)) (tie-sym t e.0 ∙ ap is_eq less) ∙ find-at behind place t d (rest-ordered e.0 (keys_of behind) ordered) (omega (arith, within)) at
+  find-at (e ∷ following) zero t d ordered within at =
+      ap (λ b. cond b (Some e.1) (finite.find tuple_cmp t following)) (ap (eq_by_cmp tuple_cmp t) (at e) ∙ ap is_eq (tied_itself tuple_cmp-total t))
+  find-at (e ∷ following) (suc place) t d ordered within at =
+      let less : tuple_cmp e.0 t ≡ Less = subst (λ k. tuple_cmp e.0 k ≡ Less) (at e) (first-below e following place e ordered (omega (arith, within))) in
+      ap (λ b. cond b (Some e.1) (finite.find tuple_cmp t following)) (tie-sym t e.0 ∙ ap is_eq less) ∙ find-at following place t d (rest-ordered e.0 (keys_of following) ordered) (omega (arith, within)) at
 
   -- the value of a tuple of the appended part
-  pub get-behind : (behind : List (List ℕ × Option X)) (tree : List (List ℕ × X)) (place : ℕ) (t : List ℕ) (e : List ℕ × Option X) → IsOrdered (keys_of behind) → StandsAt behind place t → e ≡ get_or behind place e → e.1 ≡ finite.get (in_two_parts behind tree) t
-  get-behind behind tree place t e ordered at is =
-      ap (λ (e : List ℕ × Option X). e.1) is ∙ sym (get-parts behind tree t ∙ ap (λ f. unwrap_or f (lookup (is_at (tuple_cmp t)) tree)) (find-at behind place t e ordered at.0 at.1))
+  pub get-following : (following : List (List ℕ × Option X)) (tree : List (List ℕ × X)) (place : ℕ) (t : List ℕ) (e : List ℕ × Option X) → IsOrdered (keys_of following) → IsAtPlace following place t → e ≡ get_or following place e → e.1 ≡ finite.get (in_two_parts following tree) t
+  get-following following tree place t e ordered at is =
+      ap (λ (e : List ℕ × Option X). e.1) is ∙ sym (get-parts following tree t ∙ ap (λ f. unwrap_or f (lookup (is_at (tuple_cmp t)) tree)) (find-at following place t e ordered at.0 at.1))
 
   -- ---- writes to the tree
 
   -- the value of a tuple that is not in the appended part
-  pub get-tree : (behind : List (List ℕ × Option X)) (tree : List (List ℕ × X)) (t : List ℕ) → finite.find tuple_cmp t behind ≡ None → lookup (is_at (tuple_cmp t)) tree ≡ finite.get (in_two_parts behind tree) t
-  get-tree behind tree t none = sym (get-parts behind tree t ∙ ap (λ f. unwrap_or f (lookup (is_at (tuple_cmp t)) tree)) none)
+  pub get-tree : (following : List (List ℕ × Option X)) (tree : List (List ℕ × X)) (t : List ℕ) → finite.find tuple_cmp t following ≡ None → lookup (is_at (tuple_cmp t)) tree ≡ finite.get (in_two_parts following tree) t
+  get-tree following tree t none = sym (get-parts following tree t ∙ ap (λ f. unwrap_or f (lookup (is_at (tuple_cmp t)) tree)) none)
 
-  pub tree_written : (behind : List (List ℕ × Option X)) (tree new : List (List ℕ × X)) (t : List ℕ) (o : Option X) → finite.find tuple_cmp t behind ≡ None → Writes tree new t o → in_two_parts behind new ≡ written o (in_two_parts behind tree) t
-  tree_written behind tree new t o none writes =
-      by_write o (in_two_parts behind tree) (in_two_parts behind new) t (λ q. get-parts behind new q ∙ ap (unwrap_or (finite.find tuple_cmp q behind)) (writes q ∙ ap (λ b. cond b o (lookup (is_at (tuple_cmp q)) tree)) (tie-sym t q)) ∙ by q (eq_by_cmp tuple_cmp q t) refl ∙ ap (cond (eq_by_cmp tuple_cmp q t) o) (sym (get-parts behind tree q)))
+  pub tree_written : (following : List (List ℕ × Option X)) (tree new : List (List ℕ × X)) (t : List ℕ) (o : Option X) → finite.find tuple_cmp t following ≡ None → Writes tree new t o → in_two_parts following new ≡ written o (in_two_parts following tree) t
+  tree_written following tree new t o none writes =
+      by_write o (in_two_parts following tree) (in_two_parts following new) t (λ q. get-parts following new q ∙ ap (unwrap_or (finite.find tuple_cmp q following)) (writes q ∙ ap (λ b. cond b o (lookup (is_at (tuple_cmp q)) tree)) (tie-sym t q)) ∙ by q (eq_by_cmp tuple_cmp q t) refl ∙ ap (cond (eq_by_cmp tuple_cmp q t) o) (sym (get-parts following tree q)))
     where
-      by : (q : List ℕ) (b : Bool) → eq_by_cmp tuple_cmp q t ≡ b → unwrap_or (finite.find tuple_cmp q behind) (cond b o (lookup (is_at (tuple_cmp q)) tree)) ≡ cond b o (unwrap_or (finite.find tuple_cmp q behind) (lookup (is_at (tuple_cmp q)) tree))
-      by q true tie = ap (λ f. unwrap_or f o) (ap (λ s. finite.find tuple_cmp s behind) (tied q t tie) ∙ none)
+      by : (q : List ℕ) (b : Bool) → eq_by_cmp tuple_cmp q t ≡ b → unwrap_or (finite.find tuple_cmp q following) (cond b o (lookup (is_at (tuple_cmp q)) tree)) ≡ cond b o (unwrap_or (finite.find tuple_cmp q following) (lookup (is_at (tuple_cmp q)) tree))
+      by q true tie = ap (λ f. unwrap_or f o) (ap (λ s. finite.find tuple_cmp s following) (tied q t tie) ∙ none)
       by q false other = refl
 
   -- the appended part after an empty tree
-  pub same_behind : (behind copy : List (List ℕ × Option X)) (tree new : List (List ℕ × X)) → copy ≡ behind → length tree ≡ 0 → new ≡ [] → in_two_parts copy new ≡ in_two_parts behind tree
-  same_behind behind copy [] new same none empty = ap (λ b. in_two_parts b new) same ∙ ap (in_two_parts behind) empty
-  same_behind behind copy (e ∷ tree) new same none empty = absurd (omega (arith, none))
+  pub same_behind : (following copy : List (List ℕ × Option X)) (tree new : List (List ℕ × X)) → copy ≡ following → length tree ≡ 0 → new ≡ [] → in_two_parts copy new ≡ in_two_parts following tree
+  same_behind following copy [] new same none empty = ap (λ b. in_two_parts b new) same ∙ ap (in_two_parts following) empty
+  same_behind following copy (e ∷ tree) new same none empty = absurd (omega (arith, none))
 
   -- ---- searches
 
-  rises : (behind : List (List ℕ × Option X)) (t : List ℕ) → IsOrdered (keys_of behind) → IsNonDecreasingBy (λ e. ordering_index (tuple_cmp e.0 t)) behind
+  rises : (following : List (List ℕ × Option X)) (t : List ℕ) → IsOrdered (keys_of following) → IsNonDecreasingBy (λ e. ordering_index (tuple_cmp e.0 t)) following
   rises [] t ordered i j d le h = absurd (omega arith)
-  rises (e ∷ behind) t ordered zero zero d le h = omega arith
-  rises (e ∷ behind) t ordered zero (suc j) d le h = index_rises e.0 (get_or behind j d).0 t (first-below e behind j d ordered (omega arith))
-  rises (e ∷ behind) t ordered (suc i) zero d le h = absurd (omega arith)
-  rises (e ∷ behind) t ordered (suc i) (suc j) d le h = rises behind t (rest-ordered e.0 (keys_of behind) ordered) i j d (omega arith) (omega arith)
+  rises (e ∷ following) t ordered zero zero d le h = omega arith
+  rises (e ∷ following) t ordered zero (suc j) d le h = index_rises e.0 (get_or following j d).0 t (first-below e following j d ordered (omega arith))
+  rises (e ∷ following) t ordered (suc i) zero d le h = absurd (omega arith)
+  rises (e ∷ following) t ordered (suc i) (suc j) d le h = rises following t (rest-ordered e.0 (keys_of following) ordered) i j d (omega arith) (omega arith)
 
-  find-none : (behind : List (List ℕ × Option X)) (t : List ℕ) → ((k : ℕ) (d : List ℕ × Option X) → k < length behind → eq_by_cmp tuple_cmp t (get_or behind k d).0 ≡ false) → finite.find tuple_cmp t behind ≡ None
+  find-none : (following : List (List ℕ × Option X)) (t : List ℕ) → ((k : ℕ) (d : List ℕ × Option X) → k < length following → eq_by_cmp tuple_cmp t (get_or following k d).0 ≡ false) → finite.find tuple_cmp t following ≡ None
   find-none [] t none = refl
-  find-none (e ∷ behind) t none =
-      ap (λ b. cond b (Some e.1) (finite.find tuple_cmp t behind)) (none 0 e (omega arith)) ∙ find-none behind t (λ k d h. none (suc k) d (omega (arith, h)))
+  find-none (e ∷ following) t none =
+      ap (λ b. cond b (Some e.1) (finite.find tuple_cmp t following)) (none 0 e (omega arith)) ∙ find-none following t (λ k d h. none (suc k) d (omega (arith, h)))
 
   -- a tuple that the search does not find is not in the appended part
-  pub find-missing : (behind : List (List ℕ × Option X)) (t : List ℕ) (i : ℕ) → IsOrdered (keys_of behind) → IsBinarySearchResult (λ e. tuple_cmp e.0 t) behind (Err i) → finite.find tuple_cmp t behind ≡ None
-  find-missing behind t i ordered searched =
-      let sides = searched (rises behind t ordered) in
-      find-none behind t (λ k d h. elim (cases_lt k i) [
-        | inl before ↦ tie-sym t (get_or behind k d).0 ∙ ap is_eq (sides.0 k d (omega arith) before)
-        | inr from ↦ tie-sym t (get_or behind k d).0 ∙ ap is_eq (sides.1 k d from h)
+  pub find-missing : (following : List (List ℕ × Option X)) (t : List ℕ) (i : ℕ) → IsOrdered (keys_of following) → IsBinarySearchResult (λ e. tuple_cmp e.0 t) following (Err i) → finite.find tuple_cmp t following ≡ None
+  find-missing following t i ordered searched =
+      let sides = searched (rises following t ordered) in
+      find-none following t (λ k d h. elim (cases_lt k i) [
+        | inl before ↦ tie-sym t (get_or following k d).0 ∙ ap is_eq (sides.0 k d (omega arith) before)
+        | inr from ↦ tie-sym t (get_or following k d).0 ∙ ap is_eq (sides.1 k d from h)
       ])
 
   -- a tuple that comes after the last of entries in order comes last
-  pub ordered-last : (behind : List (List ℕ × Option X)) (t : List ℕ) (e : List ℕ × Option X) → IsOrdered (keys_of behind) → e ≡ get_or behind (length behind - 1) e → tuple_cmp e.0 t ≡ Less → IsOrdered (keys_of behind ++ t ∷ [])
-  ordered-last behind t e ordered last less =
-      ordered-join (keys_of behind) t [] ordered all ordered-nil (All-nil (λ y. tuple_cmp t y ≡ Less))
+  pub ordered-last : (following : List (List ℕ × Option X)) (t : List ℕ) (e : List ℕ × Option X) → IsOrdered (keys_of following) → e ≡ get_or following (length following - 1) e → tuple_cmp e.0 t ≡ Less → IsOrdered (keys_of following ++ t ∷ [])
+  ordered-last following t e ordered last less =
+      ordered-join (keys_of following) t [] ordered all ordered-nil (All-nil (λ y. tuple_cmp t y ≡ Less))
     where
-      is : (d : List ℕ) → length behind - 1 < length (keys_of behind) → get_or (keys_of behind) (length behind - 1) e.0 ≡ e.0
-      is d within = keys-at behind (length behind - 1) e ∙ ap (λ (e : List ℕ × Option X). e.0) (sym last)
+      is : (d : List ℕ) → length following - 1 < length (keys_of following) → get_or (keys_of following) (length following - 1) e.0 ≡ e.0
+      is d within = keys-at following (length following - 1) e ∙ ap (λ (e : List ℕ × Option X). e.0) (sym last)
 
-      all : All (λ y. tuple_cmp y t ≡ Less) (keys_of behind)
-      all k d h = elim (cases_lt k (length behind - 1)) [
+      all : All (λ y. tuple_cmp y t ≡ Less) (keys_of following)
+      all k d h = elim (cases_lt k (length following - 1)) [
         | inl before ↦
-            let within : length behind - 1 < length (keys_of behind) = omega (arith, h, length-keys_of behind) in
-            let at : get_or (keys_of behind) (length behind - 1) d ≡ e.0 = get_or_default (keys_of behind) (length behind - 1) d e.0 within ∙ is d within in
-            tuple_cmp-total.trans (get_or (keys_of behind) k d) e.0 t (subst (λ y. tuple_cmp (get_or (keys_of behind) k d) y ≡ Less) at (Less-from_sorted tuple_cmp (keys_of behind) k (length behind - 1) d ordered before within)) less
+            let within : length following - 1 < length (keys_of following) = omega (arith, h, length-keys_of following) in
+            let at : get_or (keys_of following) (length following - 1) d ≡ e.0 = get_or_default (keys_of following) (length following - 1) d e.0 within ∙ is d within in
+            tuple_cmp-total.trans (get_or (keys_of following) k d) e.0 t (subst (λ y. tuple_cmp (get_or (keys_of following) k d) y ≡ Less) at (Less-from_sorted tuple_cmp (keys_of following) k (length following - 1) d ordered before within)) less
         | inr from ↦
-            let within : length behind - 1 < length (keys_of behind) = omega (arith, h, length-keys_of behind) in
-            let same : k ≡ length behind - 1 = omega (arith, h, from, length-keys_of behind) in
-            let at : get_or (keys_of behind) k d ≡ e.0 = ap (λ n. get_or (keys_of behind) n d) same ∙ get_or_default (keys_of behind) (length behind - 1) d e.0 within ∙ is d within in
+            let within : length following - 1 < length (keys_of following) = omega (arith, h, length-keys_of following) in
+            let same : k ≡ length following - 1 = omega (arith, h, from, length-keys_of following) in
+            let at : get_or (keys_of following) k d ≡ e.0 = ap (λ n. get_or (keys_of following) n d) same ∙ get_or_default (keys_of following) (length following - 1) d e.0 within ∙ is d within in
             subst (λ y. tuple_cmp y t ≡ Less) (sym at) less
       ]
 
@@ -270,6 +270,6 @@ module _ {X : Type 0} (m : Entries X) (t : List ℕ) where
   pub keys-known : (members : List (List ℕ)) → members ≡ inserted (finite.keys m) t → has (finite.keys m) t ≡ true → members ≡ finite.keys m
   keys-known members are known = are ∙ sym (inserted-known (finite.keys m) t known)
 
-pub ordered-alone : {X : Type 0} (behind : List (List ℕ × Option X)) (t : List ℕ) → None ≡ slice_get behind (length behind - 1) → IsOrdered (keys_of behind ++ t ∷ [])
+pub ordered-alone : {X : Type 0} (following : List (List ℕ × Option X)) (t : List ℕ) → None ≡ slice_get following (length following - 1) → IsOrdered (keys_of following ++ t ∷ [])
 ordered-alone [] t none = ordered-join [] t [] ordered-nil (All-nil (λ y. tuple_cmp y t ≡ Less)) ordered-nil (All-nil (λ y. tuple_cmp t y ≡ Less))
-ordered-alone (e ∷ behind) t none = absurd (none_some _ (none ∙ slice_get-get_or (e ∷ behind) (length (e ∷ behind) - 1) e (omega arith)))
+ordered-alone (e ∷ following) t none = absurd (none_some _ (none ∙ slice_get-get_or (e ∷ following) (length (e ∷ following) - 1) e (omega arith)))

@@ -112,14 +112,14 @@ get-after_same false m t x absent kept =
 
 -- ---- parameters
 
-pub behind-value : (content : Content) (t : List ℕ) (x : extended.Extended) (n : ℕ) → alias_target n (with_value content t x) ≡ alias_target n content
-behind-value undeclared t x n = refl
-behind-value (alias_of base) t x n = refl
-behind-value (set_of members) t x n = refl
-behind-value (parameter_of entries) t x n = refl
-behind-value (variable_of type entries) t x n = refl
-behind-value (equation_of entries) t x n = refl
-behind-value (model_with model solver) t x n = refl
+pub following-value : (content : Content) (t : List ℕ) (x : extended.Extended) (n : ℕ) → alias_target n (with_value content t x) ≡ alias_target n content
+following-value undeclared t x n = refl
+following-value (alias_of base) t x n = refl
+following-value (set_of members) t x n = refl
+following-value (parameter_of entries) t x n = refl
+following-value (variable_of type entries) t x n = refl
+following-value (equation_of entries) t x n = refl
+following-value (model_with model solver) t x n = refl
 
 value-other : (content : Content) (t : List ℕ) (x : extended.Extended) (u : List ℕ) → same_tuple t u ≡ false → value_in (with_value content t x) u ≡ value_in content u
 value-other undeclared t x u apart = refl
@@ -146,25 +146,25 @@ pub value_after : (state : State) (name : ℕ) (t : List ℕ) (x : extended.Exte
 value_after state name t x entries within is fits =
     let s = symbol_of state name in
     let new = if_fits s t (with_value s.content t x) in
-    ap (λ (s : Symbol). value_in s.content t) (symbol-changed state name new (λ n. fits-either (λ c. alias_target n c ≡ alias_target n s.content) s t (with_value s.content t x) refl (behind-value s.content t x n)) within)
+    ap (λ (s : Symbol). value_in s.content t) (symbol-changed state name new (λ n. fits-either (λ c. alias_target n c ≡ alias_target n s.content) s t (with_value s.content t x) refl (following-value s.content t x n)) within)
     ∙ ap (λ c. value_in c t) (fitted s t (with_value s.content t x) fits ∙ ap (λ c. with_value c t x) is)
     ∙ get-after_same (is_given x) entries t x state_words.zero (nothing-given x)
 
 pub value_elsewhere : (state : State) (name : ℕ) (t : List ℕ) (x : extended.Extended) (other : ℕ) (u : List ℕ) → (base_of state other ≡ base_of state name → same_tuple t u ≡ false) → value_of (after_value state name t x) other u ≡ value_of state other u
 value_elsewhere state name t x other u apart =
     let s = symbol_of state name in
-    reads-same state name (if_fits s t (with_value s.content t x)) (λ n. fits-either (λ c. alias_target n c ≡ alias_target n s.content) s t (with_value s.content t x) refl (behind-value s.content t x n)) (λ c. value_in c u) other (λ same. fits-either (λ c. value_in c u ≡ value_in s.content u) s t (with_value s.content t x) refl (value-other s.content t x u (apart same)))
+    reads-same state name (if_fits s t (with_value s.content t x)) (λ n. fits-either (λ c. alias_target n c ≡ alias_target n s.content) s t (with_value s.content t x) refl (following-value s.content t x n)) (λ c. value_in c u) other (λ same. fits-either (λ c. value_in c u ≡ value_in s.content u) s t (with_value s.content t x) refl (value-other s.content t x u (apart same)))
 
 -- ---- sets
 
-pub behind-membership : (content : Content) (t : List ℕ) (on : Bool) (n : ℕ) → alias_target n (with_membership content t on) ≡ alias_target n content
-behind-membership undeclared t on n = refl
-behind-membership (alias_of base) t on n = refl
-behind-membership (set_of members) t on n = refl
-behind-membership (parameter_of entries) t on n = refl
-behind-membership (variable_of type entries) t on n = refl
-behind-membership (equation_of entries) t on n = refl
-behind-membership (model_with model solver) t on n = refl
+pub following-membership : (content : Content) (t : List ℕ) (on : Bool) (n : ℕ) → alias_target n (with_membership content t on) ≡ alias_target n content
+following-membership undeclared t on n = refl
+following-membership (alias_of base) t on n = refl
+following-membership (set_of members) t on n = refl
+following-membership (parameter_of entries) t on n = refl
+following-membership (variable_of type entries) t on n = refl
+following-membership (equation_of entries) t on n = refl
+following-membership (model_with model solver) t on n = refl
 
 member-other : (members : List (List ℕ)) (t : List ℕ) (on : Bool) (u : List ℕ) → same_tuple t u ≡ false → has (if on then inserted members t else removed members t) u ≡ has members u
 member-other members t true u apart = has-inserted members t u ∙ rw apart refl
@@ -187,25 +187,25 @@ pub membership_after : (state : State) (name : ℕ) (t : List ℕ) (on : Bool) (
 membership_after state name t on members within is fits =
     let s = symbol_of state name in
     let new = if_fits s t (with_membership s.content t on) in
-    ap (λ (s : Symbol). has (members_in s.content) t) (symbol-changed state name new (λ n. fits-either (λ c. alias_target n c ≡ alias_target n s.content) s t (with_membership s.content t on) refl (behind-membership s.content t on n)) within)
+    ap (λ (s : Symbol). has (members_in s.content) t) (symbol-changed state name new (λ n. fits-either (λ c. alias_target n c ≡ alias_target n s.content) s t (with_membership s.content t on) refl (following-membership s.content t on n)) within)
     ∙ ap (λ c. has (members_in c) t) (fitted s t (with_membership s.content t on) fits ∙ ap (λ c. with_membership c t on) is)
     ∙ member-same members t on
 
 pub membership_elsewhere : (state : State) (name : ℕ) (t : List ℕ) (on : Bool) (other : ℕ) (u : List ℕ) → (base_of state other ≡ base_of state name → same_tuple t u ≡ false) → has (members_of (after_membership state name t on) other) u ≡ has (members_of state other) u
 membership_elsewhere state name t on other u apart =
     let s = symbol_of state name in
-    reads-same state name (if_fits s t (with_membership s.content t on)) (λ n. fits-either (λ c. alias_target n c ≡ alias_target n s.content) s t (with_membership s.content t on) refl (behind-membership s.content t on n)) (λ c. has (members_in c) u) other (λ same. fits-either (λ c. has (members_in c) u ≡ has (members_in s.content) u) s t (with_membership s.content t on) refl (membership-other s.content t on u (apart same)))
+    reads-same state name (if_fits s t (with_membership s.content t on)) (λ n. fits-either (λ c. alias_target n c ≡ alias_target n s.content) s t (with_membership s.content t on) refl (following-membership s.content t on n)) (λ c. has (members_in c) u) other (λ same. fits-either (λ c. has (members_in c) u ≡ has (members_in s.content) u) s t (with_membership s.content t on) refl (membership-other s.content t on u (apart same)))
 
 -- ---- variables and equations
 
-pub behind-attributes : (content : Content) (t : List ℕ) (a : Attributes) (n : ℕ) → alias_target n (with_attributes content t a) ≡ alias_target n content
-behind-attributes undeclared t a n = refl
-behind-attributes (alias_of base) t a n = refl
-behind-attributes (set_of members) t a n = refl
-behind-attributes (parameter_of entries) t a n = refl
-behind-attributes (variable_of type entries) t a n = refl
-behind-attributes (equation_of entries) t a n = refl
-behind-attributes (model_with model solver) t a n = refl
+pub following-attributes : (content : Content) (t : List ℕ) (a : Attributes) (n : ℕ) → alias_target n (with_attributes content t a) ≡ alias_target n content
+following-attributes undeclared t a n = refl
+following-attributes (alias_of base) t a n = refl
+following-attributes (set_of members) t a n = refl
+following-attributes (parameter_of entries) t a n = refl
+following-attributes (variable_of type entries) t a n = refl
+following-attributes (equation_of entries) t a n = refl
+following-attributes (model_with model solver) t a n = refl
 
 attributes-other : (content : Content) (t : List ℕ) (a : Attributes) (u : List ℕ) → same_tuple t u ≡ false → attributes_in (with_attributes content t a) u ≡ attributes_in content u
 attributes-other undeclared t a u apart = refl
@@ -219,7 +219,7 @@ attributes-other (model_with model solver) t a u apart = refl
 pub attributes_elsewhere : (state : State) (name : ℕ) (t : List ℕ) (a : Attributes) (other : ℕ) (u : List ℕ) → (base_of state other ≡ base_of state name → same_tuple t u ≡ false) → attributes_of (after_attributes state name t a) other u ≡ attributes_of state other u
 attributes_elsewhere state name t a other u apart =
     let s = symbol_of state name in
-    reads-same state name (if_fits s t (with_attributes s.content t a)) (λ n. fits-either (λ c. alias_target n c ≡ alias_target n s.content) s t (with_attributes s.content t a) refl (behind-attributes s.content t a n)) (λ c. attributes_in c u) other (λ same. fits-either (λ c. attributes_in c u ≡ attributes_in s.content u) s t (with_attributes s.content t a) refl (attributes-other s.content t a u (apart same)))
+    reads-same state name (if_fits s t (with_attributes s.content t a)) (λ n. fits-either (λ c. alias_target n c ≡ alias_target n s.content) s t (with_attributes s.content t a) refl (following-attributes s.content t a n)) (λ c. attributes_in c u) other (λ same. fits-either (λ c. attributes_in c u ≡ attributes_in s.content u) s t (with_attributes s.content t a) refl (attributes-other s.content t a u (apart same)))
 
 same-number : (a b : Number) → same_number a b ≡ true → a ≡ b
 same-number a b e = (number_cmp_decides a b).1.0 (number_equal (number_cmp a b) (ap not e))
@@ -250,6 +250,6 @@ pub attributes_after : (state : State) (name : ℕ) (t : List ℕ) (a : Attribut
 attributes_after state name t a within is fits =
     let s = symbol_of state name in
     let new = if_fits s t (with_attributes s.content t a) in
-    ap (λ (s : Symbol). attributes_in s.content t) (symbol-changed state name new (λ n. fits-either (λ c. alias_target n c ≡ alias_target n s.content) s t (with_attributes s.content t a) refl (behind-attributes s.content t a n)) within)
+    ap (λ (s : Symbol). attributes_in s.content t) (symbol-changed state name new (λ n. fits-either (λ c. alias_target n c ≡ alias_target n s.content) s t (with_attributes s.content t a) refl (following-attributes s.content t a n)) within)
     ∙ ap (λ c. attributes_in c t) (fitted s t (with_attributes s.content t a) fits)
     ∙ attributes-same s.content t a is

@@ -13,8 +13,8 @@ written None entries t = finite.remove entries t
 -- tuple that of the tree
 abbrev pub in_two_parts : {X : Type 0} → List (List ℕ × Option X) → List (List ℕ × X) → Entries X
 in_two_parts [] tree = finite.from_entries tree
-in_two_parts (e ∷ behind) tree = written e.1 (in_two_parts behind tree) e.0
+in_two_parts (e ∷ following) tree = written e.1 (in_two_parts following tree) e.0
 
 -- a tuple is at a place of the appended part
-abbrev pub StandsAt : {X : Type 0} → List (List ℕ × Option X) → ℕ → List ℕ → Type 0
-StandsAt {X} behind place t = (place < length behind) × ((d : List ℕ × Option X) → (slice_index_or behind place d).0 ≡ t)
+abbrev pub IsAtPlace : {X : Type 0} → List (List ℕ × Option X) → ℕ → List ℕ → Type 0
+IsAtPlace {X} following place t = (place < length following) × ((d : List ℕ × Option X) → (slice_index_or following place d).0 ≡ t)

@@ -151,7 +151,7 @@ impl<F: ExactField> Store<F> {
         ensures { result ≡ base_of self.now name }
     {
         match self.symbols.get(name as usize) {
-            Some(symbol) => symbol.behind(name),
+            Some(symbol) => symbol.unaliased(name),
             None => name,
         }
     }

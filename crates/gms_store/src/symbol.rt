@@ -199,7 +199,7 @@ impl<F: ExactField> Symbol<F> {
     }
 
     /// The number of the set of an alias, and else `name`.
-    pub fn behind(&self, name: u32) -> u32
+    pub fn unaliased(&self, name: u32) -> u32
         ensures { result ≡ alias_target name self.now.content }
     {
         match &self.content {

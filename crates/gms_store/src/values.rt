@@ -3,7 +3,7 @@ ghost use Rattle.std.specs.Prelude.{◌≡◌, ◌<◌, ◌++◌, ◌∷◌, [],
 ghost use Rattle.std.specs.Map.{keys_of};
 ghost use Rattle.std.specs.FinMap as finite;
 ghost use Rattle.gms_tuple.specs.TupleOrder.{tuple_cmp, IsOrdered};
-ghost use Rattle.gms_store.specs.InnerParts.{StandsAt};
+ghost use Rattle.gms_store.specs.InnerParts.{IsAtPlace};
 
 use gms_tuple::Tuple;
 use std::alloc::{AllocError, Global};
@@ -15,13 +15,13 @@ use std::marker::Model;
 /// precedence over the tree; if it is removed, its place stays.
 pub(crate) struct Values<X> {
     tree: BTreeMap<Tuple, X>,
-    behind: Vec<(Tuple, Option<X>)>,
+    following: Vec<(Tuple, Option<X>)>,
 }
 
 // Written out, so that it is proved here alone, and not in each crate that lets one go.
 impl<X: Drop> Drop for Values<X> {
     fn drop(self) {
-        let Self { tree: _, behind: _ } = self;
+        let Self { tree: _, following: _ } = self;
     }
 }
 
@@ -36,9 +36,9 @@ impl<X> Model for Values<X> {
 
     ghost coded = { finite.code (coded_list coded_ℕ) X.code };
 
-    ghost view = { λ v. in_two_parts v.behind.items v.tree.entries };
+    ghost view = { λ v. in_two_parts v.following.items v.tree.entries };
 
-    ghost invariant = { λ v. IsOrdered (keys_of v.behind.items) };
+    ghost invariant = { λ v. IsOrdered (keys_of v.following.items) };
 }
 
 impl<X: Copy> Values<X> {
@@ -48,7 +48,7 @@ impl<X: Copy> Values<X> {
     {
         Values {
             tree: BTreeMap::new(alloc),
-            behind: Vec::new(alloc),
+            following: Vec::new(alloc),
         }
     }
 
@@ -56,8 +56,8 @@ impl<X: Copy> Values<X> {
     pub fn get(&self, t: &Tuple) -> Option<X>
         ensures { result ≡ finite.get self.now t.now }
     {
-        match place_in(&self.behind, t) {
-            Some(place) => self.behind[place].1,
+        match place_in(&self.following, t) {
+            Some(place) => self.following[place].1,
             None => self.tree.get(t).copied(),
         }
     }
@@ -67,8 +67,8 @@ impl<X: Copy> Values<X> {
     pub fn get_near(&self, t: &Tuple, place: usize) -> Option<X>
         ensures { result ≡ finite.get self.now t.now }
     {
-        if stands_at(&self.behind, place, t) {
-            return self.behind[place].1;
+        if is_at_place(&self.following, place, t) {
+            return self.following[place].1;
         }
         self.get(t)
     }
@@ -78,13 +78,13 @@ impl<X: Copy> Values<X> {
         ensures ok { OnOk result (self.new ≡ finite.insert self.old t.now value) }
         ensures err { OnErr result (self.new ≡ self.old) }
     {
-        if comes_last(&self.behind, t) {
+        if comes_last(&self.following, t) {
             let tuple = t.copy(alloc)?;
-            self.behind.push((tuple, Some(value)))?;
+            self.following.push((tuple, Some(value)))?;
             return Ok(());
         }
-        if let Some(place) = place_in(&self.behind, t) {
-            put_at(&mut self.behind, place, Some(value));
+        if let Some(place) = place_in(&self.following, t) {
+            put_at(&mut self.following, place, Some(value));
             return Ok(());
         }
         let tuple = t.copy(alloc)?;
@@ -96,8 +96,8 @@ impl<X: Copy> Values<X> {
     pub fn remove(&mut self, t: &Tuple)
         ensures { self.new ≡ finite.remove self.old t.now }
     {
-        match place_in(&self.behind, t) {
-            Some(place) => put_at(&mut self.behind, place, None),
+        match place_in(&self.following, t) {
+            Some(place) => put_at(&mut self.following, place, None),
             None => {
                 self.tree.remove(t);
             }
@@ -106,42 +106,42 @@ impl<X: Copy> Values<X> {
 }
 
 /// Whether a tuple is at a place.
-fn stands_at<X>(behind: &[(Tuple, Option<X>)], place: usize, t: &Tuple) -> bool
-    ensures { IsTrue result → StandsAt behind.now place t.now }
+fn is_at_place<X>(following: &[(Tuple, Option<X>)], place: usize, t: &Tuple) -> bool
+    ensures { IsTrue result → IsAtPlace following.now place t.now }
 {
-    match behind.get(place) {
+    match following.get(place) {
         Some(entry) => entry.0 == *t,
         None => false,
     }
 }
 
 /// The place of a tuple among tuples in order.
-fn place_in<X>(behind: &[(Tuple, Option<X>)], t: &Tuple) -> Option<usize>
-    requires { IsOrdered (keys_of behind.now) }
-    ensures there { IfSome result (λ place. StandsAt behind.now place t.now) }
-    ensures absent { IfNone result (finite.find tuple_cmp t.now behind.now ≡ None) }
+fn place_in<X>(following: &[(Tuple, Option<X>)], t: &Tuple) -> Option<usize>
+    requires { IsOrdered (keys_of following.now) }
+    ensures there { IfSome result (λ place. IsAtPlace following.now place t.now) }
+    ensures absent { IfNone result (finite.find tuple_cmp t.now following.now ≡ None) }
 {
-    match behind.binary_search_by(|entry| entry.0.order(t)) {
+    match following.binary_search_by(|entry| entry.0.order(t)) {
         Ok(place) => Some(place),
         Err(_) => None,
     }
 }
 
 /// Whether a tuple comes after all tuples that are in order.
-fn comes_last<X>(behind: &[(Tuple, Option<X>)], t: &Tuple) -> bool
-    requires { IsOrdered (keys_of behind.now) }
-    ensures { IsTrue result → IsOrdered (keys_of behind.now ++ t.now ∷ []) }
+fn comes_last<X>(following: &[(Tuple, Option<X>)], t: &Tuple) -> bool
+    requires { IsOrdered (keys_of following.now) }
+    ensures { IsTrue result → IsOrdered (keys_of following.now ++ t.now ∷ []) }
 {
-    match behind.last() {
+    match following.last() {
         Some(last) => last.0.order(t) == Ordering::Less,
         None => true,
     }
 }
 
 /// Puts a value, or none, at a place.
-fn put_at<X: Copy>(behind: &mut Vec<(Tuple, Option<X>)>, place: usize, value: Option<X>)
-    requires { place < length behind.old.items }
-    ensures { (t : List ℕ) → StandsAt behind.old.items place t → behind.new.items ≡ set behind.old.items place (t, value) }
+fn put_at<X: Copy>(following: &mut Vec<(Tuple, Option<X>)>, place: usize, value: Option<X>)
+    requires { place < length following.old.items }
+    ensures { (t : List ℕ) → IsAtPlace following.old.items place t → following.new.items ≡ set following.old.items place (t, value) }
 {
-    behind[place].1 = value;
+    following[place].1 = value;
 }

@@ -27,14 +27,14 @@ read_all-split labels i d l =
     ap read_all (sym (take-append-drop i labels) ∙ ap (λ ls. take i labels ++ ls) (drop-cons labels i d l)) ∙ map-append (λ (b : Bor (List ℕ)). b.now) (take i labels) (get_or labels i d ∷ drop (suc i) labels)
 
 -- a label that was not entered
-pub enter_stops : (before table after front : List (List ℕ)) (numbers : List ℕ) (text : List ℕ) (others all : List (List ℕ)) (fault : LabelFault) → AreEntered before table front numbers → all ≡ front ++ text ∷ others → (fault ≡ label.Full → IsFullFor table text) → IsEntering before after all (Err fault)
-enter_stops before table after front numbers text others all label.Full so_far split full =
-    subst (λ ts. most_labels < length (all_entered before ts)) (sym split) (full-all_entered before front text others (subst (λ t. IsFullFor t text) so_far.table (full refl)))
-enter_stops before table after front numbers text others all label.Memory so_far split full = tt
+pub enter_stops : (before table after prefix : List (List ℕ)) (numbers : List ℕ) (text : List ℕ) (others all : List (List ℕ)) (fault : LabelFault) → AreEntered before table prefix numbers → all ≡ prefix ++ text ∷ others → (fault ≡ label.Full → IsFullFor table text) → IsEntering before after all (Err fault)
+enter_stops before table after prefix numbers text others all label.Full so_far split full =
+    subst (λ ts. most_labels < length (all_entered before ts)) (sym split) (full-all_entered before prefix text others (subst (λ t. IsFullFor t text) so_far.table (full refl)))
+enter_stops before table after prefix numbers text others all label.Memory so_far split full = tt
 
 -- a table begins with what was entered so far, and is extended by one more label
-pub goes_on-so_far : (before table texts : List (List ℕ)) (numbers : List ℕ) → AreEntered before table texts numbers → IsPrefix before table
-goes_on-so_far before table texts numbers so_far = subst (IsPrefix before) (sym so_far.table) (GoesOn-all_entered before texts)
+pub extended-so_far : (before table texts : List (List ℕ)) (numbers : List ℕ) → AreEntered before table texts numbers → IsPrefix before table
+extended-so_far before table texts numbers so_far = subst (IsPrefix before) (sym so_far.table) (GoesOn-all_entered before texts)
 
-pub goes_on-more : (before table after texts : List (List ℕ)) (numbers : List ℕ) (text : List ℕ) → AreEntered before table texts numbers → after ≡ entered table text → IsPrefix before after
-goes_on-more before table after texts numbers text so_far is = GoesOn-trans before table after (goes_on-so_far before table texts numbers so_far) (subst (IsPrefix table) (sym is) (GoesOn-entered table text))
+pub extended-more : (before table after texts : List (List ℕ)) (numbers : List ℕ) (text : List ℕ) → AreEntered before table texts numbers → after ≡ entered table text → IsPrefix before after
+extended-more before table after texts numbers text so_far is = GoesOn-trans before table after (extended-so_far before table texts numbers so_far) (subst (IsPrefix table) (sym is) (GoesOn-entered table text))

@@ -32,17 +32,17 @@ meet-before : (number heading : Word) → heading.end ≤ number.at.column → m
 meet-before number heading h = grind (arith, nat_tests)
 
 -- nor one that begins where the number ends, or later
-meet-behind : (number heading : Word) → number.end ≤ heading.at.column → meet number heading ≡ false
-meet-behind number heading h = grind (arith, nat_tests)
+meet-following : (number heading : Word) → number.end ≤ heading.at.column → meet number heading ≡ false
+meet-following number heading h = grind (arith, nat_tests)
 
 meet-both : (number heading : Word) → number.at.column < heading.end → heading.at.column < number.end → meet number heading ≡ true
 meet-both number heading h k = grind (arith, nat_tests)
 
 -- headings after the number are not met
-met-behind : (column : ℕ) (names : List Word) (number : Word) → AreSpacedFrom column names → number.end ≤ column → met names number ≡ []
-met-behind column [] number spaced h = refl
-met-behind column (name ∷ names) number spaced h =
-    rw (meet-behind number name (omega (arith, spaced.0))) (met-behind name.end names number spaced.2 (omega (arith, spaced.0, spaced.1)))
+met-following : (column : ℕ) (names : List Word) (number : Word) → AreSpacedFrom column names → number.end ≤ column → met names number ≡ []
+met-following column [] number spaced h = refl
+met-following column (name ∷ names) number spaced h =
+    rw (meet-following number name (omega (arith, spaced.0))) (met-following name.end names number spaced.2 (omega (arith, spaced.0, spaced.1)))
 
 -- Headings without those that end before a number begins, and their words.
 pub record Skips (table : List (List ℕ)) (names : List Word) (headings : List Heading) (number : Word) (i : ℕ) : Type 0 where
@@ -71,7 +71,7 @@ finds_none table (name ∷ rest) number are = absurd are
 pub finds_behind : (table : List (List ℕ)) (column : ℕ) (rest : List Word) (number : Word) (heading : Heading) (headings : List Heading) → AreSpacedFrom column rest → AreHeadings table rest (heading ∷ headings) → number.end ≤ heading.column → met rest number ≡ []
 finds_behind table column [] number heading headings spaced are h = absurd (cc)
 finds_behind table column (name ∷ rest) number heading headings spaced are h =
-    rw (meet-behind number name (omega (arith, are.0.column))) (met-behind name.end rest number spaced.2 (omega (arith, are.0.column, spaced.1)))
+    rw (meet-following number name (omega (arith, are.0.column))) (met-following name.end rest number spaced.2 (omega (arith, are.0.column, spaced.1)))
 
 -- A number meets this heading and no other.
 pub record MeetsOne (table : List (List ℕ)) (rest : List Word) (number : Word) (heading : Heading) : Type 0 where
@@ -89,10 +89,10 @@ finds_one table column (name ∷ []) number heading headings spaced are h k last
 }
 finds_one table column (name ∷ next ∷ rest) number heading [] spaced are h k last = absurd are.1
 finds_one table column (name ∷ next ∷ rest) number heading (second ∷ headings) spaced are h k last =
-    let behind : met (next ∷ rest) number ≡ [] = finds_behind table name.end (next ∷ rest) number second headings spaced.2 are.1 (last second headings refl) in
+    let following : met (next ∷ rest) number ≡ [] = finds_behind table name.end (next ∷ rest) number second headings spaced.2 are.1 (last second headings refl) in
     record {
       found = name;
-      one = rw (meet-both number name (omega (arith, are.0.end)) (omega (arith, are.0.column))) (ap (λ ns. name ∷ ns) behind);
+      one = rw (meet-both number name (omega (arith, are.0.end)) (omega (arith, are.0.column))) (ap (λ ns. name ∷ ns) following);
       is = are.0;
     }
 
@@ -114,9 +114,9 @@ ends_rise table column (n ∷ []) (h ∷ g ∷ headings) spaced are k d l = let 
 ends_rise table column (n ∷ m ∷ names) (h ∷ g ∷ headings) spaced are zero d l = omega (arith, are.0.end, are.1.0.end, spaced.2.0, spaced.2.1)
 ends_rise table column (n ∷ m ∷ names) (h ∷ g ∷ headings) spaced are (suc k) d l = ends_rise table n.end (m ∷ names) (g ∷ headings) spaced.2 are.1 k d (omega arith)
 
-pub ends_partitioned : (table : List (List ℕ)) (column : ℕ) (names : List Word) (headings : List Heading) (behind : ℕ) → AreSpacedFrom column names → AreHeadings table names headings → IsPartitionedBy (λ (h : Heading). nat_le h.end behind) headings
-ends_partitioned table column names headings behind spaced are =
-    IsPartitionedBy-leb (λ (h : Heading). h.end) headings behind (IsNonDecreasingBy-from_all_adjacent (λ (h : Heading). h.end) headings (λ k d l. rw add-one (ends_rise table column names headings spaced are k d (omega arith))))
+pub ends_partitioned : (table : List (List ℕ)) (column : ℕ) (names : List Word) (headings : List Heading) (following : ℕ) → AreSpacedFrom column names → AreHeadings table names headings → IsPartitionedBy (λ (h : Heading). nat_le h.end following) headings
+ends_partitioned table column names headings following spaced are =
+    IsPartitionedBy-leb (λ (h : Heading). h.end) headings following (IsNonDecreasingBy-from_all_adjacent (λ (h : Heading). h.end) headings (λ k d l. rw add-one (ends_rise table column names headings spaced are k d (omega arith))))
 
 -- the headings from the first that ends after the number's column
 pub left_over : (table : List (List ℕ)) (names : List Word) (headings : List Heading) (number : Word) (i : ℕ) (left : List Heading) → AreSpacedFrom 0 names → AreHeadings table names headings → IsPartitionPoint (λ (h : Heading). nat_le h.end number.at.column ≡ true) (λ (h : Heading). nat_le h.end number.at.column ≡ false) headings i → left ≡ drop i headings → AreLeft table names number left
@@ -128,7 +128,7 @@ left_over table names headings number i left spaced are point is =
       spaced = skipped.spaced;
       are = subst (AreHeadings table skipped.rest) (sym is) skipped.are;
       met_are = skipped.met_are;
-      behind = λ heading others e. first_behind heading others (sym is ∙ e);
+      following = λ heading others e. first_behind heading others (sym is ∙ e);
     }
   where
     first_behind : (heading : Heading) (others : List Heading) → drop i headings ≡ heading ∷ others → number.at.column < heading.end
@@ -152,11 +152,11 @@ pub met_two : (table : List (List ℕ)) (names : List Word) (number : Word) (lef
 met_two table names number left heading [] are is h = absurd (cc)
 met_two table names number left heading (second ∷ others) are is h =
     let before : second.column < number.end = grind (arith, nat_tests) in
-    subst (λ (ws : List Word). 1 < length ws) (sym are.met_are) (finds_two table are.column are.rest number heading second others are.spaced (subst (AreHeadings table are.rest) is are.are) (are.behind heading (second ∷ others) is) before)
+    subst (λ (ws : List Word). 1 < length ws) (sym are.met_are) (finds_two table are.column are.rest number heading second others are.spaced (subst (AreHeadings table are.rest) is are.are) (are.following heading (second ∷ others) is) before)
 
 pub met_one : (table : List (List ℕ)) (names : List Word) (number : Word) (left : List Heading) (heading : Heading) (others : List Heading) → AreLeft table names number left → left ≡ heading ∷ others → heading.column < number.end → begin_before others number.end ≡ false → MeetsOne table names number heading
 met_one table names number left heading others are is h last =
-    let one = finds_one table are.column are.rest number heading others are.spaced (subst (AreHeadings table are.rest) is are.are) (are.behind heading others is) h (λ second more e. second_behind second more (subst (λ (hs : List Heading). begin_before hs number.end ≡ false) e last)) in
+    let one = finds_one table are.column are.rest number heading others are.spaced (subst (AreHeadings table are.rest) is are.are) (are.following heading others is) h (λ second more e. second_behind second more (subst (λ (hs : List Heading). begin_before hs number.end ≡ false) e last)) in
     record { found = one.found; one = are.met_are ∙ one.one; is = one.is }
   where
     second_behind : (second : Heading) (more : List Heading) → begin_before (second ∷ more) number.end ≡ false → number.end ≤ second.column

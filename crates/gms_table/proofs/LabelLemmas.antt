@@ -7,7 +7,7 @@ use Rattle.gms_labels.proofs.Places.{place_of-entered_kept}
 use Rattle.gms_lines.proofs.LineLemmas.{true_or_false}
 use Rattle.gms_table.specs.Words.{parted}
 use Rattle.gms_table.specs.WordLabels.{label_of_text, with_label, labels_among, all_entered, AreLabelNumbers, IsPrefix}
-use Rattle.gms_lines.specs.SplitFields.{is_dot, stretch_bytes}
+use Rattle.gms_lines.specs.SplitFields.{is_dot, field_bytes}
 use Rattle.gms_table.proofs.FieldLemmas.{stretches_behind, parted-stretch}
 
 -- entering some labels and then others
@@ -79,7 +79,7 @@ labels_from rest = labels_among (parted is_dot rest)
 
 -- how many bytes the first label takes
 abbrev pub label_length : List ℕ → ℕ
-label_length rest = stretch_bytes is_dot rest
+label_length rest = field_bytes is_dot rest
 
 labels_from-stretch : (rest : List ℕ) → labels_from rest ≡ with_label (label_of_text (take (label_length rest) rest)) (labels_among (stretches_behind is_dot (drop (label_length rest) rest)))
 labels_from-stretch rest = ap labels_among (parted-stretch is_dot rest)
@@ -112,9 +112,9 @@ Stay-entered table text = record { stays = λ t n h. place_of-entered_kept table
 pub full-entered : (table : List (List ℕ)) (text : List ℕ) → IsFullFor table text → most_labels < length (entered table text)
 full-entered table text full = rw full.0 (omega (arith, length-append table (text ∷ []), full.1))
 
-pub full-all_entered : (table front : List (List ℕ)) (text : List ℕ) (others : List (List ℕ)) → IsFullFor (all_entered table front) text → most_labels < length (all_entered table (front ++ text ∷ others))
-full-all_entered table front text others full =
-    rw all_entered-append (omega (arith, full-entered (all_entered table front) text full, length-all_entered (entered (all_entered table front) text) others))
+pub full-all_entered : (table prefix : List (List ℕ)) (text : List ℕ) (others : List (List ℕ)) → IsFullFor (all_entered table prefix) text → most_labels < length (all_entered table (prefix ++ text ∷ others))
+full-all_entered table prefix text others full =
+    rw all_entered-append (omega (arith, full-entered (all_entered table prefix) text full, length-all_entered (entered (all_entered table prefix) text) others))
 
 -- ---- the labels of a word, as they are read
 
@@ -127,24 +127,24 @@ record Behind (xs : List ℕ) : Type 0 where
   first : ℕ
   split : xs ≡ first ∷ take (length xs - 1) (drop 1 xs)
 
-behind_first : (xs : List ℕ) → 1 ≤ length xs → Behind xs
-behind_first [] some = absurd (omega arith)
-behind_first (x ∷ xs) some = record { first = x; split = ap (λ l. x ∷ l) (sym (take_rest (x ∷ xs) 1)) }
+after_first : (xs : List ℕ) → 1 ≤ length xs → Behind xs
+after_first [] some = absurd (omega arith)
+after_first (x ∷ xs) some = record { first = x; split = ap (λ l. x ∷ l) (sym (take_rest (x ∷ xs) 1)) }
 
-module _ (done : List (List ℕ)) (rest : List ℕ) (n : ℕ) (front back : List ℕ) (n_is : n ≡ label_length rest) (front_is : front ≡ take n rest) (back_is : back ≡ drop n rest) where
-  front_here : label_of_text (take (label_length rest) rest) ≡ label_of_text front
+module _ (done : List (List ℕ)) (rest : List ℕ) (n : ℕ) (prefix back : List ℕ) (n_is : n ≡ label_length rest) (front_is : prefix ≡ take n rest) (back_is : back ≡ drop n rest) where
+  front_here : label_of_text (take (label_length rest) rest) ≡ label_of_text prefix
   front_here = ap (λ k. label_of_text (take k rest)) (sym n_is) ∙ ap label_of_text (sym front_is)
 
   back_here : drop (label_length rest) rest ≡ back
   back_here = ap (λ k. drop k rest) (sym n_is) ∙ sym back_is
 
-  pub labels-none : None ≡ label_of_text front → joined done (labels_from rest) ≡ None
+  pub labels-none : None ≡ label_of_text prefix → joined done (labels_from rest) ≡ None
   labels-none h = labels_from-none done rest (front_here ∙ sym h)
 
-  pub labels-last : (label : List ℕ) → Some label ≡ label_of_text front → length back < 1 → joined done (labels_from rest) ≡ Some (done ++ label ∷ [])
+  pub labels-last : (label : List ℕ) → Some label ≡ label_of_text prefix → length back < 1 → joined done (labels_from rest) ≡ Some (done ++ label ∷ [])
   labels-last label h short = labels_from-last done rest label (front_here ∙ sym h) (back_here ∙ nothing back short)
 
-  pub labels-more : (label : List ℕ) → Some label ≡ label_of_text front → 1 ≤ length back → joined done (labels_from rest) ≡ joined (done ++ label ∷ []) (labels_from (take (length back - 1) (drop 1 back)))
+  pub labels-more : (label : List ℕ) → Some label ≡ label_of_text prefix → 1 ≤ length back → joined done (labels_from rest) ≡ joined (done ++ label ∷ []) (labels_from (take (length back - 1) (drop 1 back)))
   labels-more label h some =
-      let parts = behind_first back some in
+      let parts = after_first back some in
       labels_from-more done rest label parts.first (take (length back - 1) (drop 1 back)) (front_here ∙ sym h) (back_here ∙ parts.split)

@@ -31,7 +31,7 @@ module _ (limit : ℕ) (labels : List (List ℕ)) where
   first_fault before part fault error sound at is stands least = record {
     before = before;
     part = part;
-    behind = [];
+    following = [];
     parts_are = refl;
     sound = sound;
     at = at;

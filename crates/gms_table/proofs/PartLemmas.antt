@@ -63,8 +63,8 @@ module _ (limit : ℕ) (labels : List (List ℕ)) where
   IsFirstFault-more parts others fault first = record {
     before = first.before;
     part = first.part;
-    behind = first.behind ++ others;
-    parts_are = ap (λ ps. ps ++ others) first.parts_are ∙ append_assoc first.before (first.part ∷ first.behind) others;
+    following = first.following ++ others;
+    parts_are = ap (λ ps. ps ++ others) first.parts_are ∙ append_assoc first.before (first.part ∷ first.following) others;
     sound = first.sound;
     at = first.at;
     stands = first.stands;

@@ -23,38 +23,38 @@ Stay-name before after word numbers is = subst (Stay before) (sym is.table) (Sta
 
 module _ (limit : ℕ) (labels : List (List ℕ)) (before : List TablePart) where
   -- the parts of words and of one more
-  names-push : (front : List Word) (word : Word) → before ++ map name (front ++ word ∷ []) ≡ (before ++ map name front) ++ name word ∷ []
-  names-push front word = ap (λ ps. before ++ ps) (map_push name front word) ∙ sym (append_assoc before (map name front) (name word ∷ []))
+  names-push : (prefix : List Word) (word : Word) → before ++ map name (prefix ++ word ∷ []) ≡ (before ++ map name prefix) ++ name word ∷ []
+  names-push prefix word = ap (λ ps. before ++ ps) (map_push name prefix word) ∙ sym (append_assoc before (map name prefix) (name word ∷ []))
 
   -- Headings so far.
-  pub record HeadingsSoFar (front : List Word) (table : List (List ℕ)) (headings : List Heading) : Type 0 where
-    pub progress : Progress limit labels (before ++ map name front) table
-    pub are : AreHeadings table front headings
+  pub record HeadingsSoFar (prefix : List Word) (table : List (List ℕ)) (headings : List Heading) : Type 0 where
+    pub progress : Progress limit labels (before ++ map name prefix) table
+    pub are : AreHeadings table prefix headings
 
   -- no headings
   pub headings_none : (table : List (List ℕ)) (headings : List Heading) → headings ≡ [] → Progress limit labels before table → HeadingsSoFar [] table headings
   headings_none table headings none progress = record { progress = subst (λ ps. Progress limit labels ps table) (sym (append-nil before)) progress; are = none }
 
   -- one heading more
-  pub headings_more : (front : List Word) (word : Word) (table after : List (List ℕ)) (headings : List Heading) (heading : Heading) → HeadingsSoFar front table headings → heading.column ≡ word.at.column → heading.end ≡ word.end → IsName table after word heading.labels.items → HeadingsSoFar (front ++ word ∷ []) after (headings ++ heading ∷ [])
-  headings_more front word table after headings heading so_far column end is = record {
-    progress = subst (λ ps. Progress limit labels ps after) (sym (names-push front word)) (name_more limit labels (before ++ map name front) word table after so_far.progress is.made is.table is.few);
-    are = AreHeadings-push after front headings word heading (AreHeadings-stay table after (Stay-name table after word heading.labels.items is) front headings so_far.are) (record { column = column; end = end; numbers = is.numbers_are });
+  pub headings_more : (prefix : List Word) (word : Word) (table after : List (List ℕ)) (headings : List Heading) (heading : Heading) → HeadingsSoFar prefix table headings → heading.column ≡ word.at.column → heading.end ≡ word.end → IsName table after word heading.labels.items → HeadingsSoFar (prefix ++ word ∷ []) after (headings ++ heading ∷ [])
+  headings_more prefix word table after headings heading so_far column end is = record {
+    progress = subst (λ ps. Progress limit labels ps after) (sym (names-push prefix word)) (name_more limit labels (before ++ map name prefix) word table after so_far.progress is.made is.table is.few);
+    are = AreHeadings-push after prefix headings word heading (AreHeadings-stay table after (Stay-name table after word heading.labels.items is) prefix headings so_far.are) (record { column = column; end = end; numbers = is.numbers_are });
   }
 
   -- a word that is no heading
-  pub headings_fault : (front : List Word) (word : Word) (others : List Word) (table : List (List ℕ)) (headings : List Heading) (fault : TableFault) → HeadingsSoFar front table headings → IsNoName table word fault → IsFirstPartFault limit labels (before ++ map name (front ++ word ∷ others)) fault
-  headings_fault front word others table headings fault so_far is =
-      let here = name_fault limit labels (before ++ map name front) word table fault so_far.progress is in
-      let more = IsFirstFault-more limit labels ((before ++ map name front) ++ name word ∷ []) (map name others) fault here in
-      let e : ((before ++ map name front) ++ name word ∷ []) ++ map name others ≡ before ++ map name (front ++ word ∷ others) = ap (λ ps. ps ++ map name others) (append_assoc before (map name front) (name word ∷ [])) ∙ append_assoc before (map name front ++ name word ∷ []) (map name others) ∙ ap (λ ps. before ++ ps) (append_assoc (map name front) (name word ∷ []) (map name others) ∙ sym (map-append name front (word ∷ others))) in
+  pub headings_fault : (prefix : List Word) (word : Word) (others : List Word) (table : List (List ℕ)) (headings : List Heading) (fault : TableFault) → HeadingsSoFar prefix table headings → IsNoName table word fault → IsFirstPartFault limit labels (before ++ map name (prefix ++ word ∷ others)) fault
+  headings_fault prefix word others table headings fault so_far is =
+      let here = name_fault limit labels (before ++ map name prefix) word table fault so_far.progress is in
+      let more = IsFirstFault-more limit labels ((before ++ map name prefix) ++ name word ∷ []) (map name others) fault here in
+      let e : ((before ++ map name prefix) ++ name word ∷ []) ++ map name others ≡ before ++ map name (prefix ++ word ∷ others) = ap (λ ps. ps ++ map name others) (append_assoc before (map name prefix) (name word ∷ [])) ∙ append_assoc before (map name prefix ++ name word ∷ []) (map name others) ∙ ap (λ ps. before ++ ps) (append_assoc (map name prefix) (name word ∷ []) (map name others) ∙ sym (map-append name prefix (word ∷ others))) in
       subst (λ ps. IsFirstPartFault limit labels ps fault) e more
 
   -- what is answered in place of headings
-  pub headings_refused : (front : List Word) (word : Word) (others all : List Word) (table after : List (List ℕ)) (headings : List Heading) (error : TableFaultOrMemory) → all ≡ front ++ word ∷ others → HeadingsSoFar front table headings → Enters table after word (Err error) → Refuses limit labels (before ++ map name all) error
-  headings_refused front word others all table after headings (Fault fault) split so_far is =
-      subst (λ ws. IsFirstPartFault limit labels (before ++ map name ws) fault) (sym split) (headings_fault front word others table headings fault so_far is)
-  headings_refused front word others all table after headings Memory split so_far is = tt
+  pub headings_refused : (prefix : List Word) (word : Word) (others all : List Word) (table after : List (List ℕ)) (headings : List Heading) (error : TableFaultOrMemory) → all ≡ prefix ++ word ∷ others → HeadingsSoFar prefix table headings → Enters table after word (Err error) → Refuses limit labels (before ++ map name all) error
+  headings_refused prefix word others all table after headings (Fault fault) split so_far is =
+      subst (λ ws. IsFirstPartFault limit labels (before ++ map name ws) fault) (sym split) (headings_fault prefix word others table headings fault so_far is)
+  headings_refused prefix word others all table after headings Memory split so_far is = tt
 
 -- a word that is not there
 abbrev pub no_word : Kept

@@ -25,8 +25,8 @@ Refuses-more limit labels parts others all Memory is refused = tt
 
 module _ {F : Type 0} (limit : ℕ) (value : F → Number) (labels : List (List ℕ)) (before : List TablePart) where
   -- A row so far.
-  pub record RowSoFar (label : Word) (names front : List Word) (table : List (List ℕ)) (entries : List (Entry F)) (row : List ℕ) (headings : List Heading) : Type 0 where
-    pub keeps : Keeps limit value labels (before ++ row_parts label names front) table entries
+  pub record RowSoFar (label : Word) (names prefix : List Word) (table : List (List ℕ)) (entries : List (Entry F)) (row : List ℕ) (headings : List Heading) : Type 0 where
+    pub keeps : Keeps limit value labels (before ++ row_parts label names prefix) table entries
     pub is : IsRow table label names row headings
 
   -- the row's label was entered
@@ -48,24 +48,24 @@ module _ {F : Type 0} (limit : ℕ) (value : F → Number) (labels : List (List 
   row_refused label names words table after entries Memory keeps is = tt
 
   -- the parts of a row with one word more
-  pub row_parts-push : (label : Word) (names front : List Word) (word : Word) → before ++ row_parts label names (front ++ word ∷ []) ≡ (before ++ row_parts label names front) ++ cell label names word ∷ []
-  row_parts-push label names front word =
-      ap (λ ps. before ++ (name label ∷ ps)) (map_push (cell label names) front word) ∙ sym (append_assoc before (row_parts label names front) (cell label names word ∷ []))
+  pub row_parts-push : (label : Word) (names prefix : List Word) (word : Word) → before ++ row_parts label names (prefix ++ word ∷ []) ≡ (before ++ row_parts label names prefix) ++ cell label names word ∷ []
+  row_parts-push label names prefix word =
+      ap (λ ps. before ++ (name label ∷ ps)) (map_push (cell label names) prefix word) ∙ sym (append_assoc before (row_parts label names prefix) (cell label names word ∷ []))
 
   -- a number more
-  pub row_more : (label : Word) (names front : List Word) (word : Word) (table : List (List ℕ)) (entries after : List (Entry F)) (row : List ℕ) (headings : List Heading) → RowSoFar label names front table entries row headings → Keeps limit value labels ((before ++ row_parts label names front) ++ cell label names word ∷ []) table after → RowSoFar label names (front ++ word ∷ []) table after row headings
-  row_more label names front word table entries after row headings so_far keeps = record {
-    keeps = subst (λ ps. Keeps limit value labels ps table after) (sym (row_parts-push label names front word)) keeps;
+  pub row_more : (label : Word) (names prefix : List Word) (word : Word) (table : List (List ℕ)) (entries after : List (Entry F)) (row : List ℕ) (headings : List Heading) → RowSoFar label names prefix table entries row headings → Keeps limit value labels ((before ++ row_parts label names prefix) ++ cell label names word ∷ []) table after → RowSoFar label names (prefix ++ word ∷ []) table after row headings
+  row_more label names prefix word table entries after row headings so_far keeps = record {
+    keeps = subst (λ ps. Keeps limit value labels ps table after) (sym (row_parts-push label names prefix word)) keeps;
     is = so_far.is;
   }
 
   -- a number that is none
-  pub number_refused : (label : Word) (names front : List Word) (word : Word) (others all : List Word) (error : TableFaultOrMemory) → all ≡ front ++ word ∷ others → Refuses limit labels ((before ++ row_parts label names front) ++ cell label names word ∷ []) error → Refuses limit labels (before ++ row_parts label names all) error
-  number_refused label names front word others all error split refused =
-      Refuses-more limit labels ((before ++ row_parts label names front) ++ cell label names word ∷ []) (map (cell label names) others) (before ++ row_parts label names all) error
+  pub number_refused : (label : Word) (names prefix : List Word) (word : Word) (others all : List Word) (error : TableFaultOrMemory) → all ≡ prefix ++ word ∷ others → Refuses limit labels ((before ++ row_parts label names prefix) ++ cell label names word ∷ []) error → Refuses limit labels (before ++ row_parts label names all) error
+  number_refused label names prefix word others all error split refused =
+      Refuses-more limit labels ((before ++ row_parts label names prefix) ++ cell label names word ∷ []) (map (cell label names) others) (before ++ row_parts label names all) error
       (ap (λ ws. before ++ (name label ∷ map (cell label names) ws)) split
-      ∙ ap (λ ps. before ++ (name label ∷ ps)) (map-append (cell label names) front (word ∷ others))
-      ∙ sym (append_assoc (before ++ row_parts label names front) (cell label names word ∷ []) (map (cell label names) others) ∙ append_assoc before (row_parts label names front) (cell label names word ∷ map (cell label names) others)))
+      ∙ ap (λ ps. before ++ (name label ∷ ps)) (map-append (cell label names) prefix (word ∷ others))
+      ∙ sym (append_assoc (before ++ row_parts label names prefix) (cell label names word ∷ []) (map (cell label names) others) ∙ append_assoc before (row_parts label names prefix) (cell label names word ∷ map (cell label names) others)))
       refused
 
 -- labels stay while more parts are read

@@ -7,9 +7,9 @@ use Rattle.gms_lines.specs.Lines.{is_blank}
 use Rattle.gms_lines.specs.Columns.{column_after}
 use Rattle.gms_table.specs.Words.{Word, parted, column_of_byte, word_of, word_at, words_among, words_of}
 use Rattle.gms_table.specs.InnerShown.{AreSpacedFrom}
-use Rattle.gms_lines.specs.SplitFields.{stretch_bytes}
+use Rattle.gms_lines.specs.SplitFields.{field_bytes}
 use Rattle.gms_lines.proofs.ColumnLemmas.{column_after-bounds}
-use Rattle.gms_table.proofs.FieldLemmas.{stretch_bytes-le, stretches_behind, parted-stretch}
+use Rattle.gms_table.proofs.FieldLemmas.{field_bytes-le, stretches_behind, parted-stretch}
 
 -- the column of a byte further on
 pub column_of-add : (line : List ℕ) (n k : ℕ) → fold column_after (column_of_byte line n) (take k (drop n line)) ≡ column_of_byte line (n + k)
@@ -21,7 +21,7 @@ words_from number line start = words_among number line start (parted is_blank (d
 
 -- how many bytes the field takes that begins there
 abbrev pub length_from : List ℕ → ℕ → ℕ
-length_from line start = stretch_bytes is_blank (drop start line)
+length_from line start = field_bytes is_blank (drop start line)
 
 words_from-stretch : (number : ℕ) (line : List ℕ) (start : ℕ) → words_from number line start ≡ word_at number line start (take (length_from line start) (drop start line)) ++ words_among number line (start + length (take (length_from line start) (drop start line)) + 1) (stretches_behind is_blank (drop (length_from line start) (drop start line)))
 words_from-stretch number line start = ap (words_among number line start) (parted-stretch is_blank (drop start line))
@@ -33,8 +33,8 @@ last_end column (word ∷ words) = last_end word.end words
 
 -- one word more
 pub AreSpacedFrom-push : (column : ℕ) (words : List Word) (word : Word) → AreSpacedFrom column words → last_end column words ≤ word.at.column → word.at.column < word.end → AreSpacedFrom column (words ++ word ∷ [])
-AreSpacedFrom-push column [] word spaced behind some = (behind, some, tt)
-AreSpacedFrom-push column (w ∷ words) word spaced behind some = (spaced.0, spaced.1, AreSpacedFrom-push w.end words word spaced.2 behind some)
+AreSpacedFrom-push column [] word spaced following some = (following, some, tt)
+AreSpacedFrom-push column (w ∷ words) word spaced following some = (spaced.0, spaced.1, AreSpacedFrom-push w.end words word spaced.2 following some)
 
 pub last_end-push : (column : ℕ) (words : List Word) (word : Word) → last_end column (words ++ word ∷ []) ≡ word.end
 last_end-push column [] word = refl
@@ -46,10 +46,10 @@ last_end-push column (w ∷ words) word = last_end-push w.end words word
 pub record WordsSoFar (number : ℕ) (line : List ℕ) (words : List Word) (start column : ℕ) : Type 0 where
   pub within : start ≤ length line
   pub column_is : column ≡ column_of_byte line start
-  pub room : column ≤ 8 * start + 1
+  pub within_bound : column ≤ 8 * start + 1
   pub words_are : words ++ words_from number line start ≡ words_of number line
   pub spaced : AreSpacedFrom 0 words
-  pub behind : last_end 0 words ≤ column
+  pub following : last_end 0 words ≤ column
 
 -- The field that begins there, with the words after it.
 pub record NextStretch (number : ℕ) (line : List ℕ) (words : List Word) (start column : ℕ) (text : List ℕ) (end : ℕ) (after : List Word) : Type 0 where
@@ -61,11 +61,11 @@ pub record NextStretch (number : ℕ) (line : List ℕ) (words : List Word) (sta
 
 module _ (number : ℕ) (line : List ℕ) (words : List Word) (start column : ℕ) (text : List ℕ) (end : ℕ) (after : List Word) (so_far : WordsSoFar number line words start column) (next : NextStretch number line words start column text end after) where
   long : length text ≡ length_from line start
-  long = ap length next.text_is ∙ length-take-le (length_from line start) (drop start line) (stretch_bytes-le is_blank (drop start line))
+  long = ap length next.text_is ∙ length-take-le (length_from line start) (drop start line) (field_bytes-le is_blank (drop start line))
 
   -- the field ends within the line
   pub stretch_within : start + length text ≤ length line
-  stretch_within = omega (arith, long, so_far.within, stretch_bytes-le is_blank (drop start line), length-drop start line)
+  stretch_within = omega (arith, long, so_far.within, field_bytes-le is_blank (drop start line), length-drop start line)
 
   -- the column after the field
   end_column : end ≡ column_of_byte line (start + length text)
@@ -89,10 +89,10 @@ module _ (number : ℕ) (line : List ℕ) (words : List Word) (start column : �
 
   spaced_after : (text : List ℕ) → column + length text ≤ end → AreSpacedFrom 0 (words ++ word_of record { line = number; column = column } end text)
   spaced_after [] grows = subst (AreSpacedFrom 0) (sym (append-nil words)) so_far.spaced
-  spaced_after (b ∷ text) grows = AreSpacedFrom-push 0 words (record { at = record { line = number; column = column }; end = end; text = b ∷ text }) so_far.spaced so_far.behind (omega arith)
+  spaced_after (b ∷ text) grows = AreSpacedFrom-push 0 words (record { at = record { line = number; column = column }; end = end; text = b ∷ text }) so_far.spaced so_far.following (omega arith)
 
   last_after : (text : List ℕ) → column + length text ≤ end → last_end 0 (words ++ word_of record { line = number; column = column } end text) ≤ end
-  last_after [] grows = rw append-nil (omega (arith, so_far.behind))
+  last_after [] grows = rw append-nil (omega (arith, so_far.following))
   last_after (b ∷ text) grows = omega (arith, last_end-push 0 words (record { at = record { line = number; column = column }; end = end; text = b ∷ text }))
 
   pub words_spaced : AreSpacedFrom 0 after
@@ -104,24 +104,24 @@ module _ (number : ℕ) (line : List ℕ) (words : List Word) (start column : �
       sym (append-nil after) ∙ ap (λ t. after ++ words_among number line (start + length text + 1) (stretches_behind is_blank t)) (sym (drop_all (start + length text) line (omega arith))) ∙ all_words
 
   -- a blank follows the field
-  pub words_more : (behind : ℕ) → ¬ (start + length text ≡ length line) → behind ≡ column_after end (get_or line (start + length text) 0) → WordsSoFar number line after (start + length text + 1) behind
-  words_more behind goes_on is =
+  pub words_more : (following : ℕ) → ¬ (start + length text ≡ length line) → following ≡ column_after end (get_or line (start + length text) 0) → WordsSoFar number line after (start + length text + 1) following
+  words_more following extended is =
       let within = stretch_within in
       let below : start + length text < length line = omega arith in
       let bounds = column_after-bounds end (get_or line (start + length text) 0) in
       record {
         within = omega arith;
         column_is = is ∙ ap (λ c. column_after c (get_or line (start + length text) 0)) end_column ∙ sym (fold_more column_after 1 line (start + length text) 0 below);
-        room = omega (arith, next.near, so_far.room, bounds.1);
+        within_bound = omega (arith, next.near, so_far.within_bound, bounds.1);
         words_are = ap (λ t. after ++ words_among number line (start + length text + 1) (stretches_behind is_blank t)) (ap (λ n. get_or line (start + length text) 0 ∷ drop n line) (add-one (start + length text)) ∙ sym (drop-cons line (start + length text) 0 below)) ∙ all_words;
         spaced = words_spaced;
-        behind = omega (arith, ap (last_end 0) next.after_is, last_after text next.grows, bounds.0);
+        following = omega (arith, ap (last_end 0) next.after_is, last_after text next.grows, bounds.0);
       }
 
 -- the next field, as it is read
-pub next_stretch : (number : ℕ) (line : List ℕ) (words : List Word) (start column n end : ℕ) (after : List Word) → n ≡ stretch_bytes is_blank (take (length line - start) (drop start line)) → end ≡ fold column_after column (take n (take (length line - start) (drop start line))) → column + length (take n (take (length line - start) (drop start line))) ≤ end → end ≤ column + 8 * length (take n (take (length line - start) (drop start line))) → after ≡ words ++ word_of record { line = number; column = column } end (take n (take (length line - start) (drop start line))) → NextStretch number line words start column (take n (take (length line - start) (drop start line))) end after
+pub next_stretch : (number : ℕ) (line : List ℕ) (words : List Word) (start column n end : ℕ) (after : List Word) → n ≡ field_bytes is_blank (take (length line - start) (drop start line)) → end ≡ fold column_after column (take n (take (length line - start) (drop start line))) → column + length (take n (take (length line - start) (drop start line))) ≤ end → end ≤ column + 8 * length (take n (take (length line - start) (drop start line))) → after ≡ words ++ word_of record { line = number; column = column } end (take n (take (length line - start) (drop start line))) → NextStretch number line words start column (take n (take (length line - start) (drop start line))) end after
 next_stretch number line words start column n end after n_is end_is grows near after_is = record {
-  text_is = ap (take n) (take_rest line start) ∙ ap (λ k. take k (drop start line)) (n_is ∙ ap (stretch_bytes is_blank) (take_rest line start));
+  text_is = ap (take n) (take_rest line start) ∙ ap (λ k. take k (drop start line)) (n_is ∙ ap (field_bytes is_blank) (take_rest line start));
   end_is = end_is;
   grows = grows;
   near = near;

@@ -45,7 +45,7 @@ pub record AreLeft (table : List (List ℕ)) (names : List Word) (number : Word)
   pub spaced : AreSpacedFrom column rest
   pub are : AreHeadings table rest left
   pub met_are : met names number ≡ met rest number
-  pub behind : (heading : Heading) (others : List Heading) → left ≡ heading ∷ others → number.at.column < heading.end
+  pub following : (heading : Heading) (others : List Heading) → left ≡ heading ∷ others → number.at.column < heading.end
 
 -- the result of looking for the heading of a number
 abbrev pub Finds : List (List ℕ) → List Word → Word → Result (Bor Heading) TableError → Type 0

@@ -136,8 +136,8 @@ module _ (limit : ℕ) (labels : List (List ℕ)) where
   pub record IsFirstPartFault (parts : List TablePart) (fault : TableFault) : Type 0 where
     pub before : List TablePart
     pub part : TablePart
-    pub behind : List TablePart
-    pub parts_are : parts ≡ before ++ part ∷ behind
+    pub following : List TablePart
+    pub parts_are : parts ≡ before ++ part ∷ following
     pub sound : ArePartsFaultless [] before
     pub at : fault.at ≡ place_of_part part
     pub stands : IsPartFault before part fault.error

@@ -4,7 +4,7 @@ use Rattle.std.specs.Prelude.{ℕ, zero, suc, ◌+◌, Bool, List, [], ◌∷◌
 use Rattle.gms_labels.specs.declared.place.Place.{Place}
 use Rattle.gms_lines.specs.Lines.{is_blank}
 use Rattle.gms_lines.specs.Columns.{column_after}
-use Rattle.gms_lines.specs.SplitFields.{stretch_bytes}
+use Rattle.gms_lines.specs.SplitFields.{field_bytes}
 
 -- A word: its place, the column after it, and its bytes.
 pub record Word : Type 0 where
@@ -19,14 +19,14 @@ others_by stretches [] = []
 others_by stretches (b ∷ rest) = stretches rest
 
 -- the first fields of a text, at most `most` of them
-abbrev pub first_stretches : (ℕ → Bool) → ℕ → List ℕ → List (List ℕ)
-first_stretches test zero text = []
-first_stretches test (suc most) text = take (stretch_bytes test text) text ∷ others_by (first_stretches test most) (drop (stretch_bytes test text) text)
+abbrev pub first_fields : (ℕ → Bool) → ℕ → List ℕ → List (List ℕ)
+first_fields test zero text = []
+first_fields test (suc most) text = take (field_bytes test text) text ∷ others_by (first_fields test most) (drop (field_bytes test text) text)
 
 -- the fields between the bytes that split a text, at most as many as its bytes plus one; a field
 -- may be empty
 abbrev pub parted : (ℕ → Bool) → List ℕ → List (List ℕ)
-parted test text = first_stretches test (suc (length text)) text
+parted test text = first_fields test (suc (length text)) text
 
 -- the column of a byte of a line, or of its end
 abbrev pub column_of_byte : List ℕ → ℕ → ℕ

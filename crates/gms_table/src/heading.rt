@@ -31,7 +31,7 @@ pub(crate) fn read_headings(
 ) -> Result<Vec<Heading>, TableFaultOrMemory>
     ensures read { (limit : ℕ) (labels : List (List ℕ)) (before : List TablePart) → Progress limit labels before table.old
         → ReadsHeadings limit labels before (seen_all words.now) table.new result }
-    ensures goes_on { IsPrefix table.old table.new }
+    ensures extended { IsPrefix table.old table.new }
 {
     let mut headings = Vec::with_capacity(alloc, words.len())?;
     for word in words {

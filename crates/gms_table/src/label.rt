@@ -12,7 +12,7 @@ ghost use Rattle.gms_table.specs.InnerShown.{seen};
 use crate::fault::{TableError, TableFaultOrMemory};
 use crate::word::Word;
 use gms_labels::{LabelFault, Labels, MOST_BYTES};
-use gms_lines::{Separator, label_length, stretch_length};
+use gms_lines::{Separator, label_length, field_length};
 use std::alloc::{AllocError, Global};
 
 /// Whether all bytes are of ASCII.
@@ -92,12 +92,12 @@ fn labels_of(alloc: Global, text: &[u8]) -> Result<Option<Vec<&str>>, AllocError
     let mut labels = Vec::new(alloc);
     let mut rest = text;
     loop {
-        let (front, behind) = rest.split_at(stretch_length(Separator::Dot, rest));
-        let Some(label) = label_of(front) else {
+        let (prefix, following) = rest.split_at(field_length(Separator::Dot, rest));
+        let Some(label) = label_of(prefix) else {
             return Ok(None);
         };
         labels.push(label)?;
-        match behind {
+        match following {
             [] => return Ok(Some(labels)),
             [_, others @ ..] => rest = others,
         }
@@ -108,7 +108,7 @@ fn labels_of(alloc: Global, text: &[u8]) -> Result<Option<Vec<&str>>, AllocError
 fn enter_all(alloc: Global, table: &mut Labels, labels: &[&str]) -> Result<Vec<u32>, LabelFault>
     requires { All (λ label. length label.now ≤ 63) labels.now }
     ensures entered { IsEntering table.old table.new (read_all labels.now) result }
-    ensures goes_on { IsPrefix table.old table.new }
+    ensures extended { IsPrefix table.old table.new }
 {
     let mut numbers = Vec::with_capacity(alloc, labels.len())?;
     for label in labels {
@@ -128,7 +128,7 @@ pub(crate) fn enter(
     word: Word<'_>,
 ) -> Result<Vec<u32>, TableFaultOrMemory>
     ensures entered { Enters table.old table.new (seen word.entry) result }
-    ensures goes_on { IsPrefix table.old table.new }
+    ensures extended { IsPrefix table.old table.new }
 {
     let Some(labels) = labels_of(alloc, word.text)? else {
         return Err(word.fault(TableError::BadRow));

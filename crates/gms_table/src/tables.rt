@@ -97,7 +97,7 @@ fn read_row<F: ExactField>(
         MatchResult result
         (λ _. Keeps F.limit F.value labels (before ++ row_parts (seen label.entry) names (seen_all words.now)) table.new entries.new)
         (Refuses F.limit labels (before ++ row_parts (seen label.entry) names (seen_all words.now))) }
-    ensures goes_on { IsPrefix table.old table.new }
+    ensures extended { IsPrefix table.old table.new }
 {
     let row = enter(alloc, table, label)?;
     for word in words {
@@ -127,7 +127,7 @@ fn read_line<F: ExactField>(
         MatchResult result
         (λ _. LinesSoFar F.limit F.value labels before begun all rest table.new entries.new headings.new.items)
         (Refuses F.limit labels (before ++ under begun all)) }
-    ensures goes_on { IsPrefix table.old table.new }
+    ensures extended { IsPrefix table.old table.new }
 {
     let words = words_of(alloc, line.line, line.text.as_bytes())?;
     let Some((first, others)) = words.as_slice().split_first() else {
@@ -154,7 +154,7 @@ fn read_rows<F: ExactField>(
         MatchResult result
         (λ _. Keeps F.limit F.value labels (before ++ under names (lines_of lines.now)) table.new entries.new)
         (Refuses F.limit labels (before ++ under names (lines_of lines.now))) }
-    ensures goes_on { IsPrefix table.old table.new }
+    ensures extended { IsPrefix table.old table.new }
 {
     for line in lines {
         read_line(alloc, entries, table, &mut headings, line)?;
@@ -188,7 +188,7 @@ pub fn table<F: ExactField>(
     ensures table { MatchResult result
         (λ entries. IsTable F.limit F.value lines.now labels.old labels.new entries.items)
         (λ error. IsTableRefusal F.limit lines.now labels.old error) }
-    ensures goes_on { IsPrefix labels.old labels.new }
+    ensures extended { IsPrefix labels.old labels.new }
 {
     let Some((words, rows)) = first_line(alloc, lines)? else {
         return Err(TableFaultOrMemory::Fault(TableFault {

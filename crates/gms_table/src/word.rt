@@ -7,7 +7,7 @@ ghost use Rattle.gms_table.specs.InnerShown.{seen, seen_all, AreSpaced};
 
 use crate::fault::{TableError, TableFault, TableFaultOrMemory};
 use gms_labels::Place;
-use gms_lines::{Separator, column_after, stretch_length};
+use gms_lines::{Separator, column_after, field_length};
 use std::alloc::{AllocError, Global};
 
 /// A word of a line.
@@ -31,7 +31,7 @@ impl Word<'_> {
 }
 
 /// The column after bytes of which the first is in this column.
-fn column_behind(mut column: u32, text: &[u8]) -> u32
+fn column_after_bytes(mut column: u32, text: &[u8]) -> u32
     requires { column + 8 * length text.now < 2 ^ 32 }
     ensures value { result ≡ fold column_after column text.now }
     ensures grows { column + length text.now ≤ result }
@@ -69,8 +69,8 @@ pub(crate) fn words_of(alloc: Global, number: u32, line: &[u8]) -> Result<Vec<Wo
     let mut column = 1;
     loop {
         let rest = &line[start..];
-        let text = &rest[..stretch_length(Separator::Blank, rest)];
-        let end = column_behind(column, text);
+        let text = &rest[..field_length(Separator::Blank, rest)];
+        let end = column_after_bytes(column, text);
         let at = Place {
             line: number,
             column,

@@ -84,9 +84,9 @@ fn members(rt: &impl Abort, alloc: Global, first: Tuples, sign: char, second: Tu
 
 #[test]
 fn operations_on_sets(rt: HostRuntime) {
-    for (first, sign, second, due) in &SETS {
+    for (first, sign, second, expected) in &SETS {
         assert!(rt;
-            members(&rt, rt.alloc(), first, *sign, second).as_str() == *due,
+            members(&rt, rt.alloc(), first, *sign, second).as_str() == *expected,
             "{due}"
         );
     }
@@ -181,9 +181,9 @@ fn sum_of(rt: &impl Abort, alloc: Global, first: Numbers, sign: char, second: Nu
 
 #[test]
 fn sums_and_differences_of_forms(rt: HostRuntime) {
-    for (first, sign, second, due) in &FORMS {
+    for (first, sign, second, expected) in &FORMS {
         assert!(rt;
-            sum_of(&rt, rt.alloc(), *first, *sign, *second).as_str() == *due,
+            sum_of(&rt, rt.alloc(), *first, *sign, *second).as_str() == *expected,
             "{due}"
         );
     }
@@ -229,8 +229,8 @@ fn depth_of(alloc: Global, source: &str) -> Option<u32> {
 #[test]
 fn nestings_an_echo_and_bounds_of_pivots(rt: HostRuntime) {
     let alloc = rt.alloc();
-    for (source, due) in &NESTED {
-        assert!(rt; depth_of(alloc, source) == *due, "{source}");
+    for (source, expected) in &NESTED {
+        assert!(rt; depth_of(alloc, source) == *expected, "{source}");
     }
     let mut listing = Listing::new(alloc);
     listing.echo(alloc, b"a = 1;\r\n\nb").expect(&rt, "memory");

@@ -33,9 +33,9 @@ const MEMORY: &str = "out of memory";
 
 /// Compares the message of each error with the expected one.
 fn check<E: Display>(rt: &impl Abort, alloc: Global, rows: &[(E, &str)]) {
-    for (error, due) in rows {
+    for (error, expected) in rows {
         let text = format!(in alloc; "{error}").expect(rt, "memory");
-        assert!(rt; text.as_str() == *due, "{due}");
+        assert!(rt; text.as_str() == *expected, "{due}");
     }
 }
 

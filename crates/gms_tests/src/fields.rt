@@ -159,14 +159,14 @@ fn steps_are_due<F: ExactField>(half: F, seven: F) -> Result<bool, Limit> {
     let sum = half.add(F::one())?;
     let difference = half.sub(seven)?;
     let product = half.mul(seven)?;
-    let is_due = sum.parts() == (1, 2)
+    let is_expected = sum.parts() == (1, 2)
         && difference.parts() == (-15, 2)
         && product.parts() == (-7, 2);
     if seven.is_zero() {
         return Ok(false);
     }
     let quotient = half.div(seven)?;
-    Ok(is_due && quotient.parts() == (-1, 14))
+    Ok(is_expected && quotient.parts() == (-1, 14))
 }
 
 /// Whether each call that rounds answers as expected for -7/2.

@@ -60,10 +60,10 @@ END status 0 solves 1
 ";
 
 /// Whether a run had the expected results of a row, and a prefix of the expected listing.
-fn is_due(left: &Left, due: &str, row: &Row) -> bool {
+fn is_expected(left: &Left, expected: &str, row: &Row) -> bool {
     let (_, _, status, length, said, calls, kept) = *row;
     left.status == status
-        && due.starts_with(left.output.as_str())
+        && expected.starts_with(left.output.as_str())
         && left.output.len() == length
         && left.said.as_str() == said
         && left.calls == calls
@@ -77,21 +77,21 @@ fn check(
     alloc: Global,
     source: &str,
     words: &[&str],
-    due: &str,
+    expected: &str,
     row: &Row,
     tells: &str,
 ) {
     let (most, fail, ..) = *row;
     let left = run_words(rt, alloc, (source, most, fail), words, &["bland"]);
     let told = left.told.starts_with(tells);
-    assert!(rt; told && is_due(&left, due, row), "{fail:?}");
+    assert!(rt; told && is_expected(&left, expected, row), "{fail:?}");
 }
 
 #[test]
 fn a_failed_call_ends_a_run(rt: HostRuntime) {
-    let (source, due) = LOOPED;
+    let (source, expected) = LOOPED;
     for row in &LOOPED_ROWS {
-        check(&rt, rt.alloc(), source, &["a.gms"], due, row, "bland\n");
+        check(&rt, rt.alloc(), source, &["a.gms"], expected, row, "bland\n");
     }
 }
 
@@ -109,9 +109,9 @@ const GENERATED_ROWS: [Row<'static>; 5] = [
 ];
 
 /// Compares the runs of that model with the listing of one in which no call fails.
-fn check_generated(rt: &impl Abort, alloc: Global, words: &[&str], due: &str) {
+fn check_generated(rt: &impl Abort, alloc: Global, words: &[&str], expected: &str) {
     for row in &GENERATED_ROWS {
-        check(rt, alloc, "", words, due, row, "bland");
+        check(rt, alloc, "", words, expected, row, "bland");
     }
 }
 
@@ -163,14 +163,14 @@ fn nothing_is_executed_after_a_failed_write(rt: HostRuntime) {
 /// prefix of the listing, and nothing after the failed call, except what is printed of a file that
 /// cannot be read.
 fn is_faulted(left: &Left, fail: u64) -> bool {
-    let (_, due) = LOOPED;
+    let (_, expected) = LOOPED;
     if left.status == 4 {
         return left.output.is_empty() && left.said.as_str() == UNREAD;
     }
-    let is_whole = left.output.len() == due.len();
+    let is_whole = left.output.len() == expected.len();
     left.status == 5
         && left.calls == fail.saturating_add(1)
-        && due.starts_with(left.output.as_str())
+        && expected.starts_with(left.output.as_str())
         && DONE.starts_with(left.said.as_str())
         && (is_whole || left.said.is_empty())
 }
@@ -236,9 +236,9 @@ fn opened(rt: &impl Abort, alloc: Global, name: &str, fail: u64) -> Opened {
 
 #[test]
 fn a_host_in_memory_opens_the_first_file_of_a_name(rt: HostRuntime) {
-    for (name, fail, due) in &NAMES {
+    for (name, fail, expected) in &NAMES {
         assert!(rt;
-            opened(&rt, rt.alloc(), name, *fail) == *due,
+            opened(&rt, rt.alloc(), name, *fail) == *expected,
             "{name} {fail}"
         );
     }

@@ -244,10 +244,10 @@ const CAPPED: Given<'static> = (
 #[test]
 fn answers_over_small_numbers(rt: HostRuntime) {
     let alloc = rt.alloc();
-    for (given, due) in &REFUSED {
+    for (given, expected) in &REFUSED {
         let lp: Lp<Tiny> = program(&rt, alloc, given);
         let answer = solved(&rt, alloc, &lp);
-        assert!(rt; told(&rt, alloc, &answer).as_str() == *due, "{due}");
+        assert!(rt; told(&rt, alloc, &answer).as_str() == *expected, "{due}");
     }
     let lp: Lp<Half> = program(&rt, alloc, &CAPPED);
     let answer = solved(&rt, alloc, &lp);
@@ -394,8 +394,8 @@ fn points_and_bounds_over_small_numbers(rt: HostRuntime) {
         assert!(rt; !well_formed(&lp));
     }
     let lp: Lp<Tiny> = program(&rt, alloc, &CAPPED);
-    for (x, z, due) in &POINTS {
-        assert!(rt; tested(&rt, alloc, &lp, *x, *z).as_str() == *due, "{due}");
+    for (x, z, expected) in &POINTS {
+        assert!(rt; tested(&rt, alloc, &lp, *x, *z).as_str() == *expected, "{due}");
     }
     let bound: Result<Half, StepName> = bound_by_two(&rt, alloc);
     assert!(rt; matches!(bound, Ok(bound) if bound.parts() == (2, 1)));

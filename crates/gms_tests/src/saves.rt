@@ -6,7 +6,7 @@ use std::process::Abort;
 
 /// Files and the arguments of a run over them, and the expected results if no call fails.
 #[derive(Clone, Copy)]
-struct Due<'a> {
+struct Awaited<'a> {
     /// The files, each with its text.
     files: &'a [(&'a str, &'a str)],
     /// The arguments.
@@ -59,7 +59,7 @@ end
 ";
 
 /// A run that saves its last state.
-const SAVING: Due<'static> = Due {
+const SAVING: Awaited<'static> = Awaited {
     files: &[("a.gms", SOURCE)],
     words: &["--save", "s.sav", "a.gms"],
     listing: "     1  scalar a /1/; a = a + 1/2;\nEND status 0 solves 0\n",
@@ -70,7 +70,7 @@ const SAVING: Due<'static> = Due {
 };
 
 /// A run that resumes from that.
-const GOING_ON: Due<'static> = Due {
+const GOING_ON: Awaited<'static> = Awaited {
     files: &[("b.gms", LATER), ("s.sav", SAVE)],
     words: &["--restart", "s.sav", "b.gms"],
     listing: LATER_LISTING,
@@ -81,7 +81,7 @@ const GOING_ON: Due<'static> = Due {
 };
 
 /// A run that resumes and saves.
-const DOING_BOTH: Due<'static> = Due {
+const DOING_BOTH: Awaited<'static> = Awaited {
     files: &[("b.gms", LATER), ("s.sav", SAVE)],
     words: &["--restart", "s.sav", "--save", "t.sav", "b.gms"],
     listing: LATER_LISTING,
@@ -136,58 +136,58 @@ const GOING_ON_ROWS: [Row<'static>; 11] = [
 
 /// Runs this over a host of which a call moves at most `most` bytes (0 is no bound), and one call
 /// fails.
-fn left_of(rt: &impl Abort, alloc: Global, due: &Due, most: u32, fail: u64) -> Left {
+fn left_of(rt: &impl Abort, alloc: Global, expected: &Awaited, most: u32, fail: u64) -> Left {
     let fail = [fail];
-    let host = (due.files, most, fail.as_slice());
+    let host = (expected.files, most, fail.as_slice());
     run_files(
         rt,
         alloc,
         host,
-        due.words,
+        expected.words,
         &["bland", "dantzig", "steepest", "any"],
     )
 }
 
 /// Whether a run had the expected results of a row, and prefixes of what is expected of any.
-fn is_row(left: &Left, due: &Due, row: &Row) -> bool {
+fn is_row(left: &Left, expected: &Awaited, row: &Row) -> bool {
     let (_, status, asked, kept, said, length) = *row;
     left.status == status
         && left.asked.as_str() == asked
         && left.kept.as_str() == kept
         && left.said.as_str() == said
         && left.output.len() == length
-        && has_fronts(left, due)
+        && has_prefixes(left, expected)
 }
 
 /// Whether a run, one call of which failed, had results as expected of any: the output is a prefix
 /// of the expected text, and what is requested, kept and printed are prefixes of what is expected.
-fn has_fronts(left: &Left, due: &Due) -> bool {
+fn has_prefixes(left: &Left, expected: &Awaited) -> bool {
     let text = if left.kept.is_empty() {
-        due.listing
+        expected.listing
     } else {
-        due.last
+        expected.last
     };
     text.starts_with(left.output.as_str())
-        && due.asked.starts_with(left.asked.as_str())
-        && due.kept.starts_with(left.kept.as_str())
-        && says_front(left, due)
+        && expected.asked.starts_with(left.asked.as_str())
+        && expected.kept.starts_with(left.kept.as_str())
+        && prints_prefix(left, expected)
 }
 
 /// Whether the printed text says that a file cannot be read, with an empty output; or is a prefix
 /// of the expected one, and empty before all expected outputs were kept.
-fn says_front(left: &Left, due: &Due) -> bool {
+fn prints_prefix(left: &Left, expected: &Awaited) -> bool {
     if left.status == 4 {
         return left.output.is_empty() && left.said.starts_with("cannot read ");
     }
-    let is_whole = left.kept.as_str() == due.kept;
-    due.said.starts_with(left.said.as_str()) && (is_whole || left.said.is_empty())
+    let is_whole = left.kept.as_str() == expected.kept;
+    expected.said.starts_with(left.said.as_str()) && (is_whole || left.said.is_empty())
 }
 
 /// Compares a run, one call of which fails, with the expected one.
-fn check(rt: &impl Abort, alloc: Global, due: &Due, row: &Row) {
+fn check(rt: &impl Abort, alloc: Global, expected: &Awaited, row: &Row) {
     let (fail, ..) = *row;
-    let left = left_of(rt, alloc, due, 0, fail);
-    assert!(rt; is_row(&left, due, row), "{fail}");
+    let left = left_of(rt, alloc, expected, 0, fail);
+    assert!(rt; is_row(&left, expected, row), "{fail}");
 }
 
 #[test]
@@ -198,7 +198,7 @@ fn a_failed_call_ends_a_run_that_saves(rt: HostRuntime) {
 }
 
 #[test]
-fn a_failed_call_ends_a_run_that_goes_on(rt: HostRuntime) {
+fn a_failed_call_ends_a_restarted_run(rt: HostRuntime) {
     for row in &GOING_ON_ROWS {
         check(&rt, rt.alloc(), &GOING_ON, row);
     }
@@ -214,8 +214,8 @@ const CALLS: u64 = 358;
 fn is_faulted(left: &Left, fail: u64) -> bool {
     match left.status {
         0 => fail == CALLS && left.calls == CALLS && left.output.as_str() == LATER_SAVE,
-        4 => has_fronts(left, &DOING_BOTH),
-        5 => left.calls == fail.saturating_add(1) && has_fronts(left, &DOING_BOTH),
+        4 => has_prefixes(left, &DOING_BOTH),
+        5 => left.calls == fail.saturating_add(1) && has_prefixes(left, &DOING_BOTH),
         _ => false,
     }
 }
@@ -265,10 +265,10 @@ fn check_output(
     files: &[(&str, &str)],
     words: &[&str],
     solvers: &[&str],
-    due: &str,
+    expected: &str,
 ) {
     let left = run_files(rt, alloc, (files, 0, &[]), words, solvers);
-    assert!(rt; left.output.as_str() == due);
+    assert!(rt; left.output.as_str() == expected);
 }
 
 #[test]

@@ -186,11 +186,11 @@ const ROWS: [Row<'static>; 16] = [
 fn check(rt: &impl Abort, alloc: Global, source: &str, row: &Row) {
     let (names, _, solves, lists, tells) = *row;
     let left = run_words(rt, alloc, (source, 0, &[]), &["a.gms"], names);
-    assert!(rt; is_due(&left, lists, tells), "{solves}");
+    assert!(rt; is_expected(&left, lists, tells), "{solves}");
 }
 
 /// Whether a run ended with Done, with this in its listing, and its solvers tell this.
-fn is_due(left: &Left, lists: &str, tells: &str) -> bool {
+fn is_expected(left: &Left, lists: &str, tells: &str) -> bool {
     left.status == 0 && left.output.contains(lists) && left.told.as_str() == tells
 }
 

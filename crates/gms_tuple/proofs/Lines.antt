@@ -34,8 +34,8 @@ less-at (x ∷ xs) (suc i) (suc j) d ordered below within = less-at xs i j d (re
 
 module _ (p : List ℕ → Bool) (closed : IsClosed p) where
   -- where the first of the second part passes, so do all of the first
-  pub count-behind : (l : List (List ℕ)) (x : List ℕ) (r : List (List ℕ)) → IsOrdered (l ++ x ∷ r) → p x ≡ true → count_by p (l ++ x ∷ r) ≡ length l + count_by p (x ∷ r)
-  count-behind l x r ordered passes =
+  pub count-following : (l : List (List ℕ)) (x : List ℕ) (r : List (List ℕ)) → IsOrdered (l ++ x ∷ r) → p x ≡ true → count_by p (l ++ x ∷ r) ≡ length l + count_by p (x ∷ r)
+  count-following l x r ordered passes =
       let both = count-passes p closed l x r ordered passes in
       let second : IsOrdered (x ∷ r) = second-ordered l (x ∷ r) ordered in
       let own = count-passes p closed [] x r second passes in
@@ -80,9 +80,9 @@ module _ (through : Bool) (prefix : List ℕ) (whole l m : List (List ℕ)) (x :
   -- where the last is within, all are
   pub all-pass : slice_get m (length m - 1) ≡ Some x → is_within through prefix x ≡ true → count_by (is_within through prefix) whole ≡ length whole
   all-pass last passes =
-      let front : List (List ℕ) = l ++ take (length m - 1) m in
-      let e : whole ≡ front ++ x ∷ [] = sym is ∙ ap (λ r. l ++ r) (ends-with m x last) ∙ sym (append_assoc l (take (length m - 1) m) (x ∷ [])) in
-      ap (count_by (is_within through prefix)) e ∙ count-all (is_within through prefix) (is_within-closed through prefix) front x (subst IsOrdered e ordered) passes ∙ sym (ap length e ∙ length-append front (x ∷ []))
+      let beginning : List (List ℕ) = l ++ take (length m - 1) m in
+      let e : whole ≡ beginning ++ x ∷ [] = sym is ∙ ap (λ r. l ++ r) (ends-with m x last) ∙ sym (append_assoc l (take (length m - 1) m) (x ∷ [])) in
+      ap (count_by (is_within through prefix)) e ∙ count-all (is_within through prefix) (is_within-closed through prefix) beginning x (subst IsOrdered e ordered) passes ∙ sym (ap length e ∙ length-append beginning (x ∷ []))
 
   -- where the first of the second part is not within, those within are of the first part
   pub none-pass : slice_get m 0 ≡ Some x → is_within through prefix x ≡ false → count_by (is_within through prefix) whole ≡ count_by (is_within through prefix) l
@@ -97,7 +97,7 @@ module _ (through : Bool) (prefix : List ℕ) (whole l m : List (List ℕ)) (x :
       let p : List ℕ → Bool = is_within through prefix in
       let e : whole ≡ l ++ x ∷ drop 1 m = sym is ∙ ap (λ r. l ++ r) (begins-with m x first) in
       let own : count_by p m ≡ i = count-partitioned p (is_within-closed through prefix) m i (second-ordered l m (subst IsOrdered (sym is) ordered)) most (λ k d below. point.0 k d (omega arith) below) (λ k d from below. point.1 k d from below) in
-      sym (ap (count_by p) e ∙ count-behind p (is_within-closed through prefix) l x (drop 1 m) (subst IsOrdered e ordered) passes ∙ ap (λ r. length l + count_by p r) (sym (begins-with m x first)) ∙ ap (λ n. length l + n) own)
+      sym (ap (count_by p) e ∙ count-following p (is_within-closed through prefix) l x (drop 1 m) (subst IsOrdered e ordered) passes ∙ ap (λ r. length l + count_by p r) (sym (begins-with m x first)) ∙ ap (λ n. length l + n) own)
 
   -- in the second part those that are within come first
   pub partitioned : IsPartitionedBy (is_within through prefix) m

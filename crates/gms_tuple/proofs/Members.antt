@@ -137,8 +137,8 @@ IsOrdered-joined xs [] ordered = ordered
 IsOrdered-joined xs (y ∷ ys) ordered = IsOrdered-joined (inserted xs y) ys (IsOrdered-inserted xs y ordered)
 
 -- inserting a tuple between the two parts of a list
-insert-between : (xs front back : List (List ℕ)) (t : List ℕ) (n : ℕ) → xs ≡ front ++ back → length front ≡ n → insert xs n t ≡ front ++ t ∷ back
-insert-between xs front back t n e at = rw e (ap (λ ys. ys ++ t ∷ drop n (front ++ back)) (take_at front back n at) ∙ ap (λ ys. front ++ t ∷ ys) (drop_at front back n at))
+insert-between : (xs beginning back : List (List ℕ)) (t : List ℕ) (n : ℕ) → xs ≡ beginning ++ back → length beginning ≡ n → insert xs n t ≡ beginning ++ t ∷ back
+insert-between xs beginning back t n e at = rw e (ap (λ ys. ys ++ t ∷ drop n (beginning ++ back)) (take_at beginning back n at) ∙ ap (λ ys. beginning ++ t ∷ ys) (drop_at beginning back n at))
 
 -- of two different tuples exactly one comes first
 before-either : (x t : List ℕ) → same_tuple x t ≡ false → not (is_before x t) ≡ is_before t x

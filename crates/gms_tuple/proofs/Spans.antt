@@ -71,9 +71,9 @@ span-cut xs prefix ordered =
     first ∙ ap (λ rest. filter (λ member. is_before member prefix) xs ++ rest) (second ∙ ap (λ ys. ys ++ beyond xs prefix) those)
 
 -- the middle of three parts, by its places
-slice-middle : {X : Type 0} (xs front middle back : List X) (from : ℕ) → xs ≡ front ++ (middle ++ back) → length front ≡ from → slice_range xs from (from + length middle) ≡ middle
-slice-middle xs front middle back from e n =
-    let rest : drop from xs ≡ middle ++ back = rw e (drop_at front (middle ++ back) from n) in
+slice-middle : {X : Type 0} (xs beginning middle back : List X) (from : ℕ) → xs ≡ beginning ++ (middle ++ back) → length beginning ≡ from → slice_range xs from (from + length middle) ≡ middle
+slice-middle xs beginning middle back from e n =
+    let rest : drop from xs ≡ middle ++ back = rw e (drop_at beginning (middle ++ back) from n) in
     ap (take (from + length middle - from)) rest ∙ take_at middle back (from + length middle - from) (omega arith)
 
 -- What the places of the members that begin with a prefix are.
@@ -84,10 +84,10 @@ pub record IsSpan (xs : List (List ℕ)) (prefix : List ℕ) (from upto : ℕ) :
 pub IsSpan-counted : (xs : List (List ℕ)) (prefix : List ℕ) → IsOrdered xs → IsSpan xs prefix (count_before xs prefix) (count_before xs prefix + count_with xs prefix)
 IsSpan-counted xs prefix ordered =
     let cut = span-cut xs prefix ordered in
-    let front = filter (λ member. is_before member prefix) xs in
-    let n : length front ≡ count_before xs prefix = length-filter (λ member. is_before member prefix) xs in
+    let beginning = filter (λ member. is_before member prefix) xs in
+    let n : length beginning ≡ count_before xs prefix = length-filter (λ member. is_before member prefix) xs in
     let m : length (those_with xs prefix) ≡ count_with xs prefix = length-filter (λ member. begins_with member prefix) xs in
     rw (← m) (record {
-      within = omega (arith, ap length cut, length-append front (those_with xs prefix ++ beyond xs prefix), length-append (those_with xs prefix) (beyond xs prefix), n);
-      range = slice-middle xs front (those_with xs prefix) (beyond xs prefix) (count_before xs prefix) cut n;
+      within = omega (arith, ap length cut, length-append beginning (those_with xs prefix ++ beyond xs prefix), length-append (those_with xs prefix) (beyond xs prefix), n);
+      range = slice-middle xs beginning (those_with xs prefix) (beyond xs prefix) (count_before xs prefix) cut n;
     })

@@ -17,13 +17,13 @@ const MOST_BEHIND: usize = 64;
 /// with `MOST_BEHIND` others at a time into the tree.
 pub struct Line {
     tree: Tree,
-    behind: Vec<Tuple>,
+    following: Vec<Tuple>,
 }
 
 // Written out, so that it is proved once, and not in each crate that drops one.
 impl Drop for Line {
     fn drop(self) {
-        let Self { tree: _, behind: _ } = self;
+        let Self { tree: _, following: _ } = self;
     }
 }
 
@@ -32,9 +32,9 @@ impl Model for Line {
 
     ghost Value = { List (List ℕ) };
 
-    ghost view = { λ l. l.tree ++ l.behind.items };
+    ghost view = { λ l. l.tree ++ l.following.items };
 
-    ghost invariant = { λ l. length (l.tree ++ l.behind.items) < 2 ^ 64 };
+    ghost invariant = { λ l. length (l.tree ++ l.following.items) < 2 ^ 64 };
 }
 
 impl Line {
@@ -44,7 +44,7 @@ impl Line {
     {
         Line {
             tree: Tree::new(),
-            behind: Vec::new(alloc),
+            following: Vec::new(alloc),
         }
     }
 
@@ -52,7 +52,7 @@ impl Line {
     pub fn len(&self) -> usize
         ensures { result ≡ length self.now }
     {
-        self.tree.len() + self.behind.len()
+        self.tree.len() + self.following.len()
     }
 
     /// The tuple at a place.
@@ -64,7 +64,7 @@ impl Line {
         if place < before {
             self.tree.get(place)
         } else {
-            &self.behind[place - before]
+            &self.following[place - before]
         }
     }
 
@@ -74,17 +74,17 @@ impl Line {
         requires { IsOrdered self.now }
         ensures { result ≡ count_by (is_within through t.now) self.now }
     {
-        let Some(last) = self.behind.last() else {
+        let Some(last) = self.following.last() else {
             return self.tree.count(t, through);
         };
         if last.is_within(t, through) {
             return self.len();
         }
-        if !self.behind[0].is_within(t, through) {
+        if !self.following[0].is_within(t, through) {
             return self.tree.count(t, through);
         }
         let within = self
-            .behind
+            .following
             .partition_point(|other| other.is_within(t, through));
         self.tree.len() + within
     }
@@ -93,16 +93,16 @@ impl Line {
     fn settle(&mut self, alloc: Global) -> Result<(), AllocError>
         ensures { self.new ≡ self.old }
     {
-        if self.behind.len() < MOST_BEHIND {
+        if self.following.len() < MOST_BEHIND {
             return Ok(());
         }
-        self.tree.take_in(alloc, &mut self.behind)
+        self.tree.take_in(alloc, &mut self.following)
     }
 
     /// Inserts a tuple at a place. If memory runs out nothing changes.
     pub fn insert(&mut self, alloc: Global, place: usize, tuple: Tuple) -> Result<(), AllocError>
         requires place { place ≤ length self.old }
-        requires room { length self.old + 1 < 2 ^ 64 }
+        requires within_bound { length self.old + 1 < 2 ^ 64 }
         ensures ok { OnOk result (self.new ≡ insert self.old place tuple) }
         ensures err { OnErr result (self.new ≡ self.old) }
     {
@@ -111,7 +111,7 @@ impl Line {
         if place < before {
             self.tree.insert(alloc, place, tuple)?;
         } else {
-            self.behind.insert(place - before, tuple)?;
+            self.following.insert(place - before, tuple)?;
         }
         Ok(())
     }
@@ -125,7 +125,7 @@ impl Line {
         if place < before {
             self.tree.remove(place);
         } else {
-            let _taken = self.behind.remove(place - before);
+            let _taken = self.following.remove(place - before);
         }
     }
 
@@ -134,9 +134,9 @@ impl Line {
         ensures { IfOk result (λ copy. copy ≡ self.now) }
     {
         let tree = self.tree.copy(alloc)?;
-        let mut behind = Vec::with_capacity(alloc, self.behind.len())?;
-        push_copies(alloc, &self.behind, &mut behind)?;
-        Ok(Line { tree, behind })
+        let mut following = Vec::with_capacity(alloc, self.following.len())?;
+        push_copies(alloc, &self.following, &mut following)?;
+        Ok(Line { tree, following })
     }
 
     /// Puts equal tuples at the end of a list.
@@ -144,7 +144,7 @@ impl Line {
         ensures { OnOk result (list.new.items ≡ list.old.items ++ self.now) }
     {
         self.tree.push_all(alloc, list)?;
-        push_copies(alloc, &self.behind, list)
+        push_copies(alloc, &self.following, list)
     }
 
     /// The last `size` tuples of a list, which are moved out of it.
@@ -154,7 +154,7 @@ impl Line {
     {
         Ok(Line {
             tree: Tree::build(alloc, tuples, size)?,
-            behind: Vec::new(alloc),
+            following: Vec::new(alloc),
         })
     }
 }

@@ -142,7 +142,7 @@ impl Tree {
     /// Inserts a tuple at a place. Out of memory leaves all as it was.
     pub fn insert(&mut self, alloc: Global, place: usize, tuple: Tuple) -> Result<(), AllocError>
         requires place { place ≤ length self.old }
-        requires room { length self.old + 1 < 2 ^ 64 }
+        requires within_bound { length self.old + 1 < 2 ^ 64 }
         ensures ok { OnOk result (self.new ≡ insert self.old place tuple) }
         ensures err { OnErr result (self.new ≡ self.old) }
     {
@@ -168,7 +168,7 @@ impl Tree {
     /// Removes the tuple at a place.
     pub fn remove(&mut self, place: usize)
         requires place { place < length self.old }
-        requires room { length self.old < 2 ^ 64 }
+        requires within_bound { length self.old < 2 ^ 64 }
         ensures { self.new ≡ remove self.old place }
     {
         let Node::Fork(mut fork) = self.take().into_node() else {
@@ -213,7 +213,7 @@ impl Tree {
 
     /// Puts the tuples of a fork without sides before all others.
     fn prepend(&mut self, new: Box<Fork>)
-        requires room { length new.value.own.items + length self.old < 2 ^ 64 }
+        requires within_bound { length new.value.own.items + length self.old < 2 ^ 64 }
         requires single { IsSingle new.value }
         ensures { self.new ≡ new.value.own.items ++ self.old }
     {
@@ -312,33 +312,33 @@ impl Tree {
     }
 
     /// Moves the tuples of a list after all others. Out of memory leaves all as it was.
-    pub fn take_in(&mut self, alloc: Global, behind: &mut Vec<Tuple>) -> Result<(), AllocError>
-        requires { length self.old + length behind.old.items < 2 ^ 64 }
-        ensures ok { OnOk result ((self.new ≡ self.old ++ behind.old.items) × (behind.new.items ≡ [])) }
-        ensures err { OnErr result ((self.new ≡ self.old) × (behind.new.items ≡ behind.old.items)) }
+    pub fn take_in(&mut self, alloc: Global, following: &mut Vec<Tuple>) -> Result<(), AllocError>
+        requires { length self.old + length following.old.items < 2 ^ 64 }
+        ensures ok { OnOk result ((self.new ≡ self.old ++ following.old.items) × (following.new.items ≡ [])) }
+        ensures err { OnErr result ((self.new ≡ self.old) × (following.new.items ≡ following.old.items)) }
     {
         let mut fork = Fork::single(alloc, Vec::new(alloc))?;
-        fork.size = behind.len();
-        mem::swap(&mut fork.own, behind);
+        fork.size = following.len();
+        mem::swap(&mut fork.own, following);
         self.append(Tree::made(fork));
         Ok(())
     }
 
     /// Puts the tuples of another tree after all others.
-    pub fn append(&mut self, behind: Tree)
-        requires { length self.old + length behind < 2 ^ 64 }
-        ensures { self.new ≡ self.old ++ behind }
+    pub fn append(&mut self, following: Tree)
+        requires { length self.old + length following < 2 ^ 64 }
+        ensures { self.new ≡ self.old ++ following }
     {
-        let size = self.len() + behind.len();
+        let size = self.len() + following.len();
         let Node::Fork(mut fork) = self.take().into_node() else {
-            *self = behind;
+            *self = following;
             return;
         };
-        if fork.size / 2 < behind.len() {
-            *self = Tree::joined(Tree::of(fork), behind, size);
+        if fork.size / 2 < following.len() {
+            *self = Tree::joined(Tree::of(fork), following, size);
             return;
         }
-        fork.right.append(behind);
+        fork.right.append(following);
         fork.size = size;
         fork.balance();
         *self = Tree::of(fork);
@@ -416,7 +416,7 @@ impl Fork {
     /// Inserts a tuple into the fork's block, at a place in it.
     fn insert_own(&mut self, alloc: Global, at: usize, tuple: Tuple) -> Result<(), AllocError>
         requires at { at ≤ length self.old.own.items }
-        requires room { length (listed self.old) + 1 < 2 ^ 64 }
+        requires within_bound { length (listed self.old) + 1 < 2 ^ 64 }
         ensures ok { OnOk result (listed self.new ≡ self.old.left ++ (insert self.old.own.items at tuple ++ self.old.right)) }
         ensures err { OnErr result (listed self.new ≡ listed self.old) }
     {
@@ -430,7 +430,7 @@ impl Fork {
     /// Inserts a tuple into the fork's block, the second half of which becomes a fork on the right.
     fn halve(&mut self, alloc: Global, at: usize, tuple: Tuple) -> Result<(), AllocError>
         requires at { at ≤ length self.old.own.items }
-        requires room { length (listed self.old) + 1 < 2 ^ 64 }
+        requires within_bound { length (listed self.old) + 1 < 2 ^ 64 }
         ensures ok { OnOk result (listed self.new ≡ self.old.left ++ (insert self.old.own.items at tuple ++ self.old.right)) }
         ensures err { OnErr result (listed self.new ≡ listed self.old) }
     {

@@ -10,7 +10,7 @@ use Rattle.gq_number.proofs.Quotients.{≡-/ℚ}
 use Rattle.gq_number.proofs.Naming.{decimal_parts, ratio-one, whole-≢-zero}
 use Rattle.gq_text.specs.Numeral.{spelled}
 use Rattle.gq_text.specs.Decimal.{scaled_by_ten, number_of}
-use Rattle.gq_text.specs.Literal.{HasNoZeroBehind, FitsLiteral}
+use Rattle.gq_text.specs.Literal.{HasNoTrailingZero, FitsLiteral}
 use Rattle.gq_text.specs.InnerParts.{exponent_of}
 use Rattle.gq_text.specs.InnerShortest.{Shortens, added}
 use Rattle.gq_text.proofs.Numerals.{spelled-append}
@@ -45,15 +45,15 @@ moved n d z q e f p' p n_is p_is =
     (ap₂ (λ m u. m * 10 ^ e * u) number pf ∙ omega arith ∙ sym (ap₂ (λ u v. d * u * (v * 10 ^ f)) ze unit))
 
 -- the number by the shortened digits
-pub number_is : (before behind whole' fraction digits : List ℕ) (negative : Bool) → Shortens before behind whole' fraction → number_of (record { before = before; behind = behind; exponent = exponent_of negative digits }) ≡ ratio (pos (spelled (whole' ++ fraction) * 10 ^ ((length before - length whole') + added (not negative) (spelled digits)))) (10 ^ (length fraction + added negative (spelled digits)))
-number_is before behind whole' fraction digits negative s =
-    let n = spelled (before ++ behind) in
-    let places = length behind in
+pub number_is : (before following whole' fraction digits : List ℕ) (negative : Bool) → Shortens before following whole' fraction → number_of (record { before = before; following = following; exponent = exponent_of negative digits }) ≡ ratio (pos (spelled (whole' ++ fraction) * 10 ^ ((length before - length whole') + added (not negative) (spelled digits)))) (10 ^ (length fraction + added negative (spelled digits)))
+number_is before following whole' fraction digits negative s =
+    let n = spelled (before ++ following) in
+    let places = length following in
     let shorter = s.fraction_shorter in
-    let pair : whole (pos (spelled before)) +ℚ ratio (pos (spelled behind)) (10 ^ places) ≡ ratio (pos n) (10 ^ places) =
-    sym (decimal_parts (spelled before) (spelled behind) places) ∙ ap (λ m. ratio (pos m) (10 ^ places)) (sym (spelled-append before behind)) in
+    let pair : whole (pos (spelled before)) +ℚ ratio (pos (spelled following)) (10 ^ places) ≡ ratio (pos n) (10 ^ places) =
+    sym (decimal_parts (spelled before) (spelled following) places) ∙ ap (λ m. ratio (pos m) (10 ^ places)) (sym (spelled-append before following)) in
     ap (λ x. scaled_by_ten x (exponent_of negative digits)) pair ∙ scaled_is n (10 ^ places) (spelled digits) negative digits (tens_above places) refl
-    ∙ moved n (spelled (whole' ++ fraction)) (length before - length whole') (length behind - length fraction) (added (not negative) (spelled digits)) (added negative (spelled digits)) (length fraction) places s.spells (omega arith)
+    ∙ moved n (spelled (whole' ++ fraction)) (length before - length whole') (length following - length fraction) (added (not negative) (spelled digits)) (added negative (spelled digits)) (length fraction) places s.spells (omega arith)
 
 -- digits that are 0
 pub none_fits : (limit m u w : ℕ) → m ≡ 0 → FitsLiteral limit (ratio (pos (m * 10 ^ u)) (10 ^ w)) × (ratio (pos (m * 10 ^ u)) (10 ^ w) ≡ whole (pos 0))
@@ -67,31 +67,31 @@ far_tens : (k : ℕ) → 39 ≤ k → 2 ^ 127 < 10 ^ k
 far_tens k far = let wide : 10 ^ 39 ≤ 10 ^ k = pow-le-pow_right {n = 10} (omega arith) {i = 39} {j = k} far in omega arith
 
 -- digits past it
-pub far_digits : (limit m u w : ℕ) → limit < 2 ^ 127 → HasNoZeroBehind m → ¬ (m < 2 ^ 128) → ¬ FitsLiteral limit (ratio (pos (m * 10 ^ u)) (10 ^ w))
+pub far_digits : (limit m u w : ℕ) → limit < 2 ^ 127 → HasNoTrailingZero m → ¬ (m < 2 ^ 128) → ¬ FitsLiteral limit (ratio (pos (m * 10 ^ u)) (10 ^ w))
 far_digits limit m u w small h far f =
     elim (cases_lt u w) [
       | inl less ↦ (let fit = fraction_fits limit m u w (w - u - 1) (omega arith) h (omega arith) f in omega (arith, fit.0))
       | inr more ↦ (let fit = whole_fits limit m u w (u - w) (omega arith) h (omega arith) f in let grows = le-mul_of_pos_right m (tens_above (u - w)) in omega arith)
     ]
 
-far_above : (limit m u w k : ℕ) → limit < 2 ^ 127 → 0 < m → HasNoZeroBehind m → u ≡ w + k → 39 ≤ k → ¬ FitsLiteral limit (ratio (pos (m * 10 ^ u)) (10 ^ w))
+far_above : (limit m u w k : ℕ) → limit < 2 ^ 127 → 0 < m → HasNoTrailingZero m → u ≡ w + k → 39 ≤ k → ¬ FitsLiteral limit (ratio (pos (m * 10 ^ u)) (10 ^ w))
 far_above limit m u w k small some h e far f =
     let fit = whole_fits limit m u w k some h e f in
     let unit = far_tens k far in
     let grows : 1 * 10 ^ k ≤ m * 10 ^ k = mul-le-mul_right (10 ^ k) (omega arith) in
     omega arith
 
-far_below : (limit m u w k : ℕ) → limit < 2 ^ 127 → 0 < m → HasNoZeroBehind m → w ≡ u + suc k → 39 ≤ suc k → ¬ FitsLiteral limit (ratio (pos (m * 10 ^ u)) (10 ^ w))
+far_below : (limit m u w k : ℕ) → limit < 2 ^ 127 → 0 < m → HasNoTrailingZero m → w ≡ u + suc k → 39 ≤ suc k → ¬ FitsLiteral limit (ratio (pos (m * 10 ^ u)) (10 ^ w))
 far_below limit m u w k small some h e far f =
     let fit = fraction_fits limit m u w k some h e f in
     let unit = far_tens (suc k) far in
     omega (arith, fit.1)
 
 -- an exponent past it, added to a count of zeros or of places
-pub far_up : (limit m e zeros places : ℕ) (negative : Bool) → limit < 2 ^ 127 → 0 < m → HasNoZeroBehind m → zeros < 2 ^ 64 → places < 2 ^ 64 → ¬ (zeros + added (not negative) e < 2 ^ 128) → ¬ FitsLiteral limit (ratio (pos (m * 10 ^ (zeros + added (not negative) e))) (10 ^ (places + added negative e)))
+pub far_up : (limit m e zeros places : ℕ) (negative : Bool) → limit < 2 ^ 127 → 0 < m → HasNoTrailingZero m → zeros < 2 ^ 64 → places < 2 ^ 64 → ¬ (zeros + added (not negative) e < 2 ^ 128) → ¬ FitsLiteral limit (ratio (pos (m * 10 ^ (zeros + added (not negative) e))) (10 ^ (places + added negative e)))
 far_up limit m e zeros places true small some h few_zeros few_places far f = far (omega arith)
 far_up limit m e zeros places false small some h few_zeros few_places far f = far_above limit m (zeros + e) (places + 0) (zeros + e - (places + 0)) small some h (omega arith) (omega arith) f
 
-pub far_down : (limit m e zeros places : ℕ) (negative : Bool) → limit < 2 ^ 127 → 0 < m → HasNoZeroBehind m → zeros < 2 ^ 64 → places < 2 ^ 64 → ¬ (places + added negative e < 2 ^ 128) → ¬ FitsLiteral limit (ratio (pos (m * 10 ^ (zeros + added (not negative) e))) (10 ^ (places + added negative e)))
+pub far_down : (limit m e zeros places : ℕ) (negative : Bool) → limit < 2 ^ 127 → 0 < m → HasNoTrailingZero m → zeros < 2 ^ 64 → places < 2 ^ 64 → ¬ (places + added negative e < 2 ^ 128) → ¬ FitsLiteral limit (ratio (pos (m * 10 ^ (zeros + added (not negative) e))) (10 ^ (places + added negative e)))
 far_down limit m e zeros places false small some h few_zeros few_places far f = far (omega arith)
 far_down limit m e zeros places true small some h few_zeros few_places far f = far_below limit m (zeros + 0) (places + e) (places + e - (zeros + 0) - 1) small some h (omega arith) (omega arith) f

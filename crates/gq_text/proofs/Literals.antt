@@ -5,7 +5,7 @@ use Rattle.std.proofs.Math.Pow.{pow-add}
 use Rattle.std.proofs.lemmas.Bool.{cases_lt}
 use Rattle.gq_number.specs.Number.{whole, ratio}
 use Rattle.gq_number.proofs.Naming.{ratio-≡, ratio-one}
-use Rattle.gq_text.specs.Literal.{HasNoZeroBehind, FitsLiteral}
+use Rattle.gq_text.specs.Literal.{HasNoTrailingZero, FitsLiteral}
 
 -- ---- digits and powers of ten
 
@@ -22,7 +22,7 @@ ends_in_zero n m k e =
     let f : n ≡ 10 * (m * 10 ^ k) = e ∙ ap (λ u. m * u) (pow-succ' 10 k) ∙ omega arith in
     omega arith
 
-not_zero_behind : (n : ℕ) → 0 < n → HasNoZeroBehind n → n % 10 ≢ 0
+not_zero_behind : (n : ℕ) → 0 < n → HasNoTrailingZero n → n % 10 ≢ 0
 not_zero_behind n some h = elim h [ inl none ↦ absurd (omega arith) | inr last ↦ last ]
 
 -- digits that end in no 0 are known with their power of ten
@@ -58,10 +58,10 @@ fraction_is m u w k e =
 
 -- ---- what fits
 
-pub fits_whole : (limit m u w k : ℕ) → HasNoZeroBehind m → u ≡ w + k → m * 10 ^ k ≤ limit → FitsLiteral limit (ratio (pos (m * 10 ^ u)) (10 ^ w))
+pub fits_whole : (limit m u w k : ℕ) → HasNoTrailingZero m → u ≡ w + k → m * 10 ^ k ≤ limit → FitsLiteral limit (ratio (pos (m * 10 ^ u)) (10 ^ w))
 fits_whole limit m u w k h e small = record { m = m; e = k; shortest = h; within = inl (whole_is m u w k e, small) }
 
-pub fits_fraction : (limit m u w k : ℕ) → HasNoZeroBehind m → w ≡ u + k → m ≤ limit → 10 ^ k ≤ limit → FitsLiteral limit (ratio (pos (m * 10 ^ u)) (10 ^ w))
+pub fits_fraction : (limit m u w k : ℕ) → HasNoTrailingZero m → w ≡ u + k → m ≤ limit → 10 ^ k ≤ limit → FitsLiteral limit (ratio (pos (m * 10 ^ u)) (10 ^ w))
 fits_fraction limit m u w k h e small unit_small = record { m = m; e = k; shortest = h; within = inr (fraction_is m u w k e, small, unit_small) }
 
 -- a product of digits and tens is 0 only with no digits
@@ -69,7 +69,7 @@ some_digits : (m n i j : ℕ) → 0 < m → m * 10 ^ i ≡ n * 10 ^ j → 0 < n
 some_digits m zero i j some e = let p = mul-pos some (tens_above i) in absurd (omega arith)
 some_digits m (suc n) i j some e = omega arith
 
-pub whole_fits : (limit m u w k : ℕ) → 0 < m → HasNoZeroBehind m → u ≡ w + k → FitsLiteral limit (ratio (pos (m * 10 ^ u)) (10 ^ w)) → m * 10 ^ k ≤ limit
+pub whole_fits : (limit m u w k : ℕ) → 0 < m → HasNoTrailingZero m → u ≡ w + k → FitsLiteral limit (ratio (pos (m * 10 ^ u)) (10 ^ w)) → m * 10 ^ k ≤ limit
 whole_fits limit m u w k some h e f =
     let n = f.m in let j = f.e in
     let is_whole : ratio (pos (m * 10 ^ u)) (10 ^ w) ≡ ratio (pos (m * 10 ^ k)) 1 = whole_is m u w k e ∙ sym (ratio-one _) in
@@ -85,7 +85,7 @@ whole_fits limit m u w k some h e f =
     at_most : (n j : ℕ) → n ≤ limit → m * 10 ^ k * 10 ^ j ≡ n → m * 10 ^ k ≤ limit
     at_most n j small same = let grows : m * 10 ^ k ≤ m * 10 ^ k * 10 ^ j = le-mul_of_pos_right (m * 10 ^ k) (tens_above j) in omega arith
 
-pub fraction_fits : (limit m u w k : ℕ) → 0 < m → HasNoZeroBehind m → w ≡ u + suc k → FitsLiteral limit (ratio (pos (m * 10 ^ u)) (10 ^ w)) → (m ≤ limit) × (10 ^ suc k ≤ limit)
+pub fraction_fits : (limit m u w k : ℕ) → 0 < m → HasNoTrailingZero m → w ≡ u + suc k → FitsLiteral limit (ratio (pos (m * 10 ^ u)) (10 ^ w)) → (m ≤ limit) × (10 ^ suc k ≤ limit)
 fraction_fits limit m u w k some h e f =
     let n = f.m in let j = f.e in
     let last = not_zero_behind m some h in
@@ -116,7 +116,7 @@ unfolding HasParts
 below_some digits up down above below h =
     elim (cases_lt up down) [ inl less ↦ (let p = h.1 less in omega (arith, p.1, tens_above (down - up))) | inr more ↦ (let p = h.0 more in omega (arith, p.1)) ]
 
-pub parts_fit : (limit digits up down above below : ℕ) → HasNoZeroBehind digits → HasParts digits up down above below → above ≤ limit → below ≤ limit → FitsLiteral limit (ratio (pos (digits * 10 ^ up)) (10 ^ down)) × (ratio (pos above) below ≡ ratio (pos (digits * 10 ^ up)) (10 ^ down))
+pub parts_fit : (limit digits up down above below : ℕ) → HasNoTrailingZero digits → HasParts digits up down above below → above ≤ limit → below ≤ limit → FitsLiteral limit (ratio (pos (digits * 10 ^ up)) (10 ^ down)) × (ratio (pos above) below ≡ ratio (pos (digits * 10 ^ up)) (10 ^ down))
 unfolding HasParts
 parts_fit limit digits up down above below h p above_small below_small =
     elim (cases_lt up down) [
@@ -140,7 +140,7 @@ parts_small limit tested digits up down above below wide e p h k =
     ]
 
 -- what fits has parts within the limit
-pub parts_there : (limit tested digits up down : ℕ) → tested ≡ limit → 0 < digits → HasNoZeroBehind digits → FitsLiteral limit (ratio (pos (digits * 10 ^ up)) (10 ^ down)) → (down ≤ up → digits * 10 ^ (up - down) ≤ tested) × (up < down → (digits ≤ tested) × (10 ^ (down - up) ≤ tested))
+pub parts_there : (limit tested digits up down : ℕ) → tested ≡ limit → 0 < digits → HasNoTrailingZero digits → FitsLiteral limit (ratio (pos (digits * 10 ^ up)) (10 ^ down)) → (down ≤ up → digits * 10 ^ (up - down) ≤ tested) × (up < down → (digits ≤ tested) × (10 ^ (down - up) ≤ tested))
 parts_there limit tested digits up down e some h f = (
   λ more. let fit = whole_fits limit digits up down (up - down) some h (omega arith) f in omega arith,
   λ less. let unit : suc (down - up - 1) ≡ down - up = omega arith in

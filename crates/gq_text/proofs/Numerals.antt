@@ -36,7 +36,7 @@ spelled-lt (x ∷ xs) h =
 -- a digit and a rest below its unit are determined by their sum
 not_below : (a b r s u : ℕ) → a < b → a * u + r ≡ b * u + s → r < u → ⊥
 not_below a b r s u low e small =
-    let room : (a + 1) * u ≤ b * u = mul-le-mul_right u (omega arith) in
+    let within_bound : (a + 1) * u ≤ b * u = mul-le-mul_right u (omega arith) in
     omega arith
 
 pub one_split : (a b r s u : ℕ) → a * u + r ≡ b * u + s → r < u → s < u → (a ≡ b) × (r ≡ s)

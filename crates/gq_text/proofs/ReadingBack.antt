@@ -65,8 +65,8 @@ first_digit n tail rest byte small low e = by (decimal n) (numeral_is n small) e
     by [] m e = absurd (let s = m.some in omega (arith, s))
     by (d ∷ ds) m e = let same : d ≡ byte = cc in let range = m.digits.0 in omega (arith, range, same, low)
 
-behind_first : (a b : ℕ) (s t : List ℕ) → a ∷ s ≡ b ∷ t → (a ≡ b) × (s ≡ t)
-behind_first a b s t e = (cc, cc)
+after_first : (a b : ℕ) (s t : List ℕ) → a ∷ s ≡ b ∷ t → (a ≡ b) × (s ≡ t)
+after_first a b s t e = (cc, cc)
 
 -- a text that begins with a numerator splits at its sign
 pub sign_split : (z : ℤ) (text tail : List ℕ) (negative : Bool) (unsigned : List ℕ) → nat_abs z < 2 ^ 127 → text ≡ whole_text z ++ tail → SplitsSign text negative unsigned → HasMagnitude z negative unsigned tail
@@ -81,9 +81,9 @@ sign_split (pos n) text tail negative unsigned small is split =
 sign_split (negsuc n) text tail negative unsigned small is split =
     let begins : text ≡ 45 ∷ (decimal (n + 1) ++ tail) = is in
     elim split [
-      | inl minus ↦ record { magnitude = suc n; signed_is = ap (λ b. signed b (suc n)) (sym minus.1); size = refl; text_is = (behind_first 45 45 unsigned (decimal (n + 1) ++ tail) (sym minus.0 ∙ begins)).1 ∙ ap (λ k. decimal k ++ tail) (add-one n) }
+      | inl minus ↦ record { magnitude = suc n; signed_is = ap (λ b. signed b (suc n)) (sym minus.1); size = refl; text_is = (after_first 45 45 unsigned (decimal (n + 1) ++ tail) (sym minus.0 ∙ begins)).1 ∙ ap (λ k. decimal k ++ tail) (add-one n) }
       | inr rest ↦ elim rest [
-        | inl plus ↦ absurd (let same = (behind_first 43 45 unsigned (decimal (n + 1) ++ tail) (sym plus.0 ∙ begins)).0 in omega (arith, same))
+        | inl plus ↦ absurd (let same = (after_first 43 45 unsigned (decimal (n + 1) ++ tail) (sym plus.0 ∙ begins)).0 in omega (arith, same))
         | inr none ↦ absurd (let other : BeginsOther 45 (45 ∷ (decimal (n + 1) ++ tail)) = subst (BeginsOther 45) begins none.2 in other refl)
       ]
     ]
@@ -96,12 +96,12 @@ pub record HasParts (x : Number) (negative : Bool) (digits rest : List ℕ) : Ty
 
 pub parts_back : (x : Number) (text unsigned digits rest : List ℕ) (negative : Bool) → nat_abs x.numerator < 2 ^ 127 → text ≡ exact_text x → SplitsSign text negative unsigned → SplitsDigits unsigned digits rest → HasParts x negative digits rest
 parts_back x text unsigned digits rest negative small is sign split =
-    let front = sign_split x.numerator text (over_text x) negative unsigned small is sign in
-    let size = front.size in
-    let m = numeral_is front.magnitude (omega (arith, size, small)) in
-    let same = one_split digits (decimal front.magnitude) rest (over_text x) split.are_digits m.digits split.all (over_begins x) (sym split.text_is ∙ front.text_is) in
-    let spells : spelled digits ≡ front.magnitude = ap spelled same.0 ∙ m.spells in
-    record { signed_is = front.signed_is ∙ ap (signed negative) (sym spells); small = omega (arith, spells, size, small); rest_is = same.1 }
+    let prefix = sign_split x.numerator text (over_text x) negative unsigned small is sign in
+    let size = prefix.size in
+    let m = numeral_is prefix.magnitude (omega (arith, size, small)) in
+    let same = one_split digits (decimal prefix.magnitude) rest (over_text x) split.are_digits m.digits split.all (over_begins x) (sym split.text_is ∙ prefix.text_is) in
+    let spells : spelled digits ≡ prefix.magnitude = ap spelled same.0 ∙ m.spells in
+    record { signed_is = prefix.signed_is ∙ ap (signed negative) (sym spells); small = omega (arith, spells, size, small); rest_is = same.1 }
 
 -- what follows a numerator is read as the denominator
 pub below_back : (x : Number) (rest : List ℕ) (o : Option ℕ) → x.denominator < 2 ^ 127 → rest ≡ over_text x → (rest ≡ [] → IsSomeAnd o (λ d. d ≡ 1)) → ((n : ℕ) → n < 2 ^ 128 → rest ≡ 47 ∷ decimal n → IsSomeAnd o (λ d. d ≡ n)) → IsSomeAnd o (λ d. d ≡ x.denominator)

@@ -76,9 +76,9 @@ IsFixed_from before now decimals' d whole' fraction k n h l s small e layout =
     let parts = parts_back whole' fraction (10 ^ d) k (tens_above d) e small in
     record {
       before = before;
-      behind = decimals';
+      following = decimals';
       before_is = subst (λ w. IsNumeral w before) (sym parts.0) n;
-      behind_digits = h;
+      after_digits = h;
       behind_places = l;
       behind_spells = s ∙ sym parts.1;
       text_is = layout;

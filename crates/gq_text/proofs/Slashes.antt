@@ -16,15 +16,15 @@ digits_begin byte (b ∷ bs) more low h some = λ e. absurd (let range = h.0 in 
 
 -- a decimal begins with a digit or a point
 begins_no_minus : (text : List ℕ) (d : Decimal) → Spells text d → BeginsOther 45 text
-begins_no_minus text d s = let p = Divides-from text d s in first text d.before d.behind s.power p s.some
+begins_no_minus text d s = let p = Divides-from text d s in first text d.before d.following s.power p s.some
   where
-    first : (text before behind rest : List ℕ) → Divides text before behind rest → 0 < length before + length behind → BeginsOther 45 text
-    first text [] behind rest p some =
+    first : (text before following rest : List ℕ) → Divides text before following rest → 0 < length before + length following → BeginsOther 45 text
+    first text [] following rest p some =
         elim p.tail_is [
-          | inl dotted ↦ let at_point : BeginsOther 45 (46 ∷ (behind ++ rest)) = (λ e. absurd (omega arith)) in subst (BeginsOther 45) (sym (p.text_is ∙ dotted)) at_point
+          | inl dotted ↦ let at_point : BeginsOther 45 (46 ∷ (following ++ rest)) = (λ e. absurd (omega arith)) in subst (BeginsOther 45) (sym (p.text_is ∙ dotted)) at_point
           | inr bare ↦ absurd (let none = ap length bare.0 in omega arith)
         ]
-    first text (b ∷ bs) behind rest p some = subst (BeginsOther 45) (sym p.text_is) (digits_begin 45 (b ∷ bs) p.tail (omega arith) p.before_digits (omega arith))
+    first text (b ∷ bs) following rest p some = subst (BeginsOther 45) (sym p.text_is) (digits_begin 45 (b ∷ bs) p.tail (omega arith) p.before_digits (omega arith))
 
 means_no_minus : (text rest : List ℕ) (x : Number) → MeansNumber text x → ¬ (text ≡ codes "-" ++ rest)
 means_no_minus text rest x m e = let other : BeginsOther 45 (45 ∷ rest) = subst (BeginsOther 45) e (begins_no_minus text m.0 m.1) in other refl
@@ -36,13 +36,13 @@ one_signed text x y m n =
       | inr minus ↦ elim n [
         | inl plus' ↦ absurd (means_no_minus text minus.0 y plus' minus.2)
         | inr minus' ↦
-            let rest : minus.0 ≡ minus'.0 = behind minus.0 minus'.0 (sym minus.2 ∙ minus'.2) in
+            let rest : minus.0 ≡ minus'.0 = following minus.0 minus'.0 (sym minus.2 ∙ minus'.2) in
             minus.4 ∙ ap neg_ℚ (one_number minus'.0 minus.1 minus'.1 (subst (λ t. MeansNumber t minus.1) rest minus.3) minus'.3) ∙ sym minus'.4
       ]
     ]
   where
-    behind : (a b : List ℕ) → 45 ∷ a ≡ 45 ∷ b → a ≡ b
-    behind a b e = cc
+    following : (a b : List ℕ) → 45 ∷ a ≡ 45 ∷ b → a ≡ b
+    following a b e = cc
 
 -- ---- slashes
 
@@ -88,10 +88,10 @@ no_slash_number : (text : List ℕ) (x : Number) → MeansNumber text x → HasN
 no_slash_number text x m =
     let s = m.1 in let d = m.0 in
     let before = no_slash_digits d.before s.before_digits in
-    let behind = no_slash_digits d.behind s.behind_digits in
+    let following = no_slash_digits d.following s.after_digits in
     let power = no_slash_exponent s.power d.exponent s.power_is in
     let pointed : HasNoSlash s.pointed = elim s.pointed_is [
-      | inl dotted ↦ subst HasNoSlash (sym (dotted ∙ append_assoc d.before (codes ".") d.behind)) (no_slash_append d.before (46 ∷ d.behind) before (no_slash_at 46 d.behind (λ e. absurd (omega arith)) behind))
+      | inl dotted ↦ subst HasNoSlash (sym (dotted ∙ append_assoc d.before (codes ".") d.following)) (no_slash_append d.before (46 ∷ d.following) before (no_slash_at 46 d.following (λ e. absurd (omega arith)) following))
       | inr bare ↦ subst HasNoSlash (sym bare.1) before
     ] in
     subst HasNoSlash (sym s.text_is) (no_slash_append s.pointed s.power pointed power)

@@ -47,22 +47,22 @@ one_split (x ∷ a) (y ∷ b) c d h k m n e =
     let rest = one_split a b c d h.2 k.2 m n more in
     (ap₂ (λ (z : ℕ) (zs : List ℕ). z ∷ zs) first rest.0, rest.1)
 
-BeginsNoDigit-tail : (tail behind rest : List ℕ) → IsTail tail behind rest → BeginsNoDigit rest → BeginsNoDigit tail
-BeginsNoDigit-tail tail behind rest t stops =
+BeginsNoDigit-tail : (tail following rest : List ℕ) → IsTail tail following rest → BeginsNoDigit rest → BeginsNoDigit tail
+BeginsNoDigit-tail tail following rest t stops =
     elim t [
-      | inl dotted ↦ let no : BeginsNoDigit (46 ∷ (behind ++ rest)) = (λ low. absurd (omega arith)) in subst BeginsNoDigit (sym dotted) no
+      | inl dotted ↦ let no : BeginsNoDigit (46 ∷ (following ++ rest)) = (λ low. absurd (omega arith)) in subst BeginsNoDigit (sym dotted) no
       | inr plain ↦ subst BeginsNoDigit (sym plain.1) stops
     ]
 
 BeginsOther-not : (byte : ℕ) (text more : List ℕ) → BeginsOther byte text → ¬ (text ≡ byte ∷ more)
 BeginsOther-not byte text more h e = let no : BeginsOther byte (byte ∷ more) = subst (BeginsOther byte) e h in no refl
 
-one_tail : (tail behind rest behind' rest' : List ℕ) → AreDigits behind → AreDigits behind' → BeginsNoDigit rest → BeginsNoDigit rest' → IsTail tail behind rest → IsTail tail behind' rest' → (behind ≡ behind') × (rest ≡ rest')
-one_tail tail behind rest behind' rest' h k m n t u =
+one_tail : (tail following rest behind' rest' : List ℕ) → AreDigits following → AreDigits behind' → BeginsNoDigit rest → BeginsNoDigit rest' → IsTail tail following rest → IsTail tail behind' rest' → (following ≡ behind') × (rest ≡ rest')
+one_tail tail following rest behind' rest' h k m n t u =
     elim t [
       | inl dotted ↦ elim u [
-        | inl dotted' ↦ let more : behind ++ rest ≡ behind' ++ rest' = cc (sym dotted ∙ dotted') in one_split behind behind' rest rest' h k m n more
-        | inr plain' ↦ absurd (BeginsOther-not 46 rest' (behind ++ rest) plain'.2 (sym plain'.1 ∙ dotted))
+        | inl dotted' ↦ let more : following ++ rest ≡ behind' ++ rest' = cc (sym dotted ∙ dotted') in one_split following behind' rest rest' h k m n more
+        | inr plain' ↦ absurd (BeginsOther-not 46 rest' (following ++ rest) plain'.2 (sym plain'.1 ∙ dotted))
       ]
       | inr plain ↦ elim u [
         | inl dotted' ↦ absurd (BeginsOther-not 46 rest (behind' ++ rest') plain.2 (sym plain.1 ∙ dotted'))
@@ -70,17 +70,17 @@ one_tail tail behind rest behind' rest' h k m n t u =
       ]
     ]
 
-pub record SameParts (before behind rest before' behind' rest' : List ℕ) : Type 0 where
+pub record SameParts (before following rest before' behind' rest' : List ℕ) : Type 0 where
   pub same_before : before ≡ before'
-  pub same_behind : behind ≡ behind'
+  pub same_behind : following ≡ behind'
   pub same_rest : rest ≡ rest'
 
 -- a text is divided in one way
-pub one_division : (text before behind rest before' behind' rest' : List ℕ) → Divides text before behind rest → Divides text before' behind' rest' → SameParts before behind rest before' behind' rest'
-one_division text before behind rest before' behind' rest' p q =
-    let front = one_split before before' p.tail q.tail p.before_digits q.before_digits (BeginsNoDigit-tail p.tail behind rest p.tail_is p.all) (BeginsNoDigit-tail q.tail behind' rest' q.tail_is q.all) (sym p.text_is ∙ q.text_is) in
-    let back = one_tail p.tail behind rest behind' rest' p.behind_digits q.behind_digits p.all q.all p.tail_is (subst (λ t. IsTail t behind' rest') (sym front.1) q.tail_is) in
-    record { same_before = front.0; same_behind = back.0; same_rest = back.1 }
+pub one_division : (text before following rest before' behind' rest' : List ℕ) → Divides text before following rest → Divides text before' behind' rest' → SameParts before following rest before' behind' rest'
+one_division text before following rest before' behind' rest' p q =
+    let prefix = one_split before before' p.tail q.tail p.before_digits q.before_digits (BeginsNoDigit-tail p.tail following rest p.tail_is p.all) (BeginsNoDigit-tail q.tail behind' rest' q.tail_is q.all) (sym p.text_is ∙ q.text_is) in
+    let back = one_tail p.tail following rest behind' rest' p.after_digits q.after_digits p.all q.all p.tail_is (subst (λ t. IsTail t behind' rest') (sym prefix.1) q.tail_is) in
+    record { same_before = prefix.0; same_behind = back.0; same_rest = back.1 }
 
 -- ---- exponents
 
@@ -192,11 +192,11 @@ all_in_front text digits rest p h =
 pub no_exponent : (text unsigned digits rest : List ℕ) (negative : Bool) (e : ℤ) → 0 < length text → SplitsSign (take (length text - 1) (drop 1 text)) negative unsigned → SplitsDigits unsigned digits rest → (0 < length digits → length rest ≢ 0) → ¬ IsExponent text e
 no_exponent [] unsigned digits rest negative e some p q wrong h = absurd (omega arith)
 no_exponent (mark ∷ signed) unsigned digits rest negative e there p q wrong h =
-    let behind : take (length (mark ∷ signed) - 1) signed ≡ signed = let as_long : length (mark ∷ signed) - 1 ≡ length signed = omega arith in ap (λ n. take n signed) as_long ∙ take-length signed in
-    let number = signed_digits signed unsigned negative e h.1 (subst (λ l. SplitsSign l negative unsigned) behind p) in
-    let front = all_in_front unsigned digits rest q number.0.0 in
-    let some : 0 < length digits = subst (λ (l : List ℕ). 0 < length l) (sym front.0) number.0.1 in
-    wrong some (ap length front.1)
+    let following : take (length (mark ∷ signed) - 1) signed ≡ signed = let as_long : length (mark ∷ signed) - 1 ≡ length signed = omega arith in ap (λ n. take n signed) as_long ∙ take-length signed in
+    let number = signed_digits signed unsigned negative e h.1 (subst (λ l. SplitsSign l negative unsigned) following p) in
+    let prefix = all_in_front unsigned digits rest q number.0.0 in
+    let some : 0 < length digits = subst (λ (l : List ℕ). 0 < length l) (sym prefix.0) number.0.1 in
+    wrong some (ap length prefix.1)
 
 -- ---- decimals
 
@@ -210,31 +210,31 @@ BeginsOther-exponent [] e h = tt
 BeginsOther-exponent (mark ∷ text) e h = λ same. elim h.0 [ inl small ↦ absurd (omega arith) | inr large ↦ absurd (omega arith) ]
 
 -- a decimal's text divides into its digits and the text of its exponent
-pub Divides-from : (text : List ℕ) (d : Decimal) (s : Spells text d) → Divides text d.before d.behind s.power
+pub Divides-from : (text : List ℕ) (d : Decimal) (s : Spells text d) → Divides text d.before d.following s.power
 Divides-from text d s =
     elim s.pointed_is [
-      | inl dotted ↦ let layout : s.pointed ≡ d.before ++ (46 ∷ d.behind) = dotted ∙ append_assoc d.before (46 ∷ []) d.behind in record { tail = 46 ∷ (d.behind ++ s.power); text_is = s.text_is ∙ ap (λ (l : List ℕ). l ++ s.power) layout ∙ append_assoc d.before (46 ∷ d.behind) s.power; before_digits = s.before_digits; behind_digits = s.behind_digits; tail_is = inl refl; all = BeginsNoDigit-exponent s.power d.exponent s.power_is }
-      | inr plain ↦ record { tail = s.power; text_is = s.text_is ∙ ap (λ (l : List ℕ). l ++ s.power) plain.1; before_digits = s.before_digits; behind_digits = s.behind_digits; tail_is = inr (plain.0, refl, BeginsOther-exponent s.power d.exponent s.power_is); all = BeginsNoDigit-exponent s.power d.exponent s.power_is }
+      | inl dotted ↦ let layout : s.pointed ≡ d.before ++ (46 ∷ d.following) = dotted ∙ append_assoc d.before (46 ∷ []) d.following in record { tail = 46 ∷ (d.following ++ s.power); text_is = s.text_is ∙ ap (λ (l : List ℕ). l ++ s.power) layout ∙ append_assoc d.before (46 ∷ d.following) s.power; before_digits = s.before_digits; after_digits = s.after_digits; tail_is = inl refl; all = BeginsNoDigit-exponent s.power d.exponent s.power_is }
+      | inr plain ↦ record { tail = s.power; text_is = s.text_is ∙ ap (λ (l : List ℕ). l ++ s.power) plain.1; before_digits = s.before_digits; after_digits = s.after_digits; tail_is = inr (plain.0, refl, BeginsOther-exponent s.power d.exponent s.power_is); all = BeginsNoDigit-exponent s.power d.exponent s.power_is }
     ]
 
 -- and a text that divides so is a decimal's
-pub Spells-from : (text rest : List ℕ) (d : Decimal) → Divides text d.before d.behind rest → 0 < length d.before + length d.behind → IsExponent rest d.exponent → Spells text d
+pub Spells-from : (text rest : List ℕ) (d : Decimal) → Divides text d.before d.following rest → 0 < length d.before + length d.following → IsExponent rest d.exponent → Spells text d
 Spells-from text rest d p some power =
     elim p.tail_is [
-      | inl dotted ↦ record { pointed = d.before ++ 46 ∷ d.behind; power = rest; text_is = p.text_is ∙ ap (λ (l : List ℕ). d.before ++ l) dotted ∙ sym (append_assoc d.before (46 ∷ d.behind) rest); before_digits = p.before_digits; behind_digits = p.behind_digits; some = some; pointed_is = inl (sym (append_assoc d.before (46 ∷ []) d.behind)); power_is = power }
-      | inr plain ↦ record { pointed = d.before; power = rest; text_is = p.text_is ∙ ap (λ (l : List ℕ). d.before ++ l) plain.1; before_digits = p.before_digits; behind_digits = p.behind_digits; some = some; pointed_is = inr (plain.0, refl); power_is = power }
+      | inl dotted ↦ record { pointed = d.before ++ 46 ∷ d.following; power = rest; text_is = p.text_is ∙ ap (λ (l : List ℕ). d.before ++ l) dotted ∙ sym (append_assoc d.before (46 ∷ d.following) rest); before_digits = p.before_digits; after_digits = p.after_digits; some = some; pointed_is = inl (sym (append_assoc d.before (46 ∷ []) d.following)); power_is = power }
+      | inr plain ↦ record { pointed = d.before; power = rest; text_is = p.text_is ∙ ap (λ (l : List ℕ). d.before ++ l) plain.1; before_digits = p.before_digits; after_digits = p.after_digits; some = some; pointed_is = inr (plain.0, refl); power_is = power }
     ]
 
 decimal : List ℕ → List ℕ → ℤ → Decimal
-decimal before behind exponent = record { before = before; behind = behind; exponent = exponent }
+decimal before following exponent = record { before = before; following = following; exponent = exponent }
 
 -- a text is that of one decimal
 pub one_decimal : (text : List ℕ) (c d : Decimal) → Spells text c → Spells text d → c ≡ d
 unfolding decimal
 one_decimal text c d s t =
-    let same = one_division text c.before c.behind s.power d.before d.behind t.power (Divides-from text c s) (Divides-from text d t) in
+    let same = one_division text c.before c.following s.power d.before d.following t.power (Divides-from text c s) (Divides-from text d t) in
     let power : c.exponent ≡ d.exponent = one_exponent s.power c.exponent d.exponent s.power_is (subst (λ p. IsExponent p d.exponent) (sym same.same_rest) t.power_is) in
-    ap (λ b. decimal b c.behind c.exponent) same.same_before ∙ ap (λ b. decimal d.before b c.exponent) same.same_behind ∙ ap (decimal d.before d.behind) power
+    ap (λ b. decimal b c.following c.exponent) same.same_before ∙ ap (λ b. decimal d.before b c.exponent) same.same_behind ∙ ap (decimal d.before d.following) power
 
 -- a text means one number
 pub one_number : (text : List ℕ) (x y : Number) → MeansNumber text x → MeansNumber text y → x ≡ y

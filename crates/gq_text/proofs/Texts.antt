@@ -17,32 +17,32 @@ append_nil (x ∷ xs) = ap (λ (l : List ℕ). x ∷ l) (append_nil xs)
 
 -- ---- what digits without an exponent mean
 
-plain_number : (before behind : List ℕ) → number_of (record { before = before; behind = behind; exponent = pos 0 }) ≡ ratio (pos (spelled (before ++ behind))) (10 ^ length behind)
-plain_number before behind =
-    let p = length behind in
-    ap (λ x. x *ℚ whole (pos (10 ^ 0))) (sym (decimal_parts (spelled before) (spelled behind) p) ∙ ap (λ m. ratio (pos m) (10 ^ p)) (sym (spelled-append before behind)))
-    ∙ times_tens (spelled (before ++ behind)) (10 ^ p) 0 (tens_above p) ∙ ap (λ m. ratio (pos m) (10 ^ p)) (omega arith)
+plain_number : (before following : List ℕ) → number_of (record { before = before; following = following; exponent = pos 0 }) ≡ ratio (pos (spelled (before ++ following))) (10 ^ length following)
+plain_number before following =
+    let p = length following in
+    ap (λ x. x *ℚ whole (pos (10 ^ 0))) (sym (decimal_parts (spelled before) (spelled following) p) ∙ ap (λ m. ratio (pos m) (10 ^ p)) (sym (spelled-append before following)))
+    ∙ times_tens (spelled (before ++ following)) (10 ^ p) 0 (tens_above p) ∙ ap (λ m. ratio (pos m) (10 ^ p)) (omega arith)
 
 pub numeral_means : (n : ℕ) (text : List ℕ) → IsNumeral n text → MeansNumber text (ratio (pos n) 1)
 numeral_means n text m = (
-  record { before = text; behind = []; exponent = pos 0 },
-  record { pointed = text; power = []; text_is = sym (append_nil text); before_digits = m.digits; behind_digits = tt; some = (let s = m.some in omega arith); pointed_is = inr (refl, refl); power_is = refl },
+  record { before = text; following = []; exponent = pos 0 },
+  record { pointed = text; power = []; text_is = sym (append_nil text); before_digits = m.digits; after_digits = tt; some = (let s = m.some in omega arith); pointed_is = inr (refl, refl); power_is = refl },
   ap (λ k. ratio (pos k) 1) (sym m.spells ∙ ap spelled (sym (append_nil text))) ∙ sym (plain_number text []),
 )
 
-fixed_text : (text before behind : List ℕ) → AreDigits before → AreDigits behind → 0 < length before → text ≡ before ++ with_decimal_point behind → Spells text (record { before = before; behind = behind; exponent = pos 0 })
+fixed_text : (text before following : List ℕ) → AreDigits before → AreDigits following → 0 < length before → text ≡ before ++ with_decimal_point following → Spells text (record { before = before; following = following; exponent = pos 0 })
 fixed_text text before [] h k some layout =
-    record { pointed = before; power = []; text_is = layout; before_digits = h; behind_digits = tt; some = omega arith; pointed_is = inr (refl, refl); power_is = refl }
+    record { pointed = before; power = []; text_is = layout; before_digits = h; after_digits = tt; some = omega arith; pointed_is = inr (refl, refl); power_is = refl }
 fixed_text text before (b ∷ bs) h k some layout =
-    record { pointed = before ++ (codes "." ++ (b ∷ bs)); power = []; text_is = layout ∙ sym (append_nil (before ++ (codes "." ++ (b ∷ bs)))); before_digits = h; behind_digits = k; some = omega arith; pointed_is = inl (sym (append_assoc before (codes ".") (b ∷ bs))); power_is = refl }
+    record { pointed = before ++ (codes "." ++ (b ∷ bs)); power = []; text_is = layout ∙ sym (append_nil (before ++ (codes "." ++ (b ∷ bs)))); before_digits = h; after_digits = k; some = omega arith; pointed_is = inl (sym (append_assoc before (codes ".") (b ∷ bs))); power_is = refl }
 
 pub fixed_means : (d n : ℕ) (text : List ℕ) → IsFixed d n text → MeansNumber text (ratio (pos n) (10 ^ d))
 fixed_means d n text f =
     let split = div-add-mod' n (10 ^ d) in
-    let number : spelled (f.before ++ f.behind) ≡ n = spelled-append f.before f.behind ∙ ap₂ (λ a b. a * 10 ^ length f.behind + b) f.before_is.spells f.behind_spells ∙ ap (λ p. n / 10 ^ d * 10 ^ p + n % 10 ^ d) f.behind_places ∙ split in (
-      record { before = f.before; behind = f.behind; exponent = pos 0 },
-      fixed_text text f.before f.behind f.before_is.digits f.behind_digits f.before_is.some f.text_is,
-      ap₂ (λ k p. ratio (pos k) (10 ^ p)) (sym number) (sym f.behind_places) ∙ sym (plain_number f.before f.behind),
+    let number : spelled (f.before ++ f.following) ≡ n = spelled-append f.before f.following ∙ ap₂ (λ a b. a * 10 ^ length f.following + b) f.before_is.spells f.behind_spells ∙ ap (λ p. n / 10 ^ d * 10 ^ p + n % 10 ^ d) f.behind_places ∙ split in (
+      record { before = f.before; following = f.following; exponent = pos 0 },
+      fixed_text text f.before f.following f.before_is.digits f.after_digits f.before_is.some f.text_is,
+      ap₂ (λ k p. ratio (pos k) (10 ^ p)) (sym number) (sym f.behind_places) ∙ sym (plain_number f.before f.following),
     )
 
 neg-ratio : (n d : ℕ) → 0 < d → ratio (negsuc n) d ≡ neg_ℚ (ratio (pos (suc n)) d)
@@ -83,8 +83,8 @@ one_with_sign Is (negsuc n) s t one h k = h.1 ∙ ap (λ (l : List ℕ). codes "
 pub one_fixed : (d n : ℕ) (s t : List ℕ) → IsFixed d n s → IsFixed d n t → s ≡ t
 one_fixed d n s t f g =
     let before = one_numeral (n / 10 ^ d) f.before g.before f.before_is g.before_is in
-    let behind = same_digits f.behind g.behind f.behind_digits g.behind_digits (f.behind_places ∙ sym g.behind_places) (f.behind_spells ∙ sym g.behind_spells) in
-    f.text_is ∙ ap₂ (λ (a b : List ℕ). a ++ with_decimal_point b) before behind ∙ sym g.text_is
+    let following = same_digits f.following g.following f.after_digits g.after_digits (f.behind_places ∙ sym g.behind_places) (f.behind_spells ∙ sym g.behind_spells) in
+    f.text_is ∙ ap₂ (λ (a b : List ℕ). a ++ with_decimal_point b) before following ∙ sym g.text_is
 
 pub one_rounded : (d : ℕ) (x : Number) (s t : List ℕ) → IsRoundedText d x s → IsRoundedText d x t → s ≡ t
 one_rounded d x s t h k = one_with_sign (IsFixed d) _ s t (one_fixed d) h k

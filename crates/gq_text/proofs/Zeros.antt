@@ -4,7 +4,7 @@ use Rattle.std.proofs.Math.Nat.{pow-succ', le-mul_of_pos_right}
 use Rattle.std.proofs.Math.Pow.{pow-add}
 use Rattle.std.proofs.lemmas.List.{take-append-drop, take_more, length-drop, length-replicate}
 use Rattle.gq_text.specs.Numeral.{AreDigits, spelled}
-use Rattle.gq_text.specs.Literal.{HasNoZeroBehind}
+use Rattle.gq_text.specs.Literal.{HasNoTrailingZero}
 use Rattle.gq_text.specs.InnerShortest.{Shortens}
 use Rattle.gq_text.proofs.Numerals.{spelled-append, spelled_push, AreDigits_front}
 use Rattle.gq_text.proofs.Literals.{tens_above}
@@ -12,14 +12,14 @@ use Rattle.gq_text.proofs.Literals.{tens_above}
 -- ---- digits in order
 
 -- a prefix of the digits spells at most the number that all of them spell
-pub front-le : (front i : ℕ) (ds : List ℕ) → i ≤ length ds → front * 10 ^ i + spelled (take i ds) ≤ front * 10 ^ length ds + spelled ds
-front-le front i ds within =
+pub prefix-le : (prefix i : ℕ) (ds : List ℕ) → i ≤ length ds → prefix * 10 ^ i + spelled (take i ds) ≤ prefix * 10 ^ length ds + spelled ds
+prefix-le prefix i ds within =
     let rest = length ds - i in
     let unit : 10 ^ length ds ≡ 10 ^ i * 10 ^ rest = (let e : length ds ≡ i + rest = omega arith in ap (λ n. 10 ^ n) e) ∙ pow-add 10 i rest in
     let left : length (drop i ds) ≡ rest = length-drop i ds in
     let whole : spelled ds ≡ spelled (take i ds) * 10 ^ rest + spelled (drop i ds) = ap spelled (sym (take-append-drop i ds)) ∙ spelled-append (take i ds) (drop i ds) ∙ ap (λ n. spelled (take i ds) * 10 ^ n + spelled (drop i ds)) left in
-    let grows : front * 10 ^ i + spelled (take i ds) ≤ (front * 10 ^ i + spelled (take i ds)) * 10 ^ rest = le-mul_of_pos_right (front * 10 ^ i + spelled (take i ds)) (tens_above rest) in
-    subst (λ u. front * 10 ^ i + spelled (take i ds) ≤ front * u + spelled ds) (sym unit) (omega arith)
+    let grows : prefix * 10 ^ i + spelled (take i ds) ≤ (prefix * 10 ^ i + spelled (take i ds)) * 10 ^ rest = le-mul_of_pos_right (prefix * 10 ^ i + spelled (take i ds)) (tens_above rest) in
+    subst (λ u. prefix * 10 ^ i + spelled (take i ds) ≤ prefix * u + spelled ds) (sym unit) (omega arith)
 
 digit_at : (ds : List ℕ) (i : ℕ) → AreDigits ds → i < length ds → (48 ≤ get_or ds i 0) × (get_or ds i 0 ≤ 57)
 digit_at [] i h below = absurd (omega arith)
@@ -27,11 +27,11 @@ digit_at (b ∷ bs) zero h below = (h.0, h.1)
 digit_at (b ∷ bs) (suc i) h below = digit_at bs i h.2 (omega arith)
 
 -- one digit more
-pub front_more : (front i : ℕ) (ds : List ℕ) → i < length ds → front * 10 ^ (i + 1) + spelled (take (i + 1) ds) ≡ (front * 10 ^ i + spelled (take i ds)) * 10 + (get_or ds i 0 - 48)
-front_more front i ds below =
+pub front_more : (prefix i : ℕ) (ds : List ℕ) → i < length ds → prefix * 10 ^ (i + 1) + spelled (take (i + 1) ds) ≡ (prefix * 10 ^ i + spelled (take i ds)) * 10 + (get_or ds i 0 - 48)
+front_more prefix i ds below =
     let next : take (i + 1) ds ≡ take i ds ++ get_or ds i 0 ∷ [] = take_more ds i 0 below in
     let unit : 10 ^ (i + 1) ≡ 10 * 10 ^ i = (let e : i + 1 ≡ suc i = omega arith in ap (λ n. 10 ^ n) e) ∙ pow-succ' 10 i in
-    ap₂ (λ u s. front * u + s) unit (ap spelled next ∙ spelled_push (take i ds) (get_or ds i 0)) ∙ omega arith
+    ap₂ (λ u s. prefix * u + s) unit (ap spelled next ∙ spelled_push (take i ds) (get_or ds i 0)) ∙ omega arith
 
 pub digit_low : (ds : List ℕ) (i : ℕ) → AreDigits ds → i < length ds → 48 ≤ get_or ds i 0
 digit_low ds i h below = (digit_at ds i h below).0
@@ -52,21 +52,21 @@ last_digit b [] h = omega (arith, h.0, h.1)
 last_digit b (c ∷ cs) h =
     let rest = last_digit c cs h.2 in
     let unit : (b - 48) * 10 ^ length (c ∷ cs) ≡ 10 * ((b - 48) * 10 ^ length cs) = ap (λ u. (b - 48) * u) (pow-succ' 10 (length cs)) ∙ omega arith in
-    let behind : get_or (b ∷ c ∷ cs) (length (c ∷ cs)) 0 ≡ get_or (c ∷ cs) (length cs) 0 = refl in
+    let following : get_or (b ∷ c ∷ cs) (length (c ∷ cs)) 0 ≡ get_or (c ∷ cs) (length cs) 0 = refl in
     omega arith
 
-pub HasNoZeroBehind-from : (xs : List ℕ) → AreDigits xs → get_or xs (length xs - 1) 0 ≢ 48 → HasNoZeroBehind (spelled xs)
-HasNoZeroBehind-from [] h last = inl refl
-HasNoZeroBehind-from (b ∷ bs) h last =
+pub HasNoTrailingZero-from : (xs : List ℕ) → AreDigits xs → get_or xs (length xs - 1) 0 ≢ 48 → HasNoTrailingZero (spelled xs)
+HasNoTrailingZero-from [] h last = inl refl
+HasNoTrailingZero-from (b ∷ bs) h last =
     let place : length (b ∷ bs) - 1 ≡ length bs = omega arith in
     let at : get_or (b ∷ bs) (length bs) 0 ≢ 48 = subst (λ k. get_or (b ∷ bs) k 0 ≢ 48) place last in
     let range = digit_at (b ∷ bs) (length bs) h (omega arith) in
     inr (λ e. at (omega (arith, last_digit b bs h)))
 
 -- digits before it do not change the last digit
-HasNoZeroBehind-append : (xs ys : List ℕ) → AreDigits ys → 0 < length ys → get_or ys (length ys - 1) 0 ≢ 48 → HasNoZeroBehind (spelled (xs ++ ys))
-HasNoZeroBehind-append xs [] h some last = absurd (omega arith)
-HasNoZeroBehind-append xs (b ∷ bs) h some last =
+HasNoTrailingZero-append : (xs ys : List ℕ) → AreDigits ys → 0 < length ys → get_or ys (length ys - 1) 0 ≢ 48 → HasNoTrailingZero (spelled (xs ++ ys))
+HasNoTrailingZero-append xs [] h some last = absurd (omega arith)
+HasNoTrailingZero-append xs (b ∷ bs) h some last =
     let place : length (b ∷ bs) - 1 ≡ length bs = omega arith in
     let at : get_or (b ∷ bs) (length bs) 0 ≢ 48 = subst (λ k. get_or (b ∷ bs) k 0 ≢ 48) place last in
     let range = digit_at (b ∷ bs) (length bs) h (omega arith) in
@@ -82,39 +82,39 @@ append_nil [] = refl
 append_nil (x ∷ xs) = ap (λ (l : List ℕ). x ∷ l) (append_nil xs)
 
 -- if nothing remains after the point, the zeros before it go too
-pub none_behind : (before behind whole fraction : List ℕ) → AreDigits before → length fraction ≡ 0 → behind ≡ fraction ++ replicate (length behind - length fraction) 48 → before ≡ whole ++ replicate (length before - length whole) 48 → length whole ≤ length before → get_or whole (length whole - 1) 0 ≢ 48 → Shortens before behind whole fraction
-none_behind before behind whole fraction h empty zeros zeros_before shorter last =
+pub none_behind : (before following whole fraction : List ℕ) → AreDigits before → length fraction ≡ 0 → following ≡ fraction ++ replicate (length following - length fraction) 48 → before ≡ whole ++ replicate (length before - length whole) 48 → length whole ≤ length before → get_or whole (length whole - 1) 0 ≢ 48 → Shortens before following whole fraction
+none_behind before following whole fraction h empty zeros zeros_before shorter last =
     let none : fraction ≡ [] = empty_list fraction empty in
     let z = length before - length whole in
-    let q = length behind - length fraction in
+    let q = length following - length fraction in
     let whole_digits : AreDigits whole = AreDigits_front whole (replicate z 48) (subst AreDigits zeros_before h) in
     let same : whole ++ fraction ≡ whole = ap (λ l. whole ++ l) none ∙ append_nil whole in
     let before_is : spelled before ≡ spelled whole * 10 ^ z = ap spelled zeros_before ∙ spelled-zeros whole z in
-    let behind_is : spelled behind ≡ 0 = ap spelled (zeros ∙ ap (λ l. l ++ replicate q 48) none) ∙ spelled_zeros q in
-    let places : length behind ≡ q = ap (λ n. n) (let e : length fraction ≡ 0 = ap length none in omega arith) in
+    let behind_is : spelled following ≡ 0 = ap spelled (zeros ∙ ap (λ l. l ++ replicate q 48) none) ∙ spelled_zeros q in
+    let places : length following ≡ q = ap (λ n. n) (let e : length fraction ≡ 0 = ap length none in omega arith) in
     let unit : 10 ^ (z + q) ≡ 10 ^ z * 10 ^ q = pow-add 10 z q in
     record {
       whole_digits = whole_digits;
       fraction_digits = subst AreDigits (sym none) tt;
       whole_shorter = shorter;
       fraction_shorter = (let e : length fraction ≡ 0 = ap length none in omega arith);
-      shortest = subst (λ l. HasNoZeroBehind (spelled l)) (sym same) (HasNoZeroBehind-from whole whole_digits last);
-      spells = spelled-append before behind ∙ ap₂ (λ a b. a * 10 ^ length behind + b) before_is behind_is ∙ ap (λ n. spelled whole * 10 ^ z * 10 ^ n + 0) places ∙ omega arith ∙ ap₂ (λ a u. a * u) (ap spelled (sym same)) (sym unit);
+      shortest = subst (λ l. HasNoTrailingZero (spelled l)) (sym same) (HasNoTrailingZero-from whole whole_digits last);
+      spells = spelled-append before following ∙ ap₂ (λ a b. a * 10 ^ length following + b) before_is behind_is ∙ ap (λ n. spelled whole * 10 ^ z * 10 ^ n + 0) places ∙ omega arith ∙ ap₂ (λ a u. a * u) (ap spelled (sym same)) (sym unit);
     }
 
 -- else only the zeros after it
-pub some_behind : (before behind fraction : List ℕ) → AreDigits before → AreDigits behind → 0 < length fraction → behind ≡ fraction ++ replicate (length behind - length fraction) 48 → length fraction ≤ length behind → get_or fraction (length fraction - 1) 0 ≢ 48 → Shortens before behind before fraction
-some_behind before behind fraction h k some zeros shorter last =
-    let q = length behind - length fraction in
+pub some_behind : (before following fraction : List ℕ) → AreDigits before → AreDigits following → 0 < length fraction → following ≡ fraction ++ replicate (length following - length fraction) 48 → length fraction ≤ length following → get_or fraction (length fraction - 1) 0 ≢ 48 → Shortens before following before fraction
+some_behind before following fraction h k some zeros shorter last =
+    let q = length following - length fraction in
     let fraction_digits : AreDigits fraction = AreDigits_front fraction (replicate q 48) (subst AreDigits zeros k) in
-    let behind_is : spelled behind ≡ spelled fraction * 10 ^ q = ap spelled zeros ∙ spelled-zeros fraction q in
-    let unit : 10 ^ length behind ≡ 10 ^ length fraction * 10 ^ q = (let e : length behind ≡ length fraction + q = omega arith in ap (λ n. 10 ^ n) e) ∙ pow-add 10 (length fraction) q in
+    let behind_is : spelled following ≡ spelled fraction * 10 ^ q = ap spelled zeros ∙ spelled-zeros fraction q in
+    let unit : 10 ^ length following ≡ 10 ^ length fraction * 10 ^ q = (let e : length following ≡ length fraction + q = omega arith in ap (λ n. 10 ^ n) e) ∙ pow-add 10 (length fraction) q in
     let no_more : (length before - length before) + q ≡ q = omega arith in
     record {
       whole_digits = h;
       fraction_digits = fraction_digits;
       whole_shorter = omega arith;
       fraction_shorter = shorter;
-      shortest = HasNoZeroBehind-append before fraction fraction_digits some last;
-      spells = spelled-append before behind ∙ ap₂ (λ u b. spelled before * u + b) unit behind_is ∙ omega arith ∙ ap₂ (λ a n. a * 10 ^ n) (sym (spelled-append before fraction)) (sym no_more);
+      shortest = HasNoTrailingZero-append before fraction fraction_digits some last;
+      spells = spelled-append before following ∙ ap₂ (λ u b. spelled before * u + b) unit behind_is ∙ omega arith ∙ ap₂ (λ a n. a * 10 ^ n) (sym (spelled-append before fraction)) (sym no_more);
     }

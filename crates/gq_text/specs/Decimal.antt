@@ -6,7 +6,7 @@ use Rattle.gq_text.specs.Numeral.{AreDigits, spelled}
 -- a decimal: the digits before its point, the digits after it, and its exponent
 pub record Decimal : Type 0 where
   pub before : List ℕ
-  pub behind : List ℕ
+  pub following : List ℕ
   pub exponent : ℤ
 
 -- a number times ten to a power
@@ -18,7 +18,7 @@ scaled_by_ten x (negsuc k) = x /ℚ whole (pos (10 ^ suc k))
 -- power of their count, all times ten to its exponent
 abbrev pub number_of : Decimal → Number
 number_of d =
-    scaled_by_ten (whole (pos (spelled d.before)) +ℚ ratio (pos (spelled d.behind)) (10 ^ length d.behind)) d.exponent
+    scaled_by_ten (whole (pos (spelled d.before)) +ℚ ratio (pos (spelled d.following)) (10 ^ length d.following)) d.exponent
 
 -- digits, at least one
 abbrev pub IsSomeDigits : List ℕ → Type 0
@@ -36,7 +36,7 @@ IsExponent (mark ∷ text) e = ((mark ≡ 101) ⊎ (mark ≡ 69)) × IsSigned te
 
 -- the text of digits before a point and after it: with none after it the point may be left out
 abbrev pub IsPointed : List ℕ → List ℕ → List ℕ → Type 0
-IsPointed text before behind = (text ≡ before ++ codes "." ++ behind) ⊎ ((behind ≡ []) × (text ≡ before))
+IsPointed text before following = (text ≡ before ++ codes "." ++ following) ⊎ ((following ≡ []) × (text ≡ before))
 
 -- the text of a decimal: digits with or without a point, at least one digit, and an exponent
 pub record Spells (text : List ℕ) (d : Decimal) : Type 0 where
@@ -44,9 +44,9 @@ pub record Spells (text : List ℕ) (d : Decimal) : Type 0 where
   pub power : List ℕ
   pub text_is : text ≡ pointed ++ power
   pub before_digits : AreDigits d.before
-  pub behind_digits : AreDigits d.behind
-  pub some : 0 < length d.before + length d.behind
-  pub pointed_is : IsPointed pointed d.before d.behind
+  pub after_digits : AreDigits d.following
+  pub some : 0 < length d.before + length d.following
+  pub pointed_is : IsPointed pointed d.before d.following
   pub power_is : IsExponent power d.exponent
 
 -- the text is that of a decimal which means x

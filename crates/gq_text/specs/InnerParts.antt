@@ -21,15 +21,15 @@ pub record SplitsDigits (text digits rest : List ℕ) : Type 0 where
 -- what follows the digits before a point: a point, the digits after it and a rest; or a rest that
 -- begins with no point
 abbrev pub IsTail : List ℕ → List ℕ → List ℕ → Type 0
-IsTail tail behind rest = (tail ≡ 46 ∷ (behind ++ rest)) ⊎ ((behind ≡ []) × (tail ≡ rest) × BeginsOther 46 rest)
+IsTail tail following rest = (tail ≡ 46 ∷ (following ++ rest)) ⊎ ((following ≡ []) × (tail ≡ rest) × BeginsOther 46 rest)
 
 -- all digits around a point that a text begins with, and what follows them
-pub record Divides (text before behind rest : List ℕ) : Type 0 where
+pub record Divides (text before following rest : List ℕ) : Type 0 where
   pub tail : List ℕ
   pub text_is : text ≡ before ++ tail
   pub before_digits : AreDigits before
-  pub behind_digits : AreDigits behind
-  pub tail_is : IsTail tail behind rest
+  pub after_digits : AreDigits following
+  pub tail_is : IsTail tail following rest
   pub all : BeginsNoDigit rest
 
 -- a sign that a text begins with, if it does, and what follows it

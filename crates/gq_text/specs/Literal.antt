@@ -6,15 +6,15 @@ use Rattle.gq_text.specs.declared.fault.NumberFault.TheVariants.{Shape, Limit}
 use Rattle.gq_text.specs.Decimal.{MeansNumber}
 
 -- m is 0, or its last digit is not 0
-abbrev pub HasNoZeroBehind : ℕ → Type 0
-HasNoZeroBehind m = (m ≡ 0) ⊎ (m % 10 ≢ 0)
+abbrev pub HasNoTrailingZero : ℕ → Type 0
+HasNoTrailingZero m = (m ≡ 0) ⊎ (m % 10 ≢ 0)
 
 -- The literal rule. The number is m times 10^e, where m is 0 or does not end in 0, and the product
 -- is within the limit; or it is m over 10^e, and m and 10^e are both within the limit.
 pub record FitsLiteral (limit : ℕ) (x : Number) : Type 0 where
   pub m : ℕ
   pub e : ℕ
-  pub shortest : HasNoZeroBehind m
+  pub shortest : HasNoTrailingZero m
   pub within : ((x ≡ whole (pos (m * 10 ^ e))) × (m * 10 ^ e ≤ limit))
       ⊎ ((x ≡ ratio (pos m) (10 ^ e)) × (m ≤ limit) × (10 ^ e ≤ limit))
 

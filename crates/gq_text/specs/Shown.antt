@@ -16,12 +16,12 @@ with_decimal_point (b ∷ bs) = codes "." ++ (b ∷ bs)
 -- the text of n units of the last decimal: the numeral of the whole part, a point, and the decimals
 pub record IsFixed (decimals n : ℕ) (text : List ℕ) : Type 0 where
   pub before : List ℕ
-  pub behind : List ℕ
+  pub following : List ℕ
   pub before_is : IsNumeral (n / 10 ^ decimals) before
-  pub behind_digits : AreDigits behind
-  pub behind_places : length behind ≡ decimals
-  pub behind_spells : spelled behind ≡ n % 10 ^ decimals
-  pub text_is : text ≡ before ++ with_decimal_point behind
+  pub after_digits : AreDigits following
+  pub behind_places : length following ≡ decimals
+  pub behind_spells : spelled following ≡ n % 10 ^ decimals
+  pub text_is : text ≡ before ++ with_decimal_point following
 
 -- such a text with a sign, which occurs only if n is not 0
 abbrev pub IsFixedSigned : ℕ → ℤ → List ℕ → Type 0

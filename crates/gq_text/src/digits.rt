@@ -61,7 +61,7 @@ impl Digits {
     /// Appends an ASCII byte.
     pub(crate) fn push(&mut self, byte: u8)
         requires ascii { byte < 128 }
-        requires room { length self.old < 96 }
+        requires within_bound { length self.old < 96 }
         ensures { self.new ≡ self.old ++ byte ∷ [] }
     {
         self.bytes[self.len] = byte;
@@ -72,7 +72,7 @@ impl Digits {
     pub(crate) fn push_digits(&mut self, n: u128, places: u32)
         requires small { n < 10 ^ places }
         requires places { places < 40 }
-        requires room { length self.old + places ≤ 96 }
+        requires within_bound { length self.old + places ≤ 96 }
         ensures { AppendsDigits self.old self.new n places }
     {
         if places < 20 {
@@ -90,7 +90,7 @@ impl Digits {
     /// Appends the last `places` digits of a number of one word, which has no more.
     fn push_word(&mut self, n: u64, places: u32)
         requires small { n < 10 ^ places }
-        requires room { length self.old + places ≤ 96 }
+        requires within_bound { length self.old + places ≤ 96 }
         ensures { AppendsDigits self.old self.new n places }
     {
         if places == 0 {
@@ -123,7 +123,7 @@ impl Digits {
     pub(crate) fn push_decimals(&mut self, fraction: u128, decimals: u8)
         requires small { fraction < 10 ^ decimals }
         requires decimals { decimals ≤ 8 }
-        requires room { length self.old + 9 ≤ 96 }
+        requires within_bound { length self.old + 9 ≤ 96 }
         ensures { AppendsDecimals self.old self.new fraction decimals }
     {
         if decimals > 0 {

@@ -4,7 +4,7 @@ ghost use Rattle.std.specs.Prelude.{◌≡◌, ◌≢◌, ◌+◌, ◌-◌, ◌*
 ghost use Rattle.gq_number.specs.Number.{ratio};
 ghost use Rattle.gq_text.specs.Numeral.{AreDigits, spelled};
 ghost use Rattle.gq_text.specs.Decimal.{number_of};
-ghost use Rattle.gq_text.specs.Literal.{HasNoZeroBehind, AnswersLiteral};
+ghost use Rattle.gq_text.specs.Literal.{HasNoTrailingZero, AnswersLiteral};
 ghost use Rattle.gq_text.specs.InnerParts.{exponent_of};
 ghost use Rattle.gq_text.specs.InnerShortest.{Shortens, added};
 
@@ -12,13 +12,13 @@ use crate::fault::NumberFault;
 use crate::parts::Exponent;
 use gq_field::ExactField;
 
-/// The number that the digits of `front` followed by `digits` spell, if it is below 2^128.
-pub(crate) fn spelled(front: u128, digits: &[u8]) -> Option<u128>
+/// The number that the digits of `prefix` followed by `digits` spell, if it is below 2^128.
+pub(crate) fn spelled(prefix: u128, digits: &[u8]) -> Option<u128>
     requires { AreDigits digits.now }
-    ensures { SomeIff result (front * 10 ^ length digits.now + spelled digits.now < 2 ^ 128)
-        (front * 10 ^ length digits.now + spelled digits.now) }
+    ensures { SomeIff result (prefix * 10 ^ length digits.now + spelled digits.now < 2 ^ 128)
+        (prefix * 10 ^ length digits.now + spelled digits.now) }
 {
-    let mut value = front;
+    let mut value = prefix;
     for digit in digits {
         value = value.checked_mul(10)?.checked_add((digit - b'0') as u128)?;
     }
@@ -42,23 +42,23 @@ fn without_zeros(digits: &[u8]) -> &[u8]
     ensures last { slice_index result.now (length result.now - 1) ≢ 48 }
 {
     let mut kept = digits;
-    while let [front @ .., b'0'] = kept {
-        kept = front;
+    while let [prefix @ .., b'0'] = kept {
+        kept = prefix;
     }
     kept
 }
 
 /// The digits before a point and after it without those zeros at the end that only move the point.
-fn shortest<'a>(before: &'a [u8], behind: &'a [u8]) -> (&'a [u8], &'a [u8])
+fn shortest<'a>(before: &'a [u8], following: &'a [u8]) -> (&'a [u8], &'a [u8])
     requires before_digits { AreDigits before.now }
-    requires behind_digits { AreDigits behind.now }
-    ensures { Shortens before.now behind.now result.0.now result.1.now }
+    requires after_digits { AreDigits following.now }
+    ensures { Shortens before.now following.now result.0.now result.1.now }
 {
-    let behind = without_zeros(behind);
-    if behind.is_empty() {
-        (without_zeros(before), behind)
+    let following = without_zeros(following);
+    if following.is_empty() {
+        (without_zeros(before), following)
     } else {
-        (before, behind)
+        (before, following)
     }
 }
 
@@ -117,7 +117,7 @@ fn parts_within(limit: u128, digits: u128, up: u128, down: u128) -> Option<(u128
 /// rule.
 fn scaled<F: ExactField>(digits: u128, up: u128, down: u128) -> Result<F, NumberFault>
     requires some { 0 < digits }
-    requires shortest { HasNoZeroBehind digits }
+    requires shortest { HasNoTrailingZero digits }
     ensures { AnswersLiteral F.limit F.value (ratio (pos (digits * 10 ^ up)) (10 ^ down)) result }
 {
     match parts_within(F::limit(), digits, up, down) {
@@ -129,19 +129,19 @@ fn scaled<F: ExactField>(digits: u128, up: u128, down: u128) -> Result<F, Number
 /// The value of a decimal, by the literal rule.
 pub(crate) fn literal<F: ExactField>(
     before: &[u8],
-    behind: &[u8],
+    following: &[u8],
     exponent: Exponent<'_>,
 ) -> Result<F, NumberFault>
     requires before_digits { AreDigits before.now }
-    requires behind_digits { AreDigits behind.now }
+    requires after_digits { AreDigits following.now }
     requires exponent_digits { AreDigits exponent.digits.now }
     ensures { AnswersLiteral F.limit F.value (number_of (record {
       before = before.now;
-      behind = behind.now;
+      following = following.now;
       exponent = exponent_of exponent.entry.negative exponent.entry.digits.now;
     })) result }
 {
-    let (whole, fraction) = shortest(before, behind);
+    let (whole, fraction) = shortest(before, following);
     let Some(digits) = digits_together(whole, fraction) else {
         return Err(NumberFault::Limit);
     };

@@ -10,7 +10,7 @@ ghost use Rattle.gq_text.specs.InnerParts.{SplitsDigits, SplitsSign, Divides, ex
 #[derive(Clone, Copy)]
 pub(crate) struct Pointed<'a> {
     pub before: &'a [u8],
-    pub behind: &'a [u8],
+    pub following: &'a [u8],
     pub rest: &'a [u8],
 }
 
@@ -37,21 +37,21 @@ pub(crate) fn split_digits(text: &[u8]) -> (&[u8], &[u8])
 
 /// The digits around a point that the text begins with, and what follows them.
 pub(crate) fn split_pointed(text: &[u8]) -> Pointed<'_>
-    ensures { Divides text.now result.before.now result.behind.now result.rest.now }
+    ensures { Divides text.now result.before.now result.following.now result.rest.now }
 {
     let (before, tail) = split_digits(text);
     match tail {
         [b'.', more @ ..] => {
-            let (behind, rest) = split_digits(more);
+            let (following, rest) = split_digits(more);
             Pointed {
                 before,
-                behind,
+                following,
                 rest,
             }
         }
         _ => Pointed {
             before,
-            behind: &[],
+            following: &[],
             rest: tail,
         },
     }

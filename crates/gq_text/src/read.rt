@@ -18,11 +18,11 @@ pub fn read_decimal<F: ExactField>(text: &[u8]) -> Result<F, NumberFault>
     ensures { ReadsLiteral F.limit F.value text.now result }
 {
     let pointed = split_pointed(text);
-    if pointed.before.is_empty() && pointed.behind.is_empty() {
+    if pointed.before.is_empty() && pointed.following.is_empty() {
         return Err(NumberFault::Shape);
     }
     match read_exponent(pointed.rest) {
-        Some(exponent) => literal(pointed.before, pointed.behind, exponent),
+        Some(exponent) => literal(pointed.before, pointed.following, exponent),
         None => Err(NumberFault::Shape),
     }
 }

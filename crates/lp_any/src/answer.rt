@@ -3,7 +3,7 @@ ghost use Rattle.std.specs.Prelude.{◌↔◌, IsTrue, IfOk};
 ghost use Rattle.lp_core.specs.declared.answer.Rule.TheVariants as by;
 ghost use Rattle.lp_core.specs.Answers.{IsAnswer};
 ghost use Rattle.lp_core.specs.WellFormed.{IsWellFormed};
-ghost use Rattle.lp_nocycle.specs.Turns.{HasFewPivotsByTurn, ComesToEndByTurn};
+ghost use Rattle.lp_nocycle.specs.Turns.{HasFewPivotsByTurn, EndsUninterruptedByTurn};
 ghost use Rattle.lp_bland.specs.Ends.{IsRefusedEnd};
 ghost use Rattle.lp_any.specs.Members.{IsAnswerInTurn, AreRefused, rule_count};
 
@@ -41,7 +41,7 @@ pub fn solve_in<F: ExactField>(
     ensures by_bland { IfOk result (λ answer. IsRefusedEnd answer.end → IsAnswer F.value F.limit lp.now iterlim by.Bland answer) }
     ensures answers { IfOk result (IsAnswer F.value F.limit lp.now iterlim by.Legal) }
     ensures few { IfOk result (HasFewPivotsByTurn F.value lp.now) }
-    ensures to_the_end { IfOk result (ComesToEndByTurn F.value lp.now iterlim) }
+    ensures to_the_end { IfOk result (EndsUninterruptedByTurn F.value lp.now iterlim) }
 {
     for place in 0..RULES {
         let answer = answer_of(alloc, lp, iterlim, rule_at(place))?;

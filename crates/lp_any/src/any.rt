@@ -5,7 +5,7 @@ ghost use Rattle.lp_core.specs.declared.answer.Rule.TheVariants as by;
 ghost use Rattle.lp_core.specs.Answers.{IsAnswer};
 ghost use Rattle.lp_slot.specs.declared.solver.SolverRule.TheVariants as slot;
 ghost use Rattle.lp_core.specs.WellFormed.{IsWellFormed};
-ghost use Rattle.lp_nocycle.specs.Turns.{HasFewPivotsByTurn, ComesToEndByTurn};
+ghost use Rattle.lp_nocycle.specs.Turns.{HasFewPivotsByTurn, EndsUninterruptedByTurn};
 ghost use Rattle.lp_any.specs.Name.{any_is_name};
 ghost use Rattle.lp_bland.specs.Ends.{IsRefusedEnd};
 ghost use Rattle.lp_any.specs.Members.{IsAnswerInTurn, AreRefused, rule_count};
@@ -78,7 +78,7 @@ impl LpSolver for Any {
         ensures refused { IfOk result (λ answer. IsRefusedEnd answer.end → AreRefused frac_value frac_limit rule_count lp.now iterlim) }
         ensures by_bland { IfOk result (λ answer. IsRefusedEnd answer.end → IsAnswer frac_value frac_limit lp.now iterlim by.Bland answer) }
         ensures few { IfOk result (HasFewPivotsByTurn frac_value lp.now) }
-        ensures to_the_end { IfOk result (ComesToEndByTurn frac_value lp.now iterlim) }
+        ensures to_the_end { IfOk result (EndsUninterruptedByTurn frac_value lp.now iterlim) }
         ensures paths { IfOk result (λ answer. self.new ≡ self.old ++ answer.pivots ∷ []) }
         ensures unchanged { OnErr result (self.new ≡ self.old) }
     {

@@ -1,6 +1,6 @@
 //! Rules that pick the variable with the least cost.
 ghost use Rattle.std.specs.Prelude.{ℕ, MatchOption};
-ghost use Rattle.lp_core.specs.Dictionary.{Dictionary, OpeningIsDue, Improves};
+ghost use Rattle.lp_core.specs.Dictionary.{Dictionary, OpeningIsRequired, Improves};
 ghost use Rattle.lp_dict.specs.Tableau.{dictionary};
 ghost use Rattle.lp_any.specs.Costs.{IsCheaper, IsCheapest, IsTried};
 

@@ -3,7 +3,7 @@ ghost use Rattle.std.specs.Prelude.{◌≡◌, IfOk};
 ghost use Rattle.lp_core.specs.declared.answer.Rule.TheVariants as by;
 ghost use Rattle.lp_core.specs.Answers.{IsAnswer};
 ghost use Rattle.lp_core.specs.WellFormed.{IsWellFormed};
-ghost use Rattle.lp_nocycle.specs.Turns.{HasFewPivotsByTurn, ComesToEndByTurn};
+ghost use Rattle.lp_nocycle.specs.Turns.{HasFewPivotsByTurn, EndsUninterruptedByTurn};
 ghost use Rattle.lp_any.specs.Members as members;
 
 use crate::measures::{GainForBits, ShortInBoth, ShortInRow, Shortest};
@@ -68,7 +68,7 @@ pub fn answer_of<F: ExactField>(
     ensures answer { IfOk result (members.IsAnswerOf F.value F.limit member lp.now iterlim) }
     ensures legal { IfOk result (IsAnswer F.value F.limit lp.now iterlim by.Legal) }
     ensures few { IfOk result (HasFewPivotsByTurn F.value lp.now) }
-    ensures to_the_end { IfOk result (ComesToEndByTurn F.value lp.now iterlim) }
+    ensures to_the_end { IfOk result (EndsUninterruptedByTurn F.value lp.now iterlim) }
 {
     match member {
         Member::Steepest => lp_steepest::solve_in(alloc, lp, iterlim),

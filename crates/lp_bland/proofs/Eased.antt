@@ -18,40 +18,40 @@ use Rattle.lp_core.specs.Sums.{value_of_column}
 use Rattle.lp_core.specs.Feasible.{bound_value}
 use Rattle.lp_core.specs.StandardForm.{Shift, from_lower, from_upper, free, base, column_at, columns_of, variables_of, rows_of_sense, rows_of_bounds, multiplier, Last, levels_back}
 use Rattle.lp_core.specs.Dictionary.{Dictionary, constant_at, entry_at, divided_entry}
-use Rattle.lp_core.specs.Steps.{Due, AllFit, product_fits, quotient_fits, difference_fits, shifting, row_steps, rows_steps, bound_step, bounds_steps, count_of_rows, standard_steps, ratio_steps, pivot_row_steps, other_row_steps, exchange_steps, level_step, row_level_steps, dual_steps, reduced_steps, ray_step, levels_steps, row_levels_steps, duals_steps, reduced_costs_steps, ray_steps, optimal_steps, infeasible_steps, unbounded_steps, interrupted_steps, steps_back}
+use Rattle.lp_core.specs.Steps.{ExpectedStep, AllFit, product_fits, quotient_fits, difference_fits, shifting, row_steps, rows_steps, bound_step, bounds_steps, count_of_rows, standard_steps, ratio_steps, pivot_row_steps, other_row_steps, exchange_steps, level_step, row_level_steps, dual_steps, reduced_steps, ray_step, levels_steps, row_levels_steps, duals_steps, reduced_costs_steps, ray_steps, optimal_steps, infeasible_steps, unbounded_steps, interrupted_steps, steps_back}
 use Rattle.lp_std.proofs.Sums.{All-append_left, All-append_right}
 
 -- ---- lists of steps
 
-abbrev pub Fit : Due → Type 0
+abbrev pub Fit : ExpectedStep → Type 0
 Fit step = step.1 ≡ true
 
 -- where all of the first fit all of the second do
-abbrev pub Eases : List Due → List Due → Type 0
+abbrev pub Eases : List ExpectedStep → List ExpectedStep → Type 0
 Eases steps more = AllFit steps → AllFit more
 
-eases_cons : (a b : Due) (steps more : List Due) → (a.1 ≡ true → b.1 ≡ true) → Eases steps more → Eases (a ∷ steps) (b ∷ more)
+eases_cons : (a b : ExpectedStep) (steps more : List ExpectedStep) → (a.1 ≡ true → b.1 ≡ true) → Eases steps more → Eases (a ∷ steps) (b ∷ more)
 eases_cons a b steps more one rest fit = All-cons Fit b more (one (All-head Fit a steps fit)) (rest (All-tail Fit a steps fit))
 
-eases_one : (a b : Due) → (a.1 ≡ true → b.1 ≡ true) → Eases (a ∷ []) (b ∷ [])
+eases_one : (a b : ExpectedStep) → (a.1 ≡ true → b.1 ≡ true) → Eases (a ∷ []) (b ∷ [])
 eases_one a b one = eases_cons a b [] [] one (λ fit. fit)
 
-eases_append : (a b c d : List Due) → Eases a c → Eases b d → Eases (a ++ b) (c ++ d)
+eases_append : (a b c d : List ExpectedStep) → Eases a c → Eases b d → Eases (a ++ b) (c ++ d)
 eases_append a b c d first second fit = All-append Fit c d (first (All-append_left Fit a b fit)) (second (All-append_right Fit a b fit))
 
-eases_if : (test : Bool) (a b : List Due) → Eases a b → Eases (cond test a []) (cond test b [])
+eases_if : (test : Bool) (a b : List ExpectedStep) → Eases a b → Eases (cond test a []) (cond test b [])
 eases_if true a b h = h
 eases_if false a b h = λ fit. fit
 
-eases_unless : (test : Bool) (a b : List Due) → Eases a b → Eases (cond test [] a) (cond test [] b)
+eases_unless : (test : Bool) (a b : List ExpectedStep) → Eases a b → Eases (cond test [] a) (cond test [] b)
 eases_unless true a b h = λ fit. fit
 eases_unless false a b h = h
 
-eases_map : {X : Type 0} (f g : X → Due) (xs : List X) → ((x : X) → (f x).1 ≡ true → (g x).1 ≡ true) → Eases (map f xs) (map g xs)
+eases_map : {X : Type 0} (f g : X → ExpectedStep) (xs : List X) → ((x : X) → (f x).1 ≡ true → (g x).1 ≡ true) → Eases (map f xs) (map g xs)
 eases_map f g [] each = λ fit. fit
 eases_map f g (x ∷ xs) each = eases_cons (f x) (g x) (map f xs) (map g xs) (each x) (eases_map f g xs each)
 
-eases_joined : {X : Type 0} (f g : X → List Due) (xs : List X) → ((x : X) → Eases (f x) (g x)) → Eases (flat_map f xs) (flat_map g xs)
+eases_joined : {X : Type 0} (f g : X → List ExpectedStep) (xs : List X) → ((x : X) → Eases (f x) (g x)) → Eases (flat_map f xs) (flat_map g xs)
 eases_joined f g [] each = λ fit. fit
 eases_joined f g (x ∷ xs) each = eases_append (f x) (flat_map f xs) (g x) (flat_map g xs) (each x) (eases_joined f g xs each)
 
@@ -68,7 +68,7 @@ module _ (low high : ℕ) (less : low ≤ high) where
       eases_map (λ c. (Exchange n (k + 1) c 0, quotient_fits low (d.numbers k c) (entry_at d k q))) (λ c. (Exchange n (k + 1) c 0, quotient_fits high (d.numbers k c) (entry_at d k q)))
       (range_with_len 0 (d.variables + 2)) (λ c. fits_more low high (d.numbers k c /ℚ entry_at d k q) less)
 
-  abbrev two_steps : ℕ → ℕ → Dictionary → ℕ → ℕ → ℕ → ℕ → List Due
+  abbrev two_steps : ℕ → ℕ → Dictionary → ℕ → ℕ → ℕ → ℕ → List ExpectedStep
   two_steps limit n d q k i c =
       (Exchange n (i + 1) c 0, product_fits limit (entry_at d i q) (divided_entry d q k c)) ∷ (Exchange n (i + 1) c 1, difference_fits limit (d.numbers i c) (entry_at d i q *ℚ divided_entry d q k c)) ∷ []
 

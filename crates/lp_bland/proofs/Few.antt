@@ -10,7 +10,7 @@ use Rattle.lp_core.specs.declared.program.Lp.{Lp}
 use Rattle.lp_core.specs.Dictionary.{Dictionary}
 use Rattle.lp_core.specs.Answers.{IsAnswer, IsAnswerByChoice}
 use Rattle.lp_core.specs.WellFormed.{IsWellFormed}
-use Rattle.lp_nocycle.specs.PivotCount.{HasFewPivots, ComesToEnd}
+use Rattle.lp_nocycle.specs.PivotCount.{HasFewPivots, EndsUninterrupted}
 use Rattle.lp_nocycle.proofs.Answering.{has_few, comes_to_end}
 use Rattle.lp_core.proofs.Rules.{bland_choice, bland_answer, answer_bland}
 use Rattle.lp_simplex.proofs.Unique.{one_answer_by}
@@ -28,7 +28,7 @@ module _ {F : Type 0} (value : F → Number) (limit : ℕ) (lp : Lp F) (iterlim 
   few_if_ok (Ok answer) answers = has_few value limit lp iterlim answer formed answers
   few_if_ok (Err e) answers = answers
 
-  pub ends_if_ok : (r : Result (Answer F) E) → IfOk r (IsAnswer value limit lp iterlim Bland) → IfOk r (ComesToEnd value lp iterlim)
+  pub ends_if_ok : (r : Result (Answer F) E) → IfOk r (IsAnswer value limit lp iterlim Bland) → IfOk r (EndsUninterrupted value lp iterlim)
   ends_if_ok (Ok answer) answers = comes_to_end value limit lp iterlim answer formed answers
   ends_if_ok (Err e) answers = answers
 

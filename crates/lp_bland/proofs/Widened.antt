@@ -15,7 +15,7 @@ use Rattle.lp_core.specs.StandardForm.{standard_form, Last, levels_back, duals_b
 use Rattle.lp_core.specs.Dictionary.{Dictionary, Improves, first_dictionary, exchanged}
 use Rattle.lp_core.specs.Steps.{AllFit, standard_steps, steps_back}
 use Rattle.lp_core.specs.Pivots.{IsChosen, ByRule, Leads, PivotsFit, LeadsWithin}
-use Rattle.lp_core.specs.Ends.{IsGoingOnBy, EndsAt, LeadsTo, EndsSoBy, ends_by_kind, limit_is_met, step_stops}
+use Rattle.lp_core.specs.Ends.{IsUnfinishedBy, EndsAt, LeadsTo, EndsSoBy, ends_by_kind, limit_is_met, step_stops}
 use Rattle.lp_core.specs.Answers.{EndsCrossed, IsAnswer, bounds_cross, form_stops, search_ends}
 use Rattle.lp_std.specs.Last.{IsDictionaryOf, IsReadAt}
 use Rattle.lp_std.proofs.Ends.{proved_at}
@@ -100,11 +100,11 @@ module _ {F G : Type 0} (value : F → Number) (other : G → Number) (lp : Lp F
     -- ---- the end
 
     module _ (formed : IsWellFormed other wide) (iterlim : ℕ) (none : FirstCrossed other wide.columns None) (d : Dictionary) (of_form : IsDictionaryOf (standard_form other wide) d) (Allowed : Pivot → ℕ → Type 0) (Chosen : ℕ → Type 0) (improves : (q : ℕ) → Chosen q → Improves d q) (pivots : ℕ) where
-      pub read_of : (how : EndKind) (last : Last) → EndsAt Chosen ((pivots ≡ iterlim) × IsGoingOnBy Chosen d) d how last → IsReadAt d how last
+      pub read_of : (how : EndKind) (last : Last) → EndsAt Chosen ((pivots ≡ iterlim) × IsUnfinishedBy Chosen d) d how last → IsReadAt d how last
       read_of kind.Optimal last at = at
       read_of kind.Infeasible last at = at
       read_of kind.Unbounded last at = (at.0, (at.1.0, (at.1.1.0, improves at.1.0 at.1.1.1, at.1.1.2), at.1.2))
-      read_of kind.Interrupted last at = (at.0, at.1, elim at.2.1 [ inl due ↦ absurd (at.1 due) | inr more ↦ (more.1.0, improves more.1.0 more.1.2) ], at.3)
+      read_of kind.Interrupted last at = (at.0, at.1, elim at.2.1 [ inl required ↦ absurd (at.1 required) | inr more ↦ (more.1.0, improves more.1.0 more.1.2) ], at.3)
 
       nothing_mapped : (l : List G) → map other l ≡ [] → l ≡ []
       nothing_mapped [] e = refl

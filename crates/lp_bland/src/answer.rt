@@ -5,7 +5,7 @@ ghost use Rattle.lp_core.specs.Answers.{IsAnswer};
 ghost use Rattle.lp_core.specs.Pivots.{IsChosen};
 ghost use Rattle.lp_core.specs.WellFormed.{IsWellFormed};
 ghost use Rattle.lp_simplex.specs.Only.{IsOnly};
-ghost use Rattle.lp_nocycle.specs.PivotCount.{HasFewPivots, ComesToEnd};
+ghost use Rattle.lp_nocycle.specs.PivotCount.{HasFewPivots, EndsUninterrupted};
 ghost use Rattle.lp_bland.specs.Least.{least_improves};
 
 use gq_field::ExactField;
@@ -53,7 +53,7 @@ pub fn solve_in<F: ExactField>(
     ensures answers { IfOk result (IsAnswer F.value F.limit lp.now iterlim by.Bland) }
     ensures only { IfOk result (IsOnly (IsAnswer F.value F.limit lp.now iterlim by.Bland)) }
     ensures few { IfOk result (HasFewPivots F.value lp.now) }
-    ensures to_the_end { IfOk result (ComesToEnd F.value lp.now iterlim) }
+    ensures to_the_end { IfOk result (EndsUninterrupted F.value lp.now iterlim) }
 {
     solve_by(alloc, lp, iterlim, &mut Least)
 }

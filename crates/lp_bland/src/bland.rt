@@ -4,7 +4,7 @@ ghost use Rattle.gq_frac.specs.Frac.{frac_limit, frac_value};
 ghost use Rattle.lp_core.specs.declared.answer.Rule.TheVariants as by;
 ghost use Rattle.lp_core.specs.Answers.{IsAnswer};
 ghost use Rattle.lp_simplex.specs.Only.{IsOnly};
-ghost use Rattle.lp_nocycle.specs.PivotCount.{HasFewPivots, ComesToEnd};
+ghost use Rattle.lp_nocycle.specs.PivotCount.{HasFewPivots, EndsUninterrupted};
 ghost use Rattle.lp_bland.specs.Name.{bland_is_name};
 ghost use Rattle.lp_slot.specs.declared.solver.SolverRule.TheVariants as slot;
 ghost use Rattle.lp_core.specs.WellFormed.{IsWellFormed};
@@ -74,7 +74,7 @@ impl LpSolver for Bland {
         ensures answers { IfOk result (IsAnswer frac_value frac_limit lp.now iterlim by.Bland) }
         ensures only { IfOk result (IsOnly (IsAnswer frac_value frac_limit lp.now iterlim by.Bland)) }
         ensures few { IfOk result (HasFewPivots frac_value lp.now) }
-        ensures to_the_end { IfOk result (ComesToEnd frac_value lp.now iterlim) }
+        ensures to_the_end { IfOk result (EndsUninterrupted frac_value lp.now iterlim) }
         ensures paths { IfOk result (λ answer. self.new ≡ self.old ++ answer.pivots ∷ []) }
         ensures unchanged { OnErr result (self.new ≡ self.old) }
     {

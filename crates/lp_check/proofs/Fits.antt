@@ -72,22 +72,22 @@ takes_behind before between a b (Err step) took h = stops_behind before between 
 -- Steps under way: how many were made before them all and before the remaining ones; a result of
 -- the rest is a result of the whole.
 pub record Going {F : Type 0} (value : F → Number) (before now : ℕ) (whole rest : List Bool) (number last : Number) : Type 0 where
-  pub room : now + length rest < 18446744073709551616
+  pub within_bound : now + length rest < 18446744073709551616
   pub so_far : (result : Result (Partial F) StepName) → Reaches value now rest last result → Reaches value before whole number result
 
-module _ {F : Type 0} (value : F → Number) (before now : ℕ) (whole rest : List Bool) (number last : Number) (going : Going value before now whole rest number last) (a behind : List Bool) (split : rest ≡ a ++ behind) where
+module _ {F : Type 0} (value : F → Number) (before now : ℕ) (whole rest : List Bool) (number last : Number) (going : Going value before now whole rest number last) (a following : List Bool) (split : rest ≡ a ++ following) where
   pub room_for : now + length a < 18446744073709551616
-  room_for = omega (arith, going.room, ap length split, length-append a behind)
+  room_for = omega (arith, going.within_bound, ap length split, length-append a following)
 
-  pub goes_on : (after : ℕ) (next : Number) → last ≡ next → Took now a after → Going value before after whole behind number next
-  goes_on after next same took =
+  pub continues : (after : ℕ) (next : Number) → last ≡ next → Took now a after → Going value before after whole following number next
+  continues after next same took =
       record {
-        room = omega (arith, going.room, ap length split, length-append a behind, took.1);
-        so_far = λ result h. going.so_far result (rw (split, same) (reaches_behind value now after a behind next result took h));
+        within_bound = omega (arith, going.within_bound, ap length split, length-append a following, took.1);
+        so_far = λ result h. going.so_far result (rw (split, same) (reaches_behind value now after a following next result took h));
       }
 
   pub stops : (step : StepName) → StopsAfterSteps now a step → Reaches value before whole number (Err step)
-  stops step h = going.so_far (Err step) (subst (λ fits. StopsAfterSteps now fits step) (sym split) (stops_before now a behind step h))
+  stops step h = going.so_far (Err step) (subst (λ fits. StopsAfterSteps now fits step) (sym split) (stops_before now a following step h))
 
 pub ends : {F : Type 0} (value : F → Number) (before now : ℕ) (whole rest : List Bool) (number last : Number) → Going value before now whole rest number last → rest ≡ [] → (p : Partial F) → p.taken ≡ now → value p.sum ≡ last → Reaches value before whole number (Ok p)
 ends value before now whole rest number last going none p taken sum =
@@ -95,22 +95,22 @@ ends value before now whole rest number last going none p taken sum =
 
 -- The same where steps alone are counted.
 pub record Counting (before now : ℕ) (whole rest : List Bool) : Type 0 where
-  pub room : now + length rest < 18446744073709551616
+  pub within_bound : now + length rest < 18446744073709551616
   pub so_far : (result : Result ℕ StepName) → TakesSteps now rest result → TakesSteps before whole result
 
-module _ (before now : ℕ) (whole rest : List Bool) (counting : Counting before now whole rest) (a behind : List Bool) (split : rest ≡ a ++ behind) where
+module _ (before now : ℕ) (whole rest : List Bool) (counting : Counting before now whole rest) (a following : List Bool) (split : rest ≡ a ++ following) where
   pub room_for_count : now + length a < 18446744073709551616
-  room_for_count = omega (arith, counting.room, ap length split, length-append a behind)
+  room_for_count = omega (arith, counting.within_bound, ap length split, length-append a following)
 
-  pub count_on : (after : ℕ) → Took now a after → Counting before after whole behind
+  pub count_on : (after : ℕ) → Took now a after → Counting before after whole following
   count_on after took =
       record {
-        room = omega (arith, counting.room, ap length split, length-append a behind, took.1);
-        so_far = λ result h. counting.so_far result (rw split (takes_behind now after a behind result took h));
+        within_bound = omega (arith, counting.within_bound, ap length split, length-append a following, took.1);
+        so_far = λ result h. counting.so_far result (rw split (takes_behind now after a following result took h));
       }
 
   pub count_stops : (step : StepName) → StopsAfterSteps now a step → TakesSteps before whole (Err step)
-  count_stops step h = counting.so_far (Err step) (subst (λ fits. StopsAfterSteps now fits step) (sym split) (stops_before now a behind step h))
+  count_stops step h = counting.so_far (Err step) (subst (λ fits. StopsAfterSteps now fits step) (sym split) (stops_before now a following step h))
 
 pub count_ends : (before now : ℕ) (whole rest : List Bool) → Counting before now whole rest → rest ≡ [] → TakesSteps before whole (Ok now)
 count_ends before now whole rest counting none = counting.so_far (Ok now) (rw none (refl, omega arith))

@@ -54,7 +54,7 @@ module _ {F : Type 0} (value : F → Number) (j : ℕ) where
     | inl same ↦ other (ap (λ (x : ℕ × F). x.0) (is ∙ sym (ap (λ n. get_or entries n e) same) ∙ get_or_default entries k e d within) ∙ equal)
     | inr rest ↦ elim rest [
       | inl below ↦ let before = point.0 k d (omega arith) below in grind (arith, nat_tests)
-      | inr behind ↦ let up = ascending i k e behind within in let at = point.1 i e (omega arith) h in let same_d = get_or_default entries k e d within in grind (arith, nat_tests)
+      | inr following ↦ let up = ascending i k e following within in let at = point.1 i e (omega arith) h in let same_d = get_or_default entries k e d within in grind (arith, nat_tests)
     ]
   ])
 

@@ -49,14 +49,14 @@ above_by_sense limit s y right sense.G = few_plus limit s y (bound_used y None (
 above_by_sense limit s y right sense.N = rw (unbounded (number_cmp y (whole (pos 0)))) (omega arith)
 
 module _ {F : Type 0} (value : F → Number) (limit : ℕ) where
-  abbrev standing : List (Row F) → ℕ
-  standing rows = sum_by (λ (row : Row F). rows_of_sense row.sense) rows
+  abbrev valid : List (Row F) → ℕ
+  valid rows = sum_by (λ (row : Row F). rows_of_sense row.sense) rows
 
   row_few : (above : Bool) (s y : Number) (row : Row F) → length (plus_steps limit s y (row_bound value above row y)) ≤ 2 * rows_of_sense row.sense
   row_few true s y row = above_by_sense limit s y (value row.right) row.sense
   row_few false s y row = below_by_sense limit s y (value row.right) row.sense
 
-  reduced_few : (j : ℕ) (s : Number) (rows : List (Row F)) (ys : List Number) → length (reduced_cost_bound_steps value limit j s rows ys) ≤ 2 * standing rows
+  reduced_few : (j : ℕ) (s : Number) (rows : List (Row F)) (ys : List Number) → length (reduced_cost_bound_steps value limit j s rows ys) ≤ 2 * valid rows
   reduced_few j s [] ys = omega arith
   reduced_few j s (row ∷ rows) [] = omega arith
   reduced_few j s (row ∷ rows) (y ∷ ys) =
@@ -67,7 +67,7 @@ module _ {F : Type 0} (value : F → Number) (limit : ℕ) where
       let split = sum_by-cons (λ (row : Row F). rows_of_sense row.sense) row rows in
       omega (arith, length-append a b)
 
-  rows_few : (above : Bool) (s : Number) (rows : List (Row F)) (ys : List Number) → length (row_bound_steps value limit above s rows ys) ≤ 2 * standing rows
+  rows_few : (above : Bool) (s : Number) (rows : List (Row F)) (ys : List Number) → length (row_bound_steps value limit above s rows ys) ≤ 2 * valid rows
   rows_few above s [] ys = omega arith
   rows_few above s (row ∷ rows) [] = omega arith
   rows_few above s (row ∷ rows) (y ∷ ys) =
@@ -78,7 +78,7 @@ module _ {F : Type 0} (value : F → Number) (limit : ℕ) where
       let split = sum_by-cons (λ (row : Row F). rows_of_sense row.sense) row rows in
       omega (arith, length-append a b)
 
-  all_reduced_few : (costs : ℕ → Number) (rows : List (Row F)) (ys : List Number) (j : ℕ) (columns : List (Column F)) → 2 * standing rows ≤ 3000 → length (all_reduced_steps value limit costs rows ys j columns) ≤ 3000 * length columns
+  all_reduced_few : (costs : ℕ → Number) (rows : List (Row F)) (ys : List Number) (j : ℕ) (columns : List (Column F)) → 2 * valid rows ≤ 3000 → length (all_reduced_steps value limit costs rows ys j columns) ≤ 3000 * length columns
   all_reduced_few costs rows ys j [] h = omega arith
   all_reduced_few costs rows ys j (column ∷ columns) h =
       let a = reduced_cost_bound_steps value limit j (costs j) rows ys in

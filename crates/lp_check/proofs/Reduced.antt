@@ -152,9 +152,9 @@ module _ {F : Type 0} (value : F → Number) (limit : ℕ) (above : Bool) (costs
 
   module _ (reduced : ℕ → Number) (s : Number) (reduced_is : reduced ≡ reduced_costs value costs rows ys) (s_is : s ≡ rows_sum value above (whole (pos 0)) rows ys) where
     pub room_for_columns : (taken : ℕ) → taken ≡ 0 + length by_rows → length all_over < 18446744073709551616 → taken + length (by_columns reduced s) < 18446744073709551616
-    room_for_columns taken is room =
+    room_for_columns taken is within_bound =
         let last = by_columns (reduced_costs value costs rows ys) (rows_sum value above (whole (pos 0)) rows ys) in
-        rw (reduced_is, s_is) (omega (arith, room, is, length-append (by_reduced ++ by_rows) last, length-append by_reduced by_rows))
+        rw (reduced_is, s_is) (omega (arith, within_bound, is, length-append (by_reduced ++ by_rows) last, length-append by_reduced by_rows))
 
     pub all_over_fit : first_unfit by_reduced ≡ None → first_unfit by_rows ≡ None → first_unfit (by_columns reduced s) ≡ None → first_unfit all_over ≡ None
     all_over_fit first second third =

@@ -137,7 +137,7 @@ module _ {F : Type 0} (value : F → Number) where
   none_from : (j : ℕ) (entries : List (ℕ × F)) → ((k : ℕ) (d : ℕ × F) → k < length entries → j < (get_or entries k d).0) → column_coefficient value entries j ≡ whole (pos 0)
   none_from j [] later = sum_by_ℚ-nil _
   none_from j (e ∷ entries) later =
-      let behind : j < e.0 = later 0 e (omega arith) in
+      let following : j < e.0 = later 0 e (omega arith) in
       let other : (e.0 == j) ≡ false = grind (arith, nat_tests) in
       sum_by_ℚ-cons _ e entries ∙ ap₂ (λ b n. (if b then value e.1 else whole (pos 0)) +ℚ n) other (none_from j entries (λ k d h. later (suc k) d (omega (arith, h)))) ∙ sym (plus_nothing (whole (pos 0)))
 

@@ -16,7 +16,7 @@ use Rattle.lp_core.specs.declared.program.Lp.{Lp}
 use Rattle.lp_core.specs.Feasible.{bound_value}
 use Rattle.lp_core.specs.DualBound.{row_lower, row_upper, objective_costs, no_costs, reduced_cost}
 use Rattle.lp_core.specs.DualBound as dual
-use Rattle.lp_core.specs.Steps.{Due, AllFit, FirstStop, product_fits, difference_fits, asks_nothing}
+use Rattle.lp_core.specs.Steps.{ExpectedStep, AllFit, FirstStop, product_fits, difference_fits, asks_nothing}
 
 -- a product, and its sum with a number; no steps without a bound to multiply by
 abbrev pub plus_steps : ℕ → Number → Number → Option Number → List Bool
@@ -117,7 +117,7 @@ module _ {F : Type 0} (value : F → Number) (limit : ℕ) where
       ++ columns_steps above (reduced_cost value lp costs duals) (rows_sum value above (whole (pos 0)) lp.rows duals) 0 lp.columns
 
   -- the steps of the bound of the objective, or of 0, numbered from 0
-  abbrev pub bound_steps : Bool → Lp F → List Number → List Due
+  abbrev pub bound_steps : Bool → Lp F → List Number → List ExpectedStep
   bound_steps true lp duals = map (λ (p : ℕ × Bool). (Check p.0, p.1)) (enumerate_from 0 (steps_of_bound lp.maximize (objective_costs lp) lp duals))
   bound_steps false lp duals = map (λ (p : ℕ × Bool). (Check p.0, p.1)) (enumerate_from 0 (steps_of_bound false no_costs lp duals))
 
@@ -127,6 +127,6 @@ objective_bound value true lp duals = dual.dual_bound value lp duals
 objective_bound value false lp duals = dual.low value lp no_costs duals
 
 -- the answer is this number if all these steps fit, and else the first step that does not
-abbrev pub Bounds : {F : Type 0} → (F → Number) → List Due → Option Number → Result F StepName → Type 0
+abbrev pub Bounds : {F : Type 0} → (F → Number) → List ExpectedStep → Option Number → Result F StepName → Type 0
 Bounds value steps number (Ok x) = AllFit steps × (number ≡ Some (value x))
 Bounds value steps number (Err step) = FirstStop steps step

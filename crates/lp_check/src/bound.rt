@@ -40,7 +40,7 @@ fn bound_at_once<F: ExactField>(
     requires ordered { All (λ row. AllPairs (λ a b. a.0 < b.0) row.entries) rows.now }
     requires there { All (λ row. All (λ e. e.0 < length columns.now) row.entries) rows.now }
     requires objective { IfSome objective (λ column. column < length columns.now) }
-    requires room { length (steps_over F.value above (costs_of objective) rows.now columns.now (map F.value duals.now) F.limit) < 2 ^ 64 }
+    requires within_bound { length (steps_over F.value above (costs_of objective) rows.now columns.now (map F.value duals.now) F.limit) < 2 ^ 64 }
     ensures fit { IfSome result (λ bound. first_unfit (steps_over F.value above (costs_of objective) rows.now columns.now (map F.value duals.now) F.limit) ≡ None) }
     ensures value { IfSome result (λ bound. F.value bound ≡ sum_over F.value above (costs_of objective) rows.now columns.now (map F.value duals.now)) }
 {
@@ -67,7 +67,7 @@ fn bound_over<F: ExactField>(
     requires sized { length duals.now ≡ length rows.now }
     requires ordered { All (λ row. AllPairs (λ a b. a.0 < b.0) row.entries) rows.now }
     requires few { length columns.now ≤ 3000 }
-    requires room { length (steps_over F.value above (costs_of objective) rows.now columns.now (map F.value duals.now) F.limit) < 2 ^ 64 }
+    requires within_bound { length (steps_over F.value above (costs_of objective) rows.now columns.now (map F.value duals.now) F.limit) < 2 ^ 64 }
     ensures { Reaches F.value 0
         (steps_over F.value above (costs_of objective) rows.now columns.now (map F.value duals.now) F.limit)
         (sum_over F.value above (costs_of objective) rows.now columns.now (map F.value duals.now)) result }

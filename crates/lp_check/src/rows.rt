@@ -42,7 +42,7 @@ pub(crate) fn reduced_cost<F: ExactField>(
 ) -> Result<Partial<F>, StepName>
     requires sized { length duals.now ≡ length rows.now }
     requires ordered { All (λ row. AllPairs (λ a b. a.0 < b.0) row.entries) rows.now }
-    requires room { cost.taken + length (reduced_cost_bound_steps F.value F.limit column (F.value cost.sum) rows.now (map F.value duals.now)) < 2 ^ 64 }
+    requires within_bound { cost.taken + length (reduced_cost_bound_steps F.value F.limit column (F.value cost.sum) rows.now (map F.value duals.now)) < 2 ^ 64 }
     ensures { Reaches F.value cost.taken
         (reduced_cost_bound_steps F.value F.limit column (F.value cost.sum) rows.now (map F.value duals.now))
         (reduced_sum F.value column (F.value cost.sum) rows.now (map F.value duals.now)) result }
@@ -90,7 +90,7 @@ pub(crate) fn rows_part<F: ExactField>(
     start: Partial<F>,
 ) -> Result<Partial<F>, StepName>
     requires sized { length duals.now ≡ length rows.now }
-    requires room { start.taken + length (row_bound_steps F.value F.limit above (F.value start.sum) rows.now (map F.value duals.now)) < 2 ^ 64 }
+    requires within_bound { start.taken + length (row_bound_steps F.value F.limit above (F.value start.sum) rows.now (map F.value duals.now)) < 2 ^ 64 }
     ensures { Reaches F.value start.taken
         (row_bound_steps F.value F.limit above (F.value start.sum) rows.now (map F.value duals.now))
         (rows_sum F.value above (F.value start.sum) rows.now (map F.value duals.now)) result }

@@ -11,12 +11,12 @@ use Rattle.lp_core.specs.declared.program.Lp.{Lp}
 use Rattle.lp_core.specs.StandardForm.{Last}
 use Rattle.lp_core.specs.Dictionary.{Dictionary}
 use Rattle.lp_core.specs.Pivots.{IsChosen, ByRule}
-use Rattle.lp_core.specs.Ends.{IsGoingOnBy, EndsAt, EndsWith, EndsSoBy, ends_by_kind, limit_is_met, step_stops}
+use Rattle.lp_core.specs.Ends.{IsUnfinishedBy, EndsAt, EndsWith, EndsSoBy, ends_by_kind, limit_is_met, step_stops}
 use Rattle.lp_core.specs.Answers.{IsAnswer, bounds_cross, form_stops, search_ends}
 
 module _ {F : Type 0} (value : F → Number) (limit : ℕ) (lp : Lp F) (iterlim : ℕ) where
   -- an optimum does not look at the limit
-  optimum_at : (Chosen : ℕ → Type 0) (pivots other : ℕ) (d : Dictionary) (how : EndKind) (last : Last) (levels row_levels duals reduced : List F) → EndsAt Chosen ((pivots ≡ iterlim) × IsGoingOnBy Chosen d) d how last → EndsWith value limit lp how last (Optimal levels row_levels duals reduced) → EndsAt Chosen ((pivots ≡ other) × IsGoingOnBy Chosen d) d how last
+  optimum_at : (Chosen : ℕ → Type 0) (pivots other : ℕ) (d : Dictionary) (how : EndKind) (last : Last) (levels row_levels duals reduced : List F) → EndsAt Chosen ((pivots ≡ iterlim) × IsUnfinishedBy Chosen d) d how last → EndsWith value limit lp how last (Optimal levels row_levels duals reduced) → EndsAt Chosen ((pivots ≡ other) × IsUnfinishedBy Chosen d) d how last
   optimum_at Chosen pivots other d kind.Optimal last levels row_levels duals reduced at told = at
   optimum_at Chosen pivots other d kind.Infeasible last levels row_levels duals reduced at told = at
   optimum_at Chosen pivots other d kind.Unbounded last levels row_levels duals reduced at told = at

@@ -13,7 +13,7 @@ use Rattle.lp_core.specs.declared.program.Lp.{Lp}
 use Rattle.lp_core.specs.StandardForm.{standard_form, Last}
 use Rattle.lp_core.specs.Dictionary.{Dictionary, Improves, IsLegal, first_dictionary, exchanged}
 use Rattle.lp_core.specs.Pivots.{IsAllowed, IsChosen, ByRule, ByChoice, LeadsWithin}
-use Rattle.lp_core.specs.Ends.{IsUnlimitedBy, IsGoingOnBy, PivotStopsBy, EndsAt, EndsSoBy, ends_by_kind, limit_is_met, step_stops}
+use Rattle.lp_core.specs.Ends.{IsUnlimitedBy, IsUnfinishedBy, PivotStopsBy, EndsAt, EndsSoBy, ends_by_kind, limit_is_met, step_stops}
 use Rattle.lp_core.specs.Answers.{IsAnswerBy, bounds_cross, form_stops, search_ends, IsAnswer, IsAnswerByChoice}
 
 -- ---- the rules
@@ -38,8 +38,8 @@ module _ {F : Type 0} (value : F → Number) (limit : ℕ) (lp : Lp F) (iterlim 
   unlimited_by : (q : ℕ) → IsUnlimitedBy Chosen d q → IsUnlimitedBy Wider d q
   unlimited_by q h = (h.0, chosen q h.1, h.2)
 
-  going_on_by : IsGoingOnBy Chosen d → IsGoingOnBy Wider d
-  going_on_by goes = elim goes [ inl due ↦ inl due | inr more ↦ inr (more.0, (more.1.0, more.1.1, chosen more.1.0 more.1.2, more.1.3)) ]
+  going_on_by : IsUnfinishedBy Chosen d → IsUnfinishedBy Wider d
+  going_on_by goes = elim goes [ inl required ↦ inl required | inr more ↦ inr (more.0, (more.1.0, more.1.1, chosen more.1.0 more.1.2, more.1.3)) ]
 
   stops_by : (n : ℕ) (name : StepName) → PivotStopsBy Allowed Chosen limit n d name → PivotStopsBy More Wider limit n d name
   stops_by n name stops =
@@ -48,7 +48,7 @@ module _ {F : Type 0} (value : F → Number) (limit : ℕ) (lp : Lp F) (iterlim 
         | inr exchange ↦ inr (exchange.0, exchange.1, allowed exchange.0 exchange.1 exchange.2, exchange.3, exchange.4)
       ]
 
-  at_by : (how : EndKind) (last : Last) → EndsAt Chosen ((pivots ≡ iterlim) × IsGoingOnBy Chosen d) d how last → EndsAt Wider ((pivots ≡ iterlim) × IsGoingOnBy Wider d) d how last
+  at_by : (how : EndKind) (last : Last) → EndsAt Chosen ((pivots ≡ iterlim) × IsUnfinishedBy Chosen d) d how last → EndsAt Wider ((pivots ≡ iterlim) × IsUnfinishedBy Wider d) d how last
   at_by kind.Optimal last h = h
   at_by kind.Infeasible last h = h
   at_by kind.Unbounded last h = (h.0, (h.1.0, unlimited_by h.1.0 h.1.1, h.1.2))

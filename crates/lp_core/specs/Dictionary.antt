@@ -90,8 +90,8 @@ abbrev pub InPhaseOne : Dictionary → Type 0
 InPhaseOne d = Contains d.basic 0
 
 -- the opening pivot is required: some constant is below 0
-abbrev pub OpeningIsDue : Dictionary → Type 0
-OpeningIsDue d = (k : ℕ) × (k < length d.basic) × (constant_at d k <ℚ whole (pos 0))
+abbrev pub OpeningIsRequired : Dictionary → Type 0
+OpeningIsRequired d = (k : ℕ) × (k < length d.basic) × (constant_at d k <ℚ whole (pos 0))
 
 -- the priced row: that of variable 0 while it is basic, else the objective
 abbrev pub IsPriced : Dictionary → ℕ → Type 0
@@ -124,7 +124,7 @@ IsLeast d k = (k < length d.basic) × ((i : ℕ) → i < length d.basic → cons
 
 -- The opening pivot: variable 0 enters, the variable of a row with the least constant leaves.
 pub record IsOpening (d : Dictionary) (p : Pivot) (k : ℕ) : Type 0 where
-  pub due : OpeningIsDue d
+  pub required : OpeningIsRequired d
   pub enters : p.enter ≡ 0
   pub leaves : slice_get d.basic k ≡ Some p.leave
   pub least : IsLeast d k
@@ -132,7 +132,7 @@ pub record IsOpening (d : Dictionary) (p : Pivot) (k : ℕ) : Type 0 where
 -- Any pivot after the opening: an improving variable enters, and the variable of a tied row leaves,
 -- which is variable 0 if its row ties.
 pub record IsStep (d : Dictionary) (p : Pivot) (k : ℕ) : Type 0 where
-  pub not_due : ¬ (OpeningIsDue d)
+  pub not_required : ¬ (OpeningIsRequired d)
   pub improves : Improves d p.enter
   pub leaves : slice_get d.basic k ≡ Some p.leave
   pub ties : Ties d p.enter k

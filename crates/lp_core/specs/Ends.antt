@@ -13,27 +13,27 @@ use Rattle.lp_core.specs.declared.answer.End.TheVariants.{Optimal, Infeasible, U
 use Rattle.lp_core.specs.declared.program.Lp.{Lp}
 use Rattle.lp_core.specs.Proofs.{row_sums, IsProved}
 use Rattle.lp_core.specs.StandardForm.{Last, levels_back, duals_back, reduced_back, farkas_back, ray_back}
-use Rattle.lp_core.specs.Dictionary.{Dictionary, OpeningIsDue, InPhaseOne, Limits}
+use Rattle.lp_core.specs.Dictionary.{Dictionary, OpeningIsRequired, InPhaseOne, Limits}
 use Rattle.lp_core.specs.Steps.{AllFit, FirstStop, ratio_steps, exchange_steps, steps_back}
 use Rattle.lp_core.specs.Pivots.{IsChosen, NothingImproves, TestFits, last_of, last_along}
 
 -- a chosen variable that no row limits
 abbrev pub IsUnlimitedBy : (ℕ → Type 0) → Dictionary → ℕ → Type 0
-IsUnlimitedBy Chosen d q = ¬ (OpeningIsDue d) × Chosen q × ((k : ℕ) → ¬ (Limits d q k))
+IsUnlimitedBy Chosen d q = ¬ (OpeningIsRequired d) × Chosen q × ((k : ℕ) → ¬ (Limits d q k))
 
 -- a further pivot is required: the opening one, or a chosen variable enters that some row limits
-abbrev pub IsGoingOnBy : (ℕ → Type 0) → Dictionary → Type 0
-IsGoingOnBy Chosen d = OpeningIsDue d ⊎ (¬ (OpeningIsDue d) × ((q k : ℕ) × Chosen q × Limits d q k))
+abbrev pub IsUnfinishedBy : (ℕ → Type 0) → Dictionary → Type 0
+IsUnfinishedBy Chosen d = OpeningIsRequired d ⊎ (¬ (OpeningIsRequired d) × ((q k : ℕ) × Chosen q × Limits d q k))
 
 -- the phase of a dictionary: 1 while variable 0 is basic or is still to enter
 abbrev pub IsPhase : Dictionary → ℕ → Type 0
-IsPhase d phase = ((phase ≡ 1) × (OpeningIsDue d ⊎ InPhaseOne d)) ⊎ ((phase ≡ 2) × ¬ (OpeningIsDue d) × ¬ (InPhaseOne d))
+IsPhase d phase = ((phase ≡ 1) × (OpeningIsRequired d ⊎ InPhaseOne d)) ⊎ ((phase ≡ 2) × ¬ (OpeningIsRequired d) × ¬ (InPhaseOne d))
 
 -- a step of the n-th pivot that does not fit: one of the ratio test, or of the exchange if the test
 -- fits
 abbrev pub PivotStopsBy : (Pivot → ℕ → Type 0) → (ℕ → Type 0) → ℕ → ℕ → Dictionary → StepName → Type 0
 PivotStopsBy Allowed Chosen limit n d step =
-    (¬ (OpeningIsDue d) × ((q k : ℕ) × Chosen q × Limits d q k × FirstStop (ratio_steps limit n d q) step))
+    (¬ (OpeningIsRequired d) × ((q k : ℕ) × Chosen q × Limits d q k × FirstStop (ratio_steps limit n d q) step))
     ⊎ ((p : Pivot) × (k : ℕ) × Allowed p k × TestFits limit n d p × FirstStop (exchange_steps limit n d p.enter k) step)
 
 -- a variable chosen by the rule that no row limits
@@ -50,7 +50,7 @@ abbrev pub EndsAt : (ℕ → Type 0) → Type 0 → Dictionary → EndKind → L
 EndsAt Chosen BrokenOff d kind.Optimal last = ¬ (InPhaseOne d) × NothingImproves d × (last ≡ last_of d)
 EndsAt Chosen BrokenOff d kind.Infeasible last = InPhaseOne d × NothingImproves d × (last ≡ last_of d)
 EndsAt Chosen BrokenOff d kind.Unbounded last = ¬ (InPhaseOne d) × ((q : ℕ) × IsUnlimitedBy Chosen d q × (last ≡ last_along d q))
-EndsAt Chosen BrokenOff d kind.Interrupted last = ¬ (InPhaseOne d) × ¬ (OpeningIsDue d) × BrokenOff × (last ≡ last_of d)
+EndsAt Chosen BrokenOff d kind.Interrupted last = ¬ (InPhaseOne d) × ¬ (OpeningIsRequired d) × BrokenOff × (last ≡ last_of d)
 
 module _ {F : Type 0} (value : F → Number) (lp : Lp F) where
   -- the recovery: what an end of this kind has, computed from the numbers of the final dictionary
@@ -79,8 +79,8 @@ module _ {F : Type 0} (value : F → Number) (limit : ℕ) (lp : Lp F) (iterlim 
   pub data EndsSoBy (pivots : ℕ) (d : Dictionary) (end : End F) : Type 0 where
     -- the search ends with a kind, and the end is one of that kind
     ends_by_kind : (how : EndKind) (last : Last) →
-        EndsAt Chosen ((pivots ≡ iterlim) × IsGoingOnBy Chosen d) d how last → EndsWith value limit lp how last end → EndsSoBy pivots d end
+        EndsAt Chosen ((pivots ≡ iterlim) × IsUnfinishedBy Chosen d) d how last → EndsWith value limit lp how last end → EndsSoBy pivots d end
     -- the search meets the limit of pivots in phase 1, and the end shows nothing
-    limit_is_met : pivots ≡ iterlim → IsPhase d 1 → IsGoingOnBy Chosen d → end ≡ Interrupted 1 [] [] → EndsSoBy pivots d end
+    limit_is_met : pivots ≡ iterlim → IsPhase d 1 → IsUnfinishedBy Chosen d → end ≡ Interrupted 1 [] [] → EndsSoBy pivots d end
     -- a step of a further pivot does not fit, and the end is refused with it
     step_stops : pivots < iterlim → (step : StepName) → end ≡ Refused step → PivotStopsBy Allowed Chosen limit (pivots + 1) d step → EndsSoBy pivots d end

@@ -24,8 +24,8 @@ abbrev pub IsOfPhase : ℕ → Dictionary → Pivot → Type 0
 IsOfPhase phase d p = IsPhase d phase
 
 -- a pivot of a phase that gains nothing: the constant of the variable that leaves is 0
-abbrev pub StandsStill : ℕ → Dictionary → Pivot → Type 0
-StandsStill phase d p = IsPhase d phase × (constant_at d (leaving_row d p) ≡ whole (pos 0))
+abbrev pub IsDegeneratePivot : ℕ → Dictionary → Pivot → Type 0
+IsDegeneratePivot phase d p = IsPhase d phase × (constant_at d (leaving_row d p) ≡ whole (pos 0))
 
 -- The search has turned to Bland's rule in the phase of this dictionary: somewhere in the phase as
 -- many successive pivots gained nothing as there are variables, variable 0 included.
@@ -33,11 +33,11 @@ pub record HasTurned (first : Dictionary) (pivots : List Pivot) (d : Dictionary)
   pub phase : ℕ
   pub before : List Pivot
   pub still : List Pivot
-  pub behind : List Pivot
-  pub split : pivots ≡ before ++ still ++ behind
+  pub following : List Pivot
+  pub split : pivots ≡ before ++ still ++ following
   pub many : length still ≡ d.variables + 1
-  pub gains_nothing : AllAlong (StandsStill phase) (reached first before) still
-  pub same_phase : AllAlong (IsOfPhase phase) (reached first (before ++ still)) behind
+  pub gains_nothing : AllAlong (IsDegeneratePivot phase) (reached first before) still
+  pub same_phase : AllAlong (IsOfPhase phase) (reached first (before ++ still)) following
   pub now : IsPhase d phase
 
 -- the variable that enters next: the one with the greatest coefficient before the turn, Bland's

@@ -7,7 +7,7 @@ use Rattle.lp_core.specs.declared.answer.Pivot.{Pivot}
 use Rattle.lp_core.specs.declared.answer.Rule.{Rule}
 use Rattle.lp_core.specs.declared.answer.Rule.TheVariants.{Bland, Legal}
 use Rattle.lp_core.specs.StandardForm.{Last}
-use Rattle.lp_core.specs.Dictionary.{Dictionary, basic_at, constant_at, entry_at, OpeningIsDue, Improves, Ties, IsLeast, IsLegal, exchanged}
+use Rattle.lp_core.specs.Dictionary.{Dictionary, basic_at, constant_at, entry_at, OpeningIsRequired, Improves, Ties, IsLeast, IsLegal, exchanged}
 use Rattle.lp_core.specs.Steps.{AllFit, ratio_steps, exchange_steps}
 
 -- ---- what is read from a dictionary
@@ -61,19 +61,19 @@ IsChosen Legal d q = Improves d q
 
 -- nothing remains to choose
 abbrev pub NothingImproves : Dictionary → Type 0
-NothingImproves d = ¬ (OpeningIsDue d) × ((v : ℕ) → ¬ (Improves d v))
+NothingImproves d = ¬ (OpeningIsRequired d) × ((v : ℕ) → ¬ (Improves d v))
 
 -- the ratio steps of a pivot fit; the opening pivot has none
 abbrev pub TestFits : ℕ → ℕ → Dictionary → Pivot → Type 0
-TestFits limit n d p = ¬ (OpeningIsDue d) → AllFit (ratio_steps limit n d p.enter)
+TestFits limit n d p = ¬ (OpeningIsRequired d) → AllFit (ratio_steps limit n d p.enter)
 
 -- The pivot chosen at a dictionary: a chosen variable enters, and of the tied variables the least
 -- leaves, which is variable 0 if its row ties. At the opening the least variable leaves among those
 -- with the least constant.
 pub record IsTaken (Chosen : ℕ → Type 0) (d : Dictionary) (p : Pivot) : Type 0 where
-  pub enters : ¬ (OpeningIsDue d) → Chosen p.enter
-  pub leaves : (i : ℕ) → ¬ (OpeningIsDue d) → Ties d p.enter i → p.leave ≤ basic_at d i
-  pub opens : (i : ℕ) → OpeningIsDue d → IsLeast d i → p.leave ≤ basic_at d i
+  pub enters : ¬ (OpeningIsRequired d) → Chosen p.enter
+  pub leaves : (i : ℕ) → ¬ (OpeningIsRequired d) → Ties d p.enter i → p.leave ≤ basic_at d i
+  pub opens : (i : ℕ) → OpeningIsRequired d → IsLeast d i → p.leave ≤ basic_at d i
 
 -- a legal pivot that the choice allows; k is the row of the variable that leaves
 abbrev pub IsAllowedBy : (ℕ → Type 0) → Dictionary → Pivot → ℕ → Type 0

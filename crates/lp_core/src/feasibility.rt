@@ -63,7 +63,7 @@ fn keep_bounds<F: ExactField>(columns: &[Column<F>], x: &[F]) -> bool
 /// first step.
 fn sum_of<F: ExactField>(entries: &[(u32, F)], x: &[F], first: u64) -> Result<F, StepName>
     requires there { All (λ e. e.0 < length x.now) entries.now }
-    requires room { first + 2 * length entries.now < 2 ^ 64 }
+    requires within_bound { first + 2 * length entries.now < 2 ^ 64 }
     ensures { result_map_both F.value (λ step. step) result
         ≡ checked_sum F.value F.limit (map F.value x.now) first (whole (pos 0)) entries.now }
 {
@@ -109,7 +109,7 @@ fn asks_nothing_of(sense: Sense) -> bool
 /// that does not fit.
 fn keep_rows<F: ExactField>(rows: &[Row<F>], x: &[F]) -> Result<bool, StepName>
     requires there { All (λ row. All (λ e. e.0 < length x.now) row.entries) rows.now }
-    requires room { steps_of_rows rows.now < 2 ^ 64 }
+    requires within_bound { steps_of_rows rows.now < 2 ^ 64 }
     ensures { result ≡ checked_rows F.value F.limit (map F.value x.now) 0 rows.now }
 {
     let mut step = 0;

@@ -5,7 +5,7 @@ ghost use Rattle.lp_core.specs.Answers.{IsAnswer};
 ghost use Rattle.lp_core.specs.LargestCoefficient.{IsLargestAnswer};
 ghost use Rattle.lp_core.specs.WellFormed.{IsWellFormed};
 ghost use Rattle.lp_simplex.specs.Only.{IsOnly};
-ghost use Rattle.lp_nocycle.specs.Turns.{HasFewPivotsByTurn, ComesToEndByTurn};
+ghost use Rattle.lp_nocycle.specs.Turns.{HasFewPivotsByTurn, EndsUninterruptedByTurn};
 
 use crate::largest::Largest;
 use gq_field::ExactField;
@@ -32,7 +32,7 @@ pub fn solve_in<F: ExactField>(
     ensures answers { IfOk result (IsAnswer F.value F.limit lp.now iterlim by.Legal) }
     ensures only { IfOk result (IsOnly (IsLargestAnswer F.value F.limit lp.now iterlim)) }
     ensures few { IfOk result (HasFewPivotsByTurn F.value lp.now) }
-    ensures to_the_end { IfOk result (ComesToEndByTurn F.value lp.now iterlim) }
+    ensures to_the_end { IfOk result (EndsUninterruptedByTurn F.value lp.now iterlim) }
 {
     solve_with(alloc, lp, iterlim, Largest)
 }

@@ -7,7 +7,7 @@ ghost use Rattle.lp_core.specs.LargestCoefficient.{IsLargestAnswer};
 ghost use Rattle.lp_slot.specs.declared.solver.SolverRule.TheVariants as slot;
 ghost use Rattle.lp_core.specs.WellFormed.{IsWellFormed};
 ghost use Rattle.lp_simplex.specs.Only.{IsOnly};
-ghost use Rattle.lp_nocycle.specs.Turns.{HasFewPivotsByTurn, ComesToEndByTurn};
+ghost use Rattle.lp_nocycle.specs.Turns.{HasFewPivotsByTurn, EndsUninterruptedByTurn};
 ghost use Rattle.lp_dantzig.specs.Name.{dantzig_is_name};
 
 use crate::answer::solve_in;
@@ -78,7 +78,7 @@ impl LpSolver for Dantzig {
         ensures answers { IfOk result (IsLargestAnswer frac_value frac_limit lp.now iterlim) }
         ensures only { IfOk result (IsOnly (IsLargestAnswer frac_value frac_limit lp.now iterlim)) }
         ensures few { IfOk result (HasFewPivotsByTurn frac_value lp.now) }
-        ensures to_the_end { IfOk result (ComesToEndByTurn frac_value lp.now iterlim) }
+        ensures to_the_end { IfOk result (EndsUninterruptedByTurn frac_value lp.now iterlim) }
         ensures paths { IfOk result (λ answer. self.new ≡ self.old ++ answer.pivots ∷ []) }
         ensures unchanged { OnErr result (self.new ≡ self.old) }
     {

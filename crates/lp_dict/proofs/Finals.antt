@@ -37,7 +37,7 @@ module _ (d : Dictionary) (proper : IsProper d) where
 
   pub priced_is : (k : ℕ) → IsPriced d k → priced_row d ≡ k
   priced_is k (inl at) = priced_of_place k at
-  priced_is k (inr behind) = priced_behind behind.0 ∙ sym behind.1
+  priced_is k (inr following) = priced_behind following.0 ∙ sym following.1
 
   pub priced_within : priced_row d ≤ length d.basic
   priced_within =
@@ -117,7 +117,7 @@ module _ (d : Dictionary) (proper : IsProper d) where
         ]
 
     pub costs_of_objective : (list : List F) → length d.basic ≤ priced_row d → AreOfRow value d (priced_row d) (d.variables + 1) list → map value list ≡ (last_of d).costs
-    costs_of_objective list behind h =
+    costs_of_objective list following h =
         list_is (map value list) (d.variables + 1) (cost (priced_row d)) (length-map list value ∙ h.sized) (λ v less. numbers_of_costs list h v less (λ k at same. let within = get_within d.basic k v at in absurd (omega arith)))
 
     zero_there : priced_row d < length d.basic → slice_get d.basic (priced_row d) ≡ Some 0

@@ -5,7 +5,7 @@ use Rattle.gq_number.specs.Number.{Number, whole}
 use Rattle.lp_core.specs.declared.answer.Pivot.{Pivot}
 use Rattle.lp_core.specs.Sums.{value_of_column}
 use Rattle.lp_core.specs.StandardForm.{Standard}
-use Rattle.lp_core.specs.Dictionary.{Dictionary, Meets, OpeningIsDue, basic_at, IsLegal, exchanged}
+use Rattle.lp_core.specs.Dictionary.{Dictionary, Meets, OpeningIsRequired, basic_at, IsLegal, exchanged}
 use Rattle.lp_std.specs.Last.{IsDictionaryOf}
 use Rattle.lp_fraction_dict.specs.Pivots.{IsProper}
 use Rattle.lp_fraction_dict.proofs.Equations.{meets_after, meets_before}
@@ -29,8 +29,8 @@ module _ (d : Dictionary) (p : Pivot) (proper : IsProper d) (legal : (k : ℕ) �
   pub stays_of_form : (s : Standard) → IsDictionaryOf s d → IsDictionaryOf s after
   stays_of_form s h = subst (IsDictionaryOf s) (sym is_exchanged) (of_form_after s d p legal.0 proper legal.1 law h)
 
-  pub is_not_due : ¬ (OpeningIsDue after)
-  is_not_due due = none_due d p legal.0 proper legal.1 (subst OpeningIsDue is_exchanged due)
+  pub is_not_due : ¬ (OpeningIsRequired after)
+  is_not_due required = none_due d p legal.0 proper legal.1 (subst OpeningIsRequired is_exchanged required)
 
   pub stays_proper : IsProper after
   stays_proper = subst IsProper (sym is_exchanged) (proper_after d p legal.0 proper legal.1)

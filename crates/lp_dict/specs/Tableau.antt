@@ -2,7 +2,7 @@
 -- Programming, chapter 2).
 use Rattle.std.specs.Prelude.{◌≢◌, ℕ, ◌≤◌, List, length}
 use Rattle.gq_number.specs.Number.{Number}
-use Rattle.lp_core.specs.Dictionary.{Dictionary, OpeningIsDue}
+use Rattle.lp_core.specs.Dictionary.{Dictionary, OpeningIsRequired}
 use Rattle.lp_fraction_dict.specs.Pivots.{IsProper}
 use Rattle.lp_fraction_dict.specs.Tableau as exact
 use Rattle.lp_integer_dict.specs.Whole.{integer_dictionary as dictionary_of}
@@ -48,4 +48,4 @@ pub record IsDictInvariant {F : Type 0} (value : F → Number) (limit : ℕ) (b 
   pub proper : IsProper (kept value b)
   pub few : length (kept value b).basic ≤ (kept value b).variables
   pub bounded : IsWithinField limit b
-  pub opened : upcoming_of b ≢ 1 → ¬ (OpeningIsDue (kept value b))
+  pub opened : upcoming_of b ≢ 1 → ¬ (OpeningIsRequired (kept value b))

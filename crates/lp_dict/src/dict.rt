@@ -3,7 +3,7 @@ ghost use Rattle.std.specs.Prelude.{◌≡◌, ◌<◌, ◌≤◌, ◌+◌, ◌^
 ghost use Rattle.gq_number.specs.Number.{Number, ratio, whole};
 ghost use Rattle.lp_core.specs.Sums.{value_of_column};
 ghost use Rattle.lp_core.specs.Pivots.{last_of};
-ghost use Rattle.lp_core.specs.Dictionary.{basic_at, constant_at, entry_at, OpeningIsDue, IsPriced, Improves, IsLeast, IsOpening, IsLegal, Meets, first_dictionary, exchanged};
+ghost use Rattle.lp_core.specs.Dictionary.{basic_at, constant_at, entry_at, OpeningIsRequired, IsPriced, Improves, IsLeast, IsOpening, IsLegal, Meets, first_dictionary, exchanged};
 ghost use Rattle.lp_core.specs.Counts.{counted};
 ghost use Rattle.lp_core.specs.Steps.{AllFit, ratio_steps, exchange_steps};
 ghost use Rattle.lp_core.specs.Ends.{IsPhase};
@@ -224,7 +224,7 @@ impl<F: ExactField> Dict<F> {
     /// The opening pivot of Bland's choice, if one is required: variable 0 enters, and of the
     /// variables with the least constant, which is below 0, the least leaves.
     pub fn opening(&self) -> Option<Pivot>
-        ensures { MatchOption result (¬ (OpeningIsDue (dictionary F.value self.now)))
+        ensures { MatchOption result (¬ (OpeningIsRequired (dictionary F.value self.now)))
             (λ p. ((k : ℕ) × IsOpening (dictionary F.value self.now) p k) × ((i : ℕ) → IsLeast (dictionary F.value self.now) i → p.leave ≤ basic_at (dictionary F.value self.now) i)) }
     {
         match &self.body {
@@ -235,7 +235,7 @@ impl<F: ExactField> Dict<F> {
 
     /// The least variable that improves; none exactly where there is none.
     pub fn entering(&self) -> Option<u32>
-        requires { ¬ (OpeningIsDue (dictionary F.value self.now)) }
+        requires { ¬ (OpeningIsRequired (dictionary F.value self.now)) }
         ensures { MatchOption result ((v : ℕ) → ¬ (Improves (dictionary F.value self.now) v))
             (λ q. Improves (dictionary F.value self.now) q × ((v : ℕ) → Improves (dictionary F.value self.now) v → q ≤ v)) }
     {
@@ -248,7 +248,7 @@ impl<F: ExactField> Dict<F> {
     /// The variable that improves with the greatest coefficient in the priced row, and of several
     /// such the least. None exactly if nothing improves. It passes over that row once.
     pub fn greatest(&self) -> Option<u32>
-        requires { ¬ (OpeningIsDue (dictionary F.value self.now)) }
+        requires { ¬ (OpeningIsRequired (dictionary F.value self.now)) }
         ensures { MatchOption result ((v : ℕ) → ¬ (Improves (dictionary F.value self.now) v)) (HasGreatest (dictionary F.value self.now)) }
     {
         match &self.body {
@@ -290,7 +290,7 @@ impl<F: ExactField> Dict<F> {
             Meets (dictionary F.value self) x objective ↔ Meets (dictionary F.value after) x objective) }
         ensures of_form { IfOk result (λ after. (s : StandardNumbers) →
             IsDictionaryOf s (dictionary F.value self) → IsDictionaryOf s (dictionary F.value after)) }
-        ensures not_due { IfOk result (λ after. ¬ (OpeningIsDue (dictionary F.value after))) }
+        ensures not_required { IfOk result (λ after. ¬ (OpeningIsRequired (dictionary F.value after))) }
         ensures upcoming { IfOk result (λ after. after.upcoming ≡ counted (self.upcoming + 1)) }
         ensures limit { IfErr result (λ stop. (k : ℕ) → slice_get self.basic k ≡ Some p.leave →
             StopsAtStep (exchange_steps F.limit self.upcoming (dictionary F.value self) p.enter k) stop) }

@@ -1,7 +1,7 @@
 //! What is read from integer rows, and from rows of fractions.
 ghost use Rattle.std.specs.Prelude.{◌≡◌, ◌≢◌, ◌+◌, ◌≤◌, ◌<◌, ◌↔◌, ℕ, pos, length, slice_get, Some, Contains, IsTrue, MatchOption};
 ghost use Rattle.gq_number.specs.Number.{whole};
-ghost use Rattle.lp_core.specs.Dictionary.{constant_at, entry_at, basic_at, IsPriced, OpeningIsDue, IsOpening, IsLeast};
+ghost use Rattle.lp_core.specs.Dictionary.{constant_at, entry_at, basic_at, IsPriced, OpeningIsRequired, IsOpening, IsLeast};
 ghost use Rattle.lp_core.specs.Pivots.{priced_row};
 ghost use Rattle.lp_fraction_dict.specs.Rows.{IsRow, number_in};
 ghost use Rattle.lp_fraction_dict.specs.Tableau as exact;
@@ -18,8 +18,8 @@ use std::cmp::Ordering;
 /// The opening pivot of integer rows. It can be required only at the first dictionary, before the
 /// pivot with the number 1.
 pub(crate) fn opening_of(rows: &Whole, upcoming: u64) -> Option<Pivot>
-    requires { upcoming ≢ 1 → ¬ (OpeningIsDue (dictionary_of rows.now)) }
-    ensures { MatchOption result (¬ (OpeningIsDue (dictionary_of rows.now)))
+    requires { upcoming ≢ 1 → ¬ (OpeningIsRequired (dictionary_of rows.now)) }
+    ensures { MatchOption result (¬ (OpeningIsRequired (dictionary_of rows.now)))
         (λ p. ((k : ℕ) × IsOpening (dictionary_of rows.now) p k) × ((i : ℕ) → IsLeast (dictionary_of rows.now) i → p.leave ≤ basic_at (dictionary_of rows.now) i)) }
 {
     if upcoming != 1 {
@@ -47,7 +47,7 @@ fn number_in_row<F: ExactField>(row: &[Entry<F>], column: usize) -> F
 {
     let mut rest = row;
     loop {
-        let (front, back) = rest.split_at(rest.len() / 2);
+        let (prefix, back) = rest.split_at(rest.len() / 2);
         let Some((entry, after)) = back.split_first() else {
             return F::zero();
         };
@@ -55,7 +55,7 @@ fn number_in_row<F: ExactField>(row: &[Entry<F>], column: usize) -> F
         match here.cmp(&column) {
             Ordering::Less => rest = after,
             Ordering::Equal => return entry.number,
-            Ordering::Greater => rest = front,
+            Ordering::Greater => rest = prefix,
         }
     }
 }

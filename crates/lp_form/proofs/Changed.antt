@@ -8,10 +8,10 @@ use Rattle.gq_number.specs.Number.{Number, whole}
 use Rattle.lp_form.specs.declared.key.Key.{Key}
 use Rattle.lp_form.specs.Keys.{key_cmp, same_key, AreOrdered}
 use Rattle.lp_form.specs.Forms.{number_at, Step}
-use Rattle.lp_form.specs.InnerMerging.{Side, Outcome, in_front, Changes, no_more, kept, dropped, halted}
+use Rattle.lp_form.specs.InnerMerging.{Side, Outcome, values_first, Changes, no_more, kept, dropped, halted}
 use Rattle.lp_form.proofs.KeyOrder.{same_key-is, first-before, rest-ordered, ordered-nil, before-all}
 use Rattle.lp_form.proofs.Lookups.{number_at_first, number_at_before}
-use Rattle.lp_form.proofs.Merged.{IfMade, with_front, front, ordered_front}
+use Rattle.lp_form.proofs.Merged.{IfMade, with_front, prefix, ordered_front}
 
 module _ {F : Type 0} (value : F → Number) (step : Number → Step) where
   -- what is made comes after whatever comes before the list
@@ -19,7 +19,7 @@ module _ {F : Type 0} (value : F → Number) (step : Number → Step) where
   unfolding IfMade with_front
   changed-after low no_more before = All-nil (λ m. key_cmp low m ≡ Less)
   changed-after low (kept {k} {x} {z} {ks} {xs} {r} fits is some m) before =
-      front k z _ _ r (λ made h. All-cons (λ m. key_cmp low m ≡ Less) k made.keys (All-head (λ k. key_cmp low k ≡ Less) k ks before) h) (changed-after low m (All-tail (λ k. key_cmp low k ≡ Less) k ks before))
+      prefix k z _ _ r (λ made h. All-cons (λ m. key_cmp low m ≡ Less) k made.keys (All-head (λ k. key_cmp low k ≡ Less) k ks before) h) (changed-after low m (All-tail (λ k. key_cmp low k ≡ Less) k ks before))
   changed-after low (dropped {k} {x} {ks} {xs} {r} fits is m) before = changed-after low m (All-tail (λ k. key_cmp low k ≡ Less) k ks before)
   changed-after low (halted none) before = tt
 
@@ -34,14 +34,14 @@ module _ {F : Type 0} (value : F → Number) (step : Number → Step) where
   pub changed-paired : {ks : List Key} {xs : List F} {r : Outcome F} → Changes value step ks xs r → IfMade (λ made. length made.numbers ≡ length made.keys) r
   unfolding IfMade with_front
   changed-paired no_more = refl
-  changed-paired (kept {k} {x} {z} {ks} {xs} {r} fits is some m) = front k z _ _ r (λ made h. ap suc h) (changed-paired m)
+  changed-paired (kept {k} {x} {z} {ks} {xs} {r} fits is some m) = prefix k z _ _ r (λ made h. ap suc h) (changed-paired m)
   changed-paired (dropped fits is m) = changed-paired m
   changed-paired (halted none) = tt
 
   pub changed-not_zero : {ks : List Key} {xs : List F} {r : Outcome F} → Changes value step ks xs r → IfMade (λ made. All (λ x. value x ≢ whole (pos 0)) made.numbers) r
   unfolding IfMade with_front
   changed-not_zero no_more = All-nil (λ x. value x ≢ whole (pos 0))
-  changed-not_zero (kept {k} {x} {z} {ks} {xs} {r} fits is some m) = front k z _ _ r (λ made h. All-cons (λ x. value x ≢ whole (pos 0)) z made.numbers some h) (changed-not_zero m)
+  changed-not_zero (kept {k} {x} {z} {ks} {xs} {r} fits is some m) = prefix k z _ _ r (λ made h. All-cons (λ x. value x ≢ whole (pos 0)) z made.numbers some h) (changed-not_zero m)
   changed-not_zero (dropped fits is m) = changed-not_zero m
   changed-not_zero (halted none) = tt
 
@@ -86,7 +86,7 @@ module _ {F : Type 0} (value : F → Number) (step : Number → Step) where
             | false ↦ λ _. h
           ] refl
 
-    told_kept : (k : Key) (x z : F) (ks : List Key) (xs : List F) (r : Outcome F) → AreOrdered (k ∷ ks) → (step (value x)).fits ≡ true → value z ≡ (step (value x)).number → TellsChanged ks xs r → TellsChanged (k ∷ ks) (x ∷ xs) (in_front k z r)
+    told_kept : (k : Key) (x z : F) (ks : List Key) (xs : List F) (r : Outcome F) → AreOrdered (k ∷ ks) → (step (value x)).fits ≡ true → value z ≡ (step (value x)).number → TellsChanged ks xs r → TellsChanged (k ∷ ks) (x ∷ xs) (values_first k z r)
     unfolding TellsChanged FitsAt
     told_kept k x z ks xs (Ok made) ordered fits is h = λ key. (kept_number k x ks xs ordered z made key is (h key).0, kept_fits k x ks xs ordered key fits (h key).1)
     told_kept k x z ks xs (Err key) ordered fits is h = (λ before less. kept_fits k x ks xs ordered before fits (h.0 before less), kept_stop k x ks xs ordered key h.1)

@@ -16,7 +16,7 @@ use Rattle.std.specs.declared.cmp.Ordering.{Ordering}
 use Rattle.std.specs.Ordering.{is_lt}
 use Rattle.lp_form.specs.Keys.{key_cmp, AreOrdered}
 use Rattle.lp_form.specs.Forms.{Step}
-use Rattle.lp_form.specs.InnerMerging.{IsBeforeFirst, Comes, Outcome, in_front, after, Merges, done, left, right, both, gone, stopped, Changes, no_more, kept, dropped, halted, PushesUnlessZero, IsFaultAt, OnOutcome}
+use Rattle.lp_form.specs.InnerMerging.{IsBeforeFirst, Comes, Outcome, values_first, after, Merges, done, left, right, both, gone, stopped, Changes, no_more, kept, dropped, halted, PushesUnlessZero, IsFaultAt, OnOutcome}
 use Rattle.lp_form.specs.declared.fault.FormFault.{FormFault}
 use Rattle.lp_form.specs.declared.fault.FormFault.TheVariants as fault
 use Rattle.lp_form.specs.declared.terms.Terms.{Terms}
@@ -32,7 +32,7 @@ drop_item xs i x h e = rw (add-one) (drop-cons xs i x h ∙ ap (λ y. y ∷ drop
 pub get_or_itself : {X : Type 0} (xs : List X) (i : ℕ) (d : X) → i < length xs → get_or xs i d ≡ get_or xs i (get_or xs i d)
 get_or_itself xs i d h = get_or_default xs i d (get_or xs i d) h
 
-pub after_push : {F : Type 0} (keys : List Key) (numbers : List F) (k : Key) (x : F) (r : Outcome F) → after (keys ++ k ∷ []) (numbers ++ x ∷ []) r ≡ after keys numbers (in_front k x r)
+pub after_push : {F : Type 0} (keys : List Key) (numbers : List F) (k : Key) (x : F) (r : Outcome F) → after (keys ++ k ∷ []) (numbers ++ x ∷ []) r ≡ after keys numbers (values_first k x r)
 after_push keys numbers k x (Ok made) = λ i. Ok (record { keys = append_assoc keys (k ∷ []) made.keys i; numbers = append_assoc numbers (x ∷ []) made.numbers i })
 after_push keys numbers k x (Err key) = refl
 
@@ -88,9 +88,9 @@ all-before (k ∷ ks) last l e ordered less =
     All-weaker (λ j. (key_cmp j last ≡ Less) ⊎ (j ≡ last)) (λ j. key_cmp j l ≡ Less) (λ j h. elim h [ inl before ↦ key_cmp-total.trans j last l before less | inr is ↦ rw is less ]) (k ∷ ks) (up_to_last k ks last e ordered)
 
 -- keys whose last comes before the first of others
-pub behind-before : (ls ks : List Key) (first last : Key) → slice_get ls 0 ≡ Some first → slice_get ks (length ks - 1) ≡ Some last → AreOrdered ks → key_cmp last first ≡ Less → All (λ k. IsBeforeFirst k ls) ks
-behind-before [] ks first last e f ordered less = absurd (cc)
-behind-before (l ∷ ls) ks first last e f ordered less =
+pub following-before : (ls ks : List Key) (first last : Key) → slice_get ls 0 ≡ Some first → slice_get ks (length ks - 1) ≡ Some last → AreOrdered ks → key_cmp last first ≡ Less → All (λ k. IsBeforeFirst k ls) ks
+following-before [] ks first last e f ordered less = absurd (cc)
+following-before (l ∷ ls) ks first last e f ordered less =
     let is : l ≡ first = cc in
     rw is (all-before ks last first f ordered less)
 
@@ -131,7 +131,7 @@ module _ {F : Type 0} (value : F → Number) (limit : ℕ) (ks : List Key) (xs :
       let keys_from = drop_item ks i k here k_is in
       let numbers_from = drop_item xs i x there x_is in
       let before = comes-left_at k (drop (i + 1) ks) (drop j ls) (subst (λ zs. Comes zs (drop j ls) (Some turn.Left)) keys_from comes) in
-      rw (after_push keys numbers k x r) (so_far (in_front k x r) (rw (keys_from, numbers_from) (left before m)))
+      rw (after_push keys numbers k x r) (so_far (values_first k x r) (rw (keys_from, numbers_from) (left before m)))
 
   pub turn_right : (i j : ℕ) (keys : List Key) (numbers : List F) (l : Key) (y : F) → Merging i j keys numbers → length ys ≡ length ls → Comes (drop i ks) (drop j ls) (Some turn.Right) → l ≡ get_or ls j l → y ≡ get_or ys j y → Merging i (j + 1) (keys ++ l ∷ []) (numbers ++ y ∷ [])
   turn_right i j keys numbers l y so_far paired comes l_is y_is r m =
@@ -140,7 +140,7 @@ module _ {F : Type 0} (value : F → Number) (limit : ℕ) (ks : List Key) (xs :
       let keys_from = drop_item ls j l here l_is in
       let numbers_from = drop_item ys j y there y_is in
       let before = comes-right_at l (drop i ks) (drop (j + 1) ls) (subst (λ zs. Comes (drop i ks) zs (Some turn.Right)) keys_from comes) in
-      rw (after_push keys numbers l y r) (so_far (in_front l y r) (rw (keys_from, numbers_from) (right before m)))
+      rw (after_push keys numbers l y r) (so_far (values_first l y r) (rw (keys_from, numbers_from) (right before m)))
 
   -- both lists, each from its element on
   module _ (i j : ℕ) (keys : List Key) (numbers : List F) (k l : Key) (x y : F) (so_far : Merging i j keys numbers) (paired : length xs ≡ length ks) (others_paired : length ys ≡ length ls) (comes : Comes (drop i ks) (drop j ls) (Some turn.Both)) (k_is : k ≡ get_or ks i k) (x_is : x ≡ get_or xs i x) (y_is : y ≡ get_or ys j y) (l_is : l ≡ get_or ls j l) where
@@ -167,7 +167,7 @@ module _ {F : Type 0} (value : F → Number) (limit : ℕ) (ks : List Key) (xs :
 
     pub turn_both : (z : F) → sum_fits limit (value x) (value y) ≡ true → value z ≡ value x +ℚ value y → value z ≢ whole (pos 0) → Merging (i + 1) (j + 1) (keys ++ k ∷ []) (numbers ++ z ∷ [])
     turn_both z fits sum some r m =
-        rw (after_push keys numbers k z r) (so_far (in_front k z r) (rw (keys_from, numbers_from, others_from, other_numbers_from) (both same fits sum some m)))
+        rw (after_push keys numbers k z r) (so_far (values_first k z r) (rw (keys_from, numbers_from, others_from, other_numbers_from) (both same fits sum some m)))
 
     pub turn_gone : sum_fits limit (value x) (value y) ≡ true → value x +ℚ value y ≡ whole (pos 0) → Merging (i + 1) (j + 1) keys numbers
     turn_gone fits sum r m = so_far r (rw (keys_from, numbers_from, others_from, other_numbers_from) (gone same fits sum m))
@@ -211,7 +211,7 @@ module _ {F : Type 0} (value : F → Number) (step : Number → Step) (ks : List
       let keys_from = drop_item ks i k here k_is in
       let numbers_from = drop_item xs i x there x_is in
       elim pushed [
-        | inl p ↦ rw (p.1, p.2, after_push before.keys.items before.numbers.items k z r) (so_far (in_front k z r) (rw (keys_from, numbers_from) (kept fits is p.0 m)))
+        | inl p ↦ rw (p.1, p.2, after_push before.keys.items before.numbers.items k z r) (so_far (values_first k z r) (rw (keys_from, numbers_from) (kept fits is p.0 m)))
         | inr p ↦ rw (p.1, p.2) (so_far r (rw (keys_from, numbers_from) (dropped fits (sym is ∙ p.0) m)))
       ]
 

@@ -11,7 +11,7 @@ use Rattle.gq_field.specs.Fits.{fits, sum_fits}
 use Rattle.lp_form.specs.declared.key.Key.{Key}
 use Rattle.lp_form.specs.Keys.{key_cmp, same_key, AreOrdered}
 use Rattle.lp_form.specs.Forms.{number_at}
-use Rattle.lp_form.specs.InnerMerging.{IsBeforeFirst, Side, Outcome, in_front, Merges, done, left, right, both, gone, stopped}
+use Rattle.lp_form.specs.InnerMerging.{IsBeforeFirst, Side, Outcome, values_first, Merges, done, left, right, both, gone, stopped}
 use Rattle.lp_form.proofs.KeyOrder.{key_cmp-Equal, same_key-is, first-before, rest-ordered, ordered-cons, ordered-nil, before-all}
 use Rattle.lp_form.proofs.Lookups.{number_at_first, number_at_before}
 use Rattle.lp_form.proofs.Zeros.{sum_fits-zero, zero-sum_fits, fits-zero}
@@ -30,13 +30,13 @@ unfoldable pub with_front : {F : Type 0} → Key → F → Side F → Side F
 with_front k x made = record { keys = k ∷ made.keys; numbers = x ∷ made.numbers }
 
 -- a property of a result with an entry before it, from one of the result
-pub front : {F : Type 0} (k : Key) (x : F) (P Q : Side F → Type 0) (r : Outcome F) → ((made : Side F) → P made → Q (with_front k x made)) → IfMade P r → IfMade Q (in_front k x r)
+pub prefix : {F : Type 0} (k : Key) (x : F) (P Q : Side F → Type 0) (r : Outcome F) → ((made : Side F) → P made → Q (with_front k x made)) → IfMade P r → IfMade Q (values_first k x r)
 unfolding IfMade with_front
-front k x P Q (Ok made) step h = step made h
-front k x P Q (Err key) step h = tt
+prefix k x P Q (Ok made) step h = step made h
+prefix k x P Q (Err key) step h = tt
 
 -- an entry whose key precedes all, put before an ordered result
-pub ordered_front : {F : Type 0} (k : Key) (x : F) (r : Outcome F) → IfMade (λ made. All (λ m. key_cmp k m ≡ Less) made.keys) r → IfMade (λ made. AreOrdered made.keys) r → IfMade (λ made. AreOrdered made.keys) (in_front k x r)
+pub ordered_front : {F : Type 0} (k : Key) (x : F) (r : Outcome F) → IfMade (λ made. All (λ m. key_cmp k m ≡ Less) made.keys) r → IfMade (λ made. AreOrdered made.keys) r → IfMade (λ made. AreOrdered made.keys) (values_first k x r)
 unfolding IfMade with_front
 ordered_front k x (Ok made) before h = ordered-cons k made.keys before h
 ordered_front k x (Err key) before h = tt
@@ -47,11 +47,11 @@ module _ {F : Type 0} (value : F → Number) (limit : ℕ) where
   unfolding IfMade with_front
   merged-after low done before others = All-nil (λ m. key_cmp low m ≡ Less)
   merged-after low (left {k} {x} {ks} {xs} {ls} {ys} {r} first m) before others =
-      front k x _ _ r (λ made h. All-cons (λ m. key_cmp low m ≡ Less) k made.keys (All-head (λ k. key_cmp low k ≡ Less) k ks before) h) (merged-after low m (All-tail (λ k. key_cmp low k ≡ Less) k ks before) others)
+      prefix k x _ _ r (λ made h. All-cons (λ m. key_cmp low m ≡ Less) k made.keys (All-head (λ k. key_cmp low k ≡ Less) k ks before) h) (merged-after low m (All-tail (λ k. key_cmp low k ≡ Less) k ks before) others)
   merged-after low (right {l} {y} {ks} {xs} {ls} {ys} {r} first m) before others =
-      front l y _ _ r (λ made h. All-cons (λ m. key_cmp low m ≡ Less) l made.keys (All-head (λ k. key_cmp low k ≡ Less) l ls others) h) (merged-after low m before (All-tail (λ k. key_cmp low k ≡ Less) l ls others))
+      prefix l y _ _ r (λ made h. All-cons (λ m. key_cmp low m ≡ Less) l made.keys (All-head (λ k. key_cmp low k ≡ Less) l ls others) h) (merged-after low m before (All-tail (λ k. key_cmp low k ≡ Less) l ls others))
   merged-after low (both {k} {l} {x} {y} {z} {ks} {xs} {ls} {ys} {r} same fits sum some m) before others =
-      front k z _ _ r (λ made h. All-cons (λ m. key_cmp low m ≡ Less) k made.keys (All-head (λ k. key_cmp low k ≡ Less) k ks before) h) (merged-after low m (All-tail (λ k. key_cmp low k ≡ Less) k ks before) (All-tail (λ k. key_cmp low k ≡ Less) l ls others))
+      prefix k z _ _ r (λ made h. All-cons (λ m. key_cmp low m ≡ Less) k made.keys (All-head (λ k. key_cmp low k ≡ Less) k ks before) h) (merged-after low m (All-tail (λ k. key_cmp low k ≡ Less) k ks before) (All-tail (λ k. key_cmp low k ≡ Less) l ls others))
   merged-after low (gone {k} {l} {x} {y} {ks} {xs} {ls} {ys} {r} same fits sum m) before others =
       merged-after low m (All-tail (λ k. key_cmp low k ≡ Less) k ks before) (All-tail (λ k. key_cmp low k ≡ Less) l ls others)
   merged-after low (stopped same none) before others = tt
@@ -73,9 +73,9 @@ module _ {F : Type 0} (value : F → Number) (limit : ℕ) where
   pub merged-paired : {ks : List Key} {xs : List F} {ls : List Key} {ys : List F} {r : Outcome F} → Merges value limit ks xs ls ys r → IfMade (λ made. length made.numbers ≡ length made.keys) r
   unfolding IfMade with_front
   merged-paired done = refl
-  merged-paired (left {k} {x} {ks} {xs} {ls} {ys} {r} first m) = front k x _ _ r (λ made h. ap suc h) (merged-paired m)
-  merged-paired (right {l} {y} {ks} {xs} {ls} {ys} {r} first m) = front l y _ _ r (λ made h. ap suc h) (merged-paired m)
-  merged-paired (both {k} {l} {x} {y} {z} {ks} {xs} {ls} {ys} {r} same fits sum some m) = front k z _ _ r (λ made h. ap suc h) (merged-paired m)
+  merged-paired (left {k} {x} {ks} {xs} {ls} {ys} {r} first m) = prefix k x _ _ r (λ made h. ap suc h) (merged-paired m)
+  merged-paired (right {l} {y} {ks} {xs} {ls} {ys} {r} first m) = prefix l y _ _ r (λ made h. ap suc h) (merged-paired m)
+  merged-paired (both {k} {l} {x} {y} {z} {ks} {xs} {ls} {ys} {r} same fits sum some m) = prefix k z _ _ r (λ made h. ap suc h) (merged-paired m)
   merged-paired (gone same fits sum m) = merged-paired m
   merged-paired (stopped same none) = tt
 
@@ -84,11 +84,11 @@ module _ {F : Type 0} (value : F → Number) (limit : ℕ) where
   unfolding IfMade with_front
   merged-not_zero done some others = All-nil (λ x. value x ≢ whole (pos 0))
   merged-not_zero (left {k} {x} {ks} {xs} {ls} {ys} {r} first m) some others =
-      front k x _ _ r (λ made h. All-cons (λ x. value x ≢ whole (pos 0)) x made.numbers (All-head (λ x. value x ≢ whole (pos 0)) x xs some) h) (merged-not_zero m (All-tail (λ x. value x ≢ whole (pos 0)) x xs some) others)
+      prefix k x _ _ r (λ made h. All-cons (λ x. value x ≢ whole (pos 0)) x made.numbers (All-head (λ x. value x ≢ whole (pos 0)) x xs some) h) (merged-not_zero m (All-tail (λ x. value x ≢ whole (pos 0)) x xs some) others)
   merged-not_zero (right {l} {y} {ks} {xs} {ls} {ys} {r} first m) some others =
-      front l y _ _ r (λ made h. All-cons (λ x. value x ≢ whole (pos 0)) y made.numbers (All-head (λ x. value x ≢ whole (pos 0)) y ys others) h) (merged-not_zero m some (All-tail (λ x. value x ≢ whole (pos 0)) y ys others))
+      prefix l y _ _ r (λ made h. All-cons (λ x. value x ≢ whole (pos 0)) y made.numbers (All-head (λ x. value x ≢ whole (pos 0)) y ys others) h) (merged-not_zero m some (All-tail (λ x. value x ≢ whole (pos 0)) y ys others))
   merged-not_zero (both {k} {l} {x} {y} {z} {ks} {xs} {ls} {ys} {r} same fits sum z_some m) some others =
-      front k z _ _ r (λ made h. All-cons (λ x. value x ≢ whole (pos 0)) z made.numbers z_some h) (merged-not_zero m (All-tail (λ x. value x ≢ whole (pos 0)) x xs some) (All-tail (λ x. value x ≢ whole (pos 0)) y ys others))
+      prefix k z _ _ r (λ made h. All-cons (λ x. value x ≢ whole (pos 0)) z made.numbers z_some h) (merged-not_zero m (All-tail (λ x. value x ≢ whole (pos 0)) x xs some) (All-tail (λ x. value x ≢ whole (pos 0)) y ys others))
   merged-not_zero (gone {k} {l} {x} {y} {ks} {xs} {ls} {ys} {r} same fits sum m) some others =
       merged-not_zero m (All-tail (λ x. value x ≢ whole (pos 0)) x xs some) (All-tail (λ x. value x ≢ whole (pos 0)) y ys others)
   merged-not_zero (stopped same none) some others = tt
@@ -234,17 +234,17 @@ module _ {F : Type 0} (value : F → Number) (limit : ℕ) (within : (x : F) →
   Tells ks xs ls ys (Err key) =
       ((before : Key) → key_cmp before key ≡ Less → sum_fits limit (number_at value ks xs before) (number_at value ls ys before) ≡ true) × (sum_fits limit (number_at value ks xs key) (number_at value ls ys key) ≡ false)
 
-  told_left : (k : Key) (x : F) (ks : List Key) (xs : List F) (ls : List Key) (ys : List F) (r : Outcome F) → All (λ l. key_cmp k l ≡ Less) ls → AreOrdered (k ∷ ks) → Tells ks xs ls ys r → Tells (k ∷ ks) (x ∷ xs) ls ys (in_front k x r)
+  told_left : (k : Key) (x : F) (ks : List Key) (xs : List F) (ls : List Key) (ys : List F) (r : Outcome F) → All (λ l. key_cmp k l ≡ Less) ls → AreOrdered (k ∷ ks) → Tells ks xs ls ys r → Tells (k ∷ ks) (x ∷ xs) ls ys (values_first k x r)
   unfolding Tells SumAt FitsAt with_front
   told_left k x ks xs ls ys (Ok made) apart ordered h = λ key. (left_sum k x ks xs ls ys apart made key (h key).0, left_fits k x ks xs ls ys apart key (h key).1)
   told_left k x ks xs ls ys (Err key) apart ordered h = (λ before less. left_fits k x ks xs ls ys apart before (h.0 before less), left_stop k x ks xs ls ys apart key ordered h.1)
 
-  told_right : (ks : List Key) (xs : List F) (l : Key) (y : F) (ls : List Key) (ys : List F) (r : Outcome F) → All (λ k. key_cmp l k ≡ Less) ks → AreOrdered (l ∷ ls) → Tells ks xs ls ys r → Tells ks xs (l ∷ ls) (y ∷ ys) (in_front l y r)
+  told_right : (ks : List Key) (xs : List F) (l : Key) (y : F) (ls : List Key) (ys : List F) (r : Outcome F) → All (λ k. key_cmp l k ≡ Less) ks → AreOrdered (l ∷ ls) → Tells ks xs ls ys r → Tells ks xs (l ∷ ls) (y ∷ ys) (values_first l y r)
   unfolding Tells SumAt FitsAt with_front
   told_right ks xs l y ls ys (Ok made) apart ordered h = λ key. (right_sum ks xs l y ls ys apart made key (h key).0, right_fits ks xs l y ls ys apart key (h key).1)
   told_right ks xs l y ls ys (Err key) apart ordered h = (λ before less. right_fits ks xs l y ls ys apart before (h.0 before less), right_stop ks xs l y ls ys apart key ordered h.1)
 
-  told_both : (k : Key) (x y z : F) (ks : List Key) (xs : List F) (ls : List Key) (ys : List F) (r : Outcome F) → sum_fits limit (value x) (value y) ≡ true → value z ≡ value x +ℚ value y → AreOrdered (k ∷ ks) → AreOrdered (k ∷ ls) → Tells ks xs ls ys r → Tells (k ∷ ks) (x ∷ xs) (k ∷ ls) (y ∷ ys) (in_front k z r)
+  told_both : (k : Key) (x y z : F) (ks : List Key) (xs : List F) (ls : List Key) (ys : List F) (r : Outcome F) → sum_fits limit (value x) (value y) ≡ true → value z ≡ value x +ℚ value y → AreOrdered (k ∷ ks) → AreOrdered (k ∷ ls) → Tells ks xs ls ys r → Tells (k ∷ ks) (x ∷ xs) (k ∷ ls) (y ∷ ys) (values_first k z r)
   unfolding Tells SumAt FitsAt with_front
   told_both k x y z ks xs ls ys (Ok made) fits sum ordered others h = λ key. (both_sum k x ks xs y ls ys z made key sum (h key).0, both_fits k x ks xs y ls ys key fits (h key).1)
   told_both k x y z ks xs ls ys (Err key) fits sum ordered others h = (λ before less. both_fits k x ks xs y ls ys before fits (h.0 before less), both_stop k x ks xs y ls ys key ordered others h.1)
@@ -267,7 +267,7 @@ module _ {F : Type 0} (value : F → Number) (limit : ℕ) (within : (x : F) →
   merged-tells (right {l} {y} {ks} {xs} {ls} {ys} {r} first m) ordered others =
       told_right ks xs l y ls ys r (before-rest l ks first ordered) others (merged-tells m ordered (rest-ordered l ls others))
   merged-tells (both {k} {l} {x} {y} {z} {ks} {xs} {ls} {ys} {r} same fits sum z_some m) ordered others =
-      at_one_key k l x ks xs y ls ys (in_front k z r) same others (λ others'. told_both k x y z ks xs ls ys r fits sum ordered others' (merged-tells m (rest-ordered k ks ordered) (rest-ordered l ls others)))
+      at_one_key k l x ks xs y ls ys (values_first k z r) same others (λ others'. told_both k x y z ks xs ls ys r fits sum ordered others' (merged-tells m (rest-ordered k ks ordered) (rest-ordered l ls others)))
   merged-tells (gone {k} {l} {x} {y} {ks} {xs} {ls} {ys} {r} same fits sum m) ordered others =
       at_one_key k l x ks xs y ls ys r same others (λ others'. told_gone k x y ks xs ls ys r (merged-after value limit k m (first-before k ks ordered) (first-before k ls others')) fits sum ordered others' (merged-tells m (rest-ordered k ks ordered) (rest-ordered l ls others)))
   merged-tells (stopped {k} {l} {x} {y} {ks} {xs} {ls} {ys} same none) ordered others =

@@ -53,12 +53,12 @@ module _ {F : Type 0} (value : F → Number) (limit : ℕ) where
   only_right (l ∷ ls) (y ∷ ys) e = right tt (only_right ls ys (omega arith))
 
   -- two sides, one of which comes after the other, merge by appending it
-  pub put_behind : (ks : List Key) (xs : List F) (ls : List Key) (ys : List F) → length xs ≡ length ks → length ys ≡ length ls → All (λ k. IsBeforeFirst k ls) ks → Merges value limit ks xs ls ys (Ok (record { keys = ks ++ ls; numbers = xs ++ ys }))
-  put_behind [] [] ls ys e f before = only_right ls ys f
-  put_behind [] (x ∷ xs) ls ys e f before = absurd (omega arith)
-  put_behind (k ∷ ks) [] ls ys e f before = absurd (omega arith)
-  put_behind (k ∷ ks) (x ∷ xs) ls ys e f before =
-      left (All-head (λ k. IsBeforeFirst k ls) k ks before) (put_behind ks xs ls ys (omega arith) f (All-tail (λ k. IsBeforeFirst k ls) k ks before))
+  pub push_absent : (ks : List Key) (xs : List F) (ls : List Key) (ys : List F) → length xs ≡ length ks → length ys ≡ length ls → All (λ k. IsBeforeFirst k ls) ks → Merges value limit ks xs ls ys (Ok (record { keys = ks ++ ls; numbers = xs ++ ys }))
+  push_absent [] [] ls ys e f before = only_right ls ys f
+  push_absent [] (x ∷ xs) ls ys e f before = absurd (omega arith)
+  push_absent (k ∷ ks) [] ls ys e f before = absurd (omega arith)
+  push_absent (k ∷ ks) (x ∷ xs) ls ys e f before =
+      left (All-head (λ k. IsBeforeFirst k ls) k ks before) (push_absent ks xs ls ys (omega arith) f (All-tail (λ k. IsBeforeFirst k ls) k ks before))
 
   -- what is made of two forms is a form
   pub merged-IsForm : (c : F) (a b : Affine F) (keys : List Key) (numbers : List F) → IsForm value a → IsForm value b → Merges value limit a.keys a.numbers b.keys b.numbers (Ok (record { keys = keys; numbers = numbers })) → IsForm value (record { constant = c; keys = keys; numbers = numbers })
@@ -216,5 +216,5 @@ module _ {F : Type 0} (value : F → Number) where
       let apart = searched (indices_rise keys key ordered) in
       number_at_none value keys numbers key (λ k d h. elim (cases_lt k i) [
         | inl before ↦ same_key-Less (get_or keys k d) key (apart.0 k d (omega arith) before)
-        | inr behind ↦ same_key-Greater (get_or keys k d) key (apart.1 k d behind h)
+        | inr following ↦ same_key-Greater (get_or keys k d) key (apart.1 k d following h)
       ])

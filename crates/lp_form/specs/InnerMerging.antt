@@ -36,9 +36,9 @@ abbrev pub Outcome : Type 0 → Type 0
 Outcome F = Result (Side F) Key
 
 -- an entry put before a result
-abbrev pub in_front : {F : Type 0} → Key → F → Outcome F → Outcome F
-in_front k x (Ok made) = Ok (record { keys = k ∷ made.keys; numbers = x ∷ made.numbers })
-in_front k x (Err key) = Err key
+abbrev pub values_first : {F : Type 0} → Key → F → Outcome F → Outcome F
+values_first k x (Ok made) = Ok (record { keys = k ∷ made.keys; numbers = x ∷ made.numbers })
+values_first k x (Err key) = Err key
 
 -- the result so far, followed by another result
 abbrev pub after : {F : Type 0} → List Key → List F → Outcome F → Outcome F
@@ -66,16 +66,16 @@ PushesUnlessZero value key x before now =
 -- left out
 pub data Merges {F : Type 0} (value : F → Number) (limit : ℕ) : List Key → List F → List Key → List F → Outcome F → Type 0 where
   done : Merges value limit [] [] [] [] (Ok (record { keys = []; numbers = [] }))
-  left : {k : Key} {x : F} {ks : List Key} {xs : List F} {ls : List Key} {ys : List F} {r : Outcome F} → IsBeforeFirst k ls → Merges value limit ks xs ls ys r → Merges value limit (k ∷ ks) (x ∷ xs) ls ys (in_front k x r)
-  right : {l : Key} {y : F} {ks : List Key} {xs : List F} {ls : List Key} {ys : List F} {r : Outcome F} → IsBeforeFirst l ks → Merges value limit ks xs ls ys r → Merges value limit ks xs (l ∷ ls) (y ∷ ys) (in_front l y r)
-  both : {k l : Key} {x y z : F} {ks : List Key} {xs : List F} {ls : List Key} {ys : List F} {r : Outcome F} → key_cmp k l ≡ Equal → sum_fits limit (value x) (value y) ≡ true → value z ≡ value x +ℚ value y → value z ≢ whole (pos 0) → Merges value limit ks xs ls ys r → Merges value limit (k ∷ ks) (x ∷ xs) (l ∷ ls) (y ∷ ys) (in_front k z r)
+  left : {k : Key} {x : F} {ks : List Key} {xs : List F} {ls : List Key} {ys : List F} {r : Outcome F} → IsBeforeFirst k ls → Merges value limit ks xs ls ys r → Merges value limit (k ∷ ks) (x ∷ xs) ls ys (values_first k x r)
+  right : {l : Key} {y : F} {ks : List Key} {xs : List F} {ls : List Key} {ys : List F} {r : Outcome F} → IsBeforeFirst l ks → Merges value limit ks xs ls ys r → Merges value limit ks xs (l ∷ ls) (y ∷ ys) (values_first l y r)
+  both : {k l : Key} {x y z : F} {ks : List Key} {xs : List F} {ls : List Key} {ys : List F} {r : Outcome F} → key_cmp k l ≡ Equal → sum_fits limit (value x) (value y) ≡ true → value z ≡ value x +ℚ value y → value z ≢ whole (pos 0) → Merges value limit ks xs ls ys r → Merges value limit (k ∷ ks) (x ∷ xs) (l ∷ ls) (y ∷ ys) (values_first k z r)
   gone : {k l : Key} {x y : F} {ks : List Key} {xs : List F} {ls : List Key} {ys : List F} {r : Outcome F} → key_cmp k l ≡ Equal → sum_fits limit (value x) (value y) ≡ true → value x +ℚ value y ≡ whole (pos 0) → Merges value limit ks xs ls ys r → Merges value limit (k ∷ ks) (x ∷ xs) (l ∷ ls) (y ∷ ys) r
   stopped : {k l : Key} {x y : F} {ks : List Key} {xs : List F} {ls : List Key} {ys : List F} → key_cmp k l ≡ Equal → sum_fits limit (value x) (value y) ≡ false → Merges value limit (k ∷ ks) (x ∷ xs) (l ∷ ls) (y ∷ ys) (Err k)
 
 -- each number of a side changed by a step; a number of 0 is left out
 pub data Changes {F : Type 0} (value : F → Number) (step : Number → Step) : List Key → List F → Outcome F → Type 0 where
   no_more : Changes value step [] [] (Ok (record { keys = []; numbers = [] }))
-  kept : {k : Key} {x z : F} {ks : List Key} {xs : List F} {r : Outcome F} → (step (value x)).fits ≡ true → value z ≡ (step (value x)).number → value z ≢ whole (pos 0) → Changes value step ks xs r → Changes value step (k ∷ ks) (x ∷ xs) (in_front k z r)
+  kept : {k : Key} {x z : F} {ks : List Key} {xs : List F} {r : Outcome F} → (step (value x)).fits ≡ true → value z ≡ (step (value x)).number → value z ≢ whole (pos 0) → Changes value step ks xs r → Changes value step (k ∷ ks) (x ∷ xs) (values_first k z r)
   dropped : {k : Key} {x : F} {ks : List Key} {xs : List F} {r : Outcome F} → (step (value x)).fits ≡ true → (step (value x)).number ≡ whole (pos 0) → Changes value step ks xs r → Changes value step (k ∷ ks) (x ∷ xs) r
   halted : {k : Key} {x : F} {ks : List Key} {xs : List F} → (step (value x)).fits ≡ false → Changes value step (k ∷ ks) (x ∷ xs) (Err k)
 

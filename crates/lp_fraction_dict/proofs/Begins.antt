@@ -10,7 +10,7 @@ use Rattle.gq_number.specs.Number.{Number, whole, neg_ℚ}
 use Rattle.gq_number.specs.Order.{◌<ℚ◌, number_cmp}
 use Rattle.gq_number.proofs.Compares.{number_cmp_decides}
 use Rattle.lp_core.specs.StandardForm as form
-use Rattle.lp_core.specs.Dictionary.{Dictionary, OpeningIsDue, some_below, first_row, first_objective, no_row, first_dictionary}
+use Rattle.lp_core.specs.Dictionary.{Dictionary, OpeningIsRequired, some_below, first_row, first_objective, no_row, first_dictionary}
 use Rattle.lp_std.specs.declared.types.Standard.{Standard}
 use Rattle.lp_std.specs.declared.types.StdRow.{StdRow}
 use Rattle.lp_std.specs.Meaning.{entries_value, row_value, standard_value}
@@ -82,10 +82,10 @@ module _ (s : form.Standard) (h : IsInForm s) where
   is_below : (x : Number) → x <ℚ whole (pos 0) → is_lt (number_cmp x (whole (pos 0))) ≡ true
   is_below x less = ap is_lt ((number_cmp_decides x (whole (pos 0))).0.1 less)
 
-  needed : OpeningIsDue (first_dictionary s) → some_below s ≡ true
-  needed due =
-      let less : due.0 < length s.rows = subst (λ n. due.0 < n) (length-range (length s.objective + 1) (length s.rows)) due.1 in
-      any_at (λ (row : form.StandardRow). is_lt (number_cmp row.right (whole (pos 0)))) s.rows due.0 no_row less (is_below (row_at_place due.0).right (subst (λ x. x <ℚ whole (pos 0)) (numbers_of_row due.0 0 less) due.2))
+  needed : OpeningIsRequired (first_dictionary s) → some_below s ≡ true
+  needed required =
+      let less : required.0 < length s.rows = subst (λ n. required.0 < n) (length-range (length s.objective + 1) (length s.rows)) required.1 in
+      any_at (λ (row : form.StandardRow). is_lt (number_cmp row.right (whole (pos 0)))) s.rows required.0 no_row less (is_below (row_at_place required.0).right (subst (λ x. x <ℚ whole (pos 0)) (numbers_of_row required.0 0 less) required.2))
 
   pub first_proper : IsProper (first_dictionary s)
   first_proper =
@@ -105,8 +105,8 @@ module _ (s : form.Standard) (h : IsInForm s) where
         apart = λ k i v at other.
             let a = range_at (length s.objective + 1) (length s.rows) k v at in
             ap (λ w. (first_dictionary s).numbers i (w + 1)) a.1 ∙ other_number k i a.0 other;
-        opening = λ due k less.
-            numbers_of_row k 1 (subst (λ n. k < n) (length-range (length s.objective + 1) (length s.rows)) less) ∙ ap (λ b. cond b (neg_ℚ (whole (pos 1))) (whole (pos 0))) (needed due);
+        opening = λ required k less.
+            numbers_of_row k 1 (subst (λ n. k < n) (length-range (length s.objective + 1) (length s.rows)) less) ∙ ap (λ b. cond b (neg_ℚ (whole (pos 1))) (whole (pos 0))) (needed required);
         above = λ k at. let same = (range_at (length s.objective + 1) (length s.rows) k 0 at).1 in absurd (omega arith);
       }
 

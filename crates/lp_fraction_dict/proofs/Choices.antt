@@ -10,7 +10,7 @@ use Rattle.gq_number.proofs.Order.{<ℚ_trans, <ℚ-≤ℚ_trans, ≤ℚ_from_<�
 use Rattle.gq_number.proofs.Compares.{number_cmp_decides}
 use Rattle.lp_core.specs.declared.answer.StepName.TheVariants.{Ratio}
 use Rattle.lp_core.specs.Steps.{AllFit, FirstStop, quotient_fits, ratio_steps}
-use Rattle.lp_core.specs.Dictionary.{Dictionary, basic_at, constant_at, entry_at, OpeningIsDue, Improves, IsOpening, IsLegal, ratio_at, IsLeast}
+use Rattle.lp_core.specs.Dictionary.{Dictionary, basic_at, constant_at, entry_at, OpeningIsRequired, Improves, IsOpening, IsLegal, ratio_at, IsLeast}
 use Rattle.lp_fraction_dict.specs.declared.row.Entry.{Entry}
 use Rattle.lp_fraction_dict.specs.declared.choice.Candidate.{Candidate}
 use Rattle.lp_fraction_dict.specs.Rows.{number_in}
@@ -124,8 +124,8 @@ module _ {F : Type 0} (value : F → Number) (d : Dictionary) where
   abbrev IsBelow : ℕ → Type 0
   IsBelow i = constant_at d i <ℚ whole (pos 0)
 
-  pub no_opening : IsFirstOf value IsBelow (constant_at d) (basic_at d) (length d.basic) None → ¬ (OpeningIsDue d)
-  no_opening none due = none due.0 due.1 due.2
+  pub no_opening : IsFirstOf value IsBelow (constant_at d) (basic_at d) (length d.basic) None → ¬ (OpeningIsRequired d)
+  no_opening none required = none required.0 required.1 required.2
 
   module _ (c : Candidate F) (h : IsFirstOf value IsBelow (constant_at d) (basic_at d) (length d.basic) (Some c)) where
     least_constant_at : IsLeast d h.0
@@ -141,7 +141,7 @@ module _ {F : Type 0} (value : F → Number) (d : Dictionary) where
     opening_there = (
       h.0,
       record {
-        due = (h.0, h.1, h.2);
+        required = (h.0, h.1, h.2);
         enters = refl;
         leaves = index_get d.basic h.0 c.variable 0 h.1 (sym h.4);
         least = least_constant_at;
@@ -186,13 +186,13 @@ module _ {F : Type 0} (value : F → Number) (limit n : ℕ) (d : Dictionary) (q
   first_unrated i h = ratios_stop limit n d q i h.0 h.1 h.2 h.3
 
 -- the variable that improves and the one that leaves make a legal pivot
-pub leaving_is_legal : (d : Dictionary) (q : ℕ) (leave : Option ℕ) (r : ℕ) → leave ≡ Some r → ¬ (OpeningIsDue d) → Improves d q → IsLeaving d q leave → (k : ℕ) × IsLegal d (record { enter = q; leave = r }) k
-leaving_is_legal d q None r is not_due improves h = absurd (cc)
-leaving_is_legal d q (Some v) r is not_due improves h =
+pub leaving_is_legal : (d : Dictionary) (q : ℕ) (leave : Option ℕ) (r : ℕ) → leave ≡ Some r → ¬ (OpeningIsRequired d) → Improves d q → IsLeaving d q leave → (k : ℕ) × IsLegal d (record { enter = q; leave = r }) k
+leaving_is_legal d q None r is not_required improves h = absurd (cc)
+leaving_is_legal d q (Some v) r is not_required improves h =
     let same : v ≡ r = some_is v r is in (
       h.0.0,
       inr (record {
-        not_due = not_due;
+        not_required = not_required;
         improves = improves;
         leaves = h.0.1 ∙ is;
         ties = h.0.2;

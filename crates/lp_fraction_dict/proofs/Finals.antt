@@ -7,7 +7,7 @@ use Rattle.gq_number.specs.Number.{Number, whole, neg_ℚ}
 use Rattle.gq_number.proofs.Ring.{neg-zero}
 use Rattle.lp_core.specs.Sums.{value_of_column}
 use Rattle.lp_core.specs.StandardForm.{Last}
-use Rattle.lp_core.specs.Dictionary.{Dictionary, entry_at, InPhaseOne, OpeningIsDue, Improves}
+use Rattle.lp_core.specs.Dictionary.{Dictionary, entry_at, InPhaseOne, OpeningIsRequired, Improves}
 use Rattle.lp_core.specs.Pivots.{row_of_basic, value_by_row, change_by_row, cost_by_row, priced_row, last_of, last_along, NothingImproves}
 use Rattle.lp_core.specs.declared.answer.EndKind.TheVariants as kind
 use Rattle.lp_std.specs.Last.{IsReadAt}
@@ -82,9 +82,9 @@ module _ {F : Type 0} (value : F → Number) (t : FractionTableau F) (inv : IsTa
   costs_of_objective list none h =
       let priced : priced_row (fraction_dictionary value t) ≡ length t.basic = ap (λ o. unwrap_or o (length t.basic)) (no_row 0 none) in
       let paired = inv.paired in
-      let behind : line t.rows t.objective (length t.basic) ≡ t.objective = index_past t.rows (length t.basic) t.objective (omega arith) in
+      let following : line t.rows t.objective (length t.basic) ≡ t.objective = index_past t.rows (length t.basic) t.objective (omega arith) in
       list_is (map value list) (t.variables + 1) (cost (priced_row (fraction_dictionary value t))) (length-map list value ∙ h.sized) (λ v less.
-      columns_end value t.objective (t.variables + 1) list v h less ∙ ap (λ r. number_in value r (v + 1)) (sym behind) ∙ elim (found_or_not t.basic v) [
+      columns_end value t.objective (t.variables + 1) list v h less ∙ ap (λ r. number_in value r (v + 1)) (sym following) ∙ elim (found_or_not t.basic v) [
         | inl found ↦ inv.proper.apart found.0 (length t.basic) v found.1 (λ same. let within = get_within t.basic found.0 v found.1 in absurd (omega arith)) ∙ sym (basic_costs found.0 (priced_row (fraction_dictionary value t)) v found.1)
         | inr free ↦ ap (λ i. entry_at (fraction_dictionary value t) i v) (sym priced) ∙ sym (other_costs (priced_row (fraction_dictionary value t)) v free)
       ])
@@ -131,9 +131,9 @@ pub done_in_one : (d : Dictionary) (enter : Option ℕ) → IsDone d enter → e
 done_in_one d (Some q) done none phase = absurd (cc)
 done_in_one d None done none phase = elim done [ inl nothing ↦ nothing | inr broken ↦ absurd (broken.0 phase) ]
 
-pub done_not_due : (d : Dictionary) (enter : Option ℕ) → IsDone d enter → ¬ (OpeningIsDue d)
-done_not_due d (Some q) done due = done.1.0 due
-done_not_due d None done due = elim done [ inl nothing ↦ nothing.0 due | inr broken ↦ broken.1 due ]
+pub done_not_due : (d : Dictionary) (enter : Option ℕ) → IsDone d enter → ¬ (OpeningIsRequired d)
+done_not_due d (Some q) done required = done.1.0 required
+done_not_due d None done required = elim done [ inl nothing ↦ nothing.0 required | inr broken ↦ broken.1 required ]
 
 pub read_along : (d : Dictionary) (enter : Option ℕ) → IsDone d enter → enter ≢ None → IsReadAt d kind.Unbounded (last_with d enter)
 read_along d (Some q) done some = (done.0, (q, done.1, refl))

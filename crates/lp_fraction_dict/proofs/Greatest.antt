@@ -18,7 +18,7 @@ use Rattle.lp_fraction_dict.specs.Lines.{line}
 use Rattle.lp_fraction_dict.specs.InnerPricing.{IsBetter, IsBest, IsGreatestAbove}
 use Rattle.lp_fraction_dict.specs.Tableau.{FractionTableau, fraction_dictionary, IsTableau}
 use Rattle.lp_fraction_dict.proofs.Rows.{number_above}
-use Rattle.lp_fraction_dict.proofs.Pricing.{front, number_here, number_other, entry_is, same_priced, improves_from, some_number}
+use Rattle.lp_fraction_dict.proofs.Pricing.{prefix, number_here, number_other, entry_is, same_priced, improves_from, some_number}
 
 abbrev Zero : Number
 Zero = whole (pos 0)
@@ -69,7 +69,7 @@ module _ {F : Type 0} (value : F → Number) (row : List (Entry F)) where
     earlier b above there =
         elim (cases_lt b.column e.column) [
           | inl before ↦ before
-          | inr behind ↦ absurd (<ℚ_irrefl Zero (subst (λ x. Zero <ℚ x) (sym there ∙ number_above value (take n row) low e.column b.column (front value row n e low high ordered less e_is) behind) above))
+          | inr following ↦ absurd (<ℚ_irrefl Zero (subst (λ x. Zero <ℚ x) (sym there ∙ number_above value (take n row) low e.column b.column (prefix value row n e low high ordered less e_is) following) above))
         ]
 
     entry_best : 2 ≤ e.column → Zero <ℚ value e.number → ((v : ℕ) → 1 ≤ v → Zero <ℚ number_in value (take n row) (v + 1) → number_in value (take n row) (v + 1) <ℚ value e.number) → BestOf value row (n + 1) (Some e)

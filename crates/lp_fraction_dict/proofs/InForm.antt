@@ -165,10 +165,10 @@ form_in_order {F} value lp formed =
     let count = count_is value lp formed in
     let widths = variables_counted value lp in
     let first = rows_over value columns 0 lp.rows in
-    let behind = bounds_over value columns 0 lp.columns in
+    let following = bounds_over value columns 0 lp.columns in
     let bound : 1 + sum_by form.width (shifts_of value lp formed) ≡ length (form.standard_form value lp).objective + 1 = omega (arith, count, widths) in
     record {
       rows = subst (λ n. All (λ (row : form.StandardRow). InOrder 1 n row.entries) (form.rows_of value lp)) bound (rows_ordered value lp formed);
-      rows_few = omega (arith, length-append first behind, rows_over_counted value columns 0 lp.rows, bounds_over_counted value columns 0 lp.columns, rows_few value lp formed);
+      rows_few = omega (arith, length-append first following, rows_over_counted value columns 0 lp.rows, bounds_over_counted value columns 0 lp.columns, rows_few value lp formed);
       variables_few = omega (arith, count, widths, variables_few value lp formed);
     }

@@ -93,9 +93,9 @@ module _ {F : Type 0} (value : F → Number) (row : List (Entry F)) (count : ℕ
     pub column_within : e.column < count + 1
     column_within = below (take n row) 0 in_parts
       where
-        below : (front : List (Entry F)) (low : ℕ) → IsRow value low (count + 1) (front ++ e ∷ drop (n + 1) row) → e.column < count + 1
+        below : (prefix : List (Entry F)) (low : ℕ) → IsRow value low (count + 1) (prefix ++ e ∷ drop (n + 1) row) → e.column < count + 1
         below [] low h = h.1
-        below (f ∷ front) low h = below front (f.column + 1) h.3
+        below (f ∷ prefix) low h = below prefix (f.column + 1) h.3
 
     number_here : number_in value (take (n + 1) row) e.column ≡ value e.number
     number_here = ap (λ r. number_in value r e.column) more ∙ number_behind value (take n row) (e ∷ []) 0 e.column e.column (row_front value (take n row) e (drop (n + 1) row) 0 (count + 1) in_parts).0 (omega arith) ∙ number_first value e [] e.column refl

@@ -27,11 +27,11 @@ of_form s d proper variables sized same =
 module _ (s : Standard) (d : Dictionary) (p : Pivot) (k : ℕ) (proper : IsProper d) (legal : IsLegal d p k) (law : (x : List Number) (objective : Number) → (p.leave ≡ 0 → value_of_column x 0 ≡ whole (pos 0)) → Meets d x objective ↔ Meets (exchanged d p.enter k) x objective) (h : IsDictionaryOf s d) where
   -- variable 0 has a part after the pivot only where it had one before and does not leave
   zero_from : HasZero (exchanged d p.enter k) → HasZero d × (p.leave ≢ 0)
-  zero_from (inr due) = absurd (none_due d p k proper legal due)
+  zero_from (inr required) = absurd (none_due d p k proper legal required)
   zero_from (inl phase) =
       let at : slice_get (exchanged d p.enter k).basic phase.0 ≡ Some 0 = index_get (exchanged d p.enter k).basic phase.0 0 0 phase.1 phase.2 in
       elim (basic_after d p k proper legal phase.0 0 at) [
-        | inl new ↦ (elim legal [ inl o ↦ inr o.due | inr step ↦ absurd (step.improves.other (sym new.1)) ], λ gone. enters_new d p k proper legal k p.leave (leaves_at d p k proper legal) (gone ∙ new.1))
+        | inl new ↦ (elim legal [ inl o ↦ inr o.required | inr step ↦ absurd (step.improves.other (sym new.1)) ], λ gone. enters_new d p k proper legal k p.leave (leaves_at d p k proper legal) (gone ∙ new.1))
         | inr old ↦ (inl (contains_get d.basic phase.0 0 old.1), λ gone. old.0 (proper.distinct phase.0 k 0 old.1 (leaves_at d p k proper legal ∙ ap Some gone)))
       ]
 

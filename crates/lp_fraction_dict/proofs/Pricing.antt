@@ -33,18 +33,18 @@ module _ {F : Type 0} (value : F → Number) (row : List (Entry F)) where
     in_parts : IsRow value low high (take n row ++ e ∷ drop (n + 1) row)
     in_parts = subst (IsRow value low high) parts ordered
 
-    pub front : IsRow value low e.column (take n row)
-    front = (row_front value (take n row) e (drop (n + 1) row) low high in_parts).0
+    pub prefix : IsRow value low e.column (take n row)
+    prefix = (row_front value (take n row) e (drop (n + 1) row) low high in_parts).0
 
     pub number_here : number_in value (take (n + 1) row) e.column ≡ value e.number
-    number_here = ap (λ r. number_in value r e.column) more ∙ number_behind value (take n row) (e ∷ []) low e.column e.column front (omega arith) ∙ number_first value e [] e.column refl
+    number_here = ap (λ r. number_in value r e.column) more ∙ number_behind value (take n row) (e ∷ []) low e.column e.column prefix (omega arith) ∙ number_first value e [] e.column refl
 
     pub number_other : (c : ℕ) → e.column ≢ c → number_in value (take (n + 1) row) c ≡ number_in value (take n row) c
     number_other c other = ap (λ r. number_in value r c) more ∙ number_before value (take n row) (e ∷ []) c (number_later value e [] c other)
 
     -- the number at the entry's column in the whole row
     number_there : number_in value row e.column ≡ value e.number
-    number_there = ap (λ r. number_in value r e.column) parts ∙ number_behind value (take n row) (e ∷ drop (n + 1) row) low e.column e.column front (omega arith) ∙ number_first value e (drop (n + 1) row) e.column refl
+    number_there = ap (λ r. number_in value r e.column) parts ∙ number_behind value (take n row) (e ∷ drop (n + 1) row) low e.column e.column prefix (omega arith) ∙ number_first value e (drop (n + 1) row) e.column refl
 
     -- before it the number is that of the first entries
     number_early : (c : ℕ) → c < e.column → number_in value row c ≡ number_in value (take n row) c
@@ -89,7 +89,7 @@ module _ {F : Type 0} (value : F → Number) (t : FractionTableau F) (inv : IsTa
   basic_is_zero j v at some =
       inv.proper.apart j k v at (λ same. elim priced [
         | inl zero_at ↦ let none = some_is 0 v (sym zero_at ∙ ap (slice_get t.basic) same ∙ at) in absurd (omega arith)
-        | inr past ↦ let within = get_within t.basic j v at in let behind = past.1 in absurd (omega arith)
+        | inr past ↦ let within = get_within t.basic j v at in let following = past.1 in absurd (omega arith)
       ])
     where
       some_is : (a b : ℕ) → Some a ≡ Some b → a ≡ b

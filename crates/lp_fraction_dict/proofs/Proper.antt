@@ -11,7 +11,7 @@ use Rattle.gq_number.proofs.Order.{≤ℚ_from_<ℚ, ≤ℚ_or_above, not_above,
 use Rattle.gq_number.proofs.Signs.{neg-zero-<ℚ, /ℚ-zero-≤ℚ, ≢-zero_above, ≤ℚ-/ℚ, <ℚ-/ℚ, *ℚ-≤ℚ_turned, zero-<ℚ-one}
 use Rattle.gq_number.proofs.Quotients.{zero-/ℚ, /ℚ_self, one-≢-zero, neg-≢-zero, /ℚ-*ℚ_self}
 use Rattle.lp_core.specs.declared.answer.Pivot.{Pivot}
-use Rattle.lp_core.specs.Dictionary.{Dictionary, basic_at, constant_at, entry_at, OpeningIsDue, ratio_at, IsOpening, IsStep, IsLegal, divided_entry, exchanged_numbers, exchanged}
+use Rattle.lp_core.specs.Dictionary.{Dictionary, basic_at, constant_at, entry_at, OpeningIsRequired, ratio_at, IsOpening, IsStep, IsLegal, divided_entry, exchanged_numbers, exchanged}
 use Rattle.lp_fraction_dict.specs.Pivots.{IsProper}
 use Rattle.lp_fraction_dict.proofs.Kept.{get_within, get_index, contains_get}
 use Rattle.lp_fraction_dict.proofs.Equations.{eq_same, eq_other}
@@ -75,7 +75,7 @@ module _ (d : Dictionary) (p : Pivot) (k : ℕ) (proper : IsProper d) (legal : I
   pub pivot_some : entry_at d k p.enter ≢ whole (pos 0)
   pivot_some =
       elim legal [
-        | inl o ↦ λ none. minus_one_≢-zero (sym (proper.opening o.due k place_within) ∙ ap (entry_at d k) (sym o.enters) ∙ none)
+        | inl o ↦ λ none. minus_one_≢-zero (sym (proper.opening o.required k place_within) ∙ ap (entry_at d k) (sym o.enters) ∙ none)
         | inr s ↦ ≢-zero_above (entry_at d k p.enter) s.ties.limits.1
       ]
 
@@ -92,7 +92,7 @@ module _ (d : Dictionary) (p : Pivot) (k : ℕ) (proper : IsProper d) (legal : I
       elim legal [
         | inl o ↦
             let zero_at : slice_get d.basic j ≡ Some 0 = at ∙ ap Some (same ∙ o.enters) in
-            one-≢-minus_one (sym (proper.own j 0 zero_at) ∙ proper.opening o.due j (get_within d.basic j 0 zero_at))
+            one-≢-minus_one (sym (proper.own j 0 zero_at) ∙ proper.opening o.required j (get_within d.basic j 0 zero_at))
         | inr s ↦ s.improves.not_basic (contains_get d.basic j p.enter (at ∙ ap Some same))
       ]
 
@@ -167,10 +167,10 @@ module _ (d : Dictionary) (p : Pivot) (k : ℕ) (proper : IsProper d) (legal : I
   constant_other i other = constant_after i ∙ other_numbers i 0 other
 
   opening_ratio : IsOpening d p k → ratio_at d p.enter k ≡ neg_ℚ (constant_at d k)
-  opening_ratio o = ap (λ x. constant_at d k /ℚ x) (ap (entry_at d k) o.enters ∙ proper.opening o.due k place_within) ∙ over_minus_one (constant_at d k)
+  opening_ratio o = ap (λ x. constant_at d k /ℚ x) (ap (entry_at d k) o.enters ∙ proper.opening o.required k place_within) ∙ over_minus_one (constant_at d k)
 
   opening_least : (o : IsOpening d p k) → constant_at d k <ℚ whole (pos 0)
-  opening_least o = ≤ℚ-<ℚ_trans (constant_at d k) (constant_at d o.due.0) (whole (pos 0)) (o.least.1 o.due.0 o.due.1) o.due.2
+  opening_least o = ≤ℚ-<ℚ_trans (constant_at d k) (constant_at d o.required.0) (whole (pos 0)) (o.least.1 o.required.0 o.required.1) o.required.2
 
   opening_above : IsOpening d p k → (i : ℕ) → i < length d.basic → whole (pos 0) ≤ℚ constant_at (exchanged d p.enter k) i
   opening_above o i less =
@@ -178,22 +178,22 @@ module _ (d : Dictionary) (p : Pivot) (k : ℕ) (proper : IsProper d) (legal : I
         | inl same ↦ subst (λ j. whole (pos 0) ≤ℚ constant_at (exchanged d p.enter k) j) (sym same) (subst (λ x. whole (pos 0) ≤ℚ x) (sym (constant_pivot ∙ opening_ratio o)) (≤ℚ_from_<ℚ _ _ (neg-zero-<ℚ (constant_at d k) (opening_least o))))
         | inr other ↦
             let number : constant_at (exchanged d p.enter k) i ≡ constant_at d i -ℚ constant_at d k =
-            constant_other i other ∙ ap₂ (λ e r. constant_at d i -ℚ e *ℚ r) (ap (entry_at d i) o.enters ∙ proper.opening o.due i less) (opening_ratio o) ∙ less_times_minus_one (constant_at d i) (constant_at d k) in
+            constant_other i other ∙ ap₂ (λ e r. constant_at d i -ℚ e *ℚ r) (ap (entry_at d i) o.enters ∙ proper.opening o.required i less) (opening_ratio o) ∙ less_times_minus_one (constant_at d i) (constant_at d k) in
             subst (λ x. whole (pos 0) ≤ℚ x) (sym number) (gap_≤ℚ (constant_at d k) (constant_at d i) (o.least.1 i less))
       ]
 
-  pub constants_above : ¬ (OpeningIsDue d) → (i : ℕ) → i < length d.basic → whole (pos 0) ≤ℚ constant_at d i
+  pub constants_above : ¬ (OpeningIsRequired d) → (i : ℕ) → i < length d.basic → whole (pos 0) ≤ℚ constant_at d i
   constants_above none i less = ≤ℚ_from_not_above (whole (pos 0)) (constant_at d i) (λ below. none (i, less, below))
 
   pub step_ratio : IsStep d p k → whole (pos 0) ≤ℚ ratio_at d p.enter k
-  step_ratio s = /ℚ-zero-≤ℚ (constant_at d k) (entry_at d k p.enter) (constants_above s.not_due k place_within) (≤ℚ_from_<ℚ _ _ s.ties.limits.1)
+  step_ratio s = /ℚ-zero-≤ℚ (constant_at d k) (entry_at d k p.enter) (constants_above s.not_required k place_within) (≤ℚ_from_<ℚ _ _ s.ties.limits.1)
 
   step_above : IsStep d p k → (i : ℕ) → i < length d.basic → whole (pos 0) ≤ℚ constant_at (exchanged d p.enter k) i
   step_above s i less =
       elim (cases_eq i k) [
         | inl same ↦ subst (λ j. whole (pos 0) ≤ℚ constant_at (exchanged d p.enter k) j) (sym same) (subst (λ x. whole (pos 0) ≤ℚ x) (sym constant_pivot) (step_ratio s))
         | inr other ↦ subst (λ x. whole (pos 0) ≤ℚ x) (sym (constant_other i other)) (elim (≤ℚ_or_above (entry_at d i p.enter) (whole (pos 0))) [
-          | inl below ↦ stays_above (constant_at d i) (entry_at d i p.enter) (ratio_at d p.enter k) (constants_above s.not_due i less) below (step_ratio s)
+          | inl below ↦ stays_above (constant_at d i) (entry_at d i p.enter) (ratio_at d p.enter k) (constants_above s.not_required i less) below (step_ratio s)
           | inr above ↦
               gap_≤ℚ (entry_at d i p.enter *ℚ ratio_at d p.enter k) (constant_at d i)
               (subst (λ x. x ≤ℚ constant_at d i) (*ℚ_comm (ratio_at d p.enter k) (entry_at d i p.enter)) ((≤ℚ-/ℚ (ratio_at d p.enter k) (constant_at d i) (entry_at d i p.enter) above).0 (s.ties.least i (less, above))))
@@ -204,10 +204,10 @@ module _ (d : Dictionary) (p : Pivot) (k : ℕ) (proper : IsProper d) (legal : I
   same_size = length-set d.basic k p.enter
 
   -- no opening pivot is required after a legal one
-  pub none_due : ¬ (OpeningIsDue (exchanged d p.enter k))
-  none_due due =
-      let less : due.0 < length d.basic = subst (λ n. due.0 < n) same_size due.1 in
-      not_above (whole (pos 0)) (constant_at (exchanged d p.enter k) due.0) (elim legal [ inl o ↦ opening_above o due.0 less | inr s ↦ step_above s due.0 less ]) due.2
+  pub none_due : ¬ (OpeningIsRequired (exchanged d p.enter k))
+  none_due required =
+      let less : required.0 < length d.basic = subst (λ n. required.0 < n) same_size required.1 in
+      not_above (whole (pos 0)) (constant_at (exchanged d p.enter k) required.0) (elim legal [ inl o ↦ opening_above o required.0 less | inr s ↦ step_above s required.0 less ]) required.2
 
   -- variable 0 is above 0 where it stays
   zero_stays : IsStep d p k → (i : ℕ) → IsOld i 0 → whole (pos 0) <ℚ constant_at (exchanged d p.enter k) i
@@ -261,6 +261,6 @@ module _ (d : Dictionary) (p : Pivot) (k : ℕ) (proper : IsProper d) (legal : I
             | inr apart ↦ same_old i v j old apart ∙ proper.apart i j v old.1 other
           ]
         ];
-        opening = λ due. absurd (none_due due);
+        opening = λ required. absurd (none_due required);
         above = zero_above;
       }

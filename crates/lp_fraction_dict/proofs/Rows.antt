@@ -43,28 +43,28 @@ module _ {F : Type 0} (value : F → Number) where
       (h.0, omega arith, h.2, row_to es (e.column + 1) high m h.3 more)
 
   -- a row in two parts
-  pub row_front : (front : List (Entry F)) (e : Entry F) (after : List (Entry F)) (low high : ℕ) → IsRow value low high (front ++ e ∷ after) → IsRow value low e.column front × (low ≤ e.column)
+  pub row_front : (prefix : List (Entry F)) (e : Entry F) (after : List (Entry F)) (low high : ℕ) → IsRow value low high (prefix ++ e ∷ after) → IsRow value low e.column prefix × (low ≤ e.column)
   row_front [] e after low high h = (tt, h.0)
-  row_front (f ∷ front) e after low high h =
-      let rest = row_front front e after (f.column + 1) high h.3 in
+  row_front (f ∷ prefix) e after low high h =
+      let rest = row_front prefix e after (f.column + 1) high h.3 in
       let from = rest.1 in
       let least = h.0 in
       ((h.0, omega arith, h.2, rest.0), omega arith)
 
-  pub row_back : (front : List (Entry F)) (e : Entry F) (after : List (Entry F)) (low high : ℕ) → IsRow value low high (front ++ e ∷ after) → IsRow value (e.column + 1) high after
+  pub row_back : (prefix : List (Entry F)) (e : Entry F) (after : List (Entry F)) (low high : ℕ) → IsRow value low high (prefix ++ e ∷ after) → IsRow value (e.column + 1) high after
   row_back [] e after low high h = h.3
-  row_back (f ∷ front) e after low high h = row_back front e after (f.column + 1) high h.3
+  row_back (f ∷ prefix) e after low high h = row_back prefix e after (f.column + 1) high h.3
 
   -- the number of a row in two parts is in one of them
-  pub number_behind : (front back : List (Entry F)) (low high c : ℕ) → IsRow value low high front → high ≤ c → number_in value (front ++ back) c ≡ number_in value back c
+  pub number_behind : (prefix back : List (Entry F)) (low high c : ℕ) → IsRow value low high prefix → high ≤ c → number_in value (prefix ++ back) c ≡ number_in value back c
   number_behind [] back low high c h after = refl
-  number_behind (e ∷ front) back low high c h after =
+  number_behind (e ∷ prefix) back low high c h after =
       let most = h.1 in
-      number_later e (front ++ back) c (λ is. absurd (omega arith)) ∙ number_behind front back (e.column + 1) high c h.3 after
+      number_later e (prefix ++ back) c (λ is. absurd (omega arith)) ∙ number_behind prefix back (e.column + 1) high c h.3 after
 
-  pub number_before : (front back : List (Entry F)) (c : ℕ) → number_in value back c ≡ whole (pos 0) → number_in value (front ++ back) c ≡ number_in value front c
+  pub number_before : (prefix back : List (Entry F)) (c : ℕ) → number_in value back c ≡ whole (pos 0) → number_in value (prefix ++ back) c ≡ number_in value prefix c
   number_before [] back c none = none
-  number_before (e ∷ front) back c none = ap (λ x. cond (e.column == c) (value e.number) x) (number_before front back c none)
+  number_before (e ∷ prefix) back c none = ap (λ x. cond (e.column == c) (value e.number) x) (number_before prefix back c none)
 
   -- an entry after a row
   pub row_pushed : (row : List (Entry F)) (e : Entry F) (low high : ℕ) → IsRow value low high row → low ≤ high → high ≤ e.column → value e.number ≢ whole (pos 0) → IsRow value low (e.column + 1) (row ++ e ∷ [])
@@ -75,17 +75,17 @@ module _ {F : Type 0} (value : F → Number) where
 
   -- ---- bisection: the number of a row in the part that it is looked for in
 
-  pub found_after : (front : List (Entry F)) (e : Entry F) (after : List (Entry F)) (low high c : ℕ) → IsRow value low high (front ++ e ∷ after) → e.column < c → number_in value (front ++ e ∷ after) c ≡ number_in value after c
-  found_after front e after low high c h before =
-      number_behind front (e ∷ after) low e.column c (row_front front e after low high h).0 (omega arith) ∙ number_later e after c (λ is. absurd (omega arith))
+  pub found_after : (prefix : List (Entry F)) (e : Entry F) (after : List (Entry F)) (low high c : ℕ) → IsRow value low high (prefix ++ e ∷ after) → e.column < c → number_in value (prefix ++ e ∷ after) c ≡ number_in value after c
+  found_after prefix e after low high c h before =
+      number_behind prefix (e ∷ after) low e.column c (row_front prefix e after low high h).0 (omega arith) ∙ number_later e after c (λ is. absurd (omega arith))
 
-  pub found_here : (front : List (Entry F)) (e : Entry F) (after : List (Entry F)) (low high c : ℕ) → IsRow value low high (front ++ e ∷ after) → e.column ≡ c → number_in value (front ++ e ∷ after) c ≡ value e.number
-  found_here front e after low high c h is =
-      number_behind front (e ∷ after) low e.column c (row_front front e after low high h).0 (omega arith) ∙ number_first e after c is
+  pub found_here : (prefix : List (Entry F)) (e : Entry F) (after : List (Entry F)) (low high c : ℕ) → IsRow value low high (prefix ++ e ∷ after) → e.column ≡ c → number_in value (prefix ++ e ∷ after) c ≡ value e.number
+  found_here prefix e after low high c h is =
+      number_behind prefix (e ∷ after) low e.column c (row_front prefix e after low high h).0 (omega arith) ∙ number_first e after c is
 
-  pub found_before : (front : List (Entry F)) (e : Entry F) (after : List (Entry F)) (low high c : ℕ) → IsRow value low high (front ++ e ∷ after) → c < e.column → number_in value (front ++ e ∷ after) c ≡ number_in value front c
-  found_before front e after low high c h before =
-      number_before front (e ∷ after) c (number_later e after c (λ is. absurd (omega arith)) ∙ number_below after (e.column + 1) high c (row_back front e after low high h) (omega arith))
+  pub found_before : (prefix : List (Entry F)) (e : Entry F) (after : List (Entry F)) (low high c : ℕ) → IsRow value low high (prefix ++ e ∷ after) → c < e.column → number_in value (prefix ++ e ∷ after) c ≡ number_in value prefix c
+  found_before prefix e after low high c h before =
+      number_before prefix (e ∷ after) c (number_later e after c (λ is. absurd (omega arith)) ∙ number_below after (e.column + 1) high c (row_back prefix e after low high h) (omega arith))
 
 -- What is left of a row in the search for a column: the number there is that of the row.
 pub record Searched {F : Type 0} (value : F → Number) (row rest : List (Entry F)) (column : ℕ) : Type 0 where
@@ -94,26 +94,26 @@ pub record Searched {F : Type 0} (value : F → Number) (row rest : List (Entry 
   pub is_row : IsRow value low high rest
   pub same : number_in value row column ≡ number_in value rest column
 
-module _ {F : Type 0} (value : F → Number) (row rest front back : List (Entry F)) (e : Entry F) (after : List (Entry F)) (c : ℕ) (s : Searched value row rest c) (parts : rest ≡ front ++ back) (first : back ≡ e ∷ after) where
-  in_parts : rest ≡ front ++ e ∷ after
-  in_parts = parts ∙ ap (λ r. front ++ r) first
+module _ {F : Type 0} (value : F → Number) (row rest prefix back : List (Entry F)) (e : Entry F) (after : List (Entry F)) (c : ℕ) (s : Searched value row rest c) (parts : rest ≡ prefix ++ back) (first : back ≡ e ∷ after) where
+  in_parts : rest ≡ prefix ++ e ∷ after
+  in_parts = parts ∙ ap (λ r. prefix ++ r) first
 
-  parts_row : IsRow value s.low s.high (front ++ e ∷ after)
+  parts_row : IsRow value s.low s.high (prefix ++ e ∷ after)
   parts_row = subst (IsRow value s.low s.high) in_parts s.is_row
 
-  same_parts : number_in value row c ≡ number_in value (front ++ e ∷ after) c
+  same_parts : number_in value row c ≡ number_in value (prefix ++ e ∷ after) c
   same_parts = s.same ∙ ap (λ r. number_in value r c) in_parts
 
   pub search_after : e.column < c → Searched value row after c
   search_after before =
-      record { low = e.column + 1; high = s.high; is_row = row_back value front e after s.low s.high parts_row; same = same_parts ∙ found_after value front e after s.low s.high c parts_row before }
+      record { low = e.column + 1; high = s.high; is_row = row_back value prefix e after s.low s.high parts_row; same = same_parts ∙ found_after value prefix e after s.low s.high c parts_row before }
 
-  pub search_before : c < e.column → Searched value row front c
+  pub search_before : c < e.column → Searched value row prefix c
   search_before before =
-      record { low = s.low; high = e.column; is_row = (row_front value front e after s.low s.high parts_row).0; same = same_parts ∙ found_before value front e after s.low s.high c parts_row before }
+      record { low = s.low; high = e.column; is_row = (row_front value prefix e after s.low s.high parts_row).0; same = same_parts ∙ found_before value prefix e after s.low s.high c parts_row before }
 
   pub search_here : e.column ≡ c → value e.number ≡ number_in value row c
-  search_here is = sym (same_parts ∙ found_here value front e after s.low s.high c parts_row is)
+  search_here is = sym (same_parts ∙ found_here value prefix e after s.low s.high c parts_row is)
 
 -- what a comparison of two columns tells
 pub less_by_cmp : (x y : ℕ) (r : Ordering) → r ≡ nat_cmp x y → r ≡ Less → x < y

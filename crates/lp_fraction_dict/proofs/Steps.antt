@@ -10,7 +10,7 @@ use Rattle.gq_number.specs.Order.{◌<ℚ◌, number_cmp}
 use Rattle.lp_core.specs.declared.answer.StepName.{StepName}
 use Rattle.lp_core.specs.declared.answer.StepName.TheVariants.{Ratio, Exchange}
 use Rattle.lp_core.specs.Dictionary.{Dictionary, constant_at, entry_at, divided_entry}
-use Rattle.lp_core.specs.Steps.{Due, AllFit, FirstStop, quotient_fits, product_fits, difference_fits, ratio_steps, pivot_row_steps, other_row_steps, exchange_steps}
+use Rattle.lp_core.specs.Steps.{ExpectedStep, AllFit, FirstStop, quotient_fits, product_fits, difference_fits, ratio_steps, pivot_row_steps, other_row_steps, exchange_steps}
 use Rattle.gq_number.specs.Number.{◌*ℚ◌}
 use Rattle.lp_fraction_dict.specs.declared.fault.Part.{Part}
 use Rattle.lp_fraction_dict.specs.declared.fault.Part.TheVariants as part
@@ -18,42 +18,42 @@ use Rattle.lp_fraction_dict.specs.Rows.{StepsFit, Misfits}
 use Rattle.lp_fraction_dict.specs.Lines.{part_number}
 use Rattle.lp_fraction_dict.proofs.Improving.{above_by_cmp}
 
-abbrev Fit : Due → Type 0
+abbrev Fit : ExpectedStep → Type 0
 Fit step = step.1 ≡ true
 
 none_fit : AllFit []
 none_fit = All-nil Fit
 
-one_fits : (step : Due) → step.1 ≡ true → AllFit (step ∷ [])
+one_fits : (step : ExpectedStep) → step.1 ≡ true → AllFit (step ∷ [])
 one_fits step h = All-cons Fit step [] h none_fit
 
-both_fit : (steps more : List Due) → AllFit steps → AllFit more → AllFit (steps ++ more)
+both_fit : (steps more : List ExpectedStep) → AllFit steps → AllFit more → AllFit (steps ++ more)
 both_fit steps more h k = All-append Fit steps more h k
 
 one_stops : (name : StepName) (b : Bool) → b ≡ false → FirstStop ((name, b) ∷ []) name
-one_stops name b is_false = record { before = []; behind = []; split = ap (λ t. (name, t) ∷ []) is_false; fit = none_fit }
+one_stops name b is_false = record { before = []; following = []; split = ap (λ t. (name, t) ∷ []) is_false; fit = none_fit }
 
-stop_in_front : (steps more : List Due) (name : StepName) → FirstStop steps name → FirstStop (steps ++ more) name
+stop_in_front : (steps more : List ExpectedStep) (name : StepName) → FirstStop steps name → FirstStop (steps ++ more) name
 stop_in_front steps more name s =
     record {
       before = s.before;
-      behind = s.behind ++ more;
-      split = ap (λ l. l ++ more) s.split ∙ append_assoc s.before ((name, false) ∷ s.behind) more;
+      following = s.following ++ more;
+      split = ap (λ l. l ++ more) s.split ∙ append_assoc s.before ((name, false) ∷ s.following) more;
       fit = s.fit;
     }
 
-stop_behind : (steps more : List Due) (name : StepName) → AllFit steps → FirstStop more name → FirstStop (steps ++ more) name
+stop_behind : (steps more : List ExpectedStep) (name : StepName) → AllFit steps → FirstStop more name → FirstStop (steps ++ more) name
 stop_behind steps more name h s =
     record {
       before = steps ++ s.before;
-      behind = s.behind;
-      split = ap (λ l. steps ++ l) s.split ∙ sym (append_assoc steps s.before ((name, false) ∷ s.behind));
+      following = s.following;
+      split = ap (λ l. steps ++ l) s.split ∙ sym (append_assoc steps s.before ((name, false) ∷ s.following));
       fit = both_fit steps s.before h s.fit;
     }
 
 -- ---- steps for each number of a range that passes a test
 
-module _ (f : ℕ → List Due) (p : ℕ → Bool) where
+module _ (f : ℕ → List ExpectedStep) (p : ℕ → Bool) where
   pub range_fits : (a n : ℕ) → ((i : ℕ) → a ≤ i → i < a + n → p i ≡ true → AllFit (f i)) → AllFit (flat_map f (filter p (range_with_len a n)))
   range_fits a zero h = none_fit
   range_fits a (suc n) h =
@@ -76,7 +76,7 @@ module _ (f : ℕ → List Due) (p : ℕ → Bool) where
             ]
       ]
 
-map_as_flat : (g : ℕ → Due) (xs : List ℕ) → flat_map (λ x. g x ∷ []) xs ≡ map g xs
+map_as_flat : (g : ℕ → ExpectedStep) (xs : List ℕ) → flat_map (λ x. g x ∷ []) xs ≡ map g xs
 map_as_flat g [] = refl
 map_as_flat g (x ∷ xs) = ap (λ l. g x ∷ l) (map_as_flat g xs)
 
@@ -93,7 +93,7 @@ module _ (limit n : ℕ) (d : Dictionary) (q : ℕ) where
   rated : (i : ℕ) → IsTrue (is_rated i) ↔ (whole (pos 0) <ℚ entry_at d i q)
   rated i = above_by_cmp (entry_at d i q) (whole (pos 0)) (number_cmp (entry_at d i q) (whole (pos 0))) (is_rated i) refl refl refl
 
-  abbrev ratio_step : ℕ → Due
+  abbrev ratio_step : ℕ → ExpectedStep
   ratio_step i = (Ratio n (i + 1), quotient_fits limit (constant_at d i) (entry_at d i q))
 
   abbrev Rate : ℕ → Type 0
@@ -112,7 +112,7 @@ module _ (limit n : ℕ) (d : Dictionary) (q : ℕ) where
 -- ---- the exchange
 
 module _ (limit n : ℕ) (d : Dictionary) (q k : ℕ) where
-  abbrev pivot_step : ℕ → Due
+  abbrev pivot_step : ℕ → ExpectedStep
   pivot_step c = (Exchange n (k + 1) c 0, quotient_fits limit (d.numbers k c) (entry_at d k q))
 
   pivot_steps_are : flat_map (λ c. pivot_step c ∷ []) (filter (λ c. true) (range_with_len 0 (d.variables + 2))) ≡ pivot_row_steps limit n d q k
@@ -129,7 +129,7 @@ module _ (limit n : ℕ) (d : Dictionary) (q k : ℕ) where
   abbrev Steps : ℕ → ℕ → Type 0
   Steps i c = StepsFit limit (d.numbers i c) (entry_at d i q) (divided_entry d q k c)
 
-  abbrev step_pair : ℕ → ℕ → List Due
+  abbrev step_pair : ℕ → ℕ → List ExpectedStep
   step_pair i c =
       (Exchange n (i + 1) c 0, product_fits limit (entry_at d i q) (divided_entry d q k c))
       ∷ (Exchange n (i + 1) c 1, difference_fits limit (d.numbers i c) (entry_at d i q *ℚ divided_entry d q k c)) ∷ []

@@ -10,7 +10,7 @@ use Rattle.lp_core.specs.declared.answer.Pivot.{Pivot}
 use Rattle.lp_core.specs.declared.answer.StepName.TheVariants.{Exchange}
 use Rattle.lp_core.specs.Steps.{AllFit, FirstStop, exchange_steps}
 use Rattle.lp_core.specs.Sums.{value_of_column}
-use Rattle.lp_core.specs.Dictionary.{Dictionary, Meets, OpeningIsDue, basic_at, entry_at, IsLegal, divided_entry, exchanged_numbers, exchanged}
+use Rattle.lp_core.specs.Dictionary.{Dictionary, Meets, OpeningIsRequired, basic_at, entry_at, IsLegal, divided_entry, exchanged_numbers, exchanged}
 use Rattle.lp_fraction_dict.specs.declared.row.Entry.{Entry}
 use Rattle.lp_core.specs.StandardForm.{Standard}
 use Rattle.lp_std.specs.declared.stop.Stop.{Stop}
@@ -222,8 +222,8 @@ module _ {F : Type 0} (value : F → Number) (limit : ℕ) (t : FractionTableau 
         proper = subst IsProper (sym pivoted_is) (proper_after (fraction_dictionary value t) p k inv.proper legal);
       }
 
-  pub pivoted_not_due : ¬ (OpeningIsDue (fraction_dictionary value after))
-  pivoted_not_due due = none_due (fraction_dictionary value t) p k inv.proper legal (subst OpeningIsDue pivoted_is due)
+  pub pivoted_not_due : ¬ (OpeningIsRequired (fraction_dictionary value after))
+  pivoted_not_due required = none_due (fraction_dictionary value t) p k inv.proper legal (subst OpeningIsRequired pivoted_is required)
 
   pub pivoted_same : (x : List Number) (objective : Number) → (p.leave ≡ 0 → value_of_column x 0 ≡ whole (pos 0)) → Meets (fraction_dictionary value t) x objective ↔ Meets (fraction_dictionary value after) x objective
   pivoted_same x objective gone =
@@ -307,5 +307,5 @@ module _ {F : Type 0} (value : F → Number) (limit : ℕ) (t : FractionTableau 
         subst (IsDictionaryOf s) (sym (pivoted_is value limit t p place after inv legal_here made))
         (of_form_after s (fraction_dictionary value t) p place inv.proper legal_here (λ x goal gone. subst (λ e. Meets (fraction_dictionary value t) x goal ↔ Meets e x goal) (pivoted_is value limit t p place after inv legal_here made) (same_points x goal gone)) h)
 
-    pub is_not_due : ¬ (OpeningIsDue (fraction_dictionary value after))
+    pub is_not_due : ¬ (OpeningIsRequired (fraction_dictionary value after))
     is_not_due = pivoted_not_due value limit t p place after inv legal_here made

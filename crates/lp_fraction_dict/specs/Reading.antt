@@ -4,7 +4,7 @@ use Rattle.gq_number.specs.Number.{Number, whole, neg_ℚ}
 use Rattle.lp_core.specs.declared.answer.Rule.TheVariants.{Legal}
 use Rattle.lp_core.specs.Ends.{IsUnlimited}
 use Rattle.lp_core.specs.Sums.{value_of_column}
-use Rattle.lp_core.specs.Dictionary.{Dictionary, InPhaseOne, OpeningIsDue, Improves}
+use Rattle.lp_core.specs.Dictionary.{Dictionary, InPhaseOne, OpeningIsRequired, Improves}
 use Rattle.lp_core.specs.StandardForm.{Last}
 use Rattle.lp_core.specs.Pivots.{NothingImproves, last_of, last_along}
 use Rattle.lp_fraction_dict.specs.declared.row.Entry.{Entry}
@@ -13,7 +13,7 @@ use Rattle.lp_fraction_dict.specs.Rows.{number_in}
 -- The search ends: nothing improves; or this variable improves and no row limits it; or the search
 -- is broken off in phase 2 though a variable improves.
 abbrev pub IsDone : Dictionary → Option ℕ → Type 0
-IsDone d None = NothingImproves d ⊎ (¬ (InPhaseOne d) × ¬ (OpeningIsDue d) × ((q : ℕ) × Improves d q))
+IsDone d None = NothingImproves d ⊎ (¬ (InPhaseOne d) × ¬ (OpeningIsRequired d) × ((q : ℕ) × Improves d q))
 IsDone d (Some q) = ¬ (InPhaseOne d) × IsUnlimited Legal d q
 
 -- what is read at a dictionary: with the ray along which this variable rises, or without a ray

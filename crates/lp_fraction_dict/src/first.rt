@@ -44,7 +44,7 @@ fn row_with_slack<F: ExactField>(
 ) -> Result<Vec<Entry<F>>, AllocError>
     requires in_order { InOrder 1 slack (entries_value F.value row.now.entries) }
     requires some { 1 ≤ slack }
-    requires room { slack + 2 < 2 ^ 32 }
+    requires within_bound { slack + 2 < 2 ^ 32 }
     ensures { IfOk result (λ made. IsFilled F.value (first_row needed slack (row_value F.value row.now)) (slack + 2) made.items) }
 {
     let mut made = Vec::new(alloc);
@@ -66,7 +66,7 @@ pub(crate) fn rows_with_slacks<F: ExactField>(
 ) -> Result<Vec<Vec<Entry<F>>>, AllocError>
     requires in_order { All (λ (row : StdRow F). InOrder 1 slack (entries_value F.value row.entries)) rows.now }
     requires some { 1 ≤ slack }
-    requires room { slack + length rows.now + 2 < 2 ^ 32 }
+    requires within_bound { slack + length rows.now + 2 < 2 ^ 32 }
     ensures { IfOk result (λ made. AreFirst F.value needed slack (map (row_value F.value) rows.now) (entries_of_rows made.items) (length rows.now)) }
 {
     let mut made = Vec::new(alloc);

@@ -25,14 +25,14 @@ pub(crate) fn number_at<F: ExactField>(row: &[Entry<F>], column: u32) -> F
 {
     let mut rest = row;
     loop {
-        let (front, back) = rest.split_at(rest.len() / 2);
+        let (prefix, back) = rest.split_at(rest.len() / 2);
         let Some((entry, after)) = back.split_first() else {
             return F::zero();
         };
         match entry.column.cmp(&column) {
             Ordering::Less => rest = after,
             Ordering::Equal => return entry.number,
-            Ordering::Greater => rest = front,
+            Ordering::Greater => rest = prefix,
         }
     }
 }

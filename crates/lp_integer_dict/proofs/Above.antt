@@ -9,7 +9,7 @@ use Rattle.gq_number.proofs.Whole.{nat_abs-*ℤ}
 use Rattle.gq_number.proofs.Naming.{times_one}
 use Rattle.lp_core.specs.Dictionary.{Dictionary}
 use Rattle.lp_integer_rows.specs.Turning.{turned_at, IsDeferredExchange}
-use Rattle.lp_integer_dict.specs.Bounds.{IsBounded, HasRoomAbove, over_denominators}
+use Rattle.lp_integer_dict.specs.Bounds.{IsBounded, DeferredNumbersWithin, over_denominators}
 use Rattle.lp_integer_rows.proofs.Turning.{turned_row, turned_other}
 use Rattle.lp_integer_rows.proofs.Lessening.{divided_line, lessened}
 
@@ -30,7 +30,7 @@ module _ (n : ℕ → ℕ → ℤ) (d : ℕ → ℕ) (z k u : ℕ) (pivot : n k 
 difference_most : (u v : ℤ) → nat_abs (u -ℤ v) ≤ nat_abs u + nat_abs v
 difference_most u v = omega (arith, ints)
 
-module _ (n : ℕ → ℕ → ℤ) (d most : ℕ → ℕ) (bound k u : ℕ) (h : HasRoomAbove n d most bound k u) where
+module _ (n : ℕ → ℕ → ℤ) (d most : ℕ → ℕ) (bound k u : ℕ) (h : DeferredNumbersWithin n d most bound k u) where
   abbrev number : ℕ → ℕ → ℤ
   number i c = cond (i == k) (n k c) (pos u *ℤ n i c -ℤ n i 1 *ℤ n k c)
 
@@ -59,14 +59,14 @@ module _ (n : ℕ → ℕ → ℤ) (d most : ℕ → ℕ) (bound k u : ℕ) (h :
       let first : nat_abs (pos u *ℤ n i c) ≤ u * most i = subst (λ t. t ≤ u * most i) (sym (nat_abs-*ℤ (pos u) (n i c))) (mul-le-mul_left u (h.number_within i c)) in
       let second : nat_abs (n i 1 *ℤ n k c) ≤ nat_abs (n i 1) * most k = subst (λ t. t ≤ nat_abs (n i 1) * most k) (sym (nat_abs-*ℤ (n i 1) (n k c))) (mul-le-mul_left (nat_abs (n i 1)) (h.number_within k c)) in
       let same = mul_comm u (most i) in
-      let room = h.others i other in
+      let within_bound = h.others i other in
       omega arith
 
   below_within : (i : ℕ) → i ≢ k → u * d i ≤ bound
   below_within i other =
-      let grown : u * d i ≤ u * most i = mul-le-mul_left u (h.denominator_within i) in
+      let extended : u * d i ≤ u * most i = mul-le-mul_left u (h.denominator_within i) in
       let same = mul_comm u (most i) in
-      let room = h.others i other in
+      let within_bound = h.others i other in
       omega arith
 
   pub bounded_above : (above : Dictionary) → IsDeferredExchange above (over_denominators n d) k → IsBounded above bound

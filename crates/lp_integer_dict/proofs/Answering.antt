@@ -23,10 +23,10 @@ module _ (t : WholeTableau) (w : IsWhole t) (p : Pivot) (legal : (k : ℕ) × Is
   legal_at place at = subst (IsLegal (integer_dictionary t) p) (w.proper.distinct legal.0 place p.leave leaves at) legal.1
 
   pub fits_at : (place : ℕ) → slice_get t.basic place ≡ Some p.leave → ArePairsFit t.lines t.deferred place (p.enter + 1) t.bound (length t.lines) → (limit pivot k : ℕ) → t.bound ≤ limit → slice_get t.basic k ≡ Some p.leave → AllFit (exchange_steps limit pivot (integer_dictionary t) p.enter k)
-  fits_at place there h limit pivot k room at =
+  fits_at place there h limit pivot k within_bound at =
       let same : place ≡ k = w.proper.distinct place k p.leave there at in
       steps_fit t w p.enter k (get_within t.basic k p.leave at) (pivot_there t w p k (legal_at k at))
-      (subst (λ j. ArePairsFit t.lines t.deferred j (p.enter + 1) t.bound (length t.lines)) same h) limit pivot room
+      (subst (λ j. ArePairsFit t.lines t.deferred j (p.enter + 1) t.bound (length t.lines)) same h) limit pivot within_bound
 
   pub exchanged_at : (place : ℕ) → slice_get t.basic place ≡ Some p.leave → (r : Result WholeTableau WholeTableau) → IsPivoted t p place r → IfOk r (λ after. (k : ℕ) → slice_get t.basic k ≡ Some p.leave → integer_dictionary after ≡ exchanged (integer_dictionary t) p.enter k)
   exchanged_at place at (Ok after) h = λ k there. h.0.0 ∙ ap (exchanged (integer_dictionary t) p.enter) (w.proper.distinct place k p.leave at there)

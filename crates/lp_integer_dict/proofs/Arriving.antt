@@ -7,7 +7,7 @@ use Rattle.lp_integers.specs.Lines.{whole_at}
 use Rattle.lp_integer_rows.specs.declared.line.Line.{Line}
 use Rattle.lp_integer_rows.specs.declared.line.Factors.{Factors}
 use Rattle.lp_integer_rows.specs.Form.{wholes, lines_number, AreBounded, AreSameLines, AreTurned, IsWithinFactors, AreLowest}
-use Rattle.lp_integer_dict.specs.WithinBound.{HasRoomFor, KeepsRoom, zero_after, IsRoomyPlan, HaveRoomAfter, AreTurnedInRoom, AreMade}
+use Rattle.lp_integer_dict.specs.WithinBound.{DeferredStaysWithin, DeferredStaysWithinAfter, zero_after, IsRoomyPlan, ExchangedStayWithin, AreExchangedWithin, AreMade}
 use Rattle.lp_integer_rows.proofs.Turning.{turned_same}
 use Rattle.lp_integer_rows.proofs.Plans.{get_within, some_at, same_some}
 use Rattle.lp_integer_dict.proofs.Sameness.{same_are, same_numbers}
@@ -49,29 +49,29 @@ module _ (bound column place leaving : ℕ) (before after : List Line) (plans : 
         ];
       }
 
-  room_after : (y : Line) → leaving ≢ place → slice_get after leaving ≡ Some y → HasRoomFor leaving y after bound
+  room_after : (y : Line) → leaving ≢ place → slice_get after leaving ≡ Some y → DeferredStaysWithin leaving y after bound
   room_after y apart at =
       let first = from leaving y at in
-      let keeps : KeepsRoom leaving first.p first.x first.f before plans bound = roomy.room first.p first.x first.f apart first.p_at first.x_at first.f_at in
+      let keeps : DeferredStaysWithinAfter leaving first.p first.x first.f before plans bound = roomy.within_bound first.p first.x first.f apart first.p_at first.x_at first.f_at in
       record {
         own = let a = first.is.most in let b = first.most in omega arith;
         others = λ i l other there.
             let o = from i l there in
             let p_is : o.p ≡ first.p = same_some o.p first.p (sym o.p_at ∙ first.p_at) in
             let is : IsWithinFactors o.x first.p l o.f = subst (λ x. IsWithinFactors o.x x l o.f) p_is o.is in
-            let room = keeps i o.x o.f other o.x_at o.f_at in
+            let within_bound = keeps i o.x o.f other o.x_at o.f_at in
             let left : l.most * nat_abs (whole_at (wholes y) 1) ≤ o.f.most * zero_after first.x first.p first.f = mul-le-mul is.most (first.is.magnitudes 1) in
             let right : nat_abs (whole_at (wholes l) 1) * y.most ≤ zero_after o.x first.p o.f * first.f.most = mul-le-mul (is.magnitudes 1) first.is.most in
             omega arith;
       }
 
-  pub turned_by_plan : AreTurnedInRoom bound column place leaving before after
+  pub turned_by_plan : AreExchangedWithin bound column place leaving before after
   turned_by_plan =
       record {
         sized = turned.sized;
         are_lines = turned.are_lines;
         numbers = turned.numbers;
-        room = record {
+        within_bound = record {
           bounded = λ i y at.
               let o = from i y at in
               let low = o.is.most in
@@ -83,26 +83,26 @@ module _ (bound column place leaving : ℕ) (before after : List Line) (plans : 
 
 -- ---- from lines that stand for the same numbers
 
-pub same_turned : (bound column place leaving : ℕ) (before divided after : List Line) → AreSameLines before divided → AreTurnedInRoom bound column place leaving divided after → AreTurnedInRoom bound column place leaving before after
+pub same_turned : (bound column place leaving : ℕ) (before divided after : List Line) → AreSameLines before divided → AreExchangedWithin bound column place leaving divided after → AreExchangedWithin bound column place leaving before after
 same_turned bound column place leaving before divided after same h =
     record {
       sized = h.sized ∙ same.sized;
       are_lines = λ width are. h.are_lines width (same_are before divided same width are);
       numbers = λ i c less.
           h.numbers i c (let e = same.sized in omega arith) ∙ turned_same (lines_number divided) (lines_number before) column place i c (same_numbers before divided same);
-      room = h.room;
+      within_bound = h.within_bound;
     }
 
 -- ---- made apart
 
 module _ (bound column place leaving : ℕ) (before mid after : List Line) (plans : List Factors) (turned : AreTurned column place plans before mid) (same : AreSameLines mid after) where
-  pub by_copies : HaveRoomAfter bound place leaving after → AreTurnedInRoom bound column place leaving before after
-  by_copies room =
+  pub by_copies : ExchangedStayWithin bound place leaving after → AreExchangedWithin bound column place leaving before after
+  by_copies within_bound =
       record {
         sized = same.sized ∙ turned.sized;
         are_lines = λ width are. same_are mid after same width (turned.are_lines width are);
         numbers = λ i c less. same_numbers mid after same i c ∙ turned.numbers i c less;
-        room = room;
+        within_bound = within_bound;
       }
 
   pub made_so : AreLowest after → AreMade column place before after

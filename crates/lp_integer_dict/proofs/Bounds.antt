@@ -21,7 +21,7 @@ use Rattle.gq_field.proofs.Sums.{none_large}
 use Rattle.lp_core.specs.Dictionary.{Dictionary}
 use Rattle.lp_core.specs.Steps.{AllFit, product_fits, quotient_fits, difference_fits, ratio_steps}
 use Rattle.lp_integer_dict.specs.Bounds.{IsBounded}
-use Rattle.lp_integer_dict.specs.Pairs.{HasPairRoom}
+use Rattle.lp_integer_dict.specs.Pairs.{IsPairWithin}
 use Rattle.lp_integer_rows.proofs.Lessening.{with_sign, with_sign_within, quotient_means}
 use Rattle.lp_integer_dict.proofs.Steps.{ratios_fit}
 
@@ -130,11 +130,11 @@ sum_fits_by_means limit x y p r m mx my low top other total =
     regroup a b c = omega arith
 
     within : (a c e n limit : ℕ) → c ≤ e → a * e ≡ n → n ≤ limit → a * c ≤ limit
-    within a c e n limit less is most = let grown : a * c ≤ a * e = mul-le-mul_left a less in omega arith
+    within a c e n limit less is most = let extended : a * c ≤ a * e = mul-le-mul_left a less in omega arith
 
 -- ---- a ratio test
 
-module _ (limit bound : ℕ) (d : Dictionary) (room : bound ≤ limit) (h : IsBounded d bound) where
+module _ (limit bound : ℕ) (d : Dictionary) (within_bound : bound ≤ limit) (h : IsBounded d bound) where
   -- a number of a row over another that is not 0
   module _ (i q : ℕ) (some : d.numbers i q ≢ whole (pos 0)) where
     some_number : h.number i q ≢ pos 0
@@ -172,7 +172,7 @@ sum_within a b = omega (arith, ints)
 moved : (n : ℤ) (d k : ℕ) → n *ℤ pos (d * k) ≡ n *ℤ pos k *ℤ pos d
 moved n d k = ap (λ t. n *ℤ pos t) (mul_comm d k) ∙ sym (*ℤ_assoc n (pos k) (pos d))
 
-module _ (limit : ℕ) (ni nk f p : ℤ) (di dk mi mk : ℕ) (above_i : 0 < di) (above_k : 0 < dk) (some : p ≢ pos 0) (top_i : nat_abs ni ≤ mi) (low_i : di ≤ mi) (top_k : nat_abs nk ≤ mk) (h : HasPairRoom f p mi mk limit) where
+module _ (limit : ℕ) (ni nk f p : ℤ) (di dk mi mk : ℕ) (above_i : 0 < di) (above_k : 0 < dk) (some : p ≢ pos 0) (top_i : nat_abs ni ≤ mi) (low_i : di ≤ mi) (top_k : nat_abs nk ≤ mk) (h : IsPairWithin f p mi mk limit) where
   abbrev a : ℤ
   a = h.of_row
 
@@ -192,8 +192,8 @@ module _ (limit : ℕ) (ni nk f p : ℤ) (di dk mi mk : ℕ) (above_i : 0 < di) 
   abbrev top : ℤ
   top = b *ℤ turned
 
-  abbrev front : ℤ
-  front = ni *ℤ pos (nat_abs a)
+  abbrev prefix : ℤ
+  prefix = ni *ℤ pos (nat_abs a)
 
   p_is : nat_abs p ≡ nat_abs a * g
   p_is = ap nat_abs (sym h.first) ∙ nat_abs-*ℤ a (pos g)
@@ -218,37 +218,37 @@ module _ (limit : ℕ) (ni nk f p : ℤ) (di dk mi mk : ℕ) (above_i : 0 < di) 
       (subst₂ (λ n d. Means (ratio f di *ℚ (ratio nk dk /ℚ ratio p dk)) n d) top_is low_is whole_means)
 
   low_within : low ≤ nat_abs a * mi
-  low_within = let grown : nat_abs a * di ≤ nat_abs a * mi = mul-le-mul_left (nat_abs a) low_i in let same = mul_comm di (nat_abs a) in omega arith
+  low_within = let extended : nat_abs a * di ≤ nat_abs a * mi = mul-le-mul_left (nat_abs a) low_i in let same = mul_comm di (nat_abs a) in omega arith
 
   top_within : nat_abs top ≤ nat_abs b * mk
   top_within =
       let is : nat_abs top ≡ nat_abs b * nat_abs nk = nat_abs-*ℤ b turned ∙ ap (λ n. nat_abs b * n) (with_sign_within p nk) in
-      let grown : nat_abs b * nat_abs nk ≤ nat_abs b * mk = mul-le-mul_left (nat_abs b) top_k in
+      let extended : nat_abs b * nat_abs nk ≤ nat_abs b * mk = mul-le-mul_left (nat_abs b) top_k in
       omega arith
 
-  front_within : nat_abs front ≤ nat_abs a * mi
+  front_within : nat_abs prefix ≤ nat_abs a * mi
   front_within =
-      let is : nat_abs front ≡ nat_abs ni * nat_abs a = nat_abs-*ℤ ni (pos (nat_abs a)) in
-      let grown : nat_abs a * nat_abs ni ≤ nat_abs a * mi = mul-le-mul_left (nat_abs a) top_i in
+      let is : nat_abs prefix ≡ nat_abs ni * nat_abs a = nat_abs-*ℤ ni (pos (nat_abs a)) in
+      let extended : nat_abs a * nat_abs ni ≤ nat_abs a * mi = mul-le-mul_left (nat_abs a) top_i in
       let same = mul_comm (nat_abs ni) (nat_abs a) in
       omega arith
 
-  front_means : Means (ratio ni di) front low
+  front_means : Means (ratio ni di) prefix low
   front_means = means_same (ratio_means ni di above_i) (mul-pos above_i some_a) (moved ni di (nat_abs a))
 
   pub pair_product : product_fits limit (ratio f di) (ratio nk dk /ℚ ratio p dk) ≡ true
   pair_product =
-      let room = h.room in
+      let within_bound = h.within_bound in
       let first = top_within in
       let second = low_within in
       fits_by_means limit product_means (omega arith) (omega arith)
 
   pub pair_difference : difference_fits limit (ratio ni di) (ratio f di *ℚ (ratio nk dk /ℚ ratio p dk)) ≡ true
   pair_difference =
-      let room = h.room in
+      let within_bound = h.within_bound in
       let one = top_within in
       let two = low_within in
       let three = front_within in
       let other : nat_abs (neg_ℤ top) ≡ nat_abs top = nat_abs-neg top in
-      let total = sum_within front (neg_ℤ top) in
-      sum_fits_by_means limit (ratio ni di) (neg_ℚ (ratio f di *ℚ (ratio nk dk /ℚ ratio p dk))) front (neg_ℤ top) low front_means (means-neg_ℚ product_means) (omega arith) (omega arith) (omega arith) (omega arith)
+      let total = sum_within prefix (neg_ℤ top) in
+      sum_fits_by_means limit (ratio ni di) (neg_ℚ (ratio f di *ℚ (ratio nk dk /ℚ ratio p dk))) prefix (neg_ℤ top) low front_means (means-neg_ℚ product_means) (omega arith) (omega arith) (omega arith) (omega arith)

@@ -10,7 +10,7 @@ use Rattle.gq_number.specs.Number.{Number, whole, ratio, ◌/ℚ◌}
 use Rattle.gq_number.specs.Order.{◌<ℚ◌, ◌≤ℚ◌, number_cmp}
 use Rattle.gq_number.proofs.Order.{<ℚ_trans, <ℚ-≤ℚ_trans, ≤ℚ_from_<ℚ, ≤ℚ_from_≡, ≤ℚ_or_above, not_above, ≤ℚ-<ℚ_trans}
 use Rattle.gq_number.proofs.Compares.{number_cmp_decides}
-use Rattle.lp_core.specs.Dictionary.{Dictionary, basic_at, constant_at, entry_at, OpeningIsDue, IsOpening, ratio_at, IsLeast}
+use Rattle.lp_core.specs.Dictionary.{Dictionary, basic_at, constant_at, entry_at, OpeningIsRequired, IsOpening, ratio_at, IsLeast}
 use Rattle.lp_fraction_dict.specs.Pivots.{IsLeaving}
 use Rattle.lp_integer_rows.specs.declared.line.Line.{Line}
 use Rattle.lp_integer_dict.specs.declared.choice.Candidate.{Candidate}
@@ -132,8 +132,8 @@ module _ (d : Dictionary) where
   abbrev IsBelow : ℕ → Type 0
   IsBelow i = constant_at d i <ℚ whole (pos 0)
 
-  pub no_opening : IsFirstOf IsBelow (constant_at d) (basic_at d) (length d.basic) None → ¬ (OpeningIsDue d)
-  no_opening none due = none due.0 due.1 due.2
+  pub no_opening : IsFirstOf IsBelow (constant_at d) (basic_at d) (length d.basic) None → ¬ (OpeningIsRequired d)
+  no_opening none required = none required.0 required.1 required.2
 
   module _ (c : Candidate) (h : IsFirstOf IsBelow (constant_at d) (basic_at d) (length d.basic) (Some c)) where
     least_constant_at : IsLeast d h.0
@@ -149,7 +149,7 @@ module _ (d : Dictionary) where
     opening_there = (
       h.0,
       record {
-        due = (h.0, h.1, h.2);
+        required = (h.0, h.1, h.2);
         enters = refl;
         leaves = index_get d.basic h.0 c.variable 0 h.1 (sym h.4);
         least = least_constant_at;

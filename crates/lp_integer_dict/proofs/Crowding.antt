@@ -14,7 +14,7 @@ use Rattle.lp_fraction_dict.proofs.Proper.{enters_new}
 use Rattle.lp_integer_rows.specs.declared.line.Line.{Line}
 use Rattle.lp_integers.specs.Lines.{whole_at}
 use Rattle.lp_integer_rows.specs.Form.{wholes, line_number, number_or_none, lines_number, numbers_above, IsLine, AreLines, AreSameLines, IsRaisedAt, IsRaisedLine}
-use Rattle.lp_integer_dict.specs.WithinBound.{HasRoomFor, IsPutOff, HasRoom}
+use Rattle.lp_integer_dict.specs.WithinBound.{DeferredStaysWithin, IsDeferred, RowsStayWithin}
 use Rattle.lp_integer_rows.specs.Turning.{turned_at, with_row_negated}
 use Rattle.lp_integer_dict.specs.Whole.{row_of, WholeTableau, integer_dictionary, IsWhole}
 use Rattle.lp_integer_rows.proofs.Turning.{turned_same, turned_negated}
@@ -28,7 +28,7 @@ use Rattle.lp_integer_dict.proofs.Pivoting.{IsAfter, after_is, plain_numbers, pl
 -- ---- other lines for the same numbers
 
 module _ (width bound : ℕ) (before after : List Line) (are : AreLines width before) (s : AreSameLines before after) where
-  same_putoff : (k : ℕ) → IsPutOff k before bound → IsPutOff k after bound
+  same_putoff : (k : ℕ) → IsDeferred k before bound → IsDeferred k after bound
   same_putoff k h =
       let y = some_at after k (let e = s.sized in let less = get_within before k h.pivot h.there in omega arith) in
       let is = s.each k h.pivot y.0 h.there y.1 in
@@ -37,19 +37,19 @@ module _ (width bound : ℕ) (before after : List Line) (are : AreLines width be
         pivot = y.0;
         there = y.1;
         above = number_above (whole_at (wholes y.0) 1) y.0.denominator is.is_line.positive (subst (λ x. whole (pos 0) <ℚ x) (sym (is.numbers 1)) (above_number (whole_at (wholes h.pivot) 1) h.pivot.denominator of_pivot.positive h.above));
-        room = record {
-          own = let low = is.most in let high = h.room.own in omega arith;
+        within_bound = record {
+          own = let low = is.most in let high = h.within_bound.own in omega arith;
           others = λ i l other at.
               let x = some_at before i (let e = s.sized in let less = get_within after i l at in omega arith) in
               let of_l = s.each i x.0 l x.1 at in
-              let room = h.room.others i x.0 other x.1 in
+              let within_bound = h.within_bound.others i x.0 other x.1 in
               let first : l.most * nat_abs (whole_at (wholes y.0) 1) ≤ x.0.most * nat_abs (whole_at (wholes h.pivot) 1) = mul-le-mul of_l.most (is.magnitudes 1) in
               let second : nat_abs (whole_at (wholes l) 1) * y.0.most ≤ nat_abs (whole_at (wholes x.0) 1) * h.pivot.most = mul-le-mul (of_l.magnitudes 1) is.most in
               omega arith;
         };
       }
 
-  pub same_room : (o : Option ℕ) → HasRoom o before bound → HasRoom o after bound
+  pub same_room : (o : Option ℕ) → RowsStayWithin o before bound → RowsStayWithin o after bound
   same_room None h = same_bounded before after s bound h
   same_room (Some k) h = same_putoff k h
 
@@ -75,9 +75,9 @@ module _ (t : WholeTableau) (w : IsWhole t) (lines : List Line) (s : AreSameLine
           are_lines = same_are t.lines lines s (t.variables + 2) w.are_whole.are_lines;
           wide = w.are_whole.wide;
           small = w.are_whole.small;
-          room = same_room (t.variables + 2) t.bound t.lines lines w.are_whole.are_lines s t.deferred w.are_whole.room;
+          within_bound = same_room (t.variables + 2) t.bound t.lines lines w.are_whole.are_lines s t.deferred w.are_whole.within_bound;
         };
-        put_off = w.put_off;
+        is_deferred = w.is_deferred;
         proper = subst IsProper (sym dictionary_same) w.proper;
       }
 
@@ -93,7 +93,7 @@ module _ (t : WholeTableau) (w : IsWhole t) (p : Pivot) (k : ℕ) (legal : IsLeg
   -- nothing is deferred before it
   none_off : (o : Option ℕ) → t.deferred ≡ o → o ≡ None
   none_off None is = refl
-  none_off (Some z) is = absurd (enters_new d p k w.proper legal z 0 (subst (λ x. IsPlace t.basic 0 x) is w.put_off) (sym opens))
+  none_off (Some z) is = absurd (enters_new d p k w.proper legal z 0 (subst (λ x. IsPlace t.basic 0 x) is w.is_deferred) (sym opens))
 
   pub opens_plain : t.deferred ≡ None
   opens_plain = none_off t.deferred refl
@@ -103,7 +103,7 @@ module _ (t : WholeTableau) (w : IsWhole t) (p : Pivot) (k : ℕ) (legal : IsLeg
       pivot_there t w p k legal
       (ap (entry_at d k) opens ∙ plain_numbers t w p k legal opens_plain k 1 ∙ ap (λ r. lines_number t.lines r 1) (row_within (length t.basic) k (k_in t w p k legal)) ∙ at_line t.lines k x at 1 ∙ ap (λ n. ratio n x.denominator) none ∙ ratio_none x.denominator)
 
-  module _ (lines : List Line) (r : IsRaisedAt k t.lines lines) (room : (x : Line) → slice_get t.lines k ≡ Some x → HasRoomFor k x t.lines t.bound) where
+  module _ (lines : List Line) (r : IsRaisedAt k t.lines lines) (within_bound : (x : Line) → slice_get t.lines k ≡ Some x → DeferredStaysWithin k x t.lines t.bound) where
     before_at : (x : Line) × (slice_get t.lines k ≡ Some x)
     before_at = some_at t.lines k (let e = w.paired in let less = k_in t w p k legal in omega arith)
 
@@ -147,14 +147,14 @@ module _ (t : WholeTableau) (w : IsWhole t) (p : Pivot) (k : ℕ) (legal : IsLeg
         ∙ ap (λ v. turned_at d.numbers (v + 1) k i c) (sym opens)
         ∙ sym (stays_numbers t w p k legal (plain_stays t w p k legal opens_plain) i c)
 
-    opens_room : IsPutOff k lines t.bound
+    opens_room : IsDeferred k lines t.bound
     opens_room =
-        let has = room before_at.0 before_at.1 in
+        let has = within_bound before_at.0 before_at.1 in
         record {
           pivot = after_at.0;
           there = after_at.1;
           above = raised.above;
-          room = record {
+          within_bound = record {
             own = let e = raised.most in let f = has.own in omega arith;
             others = λ i l other at.
                 subst₂ (λ u m. l.most * u + nat_abs (whole_at (wholes l) 1) * m ≤ t.bound) (sym (raised.magnitudes 1)) (sym raised.most) (has.others i l other (sym (r.others i other) ∙ at));
@@ -173,5 +173,5 @@ module _ (t : WholeTableau) (w : IsWhole t) (p : Pivot) (k : ℕ) (legal : IsLeg
     pub after_open : IsAfter t w p k legal lines (Some k)
     after_open =
         after_is t w p k legal lines (Some k) r.sized
-        (record { are_lines = opens_are; wide = w.are_whole.wide; small = w.are_whole.small; room = opens_room })
+        (record { are_lines = opens_are; wide = w.are_whole.wide; small = w.are_whole.small; within_bound = opens_room })
         (set_same t.basic k p.enter (k_in t w p k legal) ∙ ap Some opens) opens_same

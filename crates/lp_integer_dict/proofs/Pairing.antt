@@ -16,7 +16,7 @@ use Rattle.lp_integer_dict.specs.declared.pairs.Measure.{Measure}
 use Rattle.lp_integers.specs.Lines.{whole_at}
 use Rattle.lp_integer_rows.specs.Form.{wholes, lines_number, numbers_above, IsLine, AreFactors, AreBounded}
 use Rattle.lp_integer_dict.specs.WithinBound.{AreWhole, most_or_one, denominator_or_one, zero_or_one, whole_or_zero, line_denominator, row_most, row_number}
-use Rattle.lp_integer_dict.specs.Pairs.{HasPairRoom, HasNoPairRoom, IsSomePairCrowded, IsMeasured, IsRowOver, IsLowestRow, IsRoomy, IsPairFit, ArePairsFit, rows_top}
+use Rattle.lp_integer_dict.specs.Pairs.{IsPairWithin, PairExceeds, IsSomePairCrowded, IsMeasured, IsRowOver, IsLowestRow, IsRoomy, IsPairFit, ArePairsFit, rows_top}
 use Rattle.lp_integer_dict.specs.Whole.{row_of, WholeTableau, integer_dictionary, IsWhole}
 use Rattle.lp_integer_dict.proofs.Bounds.{fits_by_means, pair_product, pair_difference}
 use Rattle.lp_integer_rows.proofs.Lessening.{with_sign, with_sign_within, quotient_means}
@@ -48,7 +48,7 @@ plain_row lines width bound i w less =
     record {
       positive = subst (λ d. 0 < d) (sym low_is) of_line.positive;
       low = subst₂ (λ d m. d ≤ m) (sym low_is) (sym most_is) of_line.denominator_within;
-      high = subst (λ m. m ≤ bound) (sym most_is) (w.room i l.0 l.1);
+      high = subst (λ m. m ≤ bound) (sym most_is) (w.within_bound i l.0 l.1);
       number = λ c. whole_at (wholes l.0) c;
       number_is = λ c. ap (ratio (whole_at (wholes l.0) c)) low_is ∙ sym (at_line lines i l.0 l.1 c);
       named = λ c. sym (ap (λ o. whole_or_zero o c) l.1);
@@ -57,18 +57,18 @@ plain_row lines width bound i w less =
 
 module _ (lines : List Line) (k width bound : ℕ) (w : AreWhole lines (Some k) width bound) where
   abbrev p : Line
-  p = w.room.pivot
+  p = w.within_bound.pivot
 
   abbrev u : ℕ
   u = nat_abs (whole_at (wholes p) 1)
 
   of_pivot : IsLine p
-  of_pivot = (w.are_lines k p w.room.there).0
+  of_pivot = (w.are_lines k p w.within_bound.there).0
 
   own_most : row_most (Some k) lines k ≡ p.most
   own_most =
       ap (λ b. cond b (most_or_one (slice_get lines k)) (most_or_one (slice_get lines k) * zero_or_one (slice_get lines k) + zero_or_one (slice_get lines k) * most_or_one (slice_get lines k))) (eq-eqb k k refl)
-      ∙ ap most_or_one w.room.there
+      ∙ ap most_or_one w.within_bound.there
 
   own_row : IsRow lines (Some k) bound k
   own_row =
@@ -76,7 +76,7 @@ module _ (lines : List Line) (k width bound : ℕ) (w : AreWhole lines (Some k) 
       record {
         positive = subst (λ d. 0 < d) low_is (some_v lines k width bound w);
         low = subst₂ (λ d m. d ≤ m) low_is (sym own_most) (of_pivot.numbers_within 1);
-        high = subst (λ m. m ≤ bound) (sym own_most) w.room.room.own;
+        high = subst (λ m. m ≤ bound) (sym own_most) w.within_bound.within_bound.own;
         number = λ c. whole_at (wholes p) c;
         number_is = λ c. ap (ratio (whole_at (wholes p) c)) (sym low_is) ∙ own_number_is lines k width bound w c;
         named = λ c. own_named lines k width bound w c;
@@ -90,7 +90,7 @@ module _ (lines : List Line) (k width bound : ℕ) (w : AreWhole lines (Some k) 
     other_most : row_most (Some k) lines i ≡ l.most * u + nat_abs (whole_at (wholes l) 1) * p.most
     other_most =
         ap (λ b. cond b (most_or_one (slice_get lines k)) (most_or_one (slice_get lines i) * zero_or_one (slice_get lines k) + zero_or_one (slice_get lines i) * most_or_one (slice_get lines k))) (ne_eqb i k other)
-        ∙ ap₂ (λ x y. most_or_one x * zero_or_one y + zero_or_one x * most_or_one y) there w.room.there
+        ∙ ap₂ (λ x y. most_or_one x * zero_or_one y + zero_or_one x * most_or_one y) there w.within_bound.there
 
     other_row : IsRow lines (Some k) bound i
     other_row =
@@ -98,7 +98,7 @@ module _ (lines : List Line) (k width bound : ℕ) (w : AreWhole lines (Some k) 
         record {
           positive = subst (λ d. 0 < d) low_is (mul-pos (some_v lines k width bound w) of_line.positive);
           low = subst₂ (λ d m. d ≤ m) low_is (sym other_most) (low_within l p of_line of_pivot);
-          high = subst (λ m. m ≤ bound) (sym other_most) (w.room.room.others i l other there);
+          high = subst (λ m. m ≤ bound) (sym other_most) (w.within_bound.within_bound.others i l other there);
           number = λ c. whole_at (wholes p) 1 *ℤ whole_at (wholes l) c -ℤ whole_at (wholes l) 1 *ℤ whole_at (wholes p) c;
           number_is = λ c.
               ap (ratio (whole_at (wholes p) 1 *ℤ whole_at (wholes l) c -ℤ whole_at (wholes l) 1 *ℤ whole_at (wholes p) c)) (sym low_is)
@@ -145,7 +145,7 @@ measured_over lines o bound i column m r is =
       each = λ c. (r.number c, r.number_is c, subst (λ t. nat_abs (r.number c) ≤ t) (sym is.most) (r.within c));
     }
 
-pub fit_of : (lines : List Line) (o : Option ℕ) (width bound leaving column i : ℕ) (row last : Measure) → AreWhole lines o width bound → i < length lines → leaving < length lines → IsMeasured lines o i column row → IsMeasured lines o leaving column last → HasPairRoom row.number last.number row.most last.most bound → IsPairFit lines o leaving column bound i
+pub fit_of : (lines : List Line) (o : Option ℕ) (width bound leaving column i : ℕ) (row last : Measure) → AreWhole lines o width bound → i < length lines → leaving < length lines → IsMeasured lines o i column row → IsMeasured lines o leaving column last → IsPairWithin row.number last.number row.most last.most bound → IsPairFit lines o leaving column bound i
 fit_of lines o width bound leaving column i row last w within also m k h =
     record {
       number = row.number;
@@ -156,10 +156,10 @@ fit_of lines o width bound leaving column i row last w within also m k h =
       most_leaving = last.most;
       row = measured_over lines o bound i column row (rows_are lines o width bound i w within) m;
       row_leaving = measured_over lines o bound leaving column last (rows_are lines o width bound leaving w also) k;
-      room = h;
+      within_bound = h;
     }
 
-pub lowest_fit : (lines : List Line) (o : Option ℕ) (leaving column bound i : ℕ) (row last : Measure) → IsLowestRow lines o i column row → IsLowestRow lines o leaving column last → HasPairRoom row.number last.number row.most last.most bound → IsPairFit lines o leaving column bound i
+pub lowest_fit : (lines : List Line) (o : Option ℕ) (leaving column bound i : ℕ) (row last : Measure) → IsLowestRow lines o i column row → IsLowestRow lines o leaving column last → IsPairWithin row.number last.number row.most last.most bound → IsPairFit lines o leaving column bound i
 lowest_fit lines o leaving column bound i row last m k h =
     record {
       number = row.number;
@@ -170,10 +170,10 @@ lowest_fit lines o leaving column bound i row last m k h =
       most_leaving = last.most;
       row = m.row;
       row_leaving = k.row;
-      room = h;
+      within_bound = h;
     }
 
-pub crowded_of : (lines : List Line) (o : Option ℕ) (leaving column bound i : ℕ) (row last : Measure) → i < length lines → i ≢ leaving → IsLowestRow lines o i column row → IsLowestRow lines o leaving column last → HasNoPairRoom row.number last.number row.most last.most bound → IsSomePairCrowded lines o leaving column bound
+pub crowded_of : (lines : List Line) (o : Option ℕ) (leaving column bound i : ℕ) (row last : Measure) → i < length lines → i ≢ leaving → IsLowestRow lines o i column row → IsLowestRow lines o leaving column last → PairExceeds row.number last.number row.most last.most bound → IsSomePairCrowded lines o leaving column bound
 crowded_of lines o leaving column bound i row last within other m k h =
     record { at = i; within = within; other = other; row = row; row_leaving = last; row_is = m; leaving_is = k; no_room = h }
 
@@ -184,13 +184,13 @@ fit_more lines o leaving column bound n h here i less other = elim (cases_eq i n
 ]
 
 -- two rows stay within the bound by their integers as they are, without a common factor
-pub room_plain : (f p : ℤ) (most other bound : ℕ) → nat_abs p * most + nat_abs f * other ≤ bound → HasPairRoom f p most other bound
-room_plain f p most other bound room =
-    record { of_row = p; of_leaving = f; shared = 1; positive = omega arith; first = times_one p; second = times_one f; room = room }
+pub room_plain : (f p : ℤ) (most other bound : ℕ) → nat_abs p * most + nat_abs f * other ≤ bound → IsPairWithin f p most other bound
+room_plain f p most other bound within_bound =
+    record { of_row = p; of_leaving = f; shared = 1; positive = omega arith; first = times_one p; second = times_one f; within_bound = within_bound }
 
-pub room_shared : (f p a b : ℤ) (most other bound : ℕ) → AreFactors f p a b → nat_abs a * most + nat_abs b * other ≤ bound → HasPairRoom f p most other bound
-room_shared f p a b most other bound h room =
-    record { of_row = a; of_leaving = b; shared = h.shared; positive = h.positive; first = h.first; second = h.second; room = room }
+pub room_shared : (f p a b : ℤ) (most other bound : ℕ) → AreFactors f p a b → nat_abs a * most + nat_abs b * other ≤ bound → IsPairWithin f p most other bound
+room_shared f p a b most other bound h within_bound =
+    record { of_row = a; of_leaving = b; shared = h.shared; positive = h.positive; first = h.first; second = h.second; within_bound = within_bound }
 
 pub found_within : (o : Option ℕ) (n bound : ℕ) → MatchOption o (bound < n) (λ s. (s ≡ n) × (s ≤ bound)) → IsTrue (is_some o) → n ≤ bound
 found_within None n bound h told = absurd (true≢false (sym told))
@@ -218,18 +218,18 @@ below_square m (suc n) less = omega arith
 row_top : (lines : List Line) (o : Option ℕ) (width most top i : ℕ) → AreWhole lines o width most → AreBounded top lines → i < length lines → row_most o lines i ≤ rows_top o top
 row_top lines None width most top i w h less = let l = some_at lines i less in subst (λ m. m ≤ top) (sym (ap most_or_one l.1)) (h i l.0 l.1)
 row_top lines (Some k) width most top i w h less =
-    let low_pivot : w.room.pivot.most ≤ top = h k w.room.pivot w.room.there in
+    let low_pivot : w.within_bound.pivot.most ≤ top = h k w.within_bound.pivot w.within_bound.there in
     elim (cases_eq i k) [
-      | inl same ↦ subst (λ j. row_most (Some k) lines j ≤ top * top + top * top) (sym same) (subst (λ m. m ≤ top * top + top * top) (sym (own_most lines k width most w)) (below_square w.room.pivot.most top low_pivot))
+      | inl same ↦ subst (λ j. row_most (Some k) lines j ≤ top * top + top * top) (sym same) (subst (λ m. m ≤ top * top + top * top) (sym (own_most lines k width most w)) (below_square w.within_bound.pivot.most top low_pivot))
       | inr other ↦
           let l = some_at lines i less in
           let low : l.0.most ≤ top = h i l.0 l.1 in
           let of_l = (w.are_lines i l.0 l.1).0 in
-          let of_p = (w.are_lines k w.room.pivot w.room.there).0 in
+          let of_p = (w.are_lines k w.within_bound.pivot w.within_bound.there).0 in
           let u_low = of_p.numbers_within 1 in
           let z_low = of_l.numbers_within 1 in
-          let first : l.0.most * nat_abs (whole_at (wholes w.room.pivot) 1) ≤ top * top = mul-le-mul low (omega arith) in
-          let second : nat_abs (whole_at (wholes l.0) 1) * w.room.pivot.most ≤ top * top = mul-le-mul (omega arith) low_pivot in
+          let first : l.0.most * nat_abs (whole_at (wholes w.within_bound.pivot) 1) ≤ top * top = mul-le-mul low (omega arith) in
+          let second : nat_abs (whole_at (wholes l.0) 1) * w.within_bound.pivot.most ≤ top * top = mul-le-mul (omega arith) low_pivot in
           subst (λ m. m ≤ top * top + top * top) (sym (other_most lines k width most w i l.0 other l.1)) (omega arith)
     ]
 
@@ -257,12 +257,12 @@ roomy_fits lines o width bound leaving column w within h i less other =
       most_leaving = row_most o lines leaving;
       row = row_at lines o bound i column row;
       row_leaving = row_at lines o bound leaving column last;
-      room = room_plain (row.number column) (last.number column) (row_most o lines i) (row_most o lines leaving) bound (omega arith);
+      within_bound = room_plain (row.number column) (last.number column) (row_most o lines i) (row_most o lines leaving) bound (omega arith);
     }
 
 -- ---- the steps of an exchange
 
-wider : {f p : ℤ} {most other bound limit : ℕ} → bound ≤ limit → HasPairRoom f p most other bound → HasPairRoom f p most other limit
+wider : {f p : ℤ} {most other bound limit : ℕ} → bound ≤ limit → IsPairWithin f p most other bound → IsPairWithin f p most other limit
 wider more h =
     record {
       of_row = h.of_row;
@@ -271,10 +271,10 @@ wider more h =
       positive = h.positive;
       first = h.first;
       second = h.second;
-      room = let low = h.room in omega arith;
+      within_bound = let low = h.within_bound in omega arith;
     }
 
-module _ (t : WholeTableau) (w : IsWhole t) (q k : ℕ) (less : k < length t.basic) (some : entry_at (integer_dictionary t) k q ≢ whole (pos 0)) (h : ArePairsFit t.lines t.deferred k (q + 1) t.bound (length t.lines)) (limit pivot : ℕ) (room : t.bound ≤ limit) where
+module _ (t : WholeTableau) (w : IsWhole t) (q k : ℕ) (less : k < length t.basic) (some : entry_at (integer_dictionary t) k q ≢ whole (pos 0)) (h : ArePairsFit t.lines t.deferred k (q + 1) t.bound (length t.lines)) (limit pivot : ℕ) (within_bound : t.bound ≤ limit) where
   abbrev d : Dictionary
   d = integer_dictionary t
 
@@ -320,7 +320,7 @@ module _ (t : WholeTableau) (w : IsWhole t) (q k : ℕ) (less : k < length t.bas
       let p : ℤ = fit.of_leaving in
       let y_is : ratio y.0 fit.denominator_leaving ≡ d.numbers k c = y.1 ∙ own_number c in
       let p_is : ratio p fit.denominator_leaving ≡ d.numbers k (q + 1) = fit.row_leaving.number_is ∙ own_number (q + 1) in
-      let both = wider room fit.room in (
+      let both = wider within_bound fit.within_bound in (
         subst (λ e. product_fits limit e (d.numbers k c /ℚ d.numbers k (q + 1)) ≡ true) fit.row.number_is
             (subst₂ (λ s z. product_fits limit (ratio f fit.denominator) (s /ℚ z) ≡ true) y_is p_is
             (pair_product limit x.0 y.0 f p fit.denominator fit.denominator_leaving fit.most fit.most_leaving fit.row.positive fit.row_leaving.positive (not_zero p fit.denominator_leaving p_is) x.2 fit.row.low y.2 both)),

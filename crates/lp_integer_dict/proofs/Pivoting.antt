@@ -15,7 +15,7 @@ use Rattle.lp_fraction_dict.proofs.Kept.{get_index, contains_get}
 use Rattle.lp_integer_rows.specs.declared.line.Line.{Line}
 use Rattle.lp_integers.specs.Lines.{whole_at}
 use Rattle.lp_integer_rows.specs.Form.{wholes, line_number, number_or_none, lines_number, numbers_above, IsLine, AreLines, AreBounded, AreForgotten, IsRaisedAt, IsRaisedLine, AreSwapped}
-use Rattle.lp_integer_dict.specs.WithinBound.{HasRoomFor, IsPutOff, AreWhole, AreTurnedInRoom}
+use Rattle.lp_integer_dict.specs.WithinBound.{DeferredStaysWithin, IsDeferred, AreWhole, AreExchangedWithin}
 use Rattle.lp_integer_rows.specs.Turning.{turned_at, swapped, with_row_negated, IsDeferredExchange}
 use Rattle.lp_integer_dict.specs.Whole.{row_of, WholeTableau, integer_dictionary, IsWhole}
 use Rattle.lp_integer_rows.proofs.Turning.{turned_same, turned_negated, swapped_first, swapped_second, swapped_third, above, leaves}
@@ -26,7 +26,7 @@ use Rattle.lp_integer_rows.proofs.Updating.{ratio_none}
 
 -- ---- lines that were exchanged
 
-module _ (bound column place leaving rows : ℕ) (before after : List Line) (paired : length before ≡ rows + 1) (within : place < rows) (h : AreTurnedInRoom bound column place leaving before after) where
+module _ (bound column place leaving rows : ℕ) (before after : List Line) (paired : length before ≡ rows + 1) (within : place < rows) (h : AreExchangedWithin bound column place leaving before after) where
   pub turned_sized : length after ≡ length before
   turned_sized = h.sized
 
@@ -39,7 +39,7 @@ module _ (bound column place leaving rows : ℕ) (before after : List Line) (pai
       h.numbers (row_of rows i) c less ∙ row_turned rows (lines_number before) column place i c within
 
   pub turned_bounded : AreBounded bound after
-  turned_bounded = h.room.bounded
+  turned_bounded = h.within_bound.bounded
 
 -- ---- what holds of every pivot
 
@@ -88,7 +88,7 @@ module _ (t : WholeTableau) (w : IsWhole t) (p : Pivot) (k : ℕ) (legal : IsLeg
           sized = w.sized;
           paired = sized ∙ w.paired ∙ ap (λ n. n + 1) (sym (length-set t.basic k p.enter));
           are_whole = are;
-          put_off = place;
+          is_deferred = place;
           proper = subst IsProper (sym is) (proper_after d p k w.proper legal);
         };
       }
@@ -105,12 +105,12 @@ module _ (t : WholeTableau) (w : IsWhole t) (p : Pivot) (k : ℕ) (legal : IsLeg
 
   pub plain_stays : t.deferred ≡ None → basic_at d k ≢ 0
   plain_stays is zero_is =
-      let none : ¬ (Contains t.basic 0) = subst (λ o. IsPlace t.basic 0 o) is w.put_off in
+      let none : ¬ (Contains t.basic 0) = subst (λ o. IsPlace t.basic 0 o) is w.is_deferred in
       none (contains_get t.basic k 0 (basic_there ∙ ap Some zero_is))
 
   -- ---- a pivot with nothing deferred
 
-  module _ (is : t.deferred ≡ None) (lines : List Line) (h : AreTurnedInRoom t.bound (p.enter + 1) k k t.lines lines) where
+  module _ (is : t.deferred ≡ None) (lines : List Line) (h : AreExchangedWithin t.bound (p.enter + 1) k k t.lines lines) where
     plain_same : (i c : ℕ) → numbers_above None (lines_number lines) (row_of (length t.basic) i) c ≡ (exchanged d p.enter k).numbers i c
     plain_same i c =
         turned_numbers t.bound (p.enter + 1) k k (length t.basic) t.lines lines w.paired k_in h i c
@@ -123,13 +123,13 @@ module _ (t : WholeTableau) (w : IsWhole t) (p : Pivot) (k : ℕ) (legal : IsLeg
           are_lines = turned_are t.bound (p.enter + 1) k k (length t.basic) t.lines lines w.paired k_in h (t.variables + 2) w.are_whole.are_lines;
           wide = w.are_whole.wide;
           small = w.are_whole.small;
-          room = turned_bounded t.bound (p.enter + 1) k k (length t.basic) t.lines lines w.paired k_in h;
+          within_bound = turned_bounded t.bound (p.enter + 1) k k (length t.basic) t.lines lines w.paired k_in h;
         }
 
     -- neither the one that enters nor the others are variable 0
     plain_place : p.enter ≢ 0 → IsPlace (slice_set t.basic k p.enter) 0 None
     plain_place other has =
-        let none : ¬ (Contains t.basic 0) = subst (λ o. IsPlace t.basic 0 o) is w.put_off in
+        let none : ¬ (Contains t.basic 0) = subst (λ o. IsPlace t.basic 0 o) is w.is_deferred in
         elim (basic_after d p k w.proper legal has.0 0 (index_get (slice_set t.basic k p.enter) has.0 0 0 has.1 has.2)) [
           | inl new ↦ other (sym new.1)
           | inr old ↦ none (contains_get t.basic has.0 0 old.1)
@@ -145,7 +145,7 @@ module _ (t : WholeTableau) (w : IsWhole t) (p : Pivot) (k : ℕ) (legal : IsLeg
     wz = subst (λ o. AreWhole t.lines o (t.variables + 2) t.bound) is w.are_whole
 
     pub z_at : slice_get t.basic z ≡ Some 0
-    z_at = subst (λ o. IsPlace t.basic 0 o) is w.put_off
+    z_at = subst (λ o. IsPlace t.basic 0 o) is w.is_deferred
 
     pub z_in : z < length t.basic
     z_in = get_within t.basic z 0 z_at
@@ -155,14 +155,14 @@ module _ (t : WholeTableau) (w : IsWhole t) (p : Pivot) (k : ℕ) (legal : IsLeg
 
     pub off_above : IsDeferredExchange d kept z
     off_above =
-        let line = wz.room.pivot in
+        let line = wz.within_bound.pivot in
         record {
-          some = ≢-zero_above (kept z 1) (subst (λ x. whole (pos 0) <ℚ x) (sym (ap (λ r. lines_number t.lines r 1) (row_within (length t.basic) z z_in) ∙ at_line t.lines z line wz.room.there 1)) (above_number (whole_at (wholes line) 1) line.denominator (wz.are_lines z line wz.room.there).0.positive wz.room.above));
+          some = ≢-zero_above (kept z 1) (subst (λ x. whole (pos 0) <ℚ x) (sym (ap (λ r. lines_number t.lines r 1) (row_within (length t.basic) z z_in) ∙ at_line t.lines z line wz.within_bound.there 1)) (above_number (whole_at (wholes line) 1) line.denominator (wz.are_lines z line wz.within_bound.there).0.positive wz.within_bound.above));
           numbers = λ i c. ap (λ o. numbers_above o (lines_number t.lines) (row_of (length t.basic) i) c) is ∙ row_turned (length t.basic) (lines_number t.lines) 1 z i c z_in;
         }
 
     -- variable 0 leaves
-    module _ (same : k ≡ z) (mid lines : List Line) (h : AreTurnedInRoom t.bound (p.enter + 1) k k t.lines mid) (f : AreForgotten mid lines) where
+    module _ (same : k ≡ z) (mid lines : List Line) (h : AreExchangedWithin t.bound (p.enter + 1) k k t.lines mid) (f : AreForgotten mid lines) where
       out_at : slice_get t.basic k ≡ Some 0
       out_at = subst (λ j. slice_get t.basic j ≡ Some 0) (sym same) z_at
 
@@ -199,7 +199,7 @@ module _ (t : WholeTableau) (w : IsWhole t) (p : Pivot) (k : ℕ) (legal : IsLeg
                 (s.is_line, s.sized ∙ (turned_are t.bound (p.enter + 1) k k (length t.basic) t.lines mid w.paired k_in h (t.variables + 2) w.are_whole.are_lines i x.0 x.1).1);
             wide = w.are_whole.wide;
             small = w.are_whole.small;
-            room = λ i y at.
+            within_bound = λ i y at.
                 let x = some_at mid i (let e = get_within lines i y at in let g = f.sized in omega arith) in
                 let low = (f.each i x.0 y x.1 at).most in
                 let high = turned_bounded t.bound (p.enter + 1) k k (length t.basic) t.lines mid w.paired k_in h i x.0 x.1 in
@@ -217,7 +217,7 @@ module _ (t : WholeTableau) (w : IsWhole t) (p : Pivot) (k : ℕ) (legal : IsLeg
       after_out other = after_is lines None (f.sized ∙ mid_sized) out_whole (out_place other) out_same
 
     -- another variable leaves
-    module _ (apart : k ≢ z) (mid swap lines : List Line) (h : AreTurnedInRoom t.bound (p.enter + 1) z k t.lines mid) (s : AreSwapped z k mid swap) (r : IsRaisedAt z swap lines) (enters : entry_at d z p.enter ≢ whole (pos 0)) where
+    module _ (apart : k ≢ z) (mid swap lines : List Line) (h : AreExchangedWithin t.bound (p.enter + 1) z k t.lines mid) (s : AreSwapped z k mid swap) (r : IsRaisedAt z swap lines) (enters : entry_at d z p.enter ≢ whole (pos 0)) where
       other_mid_sized : length mid ≡ length t.lines
       other_mid_sized = turned_sized t.bound (p.enter + 1) z k (length t.basic) t.lines mid w.paired z_in h
 
@@ -301,21 +301,21 @@ module _ (t : WholeTableau) (w : IsWhole t) (p : Pivot) (k : ℕ) (legal : IsLeg
       abbrev first : Line
       first = raised_there.0
 
-      first_room : HasRoomFor k first mid t.bound
-      first_room = h.room.others first apart (sym s.first ∙ raised_there.1)
+      first_room : DeferredStaysWithin k first mid t.bound
+      first_room = h.within_bound.others first apart (sym s.first ∙ raised_there.1)
 
       -- a line of the others that came from the place i
       line_room : (i : ℕ) (l : Line) → i ≢ k → slice_get mid i ≡ Some l → l.most * nat_abs (whole_at (wholes lines_there.0) 1) + nat_abs (whole_at (wholes l) 1) * lines_there.0.most ≤ t.bound
       line_room i l not_k at =
           subst₂ (λ u m. l.most * u + nat_abs (whole_at (wholes l) 1) * m ≤ t.bound) (sym (raised.magnitudes 1)) (sym raised.most) (first_room.others i l not_k at)
 
-      other_room : IsPutOff z lines t.bound
+      other_room : IsDeferred z lines t.bound
       other_room =
           record {
             pivot = lines_there.0;
             there = lines_there.1;
             above = raised.above;
-            room = record {
+            within_bound = record {
               own = subst (λ m. m ≤ t.bound) (sym raised.most) first_room.own;
               others = λ i l not_z at.
                   let in_swap : slice_get swap i ≡ Some l = sym (r.others i not_z) ∙ at in
@@ -350,7 +350,7 @@ module _ (t : WholeTableau) (w : IsWhole t) (p : Pivot) (k : ℕ) (legal : IsLeg
           ]
 
       other_whole : AreWhole lines (Some z) (t.variables + 2) t.bound
-      other_whole = record { are_lines = other_are; wide = w.are_whole.wide; small = w.are_whole.small; room = other_room }
+      other_whole = record { are_lines = other_are; wide = w.are_whole.wide; small = w.are_whole.small; within_bound = other_room }
 
       pub after_other : IsAfter lines (Some z)
       after_other = after_is lines (Some z) other_sized other_whole (set_other t.basic k z p.enter (λ e. apart (sym e)) ∙ z_at) other_same
@@ -370,8 +370,8 @@ module _ (t : WholeTableau) (w : IsWhole t) (p : Pivot) (k : ℕ) (legal : IsLeg
 
     pub off_pivot_above : whole (pos 0) <ℚ lines_number t.lines z (p.enter + 1)
     off_pivot_above =
-        let line = (wz z is).room.pivot in
-        let there = (wz z is).room.there in
+        let line = (wz z is).within_bound.pivot in
+        let there = (wz z is).within_bound.there in
         let above = (sign_off t w z is line there p.enter).1 entry_above in
         subst (λ x. whole (pos 0) <ℚ x) (sym (at_line t.lines z line there (p.enter + 1))) (above_number (whole_at (wholes line) (p.enter + 1)) line.denominator ((wz z is).are_lines z line there).0.positive above)
 
@@ -379,7 +379,7 @@ module _ (t : WholeTableau) (w : IsWhole t) (p : Pivot) (k : ℕ) (legal : IsLeg
     entry_some = ≢-zero_above (entry_at d z p.enter) entry_above
 
     -- before the line is raised: its number of variable 0 is not 0
-    pub raise_some : (apart : k ≢ z) (mid swap : List Line) → AreTurnedInRoom t.bound (p.enter + 1) z k t.lines mid → AreSwapped z k mid swap → (x : Line) → slice_get swap z ≡ Some x → whole_at (wholes x) 1 ≢ pos 0
+    pub raise_some : (apart : k ≢ z) (mid swap : List Line) → AreExchangedWithin t.bound (p.enter + 1) z k t.lines mid → AreSwapped z k mid swap → (x : Line) → slice_get swap z ≡ Some x → whole_at (wholes x) 1 ≢ pos 0
     raise_some apart mid swap h s x at none =
         let stays : basic_at d k ≢ 0 = λ zero_is. apart (w.proper.distinct k z 0 (basic_there ∙ ap Some zero_is) (z_at z is)) in
         let a = above d kept p.enter z (off_above z is) entry_some k apart stays pivot_there in
@@ -388,7 +388,7 @@ module _ (t : WholeTableau) (w : IsWhole t) (p : Pivot) (k : ℕ) (legal : IsLeg
         ∙ ap (λ r. lines_number mid r 1) (row_within (length t.basic) k k_in) ∙ ap (λ o. number_or_none o 1) (sym s.first ∙ at) in
         a.some (made_is ∙ ap (λ n. ratio n x.denominator) none ∙ ratio_none x.denominator)
 
-    pub swapped_are : (mid swap : List Line) → AreTurnedInRoom t.bound (p.enter + 1) z k t.lines mid → AreSwapped z k mid swap → AreLines (t.variables + 2) swap
+    pub swapped_are : (mid swap : List Line) → AreExchangedWithin t.bound (p.enter + 1) z k t.lines mid → AreSwapped z k mid swap → AreLines (t.variables + 2) swap
     swapped_are mid swap h s i l at =
         let are = turned_are t.bound (p.enter + 1) z k (length t.basic) t.lines mid w.paired (z_in z is) h (t.variables + 2) w.are_whole.are_lines in
         elim (cases_eq i z) [

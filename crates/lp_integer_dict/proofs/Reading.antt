@@ -12,7 +12,7 @@ use Rattle.gq_number.proofs.Order
 use Rattle.lp_integer_rows.specs.declared.line.Line.{Line}
 use Rattle.lp_integers.specs.Lines.{whole_at}
 use Rattle.lp_integer_rows.specs.Form.{wholes, line_number, number_or_none, lines_number, numbers_above, IsLine, AreBounded}
-use Rattle.lp_integer_dict.specs.WithinBound.{HasRoom, AreWhole, denominator_or_one, zero_or_one, whole_or_zero, line_denominator, row_number}
+use Rattle.lp_integer_dict.specs.WithinBound.{RowsStayWithin, AreWhole, denominator_or_one, zero_or_one, whole_or_zero, line_denominator, row_number}
 use Rattle.lp_integer_rows.proofs.Turning.{turned_row, turned_other}
 use Rattle.lp_integer_rows.proofs.Lessening.{divided_line, lessened}
 use Rattle.lp_integers.proofs.Lines.{left_within}
@@ -78,23 +78,23 @@ module _ (l p : Line) (of_line : IsLine l) (of_pivot : IsLine p) where
 
 module _ (lines : List Line) (k width bound : ℕ) (w : AreWhole lines (Some k) width bound) where
   abbrev p : Line
-  p = w.room.pivot
+  p = w.within_bound.pivot
 
   abbrev v : ℕ
   v = nat_abs (whole_at (wholes p) 1)
 
   of_pivot : IsLine p
-  of_pivot = (w.are_lines k p w.room.there).0
+  of_pivot = (w.are_lines k p w.within_bound.there).0
 
   v_is : whole_at (wholes p) 1 ≡ pos v
-  v_is = let h = w.room.above in omega (arith, ints)
+  v_is = let h = w.within_bound.above in omega (arith, ints)
 
   pub some_v : 0 < v
-  some_v = let h = w.room.above in omega (arith, ints)
+  some_v = let h = w.within_bound.above in omega (arith, ints)
 
   pub own_number_is : (c : ℕ) → ratio (whole_at (wholes p) c) v ≡ numbers_above (Some k) (lines_number lines) k c
   own_number_is c =
-      sym (turned_row (lines_number lines) 1 k c ∙ ap₂ (λ x y. x /ℚ y) (at_line lines k p w.room.there c) (at_line lines k p w.room.there 1)
+      sym (turned_row (lines_number lines) 1 k c ∙ ap₂ (λ x y. x /ℚ y) (at_line lines k p w.within_bound.there c) (at_line lines k p w.within_bound.there 1)
       ∙ ap (λ z. line_number p c /ℚ ratio z p.denominator) v_is ∙ divided_line (whole_at (wholes p) c) v p.denominator of_pivot.positive some_v)
 
   pub other_number_is : (i c : ℕ) (l : Line) → i ≢ k → slice_get lines i ≡ Some l → ratio (whole_at (wholes p) 1 *ℤ whole_at (wholes l) c -ℤ whole_at (wholes l) 1 *ℤ whole_at (wholes p) c) (v * l.denominator) ≡ numbers_above (Some k) (lines_number lines) i c
@@ -106,41 +106,41 @@ module _ (lines : List Line) (k width bound : ℕ) (w : AreWhole lines (Some k) 
       ∙ lessened n x f f l.denominator p.denominator v v 1 (w.are_lines i l there).0.positive of_pivot.positive some_v (omega arith) (sym (mul-one v)) (sym (times_one f))
       ∙ sym (turned_other (lines_number lines) 1 k i c other
       ∙ ap₂ (λ s t. s -ℚ t) (at_line lines i l there c)
-      (ap₂ (λ s t. s *ℚ t) (at_line lines i l there 1) (ap₂ (λ s t. s /ℚ t) (at_line lines k p w.room.there c) (at_line lines k p w.room.there 1 ∙ ap (λ z. ratio z p.denominator) v_is))))
+      (ap₂ (λ s t. s *ℚ t) (at_line lines i l there 1) (ap₂ (λ s t. s /ℚ t) (at_line lines k p w.within_bound.there c) (at_line lines k p w.within_bound.there 1 ∙ ap (λ z. ratio z p.denominator) v_is))))
 
   pub own_shared : v ≡ line_denominator (Some k) lines k
-  own_shared = sym (ap (λ b. cond b (zero_or_one (slice_get lines k)) (zero_or_one (slice_get lines k) * denominator_or_one (slice_get lines k))) (eq-eqb k k refl) ∙ ap zero_or_one w.room.there)
+  own_shared = sym (ap (λ b. cond b (zero_or_one (slice_get lines k)) (zero_or_one (slice_get lines k) * denominator_or_one (slice_get lines k))) (eq-eqb k k refl) ∙ ap zero_or_one w.within_bound.there)
 
   pub other_shared : (i : ℕ) (l : Line) → i ≢ k → slice_get lines i ≡ Some l → v * l.denominator ≡ line_denominator (Some k) lines i
   other_shared i l other there =
-      sym (ap (λ b. cond b (zero_or_one (slice_get lines k)) (zero_or_one (slice_get lines k) * denominator_or_one (slice_get lines i))) (ne_eqb i k other) ∙ ap₂ (λ s t. s * t) (ap zero_or_one w.room.there) (ap denominator_or_one there))
+      sym (ap (λ b. cond b (zero_or_one (slice_get lines k)) (zero_or_one (slice_get lines k) * denominator_or_one (slice_get lines i))) (ne_eqb i k other) ∙ ap₂ (λ s t. s * t) (ap zero_or_one w.within_bound.there) (ap denominator_or_one there))
 
   pub own_named : (c : ℕ) → whole_at (wholes p) c ≡ row_number (Some k) lines k c
   own_named c =
       sym (ap (λ b. cond b (whole_or_zero (slice_get lines k) c) (whole_or_zero (slice_get lines k) 1 *ℤ whole_or_zero (slice_get lines k) c -ℤ whole_or_zero (slice_get lines k) 1 *ℤ whole_or_zero (slice_get lines k) c)) (eq-eqb k k refl)
-      ∙ ap (λ o. whole_or_zero o c) w.room.there)
+      ∙ ap (λ o. whole_or_zero o c) w.within_bound.there)
 
   pub other_named : (i c : ℕ) (l : Line) → i ≢ k → slice_get lines i ≡ Some l → whole_at (wholes p) 1 *ℤ whole_at (wholes l) c -ℤ whole_at (wholes l) 1 *ℤ whole_at (wholes p) c ≡ row_number (Some k) lines i c
   other_named i c l other there =
       sym (ap (λ b. cond b (whole_or_zero (slice_get lines k) c) (whole_or_zero (slice_get lines k) 1 *ℤ whole_or_zero (slice_get lines i) c -ℤ whole_or_zero (slice_get lines i) 1 *ℤ whole_or_zero (slice_get lines k) c)) (ne_eqb i k other)
-      ∙ ap₂ (λ s t. whole_or_zero s 1 *ℤ whole_or_zero t c -ℤ whole_or_zero t 1 *ℤ whole_or_zero s c) w.room.there there)
+      ∙ ap₂ (λ s t. whole_or_zero s 1 *ℤ whole_or_zero t c -ℤ whole_or_zero t 1 *ℤ whole_or_zero s c) w.within_bound.there there)
 
-  pub own_within : (b c : ℕ) → HasRoom (Some k) lines b → (nat_abs (whole_at (wholes p) c) ≤ b) × (v ≤ b)
+  pub own_within : (b c : ℕ) → RowsStayWithin (Some k) lines b → (nat_abs (whole_at (wholes p) c) ≤ b) × (v ≤ b)
   own_within b c h =
-      let same : h.pivot ≡ p = same_some h.pivot p (sym h.there ∙ w.room.there) in
-      let most : p.most ≤ b = subst (λ (t : Line). t.most ≤ b) same h.room.own in
+      let same : h.pivot ≡ p = same_some h.pivot p (sym h.there ∙ w.within_bound.there) in
+      let most : p.most ≤ b = subst (λ (t : Line). t.most ≤ b) same h.within_bound.own in
       let first = of_pivot.numbers_within c in
       let second = of_pivot.numbers_within 1 in
       (omega arith, omega arith)
 
-  pub room_at : (b i : ℕ) (l : Line) → HasRoom (Some k) lines b → i ≢ k → slice_get lines i ≡ Some l → l.most * v + nat_abs (whole_at (wholes l) 1) * p.most ≤ b
+  pub room_at : (b i : ℕ) (l : Line) → RowsStayWithin (Some k) lines b → i ≢ k → slice_get lines i ≡ Some l → l.most * v + nat_abs (whole_at (wholes l) 1) * p.most ≤ b
   room_at b i l h other there =
-      let same : h.pivot ≡ p = same_some h.pivot p (sym h.there ∙ w.room.there) in
-      subst (λ (t : Line). l.most * nat_abs (whole_at (wholes t) 1) + nat_abs (whole_at (wholes l) 1) * t.most ≤ b) same (h.room.others i l other there)
+      let same : h.pivot ≡ p = same_some h.pivot p (sym h.there ∙ w.within_bound.there) in
+      subst (λ (t : Line). l.most * nat_abs (whole_at (wholes t) 1) + nat_abs (whole_at (wholes l) 1) * t.most ≤ b) same (h.within_bound.others i l other there)
 
-  pub other_within : (b i c : ℕ) (l : Line) → HasRoom (Some k) lines b → i ≢ k → slice_get lines i ≡ Some l → (nat_abs (whole_at (wholes p) 1 *ℤ whole_at (wholes l) c -ℤ whole_at (wholes l) 1 *ℤ whole_at (wholes p) c) ≤ b) × (v * l.denominator ≤ b)
+  pub other_within : (b i c : ℕ) (l : Line) → RowsStayWithin (Some k) lines b → i ≢ k → slice_get lines i ≡ Some l → (nat_abs (whole_at (wholes p) 1 *ℤ whole_at (wholes l) c -ℤ whole_at (wholes l) 1 *ℤ whole_at (wholes p) c) ≤ b) × (v * l.denominator ≤ b)
   other_within b i c l h other there =
-      let room = room_at b i l h other there in
+      let within_bound = room_at b i l h other there in
       let of_line = (w.are_lines i l there).0 in
       let top = top_within l p of_line of_pivot c in
       let low = low_within l p of_line of_pivot in
@@ -150,11 +150,11 @@ module _ (lines : List Line) (k width bound : ℕ) (w : AreWhole lines (Some k) 
   pub bounded_lines : AreBounded bound lines
   bounded_lines i l there =
       elim (cases_eq i k) [
-        | inl same ↦ subst (λ (t : Line). t.most ≤ bound) (same_some p l (sym w.room.there ∙ subst (λ j. slice_get lines j ≡ Some l) same there)) w.room.room.own
+        | inl same ↦ subst (λ (t : Line). t.most ≤ bound) (same_some p l (sym w.within_bound.there ∙ subst (λ j. slice_get lines j ≡ Some l) same there)) w.within_bound.within_bound.own
         | inr other ↦
-            let grown : l.most * 1 ≤ l.most * v = mul-le-mul_left l.most some_v in
+            let extended : l.most * 1 ≤ l.most * v = mul-le-mul_left l.most some_v in
             let one = mul-one l.most in
-            let room = w.room.room.others i l other there in
+            let within_bound = w.within_bound.within_bound.others i l other there in
             omega arith
       ]
 
@@ -166,7 +166,7 @@ pub record IsRead (lines : List Line) (deferred : Option ℕ) (place column : �
   pub number : ratio n d ≡ numbers_above deferred (lines_number lines) place column
   pub named : n ≡ row_number deferred lines place column
   pub shared : d ≡ line_denominator deferred lines place
-  pub within : (bound : ℕ) → HasRoom deferred lines bound → (nat_abs n ≤ bound) × (d ≤ bound)
+  pub within : (bound : ℕ) → RowsStayWithin deferred lines bound → (nat_abs n ≤ bound) × (d ≤ bound)
 
 -- What reading a row beside the pivot row requires.
 pub record IsReady (l p : Line) (column : ℕ) : Type 0 where
@@ -175,23 +175,23 @@ pub record IsReady (l p : Line) (column : ℕ) : Type 0 where
   pub within : column < length (wholes l)
   pub sized : length (wholes p) ≡ length (wholes l)
   pub zero : 1 < length (wholes l)
-  pub room : l.most * nat_abs (whole_at (wholes p) 1) + nat_abs (whole_at (wholes l) 1) * p.most < 2 ^ 127
+  pub within_bound : l.most * nat_abs (whole_at (wholes p) 1) + nat_abs (whole_at (wholes l) 1) * p.most < 2 ^ 127
 
 module _ (lines : List Line) (deferred : Option ℕ) (k width bound : ℕ) (is : deferred ≡ Some k) (wd : AreWhole lines deferred width bound) where
   abbrev wk : AreWhole lines (Some k) width bound
   wk = subst (λ o. AreWhole lines o width bound) is wd
 
-  pivot_is : (x : Line) → x ≡ slice_index_or lines k x → wk.room.pivot ≡ x
-  pivot_is x x_is = same_some wk.room.pivot x (sym wk.room.there ∙ index_get lines k x x (get_within lines k wk.room.pivot wk.room.there) (sym x_is))
+  pivot_is : (x : Line) → x ≡ slice_index_or lines k x → wk.within_bound.pivot ≡ x
+  pivot_is x x_is = same_some wk.within_bound.pivot x (sym wk.within_bound.there ∙ index_get lines k x x (get_within lines k wk.within_bound.pivot wk.within_bound.there) (sym x_is))
 
   pub pivot_within : k < length lines
-  pivot_within = get_within lines k wk.room.pivot wk.room.there
+  pivot_within = get_within lines k wk.within_bound.pivot wk.within_bound.there
 
-  read_own_is : (c : ℕ) → IsRead lines (Some k) k c (whole_at (wholes wk.room.pivot) c) (nat_abs (whole_at (wholes wk.room.pivot) 1))
+  read_own_is : (c : ℕ) → IsRead lines (Some k) k c (whole_at (wholes wk.within_bound.pivot) c) (nat_abs (whole_at (wholes wk.within_bound.pivot) 1))
   read_own_is c =
       record { positive = some_v lines k width bound wk; number = own_number_is lines k width bound wk c; named = own_named lines k width bound wk c; shared = own_shared lines k width bound wk; within = λ b h. own_within lines k width bound wk b c h }
 
-  read_other_is : (i c : ℕ) (l : Line) → i ≢ k → slice_get lines i ≡ Some l → IsRead lines (Some k) i c (whole_at (wholes wk.room.pivot) 1 *ℤ whole_at (wholes l) c -ℤ whole_at (wholes l) 1 *ℤ whole_at (wholes wk.room.pivot) c) (nat_abs (whole_at (wholes wk.room.pivot) 1) * l.denominator)
+  read_other_is : (i c : ℕ) (l : Line) → i ≢ k → slice_get lines i ≡ Some l → IsRead lines (Some k) i c (whole_at (wholes wk.within_bound.pivot) 1 *ℤ whole_at (wholes l) c -ℤ whole_at (wholes l) 1 *ℤ whole_at (wholes wk.within_bound.pivot) c) (nat_abs (whole_at (wholes wk.within_bound.pivot) 1) * l.denominator)
   read_other_is i c l other there =
       record {
         positive = mul-pos (some_v lines k width bound wk) (wk.are_lines i l there).0.positive;
@@ -229,8 +229,8 @@ module _ (lines : List Line) (deferred : Option ℕ) (k width bound : ℕ) (is :
         within = omega arith;
         sized = of_x.1 ∙ sym of_l.1;
         zero = omega arith;
-        room = let small = wk.small in
-            let room = subst (λ (t : Line). l.most * nat_abs (whole_at (wholes t) 1) + nat_abs (whole_at (wholes l) 1) * t.most ≤ bound) p_is (wk.room.room.others place l other there) in omega arith;
+        within_bound = let small = wk.small in
+            let within_bound = subst (λ (t : Line). l.most * nat_abs (whole_at (wholes t) 1) + nat_abs (whole_at (wholes l) 1) * t.most ≤ bound) p_is (wk.within_bound.within_bound.others place l other there) in omega arith;
       }
 
 pub read_at_plain : (lines : List Line) (deferred : Option ℕ) (width bound place c : ℕ) (l : Line) (n : ℤ) (d : ℕ) → deferred ≡ None → AreWhole lines deferred width bound → slice_get lines place ≡ Some l → n ≡ whole_at (wholes l) c → d ≡ l.denominator → IsRead lines deferred place c n d

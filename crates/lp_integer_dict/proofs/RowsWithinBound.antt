@@ -8,7 +8,7 @@ use Rattle.lp_integers.proofs.Lines.{left_within}
 use Rattle.lp_integer_rows.specs.declared.line.Line.{Line}
 use Rattle.lp_integer_rows.specs.declared.line.Factors.{Factors}
 use Rattle.lp_integer_rows.specs.Form.{wholes, IsLine, AreLines, IsPlan, own_factors}
-use Rattle.lp_integer_dict.specs.WithinBound.{zero_after, KeepsRoom, AreFactorsWithin}
+use Rattle.lp_integer_dict.specs.WithinBound.{zero_after, DeferredStaysWithinAfter, AreFactorsWithin}
 use Rattle.lp_integer_rows.proofs.Plans.{index_get, same_some}
 use Rattle.lp_integer_rows.proofs.Updating.{own_number}
 
@@ -22,7 +22,7 @@ pub record IsAt (width : ℕ) (lines : List Line) (plans : List Factors) (p : Li
   pub there : slice_get lines i ≡ Some l
   pub by : slice_get plans i ≡ Some f
   pub small : f.most < 2 ^ 127
-  pub room : nat_abs f.line * l.most + nat_abs f.pivot * p.most ≤ 2 ^ 127 - 1
+  pub within_bound : nat_abs f.line * l.most + nat_abs f.pivot * p.most ≤ 2 ^ 127 - 1
 
 module _ (width bound column place : ℕ) (lines : List Line) (plans : List Factors) (p : Line) (are : AreLines width lines) (wide : 1 < width) (h : IsPlan bound column place lines p plans) (p_there : slice_get lines place ≡ Some p) where
   pub plans_sized : length plans ≡ length lines
@@ -31,8 +31,8 @@ module _ (width bound column place : ℕ) (lines : List Line) (plans : List Fact
   own_room : (m n : ℕ) → m ≡ 1 * m + 0 * n
   own_room m n = omega arith
 
-  room_of : (i : ℕ) (l : Line) (f : Factors) → slice_get lines i ≡ Some l → slice_get plans i ≡ Some f → (f.most < 2 ^ 127) × (nat_abs f.line * l.most + nat_abs f.pivot * p.most ≤ 2 ^ 127 - 1)
-  room_of i l f there by = elim (cases_eq i place) [
+  most_weighed : (i : ℕ) (l : Line) (f : Factors) → slice_get lines i ≡ Some l → slice_get plans i ≡ Some f → (f.most < 2 ^ 127) × (nat_abs f.line * l.most + nat_abs f.pivot * p.most ≤ 2 ^ 127 - 1)
+  most_weighed i l f there by = elim (cases_eq i place) [
     | inl same ↦
         let f_is : f ≡ own_factors p = h.planned.own f (subst (λ k. slice_get plans k ≡ Some f) same by) in
         let l_is : p ≡ l = same_some p l (sym p_there ∙ subst (λ k. slice_get lines k ≡ Some l) same there) in
@@ -57,8 +57,8 @@ module _ (width bound column place : ℕ) (lines : List Line) (plans : List Fact
       let by : slice_get plans i ≡ Some f = index_get plans i f none (omega arith) (sym f_is) in
       let of_line = are i l there in
       let is_wide = of_line.1 in
-      let room = room_of i l f there by in
-      record { line = of_line.0; wide = omega arith; there = there; by = by; small = room.0; room = room.1 }
+      let within_bound = most_weighed i l f there by in
+      record { line = of_line.0; wide = omega arith; there = there; by = by; small = within_bound.0; within_bound = within_bound.1 }
 
   -- its number of variable 0 is within what its factors tell
   zero_within : (i : ℕ) (l : Line) (f : Factors) → slice_get lines i ≡ Some l → slice_get plans i ≡ Some f → zero_after l p f ≤ f.most
@@ -78,7 +78,7 @@ module _ (width bound column place : ℕ) (lines : List Line) (plans : List Fact
   ]
 
   -- by one magnitude for all lines
-  pub small_keeps : (top leaving : ℕ) (l : Line) (g : Factors) → AreFactorsWithin top plans → top * top + top * top ≤ bound → slice_get lines leaving ≡ Some l → slice_get plans leaving ≡ Some g → KeepsRoom leaving p l g lines plans bound
+  pub small_keeps : (top leaving : ℕ) (l : Line) (g : Factors) → AreFactorsWithin top plans → top * top + top * top ≤ bound → slice_get lines leaving ≡ Some l → slice_get plans leaving ≡ Some g → DeferredStaysWithinAfter leaving p l g lines plans bound
   small_keeps top leaving l g within square l_there g_there i x f other there by =
       let high : f.most ≤ top = within i f by in
       let high_leaving : g.most ≤ top = within leaving g g_there in

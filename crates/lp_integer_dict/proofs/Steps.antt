@@ -12,22 +12,22 @@ use Rattle.gq_number.specs.Order.{◌<ℚ◌, number_cmp}
 use Rattle.gq_number.proofs.Compares.{number_cmp_decides}
 use Rattle.lp_core.specs.declared.answer.StepName.TheVariants.{Ratio, Exchange}
 use Rattle.lp_core.specs.Dictionary.{Dictionary, constant_at, entry_at, divided_entry}
-use Rattle.lp_core.specs.Steps.{Due, AllFit, quotient_fits, product_fits, difference_fits, ratio_steps, pivot_row_steps, other_row_steps, exchange_steps}
+use Rattle.lp_core.specs.Steps.{ExpectedStep, AllFit, quotient_fits, product_fits, difference_fits, ratio_steps, pivot_row_steps, other_row_steps, exchange_steps}
 
-abbrev Fit : Due → Type 0
+abbrev Fit : ExpectedStep → Type 0
 Fit step = step.1 ≡ true
 
 none_fit : AllFit []
 none_fit = All-nil Fit
 
-one_fits : (step : Due) → step.1 ≡ true → AllFit (step ∷ [])
+one_fits : (step : ExpectedStep) → step.1 ≡ true → AllFit (step ∷ [])
 one_fits step h = All-cons Fit step [] h none_fit
 
-both_fit : (steps more : List Due) → AllFit steps → AllFit more → AllFit (steps ++ more)
+both_fit : (steps more : List ExpectedStep) → AllFit steps → AllFit more → AllFit (steps ++ more)
 both_fit steps more h k = All-append Fit steps more h k
 
 -- steps for each number of a range that passes a test
-range_fits : (f : ℕ → List Due) (p : ℕ → Bool) (a n : ℕ) → ((i : ℕ) → a ≤ i → i < a + n → p i ≡ true → AllFit (f i)) → AllFit (flat_map f (filter p (range_with_len a n)))
+range_fits : (f : ℕ → List ExpectedStep) (p : ℕ → Bool) (a n : ℕ) → ((i : ℕ) → a ≤ i → i < a + n → p i ≡ true → AllFit (f i)) → AllFit (flat_map f (filter p (range_with_len a n)))
 range_fits f p a zero h = none_fit
 range_fits f p a (suc n) h =
     let rest : AllFit (flat_map f (filter p (range_with_len (a + 1) n))) = range_fits f p (a + 1) n (λ i low high. h i (omega arith) (omega arith)) in
@@ -36,7 +36,7 @@ range_fits f p a (suc n) h =
       | inr is_false ↦ subst (λ b. AllFit (flat_map f (cond b (a ∷ filter p (range_with_len (a + 1) n)) (filter p (range_with_len (a + 1) n))))) (sym is_false) rest
     ]
 
-map_as_flat : (g : ℕ → Due) (xs : List ℕ) → flat_map (λ x. g x ∷ []) xs ≡ map g xs
+map_as_flat : (g : ℕ → ExpectedStep) (xs : List ℕ) → flat_map (λ x. g x ∷ []) xs ≡ map g xs
 map_as_flat g [] = refl
 map_as_flat g (x ∷ xs) = ap (λ l. g x ∷ l) (map_as_flat g xs)
 
@@ -58,7 +58,7 @@ module _ (limit n : ℕ) (d : Dictionary) (q : ℕ) where
   rated : (i : ℕ) → is_rated i ≡ true → whole (pos 0) <ℚ entry_at d i q
   rated i e = (number_cmp_decides (entry_at d i q) (whole (pos 0))).2.0 (is_greater (number_cmp (entry_at d i q) (whole (pos 0))) e)
 
-  abbrev ratio_step : ℕ → Due
+  abbrev ratio_step : ℕ → ExpectedStep
   ratio_step i = (Ratio n (i + 1), quotient_fits limit (constant_at d i) (entry_at d i q))
 
   pub ratios_fit : ((i : ℕ) → i < length d.basic → whole (pos 0) <ℚ entry_at d i q → quotient_fits limit (constant_at d i) (entry_at d i q) ≡ true) → AllFit (ratio_steps limit n d q)
@@ -69,7 +69,7 @@ module _ (limit n : ℕ) (d : Dictionary) (q : ℕ) where
 -- ---- the exchange
 
 module _ (limit n : ℕ) (d : Dictionary) (q k : ℕ) where
-  abbrev pivot_step : ℕ → Due
+  abbrev pivot_step : ℕ → ExpectedStep
   pivot_step c = (Exchange n (k + 1) c 0, quotient_fits limit (d.numbers k c) (entry_at d k q))
 
   pivot_steps_are : flat_map (λ c. pivot_step c ∷ []) (filter (λ c. true) (range_with_len 0 (d.variables + 2))) ≡ pivot_row_steps limit n d q k
@@ -83,7 +83,7 @@ module _ (limit n : ℕ) (d : Dictionary) (q k : ℕ) where
   BothFit i c =
       (product_fits limit (entry_at d i q) (divided_entry d q k c) ≡ true) × (difference_fits limit (d.numbers i c) (entry_at d i q *ℚ divided_entry d q k c) ≡ true)
 
-  abbrev step_pair : ℕ → ℕ → List Due
+  abbrev step_pair : ℕ → ℕ → List ExpectedStep
   step_pair i c =
       (Exchange n (i + 1) c 0, product_fits limit (entry_at d i q) (divided_entry d q k c))
       ∷ (Exchange n (i + 1) c 1, difference_fits limit (d.numbers i c) (entry_at d i q *ℚ divided_entry d q k c)) ∷ []

@@ -21,7 +21,7 @@ use Rattle.lp_integers.specs.Lines.{whole_at}
 use Rattle.lp_integer_rows.specs.Form.{wholes, number_or_none, lines_number, numbers_above, IsLine, AreLines}
 use Rattle.lp_integer_dict.specs.WithinBound.{AreWhole}
 use Rattle.lp_integer_rows.specs.Turning.{turned_at, IsDeferredExchange}
-use Rattle.lp_integer_dict.specs.Bounds.{IsBounded, HasRoomAbove, over_denominators}
+use Rattle.lp_integer_dict.specs.Bounds.{IsBounded, DeferredNumbersWithin, over_denominators}
 use Rattle.lp_integer_dict.specs.InnerChoice.{IsFirstOf, IsLeastConstant, IsLeastRatio, IsFirstAbove, IsGreatestAbove}
 use Rattle.lp_integer_dict.specs.Whole.{row_of, WholeTableau, whole_dictionary, integer_dictionary, IsWhole}
 use Rattle.lp_integer_rows.proofs.Turning.{turned_row, turned_other}
@@ -131,8 +131,8 @@ module _ (variables : ℕ) (basic : List ℕ) (lines : List Line) (bound : ℕ) 
         denominator = denominator_of variables basic lines None bound w;
         positive = λ i. (is_line variables basic lines None bound w i).positive;
         numbers = λ i c. number_here variables basic lines None bound w i c;
-        number_within = λ i c. let at = line_of variables basic lines None bound w i in let most = w.are_whole.room (row_of (length basic) i) at.0 at.1 in let within = (is_line variables basic lines None bound w i).numbers_within c in omega arith;
-        denominator_within = λ i. let at = line_of variables basic lines None bound w i in let most = w.are_whole.room (row_of (length basic) i) at.0 at.1 in let within = (is_line variables basic lines None bound w i).denominator_within in omega arith;
+        number_within = λ i c. let at = line_of variables basic lines None bound w i in let most = w.are_whole.within_bound (row_of (length basic) i) at.0 at.1 in let within = (is_line variables basic lines None bound w i).numbers_within c in omega arith;
+        denominator_within = λ i. let at = line_of variables basic lines None bound w i in let most = w.are_whole.within_bound (row_of (length basic) i) at.0 at.1 in let within = (is_line variables basic lines None bound w i).denominator_within in omega arith;
       }
 
   module _ (k : ℕ) (w : IsWhole (record { variables = variables; basic = basic; lines = lines; deferred = Some k; bound = bound })) where
@@ -146,20 +146,20 @@ module _ (variables : ℕ) (basic : List ℕ) (lines : List Line) (bound : ℕ) 
     m = most_of variables basic lines (Some k) bound w
 
     abbrev p : Line
-    p = w.are_whole.room.pivot
+    p = w.are_whole.within_bound.pivot
 
     pub k_within : k < length basic
-    k_within = get_within basic k 0 w.put_off
+    k_within = get_within basic k 0 w.is_deferred
 
     own_line : (line_of variables basic lines (Some k) bound w k).0 ≡ p
     own_line =
         let at = line_of variables basic lines (Some k) bound w k in
-        same_some at.0 p (sym at.1 ∙ ap (slice_get lines) (row_within (length basic) k k_within) ∙ w.are_whole.room.there)
+        same_some at.0 p (sym at.1 ∙ ap (slice_get lines) (row_within (length basic) k k_within) ∙ w.are_whole.within_bound.there)
 
     pivot_is : n k 1 ≡ pos (nat_abs (whole_at (wholes p) 1))
-    pivot_is = ap (λ (l : Line). whole_at (wholes l) 1) own_line ∙ (let h = w.are_whole.room.above in omega (arith, ints))
+    pivot_is = ap (λ (l : Line). whole_at (wholes l) 1) own_line ∙ (let h = w.are_whole.within_bound.above in omega (arith, ints))
 
-    room_above : HasRoomAbove n e m bound k (nat_abs (whole_at (wholes p) 1))
+    room_above : DeferredNumbersWithin n e m bound k (nat_abs (whole_at (wholes p) 1))
     room_above =
         record {
           pivot = pivot_is;
@@ -167,15 +167,15 @@ module _ (variables : ℕ) (basic : List ℕ) (lines : List Line) (bound : ℕ) 
           positive = λ i. (is_line variables basic lines (Some k) bound w i).positive;
           number_within = λ i c. (is_line variables basic lines (Some k) bound w i).numbers_within c;
           denominator_within = λ i. (is_line variables basic lines (Some k) bound w i).denominator_within;
-          own = subst (λ (l : Line). l.most ≤ bound) (sym own_line) w.are_whole.room.room.own;
+          own = subst (λ (l : Line). l.most ≤ bound) (sym own_line) w.are_whole.within_bound.within_bound.own;
           others = λ i other.
               let at = line_of variables basic lines (Some k) bound w i in
-              subst (λ (l : Line). at.0.most * nat_abs (whole_at (wholes p) 1) + nat_abs (whole_at (wholes at.0) 1) * l.most ≤ bound) (sym own_line) (w.are_whole.room.room.others (row_of (length basic) i) at.0 (row_apart (length basic) i k k_within other) at.1);
+              subst (λ (l : Line). at.0.most * nat_abs (whole_at (wholes p) 1) + nat_abs (whole_at (wholes at.0) 1) * l.most ≤ bound) (sym own_line) (w.are_whole.within_bound.within_bound.others (row_of (length basic) i) at.0 (row_apart (length basic) i k k_within other) at.1);
         }
 
     kept_some : over_denominators n e k 1 ≢ whole (pos 0)
     kept_some =
-        ≢-zero_above (over_denominators n e k 1) (above_number (n k 1) (e k) (is_line variables basic lines (Some k) bound w k).positive (subst (λ z. pos 0 <ℤ z) (ap (λ (l : Line). whole_at (wholes l) 1) (sym own_line)) w.are_whole.room.above))
+        ≢-zero_above (over_denominators n e k 1) (above_number (n k 1) (e k) (is_line variables basic lines (Some k) bound w k).positive (subst (λ z. pos 0 <ℤ z) (ap (λ (l : Line). whole_at (wholes l) 1) (sym own_line)) w.are_whole.within_bound.above))
 
     kept_is : (i c : ℕ) → lines_number lines (row_of (length basic) i) c ≡ over_denominators n e i c
     kept_is i c = number_here variables basic lines (Some k) bound w i c
@@ -195,7 +195,7 @@ module _ (variables : ℕ) (basic : List ℕ) (lines : List Line) (bound : ℕ) 
         bounded_above n e m bound k (nat_abs (whole_at (wholes p) 1)) room_above (whole_dictionary variables basic lines (Some k)) (subst (λ f. IsDeferredExchange (whole_dictionary variables basic lines (Some k)) f k) kept_same is_above)
 
 pub bounded : (t : WholeTableau) → IsWhole t → IsBounded (integer_dictionary t) t.bound
-bounded t w = bounded_of t.variables t.basic t.lines t.deferred t.bound (record { sized = w.sized; paired = w.paired; are_whole = w.are_whole; put_off = w.put_off; proper = w.proper })
+bounded t w = bounded_of t.variables t.basic t.lines t.deferred t.bound (record { sized = w.sized; paired = w.paired; are_whole = w.are_whole; is_deferred = w.is_deferred; proper = w.proper })
   where
     bounded_of : (variables : ℕ) (basic : List ℕ) (lines : List Line) (deferred : Option ℕ) (bound : ℕ) → IsWhole (record { variables = variables; basic = basic; lines = lines; deferred = deferred; bound = bound }) → IsBounded (whole_dictionary variables basic lines deferred) bound
     bounded_of variables basic lines None bound v = bounded_plain variables basic lines bound v
@@ -234,10 +234,10 @@ number_plain t none l there v =
 pub number_off : (t : WholeTableau) → IsWhole t → (k : ℕ) → t.deferred ≡ Some k → (l : Line) → slice_get t.lines k ≡ Some l → (u : ℕ) × (0 < u) × ((v : ℕ) → entry_at (integer_dictionary t) k v ≡ ratio (whole_at (wholes l) (v + 1)) u)
 number_off t w k is l there =
     let wk : AreWhole t.lines (Some k) (t.variables + 2) t.bound = subst (λ o. AreWhole t.lines o (t.variables + 2) t.bound) is w.are_whole in
-    let p_is : wk.room.pivot ≡ l = same_some wk.room.pivot l (sym wk.room.there ∙ there) in
-    let at : slice_get t.basic k ≡ Some 0 = subst (λ o. IsPlace t.basic 0 o) is w.put_off in
+    let p_is : wk.within_bound.pivot ≡ l = same_some wk.within_bound.pivot l (sym wk.within_bound.there ∙ there) in
+    let at : slice_get t.basic k ≡ Some 0 = subst (λ o. IsPlace t.basic 0 o) is w.is_deferred in
     let within : k < length t.basic = get_within t.basic k 0 at in
-    let u : ℕ = nat_abs (whole_at (wholes wk.room.pivot) 1) in (
+    let u : ℕ = nat_abs (whole_at (wholes wk.within_bound.pivot) 1) in (
       u,
       some_v t.lines k (t.variables + 2) t.bound wk,
       λ v. row_number t k (v + 1) (omega arith) ∙ ap (λ o. numbers_above o (lines_number t.lines) k (v + 1)) is ∙ sym (own_number_is t.lines k (t.variables + 2) t.bound wk (v + 1)) ∙ ap (λ (x : Line). ratio (whole_at (wholes x) (v + 1)) u) p_is,
@@ -269,7 +269,7 @@ module _ (t : WholeTableau) (w : IsWhole t) (k : ℕ) (priced : IsPriced (intege
   basic_is_zero j v at some =
       w.proper.apart j k v at (λ is. elim priced [
         | inl zero_at ↦ let none = some_is 0 v (sym zero_at ∙ ap (slice_get t.basic) is ∙ at) in absurd (omega arith)
-        | inr past ↦ let within = get_within t.basic j v at in let behind = past.1 in absurd (omega arith)
+        | inr past ↦ let within = get_within t.basic j v at in let following = past.1 in absurd (omega arith)
       ])
     where
       some_is : (a b : ℕ) → Some a ≡ Some b → a ≡ b

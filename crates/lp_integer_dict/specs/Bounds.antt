@@ -20,7 +20,7 @@ over_denominators n d i c = ratio (n i c) (d i)
 
 -- Stored rows with the greatest magnitude of each, such that the exchange of variable 0 into row k
 -- stays within a bound; u is the coefficient of variable 0 in row k.
-pub record HasRoomAbove (n : ℕ → ℕ → ℤ) (d most : ℕ → ℕ) (bound k u : ℕ) : Type 0 where
+pub record DeferredNumbersWithin (n : ℕ → ℕ → ℤ) (d most : ℕ → ℕ) (bound k u : ℕ) : Type 0 where
   pub pivot : n k 1 ≡ pos u
   pub above : 0 < u
   pub positive : (i : ℕ) → 0 < d i

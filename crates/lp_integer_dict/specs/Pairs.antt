@@ -11,17 +11,17 @@ use Rattle.lp_integer_dict.specs.WithinBound.{line_denominator, row_most}
 -- A row has the integer f for the entering variable, and the row of the leaving variable has p.
 -- Without a common factor they are b and a; and a times the first row less b times the second stays
 -- within a magnitude.
-pub record HasPairRoom (f p : ℤ) (most other limit : ℕ) : Type 0 where
+pub record IsPairWithin (f p : ℤ) (most other limit : ℕ) : Type 0 where
   pub of_row : ℤ
   pub of_leaving : ℤ
   pub shared : ℕ
   pub positive : 0 < shared
   pub first : of_row *ℤ pos shared ≡ p
   pub second : of_leaving *ℤ pos shared ≡ f
-  pub room : nat_abs of_row * most + nat_abs of_leaving * other ≤ limit
+  pub within_bound : nat_abs of_row * most + nat_abs of_leaving * other ≤ limit
 
 -- Without the greatest common divisor of the two integers, the rows exceed the bound.
-pub record HasNoReducedRoom (f p : ℤ) (most other limit : ℕ) : Type 0 where
+pub record ReducedPairExceeds (f p : ℤ) (most other limit : ℕ) : Type 0 where
   pub of_row : ℤ
   pub of_leaving : ℤ
   pub factors : AreFactors f p of_row of_leaving
@@ -29,9 +29,9 @@ pub record HasNoReducedRoom (f p : ℤ) (most other limit : ℕ) : Type 0 where
 
 -- Two rows exceed the bound: by their integers as they are, and also without their greatest common
 -- divisor if the integer of the leaving variable is above 0.
-pub record HasNoPairRoom (f p : ℤ) (most other limit : ℕ) : Type 0 where
+pub record PairExceeds (f p : ℤ) (most other limit : ℕ) : Type 0 where
   pub plain : limit < nat_abs p * most + nat_abs f * other
-  pub reduced : pos 0 <ℤ p → HasNoReducedRoom f p most other limit
+  pub reduced : pos 0 <ℤ p → ReducedPairExceeds f p most other limit
 
 -- The measure of a row as stored: its integer at a column, and a magnitude that no integer of it
 -- and no denominator exceeds.
@@ -75,7 +75,7 @@ pub record IsPairFit (lines : List Line) (deferred : Option ℕ) (leaving column
   pub most_leaving : ℕ
   pub row : IsRowOver lines deferred i column number denominator most
   pub row_leaving : IsRowOver lines deferred leaving column of_leaving denominator_leaving most_leaving
-  pub room : HasPairRoom number of_leaving most most_leaving bound
+  pub within_bound : IsPairWithin number of_leaving most most_leaving bound
 
 -- each other row of the first n stays within the bound together with the row of the leaving
 -- variable
@@ -91,4 +91,4 @@ pub record IsSomePairCrowded (lines : List Line) (deferred : Option ℕ) (leavin
   pub row_leaving : Measure
   pub row_is : IsLowestRow lines deferred at column row
   pub leaving_is : IsLowestRow lines deferred leaving column row_leaving
-  pub no_room : HasNoPairRoom row.number row_leaving.number row.most row_leaving.most bound
+  pub no_room : PairExceeds row.number row_leaving.number row.most row_leaving.most bound

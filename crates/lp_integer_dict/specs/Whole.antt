@@ -7,7 +7,7 @@ use Rattle.lp_fraction_dict.specs.Pivots.{IsProper}
 use Rattle.lp_fraction_dict.specs.Tableau.{IsPlace}
 use Rattle.lp_integer_rows.specs.declared.line.Line.{Line}
 use Rattle.lp_integer_rows.specs.Form.{lines_number, numbers_above}
-use Rattle.lp_integer_dict.specs.WithinBound.{AreWhole, HasNoRoomFor, LinesHaveNoRoom}
+use Rattle.lp_integer_dict.specs.WithinBound.{AreWhole, DeferredExceeds, ExchangeExceeds}
 use Rattle.lp_integer_dict.specs.Pairs.{IsSomePairCrowded}
 
 -- the row of a number; past the last it is the objective
@@ -45,7 +45,7 @@ pub record IsWhole (t : WholeTableau) : Type 0 where
   pub sized : t.variables + 2 < 2 ^ 32
   pub paired : length t.lines ≡ length t.basic + 1
   pub are_whole : AreWhole t.lines t.deferred (t.variables + 2) t.bound
-  pub put_off : IsPlace t.basic 0 t.deferred
+  pub is_deferred : IsPlace t.basic 0 t.deferred
   pub proper : IsProper (integer_dictionary t)
 
 -- the place of the exchange of stored rows when the variable of row k leaves: the row in which
@@ -57,8 +57,8 @@ kept_place (Some z) k = z
 -- the stored rows exceed the bound in a pivot by row k
 abbrev pub AreCrowded : WholeTableau → Pivot → ℕ → Type 0
 AreCrowded t p k =
-    ((p.enter ≡ 0) × HasNoRoomFor k t.lines t.bound)
-    ⊎ ((p.enter ≢ 0) × LinesHaveNoRoom t.bound (p.enter + 1) (kept_place t.deferred k) k t.lines)
+    ((p.enter ≡ 0) × DeferredExceeds k t.lines t.bound)
+    ⊎ ((p.enter ≢ 0) × ExchangeExceeds t.bound (p.enter + 1) (kept_place t.deferred k) k t.lines)
 
 -- a pivot by row k exceeds the bound: some row together with that row, or the stored rows
 abbrev pub IsPivotCrowded : WholeTableau → Pivot → ℕ → Type 0

@@ -3,9 +3,9 @@ ghost use Rattle.std.specs.Prelude.{◌≡◌, ℕ, ◌<◌, ◌^◌, pos, true,
 ghost use Rattle.gq_number.specs.Number.{whole};
 ghost use Rattle.gq_number.specs.Order.{◌<ℚ◌};
 ghost use Rattle.lp_integer_rows.specs.Form.{AreLines, AreSameLines, AreLowest, lines_number};
-ghost use Rattle.lp_integer_dict.specs.WithinBound.{HaveRoomAfter, AreTurnedInRoom, HaveNoRoomMade};
+ghost use Rattle.lp_integer_dict.specs.WithinBound.{ExchangedStayWithin, AreExchangedWithin, MadeRowsExceed};
 
-use crate::bounds::{all_within, has_room};
+use crate::bounds::{all_within, deferred_stays_within};
 use lp_integer_rows::{Line, copied_line, exchange_lines, plan_lines, settle};
 use std::alloc::{AllocError, Global};
 
@@ -38,11 +38,11 @@ fn settle_lines(alloc: Global, lines: &mut Vec<Line>) -> Result<(), AllocError>
 }
 
 /// Whether rows stay within the bound after an exchange at a place.
-fn have_room(lines: &[Line], place: usize, leaving: usize, bound: u128) -> bool
+fn exchanged_stay_within(lines: &[Line], place: usize, leaving: usize, bound: u128) -> bool
     requires small { bound < 2 ^ 127 }
     requires lines { (width : ℕ) × AreLines width lines.now × (1 < width) }
     requires within { leaving < length lines.now }
-    ensures { IsTrue result ↔ HaveRoomAfter bound place leaving lines.now }
+    ensures { IsTrue result ↔ ExchangedStayWithin bound place leaving lines.now }
 {
     if !all_within(lines, bound) {
         return false;
@@ -50,7 +50,7 @@ fn have_room(lines: &[Line], place: usize, leaving: usize, bound: u128) -> bool
     if leaving == place {
         return true;
     }
-    has_room(lines, leaving, bound)
+    deferred_stays_within(lines, leaving, bound)
 }
 
 /// The rows after an exchange at a place and a column, made apart and in lowest terms. None if on
@@ -68,7 +68,7 @@ fn made_apart(
     requires within { (place < length lines.now) × (leaving < length lines.now) }
     requires small { bound < 2 ^ 127 }
     requires above { whole (pos 0) <ℚ lines_number lines.now place column }
-    ensures { IfOk result (λ o. MatchOption o (HaveNoRoomMade bound column place leaving lines.now) (λ made. AreTurnedInRoom bound column place leaving lines.now made.items)) }
+    ensures { IfOk result (λ o. MatchOption o (MadeRowsExceed bound column place leaving lines.now) (λ made. AreExchangedWithin bound column place leaving lines.now made.items)) }
 {
     let plans = plan_lines(alloc, lines, place, column, &lines[place], MOST)?;
     let Some(plans) = plans else {
@@ -77,7 +77,7 @@ fn made_apart(
     let mut made = copied_lines(alloc, lines)?;
     exchange_lines(alloc, &mut made, plans.as_slice(), place, column)?;
     settle_lines(alloc, &mut made)?;
-    if !have_room(made.as_slice(), place, leaving, bound) {
+    if !exchanged_stay_within(made.as_slice(), place, leaving, bound) {
         return Ok(None);
     }
     Ok(Some(made))
@@ -97,9 +97,9 @@ pub(crate) fn turn_apart(
     requires within { (place < length lines.old.items) × (leaving < length lines.old.items) }
     requires small { bound < 2 ^ 127 }
     requires above { whole (pos 0) <ℚ lines_number lines.old.items place column }
-    ensures turned { IfOk result (λ done. done ≡ true → AreTurnedInRoom bound column place leaving lines.old.items lines.new.items) }
+    ensures turned { IfOk result (λ done. done ≡ true → AreExchangedWithin bound column place leaving lines.old.items lines.new.items) }
     ensures same { IfOk result (λ done. done ≡ false → lines.new.items ≡ lines.old.items) }
-    ensures none { IfOk result (λ done. done ≡ false → HaveNoRoomMade bound column place leaving lines.old.items) }
+    ensures none { IfOk result (λ done. done ≡ false → MadeRowsExceed bound column place leaving lines.old.items) }
 {
     let made = made_apart(alloc, lines.as_slice(), place, leaving, column, bound)?;
     let Some(made) = made else {

@@ -4,7 +4,7 @@ ghost use Rattle.lp_integer_rows.specs.declared.line.Line.{Line};
 ghost use Rattle.lp_integer_rows.specs.declared.line.Factors.{Factors};
 ghost use Rattle.lp_integers.specs.Lines.{whole_at};
 ghost use Rattle.lp_integer_rows.specs.Form.{wholes, IsLine, AreLines, AreBounded, IsPlan};
-ghost use Rattle.lp_integer_dict.specs.WithinBound.{HasRoomFor, KeepsRoom, AreFactorsWithin, IsSomeGreat};
+ghost use Rattle.lp_integer_dict.specs.WithinBound.{DeferredStaysWithin, DeferredStaysWithinAfter, AreFactorsWithin, IsSomeGreat};
 
 use lp_integer_rows::{Factors, Line, magnitude_at, marked_number_at};
 use lp_integers::{cross_difference, sum_within};
@@ -24,7 +24,7 @@ fn magnitude_after(line: &Line, pivot: &Line, factors: Factors) -> u128
     requires pivot { IsLine pivot.now }
     requires within { 1 < length (wholes line.now) }
     requires also_within { 1 < length (wholes pivot.now) }
-    requires room { nat_abs factors.line * line.now.most + nat_abs factors.pivot * pivot.now.most ≤ 2 ^ 127 - 1 }
+    requires within_bound { nat_abs factors.line * line.now.most + nat_abs factors.pivot * pivot.now.most ≤ 2 ^ 127 - 1 }
     ensures value { result ≡ nat_abs (factors.line *ℤ whole_at (wholes line.now) 1 -ℤ factors.pivot *ℤ whole_at (wholes pivot.now) 1) }
     ensures small { result < 2 ^ 127 }
 {
@@ -38,11 +38,11 @@ fn magnitude_after(line: &Line, pivot: &Line, factors: Factors) -> u128
 }
 
 /// Whether the exchange of variable 0 into row `k` stays within the bound.
-pub(crate) fn has_room(lines: &[Line], k: usize, bound: u128) -> bool
+pub(crate) fn deferred_stays_within(lines: &[Line], k: usize, bound: u128) -> bool
     requires small { bound < 2 ^ 127 }
     requires lines { (width : ℕ) × AreLines width lines.now × (1 < width) }
     requires within { k < length lines.now }
-    ensures { (p : Line) → slice_get lines.now k ≡ Some p → IsTrue result ↔ HasRoomFor k p lines.now bound }
+    ensures { (p : Line) → slice_get lines.now k ≡ Some p → IsTrue result ↔ DeferredStaysWithin k p lines.now bound }
 {
     let pivot = &lines[k];
     let u = magnitude_at(pivot, 1);
@@ -84,7 +84,7 @@ fn keeps_each(lines: &[Line], plans: &[Factors], place: usize, leaving: usize, b
     requires lines { (width : ℕ) × AreLines width lines.now × (1 < width) }
     requires within { (place < length lines.now) × (leaving < length lines.now) }
     requires planned { (column : ℕ) × ((p : Line) → slice_get lines.now place ≡ Some p → IsPlan bound column place lines.now p plans.now) }
-    ensures { (p l : Line) (g : Factors) → slice_get lines.now place ≡ Some p → slice_get lines.now leaving ≡ Some l → slice_get plans.now leaving ≡ Some g → IsTrue result ↔ KeepsRoom leaving p l g lines.now plans.now bound }
+    ensures { (p l : Line) (g : Factors) → slice_get lines.now place ≡ Some p → slice_get lines.now leaving ≡ Some l → slice_get plans.now leaving ≡ Some g → IsTrue result ↔ DeferredStaysWithinAfter leaving p l g lines.now plans.now bound }
 {
     let pivot = &lines[place];
     let of_leaving = plans[leaving];
@@ -101,7 +101,7 @@ fn keeps_each(lines: &[Line], plans: &[Factors], place: usize, leaving: usize, b
 
 /// Whether after an exchange by these factors the exchange of variable 0 into the leaving
 /// variable's row stays within the bound: first by one magnitude, then row by row.
-pub(crate) fn keeps_room(
+pub(crate) fn deferred_stays_within_after(
     lines: &[Line],
     plans: &[Factors],
     place: usize,
@@ -112,7 +112,7 @@ pub(crate) fn keeps_room(
     requires lines { (width : ℕ) × AreLines width lines.now × (1 < width) }
     requires within { (place < length lines.now) × (leaving < length lines.now) }
     requires planned { (column : ℕ) × ((p : Line) → slice_get lines.now place ≡ Some p → IsPlan bound column place lines.now p plans.now) }
-    ensures { (p l : Line) (g : Factors) → slice_get lines.now place ≡ Some p → slice_get lines.now leaving ≡ Some l → slice_get plans.now leaving ≡ Some g → IsTrue result ↔ KeepsRoom leaving p l g lines.now plans.now bound }
+    ensures { (p l : Line) (g : Factors) → slice_get lines.now place ≡ Some p → slice_get lines.now leaving ≡ Some l → slice_get plans.now leaving ≡ Some g → IsTrue result ↔ DeferredStaysWithinAfter leaving p l g lines.now plans.now bound }
 {
     if is_small_after(plans, bound) {
         return true;

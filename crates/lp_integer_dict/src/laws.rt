@@ -4,8 +4,8 @@ ghost use Rattle.gq_number.specs.Number.{Number, whole, ratio, ◌-ℚ◌, ◌*�
 ghost use Rattle.gq_number.specs.Order.{◌≤ℚ◌, ◌<ℚ◌};
 ghost use Rattle.lp_core.specs.Dictionary.{Dictionary, basic_at, entry_at, exchanged};
 ghost use Rattle.lp_core.specs.Steps.{AllFit, product_fits, difference_fits, ratio_steps};
-ghost use Rattle.lp_integer_dict.specs.Bounds.{IsBounded, HasRoomAbove, over_denominators};
-ghost use Rattle.lp_integer_dict.specs.Pairs.{HasPairRoom};
+ghost use Rattle.lp_integer_dict.specs.Bounds.{IsBounded, DeferredNumbersWithin, over_denominators};
+ghost use Rattle.lp_integer_dict.specs.Pairs.{IsPairWithin};
 ghost use Rattle.lp_integer_rows.specs.Turning.{turned_at, swapped, with_row_negated, IsDeferredExchange};
 
 /// Two exchanges in one row equal the second alone; and an exchange of a dictionary with variable 0
@@ -54,11 +54,11 @@ pub fn bound_laws()
     ensures ratios { (limit bound : ℕ) (d : Dictionary) (pivot q : ℕ) → bound ≤ limit → IsBounded d bound →
         AllFit (ratio_steps limit pivot d q) }
     ensures pairs { (limit : ℕ) (ni nk f p : ℤ) (di dk mi mk : ℕ) → 0 < di → 0 < dk → p ≢ pos 0 → nat_abs ni ≤ mi → di ≤ mi →
-        nat_abs nk ≤ mk → HasPairRoom f p mi mk limit →
+        nat_abs nk ≤ mk → IsPairWithin f p mi mk limit →
         IsTrue (product_fits limit (ratio f di) (ratio nk dk /ℚ ratio p dk)) ×
         IsTrue (difference_fits limit (ratio ni di) (ratio f di *ℚ (ratio nk dk /ℚ ratio p dk))) }
     ensures above { (n : ℕ → ℕ → ℤ) (d most : ℕ → ℕ) (bound k u : ℕ) (above : Dictionary) →
-        HasRoomAbove n d most bound k u → IsDeferredExchange above (over_denominators n d) k → IsBounded above bound }
+        DeferredNumbersWithin n d most bound k u → IsDeferredExchange above (over_denominators n d) k → IsBounded above bound }
 {}
 
 /// How a dictionary with variable 0 deferred is read from the stored rows, if the coefficient `u`

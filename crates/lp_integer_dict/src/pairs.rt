@@ -3,10 +3,10 @@ ghost use Rattle.std.specs.Prelude.{◌≡◌, ◌≢◌, ℕ, ◌<◌, ◌≤�
 ghost use Rattle.std.specs.Int.{◌∣◌};
 ghost use Rattle.lp_integer_rows.specs.Form.{AreBounded};
 ghost use Rattle.lp_integer_dict.specs.WithinBound.{AreWhole, row_most, line_denominator, row_number};
-ghost use Rattle.lp_integer_dict.specs.Pairs.{HasPairRoom, HasNoPairRoom, IsPairFit, ArePairsFit, IsSomePairCrowded, IsMeasured, IsLowestRow, IsRoomy, rows_top};
+ghost use Rattle.lp_integer_dict.specs.Pairs.{IsPairWithin, PairExceeds, IsPairFit, ArePairsFit, IsSomePairCrowded, IsMeasured, IsLowestRow, IsRoomy, rows_top};
 
 use crate::read::read;
-use lp_integer_rows::{Line, magnitude_at, reduced_pair, room};
+use lp_integer_rows::{Line, magnitude_at, reduced_pair, within_bound};
 use lp_integers::{gcd, sum_within};
 
 /// A row in an exchange: its integer for the entering variable, and a bound of the magnitudes of
@@ -109,19 +109,19 @@ fn measured_lowest(lines: &[Line], deferred: Option<usize>, place: usize, column
 
 /// Whether two rows together stay within the bound: first as they are, then without a common factor
 /// of their integers.
-fn has_pair_room(row: Measure, leaving: Measure, bound: u128) -> bool
+fn is_pair_within(row: Measure, leaving: Measure, bound: u128) -> bool
     requires { bound < 2 ^ 127 }
-    ensures fits { IsTrue result → HasPairRoom row.number leaving.number row.most leaving.most bound }
-    ensures none { result ≡ false → HasNoPairRoom row.number leaving.number row.most leaving.most bound }
+    ensures fits { IsTrue result → IsPairWithin row.number leaving.number row.most leaving.most bound }
+    ensures none { result ≡ false → PairExceeds row.number leaving.number row.most leaving.most bound }
 {
-    if room(leaving.number, row.most, row.number, leaving.most, bound).is_some() {
+    if within_bound(leaving.number, row.most, row.number, leaving.most, bound).is_some() {
         return true;
     }
     if leaving.number <= 0 {
         return false;
     }
     let (a, b) = reduced_pair(row.number, leaving.number);
-    room(a, row.most, b, leaving.most, bound).is_some()
+    within_bound(a, row.most, b, leaving.most, bound).is_some()
 }
 
 /// A bound of the magnitudes of all stored rows.
@@ -204,12 +204,12 @@ fn pair_fits(
     ensures none { result ≡ false → IsSomePairCrowded lines.now deferred leaving column bound }
 {
     let row = measured(lines, deferred, place, column);
-    if has_pair_room(row, of_leaving, bound) {
+    if is_pair_within(row, of_leaving, bound) {
         return true;
     }
     let lowest = measured_lowest(lines, deferred, place, column);
     let lowest_leaving = measured_lowest(lines, deferred, leaving, column);
-    has_pair_room(lowest, lowest_leaving, bound)
+    is_pair_within(lowest, lowest_leaving, bound)
 }
 
 /// Whether each row, together with that of the leaving variable, stays within the bound.

@@ -3,7 +3,7 @@ ghost use Rattle.std.specs.Prelude.{◌≡◌, ℕ, ◌+◌, ◌*◌, ◌<◌, �
 ghost use Rattle.gq_number.specs.Number.{ratio};
 ghost use Rattle.lp_integers.specs.Lines.{whole_at};
 ghost use Rattle.lp_integer_rows.specs.Form.{wholes, IsLine, lines_number, numbers_above};
-ghost use Rattle.lp_integer_dict.specs.WithinBound.{AreWhole, HasRoom, line_denominator, row_number};
+ghost use Rattle.lp_integer_dict.specs.WithinBound.{AreWhole, RowsStayWithin, line_denominator, row_number};
 
 use lp_integer_rows::{Line, magnitude_at, marked_number_at, number_at};
 use lp_integers::cross_difference;
@@ -55,7 +55,7 @@ fn number_above(line: &Line, pivot: &Line, column: usize) -> i128
     requires within { column < length (wholes line.now) }
     requires sized { length (wholes pivot.now) ≡ length (wholes line.now) }
     requires zero { 1 < length (wholes line.now) }
-    requires room { line.now.most * nat_abs (whole_at (wholes pivot.now) 1) + nat_abs (whole_at (wholes line.now) 1) * pivot.now.most < 2 ^ 127 }
+    requires within_bound { line.now.most * nat_abs (whole_at (wholes pivot.now) 1) + nat_abs (whole_at (wholes line.now) 1) * pivot.now.most < 2 ^ 127 }
     ensures { result ≡ whole_at (wholes pivot.now) 1 *ℤ whole_at (wholes line.now) column -ℤ whole_at (wholes line.now) 1 *ℤ whole_at (wholes pivot.now) column }
 {
     if column > 1 && line.marks.includes(column) {
@@ -78,7 +78,7 @@ fn read_above(line: &Line, pivot: &Line, column: usize) -> Fraction
     requires within { column < length (wholes line.now) }
     requires sized { length (wholes pivot.now) ≡ length (wholes line.now) }
     requires zero { 1 < length (wholes line.now) }
-    requires room { line.now.most * nat_abs (whole_at (wholes pivot.now) 1) + nat_abs (whole_at (wholes line.now) 1) * pivot.now.most < 2 ^ 127 }
+    requires within_bound { line.now.most * nat_abs (whole_at (wholes pivot.now) 1) + nat_abs (whole_at (wholes line.now) 1) * pivot.now.most < 2 ^ 127 }
     ensures numerator { result.numerator ≡ whole_at (wholes pivot.now) 1 *ℤ whole_at (wholes line.now) column -ℤ whole_at (wholes line.now) 1 *ℤ whole_at (wholes pivot.now) column }
     ensures denominator { result.denominator ≡ nat_abs (whole_at (wholes pivot.now) 1) * line.now.denominator }
 {
@@ -99,7 +99,7 @@ pub(crate) fn read(lines: &[Line], deferred: Option<usize>, place: usize, column
     ensures number { ratio result.numerator result.denominator ≡ numbers_above deferred (lines_number lines.now) place column }
     ensures numerator { result.numerator ≡ row_number deferred lines.now place column }
     ensures shared { result.denominator ≡ line_denominator deferred lines.now place }
-    ensures within { (bound : ℕ) → HasRoom deferred lines.now bound → (nat_abs result.numerator ≤ bound) × (result.denominator ≤ bound) }
+    ensures within { (bound : ℕ) → RowsStayWithin deferred lines.now bound → (nat_abs result.numerator ≤ bound) × (result.denominator ≤ bound) }
 {
     let line = &lines[place];
     let Some(k) = deferred else {

@@ -3,10 +3,10 @@ ghost use Rattle.std.specs.Prelude.{◌≡◌, ℕ, ◌<◌, ◌^◌, pos, true,
 ghost use Rattle.gq_number.specs.Number.{whole};
 ghost use Rattle.gq_number.specs.Order.{◌<ℚ◌};
 ghost use Rattle.lp_integer_rows.specs.Form.{AreLines, AreBounded, AreSameLines, lines_number};
-ghost use Rattle.lp_integer_dict.specs.WithinBound.{IsRoomyPlan, AreTurnedInRoom, FactorsHaveNoRoom, LinesHaveNoRoom};
+ghost use Rattle.lp_integer_dict.specs.WithinBound.{IsRoomyPlan, AreExchangedWithin, FactorsExceed, ExchangeExceeds};
 
 use crate::apart::turn_apart;
-use crate::bounds::keeps_room;
+use crate::bounds::deferred_stays_within_after;
 use lp_integer_rows::{Factors, Line, exchange_lines, plan_lines, reduce_lines};
 use std::alloc::{AllocError, Global};
 
@@ -25,7 +25,7 @@ fn plan_once(
     requires small { bound < 2 ^ 127 }
     requires bounded { AreBounded bound lines.now }
     requires above { whole (pos 0) <ℚ lines_number lines.now place column }
-    ensures { IfOk result (λ o. MatchOption o (FactorsHaveNoRoom bound column place leaving lines.now) (λ plans. IsRoomyPlan bound column place leaving lines.now plans.items)) }
+    ensures { IfOk result (λ o. MatchOption o (FactorsExceed bound column place leaving lines.now) (λ plans. IsRoomyPlan bound column place leaving lines.now plans.items)) }
 {
     let plans = plan_lines(alloc, lines, place, column, &lines[place], bound)?;
     let Some(plans) = plans else {
@@ -34,7 +34,7 @@ fn plan_once(
     if leaving == place {
         return Ok(Some(plans));
     }
-    if !keeps_room(lines, plans.as_slice(), place, leaving, bound) {
+    if !deferred_stays_within_after(lines, plans.as_slice(), place, leaving, bound) {
         return Ok(None);
     }
     Ok(Some(plans))
@@ -55,7 +55,7 @@ fn plan_exchange(
     requires bounded { AreBounded bound lines.old.items }
     requires above { whole (pos 0) <ℚ lines_number lines.old.items place column }
     ensures same { IfOk result (λ _. AreSameLines lines.old.items lines.new.items) }
-    ensures planned { IfOk result (λ o. MatchOption o (FactorsHaveNoRoom bound column place leaving lines.new.items) (λ plans. IsRoomyPlan bound column place leaving lines.new.items plans.items)) }
+    ensures planned { IfOk result (λ o. MatchOption o (FactorsExceed bound column place leaving lines.new.items) (λ plans. IsRoomyPlan bound column place leaving lines.new.items plans.items)) }
 {
     let plans = plan_once(alloc, lines.as_slice(), place, leaving, column, bound)?;
     if plans.is_some() {
@@ -81,9 +81,9 @@ fn turn_planned(
     requires small { bound < 2 ^ 127 }
     requires bounded { AreBounded bound lines.old.items }
     requires above { whole (pos 0) <ℚ lines_number lines.old.items place column }
-    ensures turned { IfOk result (λ done. done ≡ true → AreTurnedInRoom bound column place leaving lines.old.items lines.new.items) }
+    ensures turned { IfOk result (λ done. done ≡ true → AreExchangedWithin bound column place leaving lines.old.items lines.new.items) }
     ensures same { IfOk result (λ done. done ≡ false → AreSameLines lines.old.items lines.new.items) }
-    ensures none { IfOk result (λ done. done ≡ false → FactorsHaveNoRoom bound column place leaving lines.new.items) }
+    ensures none { IfOk result (λ done. done ≡ false → FactorsExceed bound column place leaving lines.new.items) }
 {
     let plans = plan_exchange(alloc, lines, place, leaving, column, bound)?;
     let Some(plans) = plans else {
@@ -109,9 +109,9 @@ pub(crate) fn turn_lines(
     requires small { bound < 2 ^ 127 }
     requires bounded { AreBounded bound lines.old.items }
     requires above { whole (pos 0) <ℚ lines_number lines.old.items place column }
-    ensures turned { IfOk result (λ done. done ≡ true → AreTurnedInRoom bound column place leaving lines.old.items lines.new.items) }
+    ensures turned { IfOk result (λ done. done ≡ true → AreExchangedWithin bound column place leaving lines.old.items lines.new.items) }
     ensures same { IfOk result (λ done. done ≡ false → AreSameLines lines.old.items lines.new.items) }
-    ensures none { IfOk result (λ done. done ≡ false → LinesHaveNoRoom bound column place leaving lines.new.items) }
+    ensures none { IfOk result (λ done. done ≡ false → ExchangeExceeds bound column place leaving lines.new.items) }
 {
     let planned = turn_planned(alloc, lines, place, leaving, column, bound)?;
     if planned {

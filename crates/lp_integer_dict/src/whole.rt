@@ -1,7 +1,7 @@
 //! The dictionary by integers.
 ghost use Rattle.std.specs.Prelude.{◌≡◌, ◌≢◌, ℕ, ◌+◌, ◌<◌, ◌≤◌, ◌^◌, pos, nat_abs, length, slice_get, Some, None, false, IfOk, IfErr, IsTrue, MatchOption, Contains};
 ghost use Rattle.gq_number.specs.Number.{whole, ratio};
-ghost use Rattle.lp_core.specs.Dictionary.{basic_at, OpeningIsDue, IsLeast, IsOpening, IsLegal, Improves, exchanged};
+ghost use Rattle.lp_core.specs.Dictionary.{basic_at, OpeningIsRequired, IsLeast, IsOpening, IsLegal, Improves, exchanged};
 ghost use Rattle.lp_core.specs.LargestCoefficient.{HasGreatest};
 ghost use Rattle.lp_core.specs.Steps.{AllFit, ratio_steps, exchange_steps};
 ghost use Rattle.lp_fraction_dict.specs.Pivots.{IsProper, IsLeaving};
@@ -15,7 +15,7 @@ use crate::choice::{first_above, least_constant, least_ratio};
 use crate::coefficients::greatest_above;
 use crate::pairs::pairs_fit;
 use crate::read::{Fraction, read};
-use crate::bounds::{all_within, has_room};
+use crate::bounds::{all_within, deferred_stays_within};
 use crate::step::turn_lines;
 use lp_core::Pivot;
 use lp_integer_rows::{Line, forget_zero, raise_at, reduce_lines, swap_lines};
@@ -123,7 +123,7 @@ impl Whole {
     /// The opening pivot of Bland's choice, if one is required: variable 0 enters, and of the
     /// variables with the least constant, which is below 0, the least leaves.
     pub fn opening(&self) -> Option<Pivot>
-        ensures { MatchOption result (¬ (OpeningIsDue (integer_dictionary self.now)))
+        ensures { MatchOption result (¬ (OpeningIsRequired (integer_dictionary self.now)))
             (λ p. ((k : ℕ) × IsOpening (integer_dictionary self.now) p k) × ((i : ℕ) → IsLeast (integer_dictionary self.now) i → p.leave ≤ basic_at (integer_dictionary self.now) i)) }
     {
         match least_constant(self.lines.as_slice(), self.deferred, self.basic.as_slice()) {
@@ -137,7 +137,7 @@ impl Whole {
 
     /// The least variable that improves. None exactly if no variable improves.
     pub fn entering(&self) -> Option<u32>
-        requires { ¬ (OpeningIsDue (integer_dictionary self.now)) }
+        requires { ¬ (OpeningIsRequired (integer_dictionary self.now)) }
         ensures { MatchOption result ((v : ℕ) → ¬ (Improves (integer_dictionary self.now) v))
             (λ q. Improves (integer_dictionary self.now) q × ((v : ℕ) → Improves (integer_dictionary self.now) v → q ≤ v)) }
     {
@@ -150,7 +150,7 @@ impl Whole {
     /// The variable that improves with the greatest coefficient in the priced row, and of several
     /// such the least. None exactly if nothing improves. It passes over that row once.
     pub fn greatest(&self) -> Option<u32>
-        requires { ¬ (OpeningIsDue (integer_dictionary self.now)) }
+        requires { ¬ (OpeningIsRequired (integer_dictionary self.now)) }
         ensures { MatchOption result ((v : ℕ) → ¬ (Improves (integer_dictionary self.now) v)) (HasGreatest (integer_dictionary self.now)) }
     {
         match self.deferred {
@@ -191,7 +191,7 @@ impl Whole {
             deferred,
             bound,
         } = self;
-        if !has_room(lines.as_slice(), place, bound) {
+        if !deferred_stays_within(lines.as_slice(), place, bound) {
             let same = Whole {
                 variables,
                 basic,

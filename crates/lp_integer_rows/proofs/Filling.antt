@@ -50,7 +50,7 @@ no_multiple_no_line parts none = λ m some small all. absurd (let high = none m 
 
 pub past_no_line : (parts : List Part) (width multiple : ℕ) → AreWithinColumns width parts → IsMultiple parts (length parts) multiple → IsSomePast parts multiple → HaveNoLine parts
 past_no_line parts width multiple are h past = λ m some small all.
-    let grown : multiple ≤ m = le_of_dvd some (h.least m some all) in
+    let extended : multiple ≤ m = le_of_dvd some (h.least m some all) in
     let positive = (are past.at past.part past.there).1 in
     let over : multiple / past.part.denominator ≤ m / past.part.denominator = le-div (multiple / past.part.denominator) m past.part.denominator positive (let low = div-mul-le_self multiple past.part.denominator in omega arith) in
     let more : nat_abs past.part.numerator * (multiple / past.part.denominator) ≤ nat_abs past.part.numerator * (m / past.part.denominator) = mul-le-mul_left (nat_abs past.part.numerator) over in

@@ -101,7 +101,7 @@ marked_below before after is marks low c clear =
 
 le_times : (n g : ℕ) → 0 < g → n ≤ n * g
 le_times n g some =
-    let grown : n * 1 ≤ n * g = mul-le-mul_left n some in
+    let extended : n * 1 ≤ n * g = mul-le-mul_left n some in
     let one = mul-one n in
     omega arith
 
@@ -202,7 +202,7 @@ less_no_multiple x y = simp ring_ℚ
 most_grows : (a : ℤ) (m n : ℕ) → pos 0 <ℤ a → m ≤ nat_abs a * m + n
 most_grows a m n above =
     let some : 1 ≤ nat_abs a = omega (arith, ints) in
-    let grown : 1 * m ≤ nat_abs a * m = mul-le-mul_right m some in
+    let extended : 1 * m ≤ nat_abs a * m = mul-le-mul_right m some in
     let one = one_time m in
     omega arith
 
@@ -213,7 +213,7 @@ module _ (bound column : ℕ) (line pivot : Line) (f : Factors) (of_line : IsLin
   magnitude_grows : (n x : ℤ) → nat_abs n ≤ nat_abs (f.line *ℤ n -ℤ f.pivot *ℤ x)
   magnitude_grows n x =
       let is : f.line *ℤ n -ℤ f.pivot *ℤ x ≡ f.line *ℤ n = ap (λ z. f.line *ℤ n -ℤ z) (ap (λ z. z *ℤ x) none ∙ zero_times x) ∙ less_none (f.line *ℤ n) in
-      let grown = most_grows f.line (nat_abs n) 0 p.factors.above in
+      let extended = most_grows f.line (nat_abs n) 0 p.factors.above in
       subst (λ m. nat_abs n ≤ m) (sym (ap nat_abs is ∙ nat_abs-*ℤ f.line n)) (omega arith)
 
   pub untouched_line : IsLessenedLine column line pivot line f
@@ -265,7 +265,7 @@ same_line before after g of_before positive divides sized numbers denominator_is
     let above : 0 < after.denominator = pos_of_dvd_of_pos (subst (λ d. after.denominator ∣ d) times (dvd-mul_right after.denominator g)) of_before.positive in
     let low : (c : ℕ) → nat_abs (whole_at (wholes after) c) ≤ nat_abs (whole_at (wholes before) c) =
     λ c.
-    let grown = le_times (nat_abs (whole_at (wholes after) c)) g positive in
+    let extended = le_times (nat_abs (whole_at (wholes after) c)) g positive in
     let is : nat_abs (whole_at (wholes after) c) * g ≡ nat_abs (whole_at (wholes before) c) = sym (nat_abs-*ℤ (whole_at (wholes after) c) (pos g)) ∙ ap nat_abs (numbers c) in
     omega arith in
     record {

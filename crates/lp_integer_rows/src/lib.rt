@@ -12,7 +12,7 @@ mod deferral;
 pub use exchange::{exchange_lines, plan_lines, reduce_lines};
 pub use leading::Leading;
 pub use line::{
-    Factors, Line, copied_line, magnitude_at, marked_number_at, number_at, reduced_pair, room,
+    Factors, Line, copied_line, magnitude_at, marked_number_at, number_at, reduced_pair, within_bound,
     settle,
 };
 pub use marks::Marks;

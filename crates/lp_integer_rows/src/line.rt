@@ -160,7 +160,7 @@ pub fn reduced_pair(f: i128, p: i128) -> (i128, i128)
 
 /// A bound of the magnitudes of a row times `a` less another times `b`, from the greatest
 /// magnitudes of both. None if it exceeds `bound`.
-pub fn room(a: i128, most: u128, b: i128, other: u128, bound: u128) -> Option<u128>
+pub fn within_bound(a: i128, most: u128, b: i128, other: u128, bound: u128) -> Option<u128>
     requires { bound < 2 ^ 127 }
     ensures { MatchOption result (bound < nat_abs a * most + nat_abs b * other) (λ m. (m ≡ nat_abs a * most + nat_abs b * other) × (m ≤ bound)) }
 {
@@ -179,7 +179,7 @@ fn plan_some(line: &Line, column: usize, pivot: &Line, bound: u128) -> Option<Fa
     ensures { MatchOption result (IsCrowded bound column line.now pivot.now) (IsPlanned bound column line.now pivot.now) }
 {
     let (a, b) = reduced_pair(number_at(line, column), number_at(pivot, column));
-    match room(a, line.most, b, pivot.most, bound) {
+    match within_bound(a, line.most, b, pivot.most, bound) {
         Some(most) => Some(Factors {
             line: a,
             pivot: b,
@@ -305,7 +305,7 @@ const DUE: u128 = 1 << 30;
 /// Divides a row by the common divisor of its integers and denominator, if that is likely to help:
 /// if the row was multiplied by a factor other than 1, which then divides many of its integers, or
 /// if its integers are great. The error is out of memory.
-fn reduce_due(alloc: Global, line: &mut Line, factor: i128) -> Result<(), AllocError>
+fn reduce_if_useful(alloc: Global, line: &mut Line, factor: i128) -> Result<(), AllocError>
     requires { IsLine line.old }
     ensures { IfOk result (λ _. IsSameLine line.old line.new) }
 {
@@ -336,7 +336,7 @@ pub(crate) fn apply(
         return Ok(());
     }
     lessen(alloc, line, factors, pivot, places)?;
-    reduce_due(alloc, line, factors.line)
+    reduce_if_useful(alloc, line, factors.line)
 }
 
 /// Divides a row by the greatest common divisor of its integers and denominator. The error is out

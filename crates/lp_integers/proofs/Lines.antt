@@ -3,7 +3,7 @@ use Rattle.std.proofs.Common.{◌≡◌, ◌≢◌, ℕ, zero, suc, ◌+◌, ◌
 use Rattle.std.proofs.lemmas.Int.{ints}
 use Rattle.std.proofs.lemmas.Bool.{cases_eq, cases_lt}
 use Rattle.gq_number.proofs.Whole.{nat_abs-*ℤ}
-use Rattle.lp_integers.specs.Lines.{whole_at, AreWithin, HaveRoom, AreLessenedTo, AreDividedTo, AreNegatedTo, AreLessened, AreOver, AreNegated}
+use Rattle.lp_integers.specs.Lines.{whole_at, AreWithin, CombinationsStayWithin, AreLessenedTo, AreDividedTo, AreNegatedTo, AreLessened, AreOver, AreNegated}
 
 -- past the end the number is 0
 pub whole_past : (numbers : List ℤ) (c : ℕ) → length numbers ≤ c → whole_at numbers c ≡ pos 0
@@ -48,7 +48,7 @@ left_within a b n x m h =
     let k = difference_within (a *ℤ n) (b *ℤ x) in
     omega arith
 
-pub lessened_more : (a b : ℤ) (before others after : List ℤ) (n most : ℕ) (v : ℤ) (more : ℕ) → AreLessenedTo a b before others after n most → n < length after → v ≡ a *ℤ whole_at before n -ℤ b *ℤ whole_at others n → most ≤ more → nat_abs v ≤ more → ((m : ℕ) → HaveRoom m a b before others → more ≤ m) → AreLessenedTo a b before others (set after n v) (n + 1) more
+pub lessened_more : (a b : ℤ) (before others after : List ℤ) (n most : ℕ) (v : ℤ) (more : ℕ) → AreLessenedTo a b before others after n most → n < length after → v ≡ a *ℤ whole_at before n -ℤ b *ℤ whole_at others n → most ≤ more → nat_abs v ≤ more → ((m : ℕ) → CombinationsStayWithin m a b before others → more ≤ m) → AreLessenedTo a b before others (set after n v) (n + 1) more
 lessened_more a b before others after n most v more h within is grows high small =
     record {
       sized = length-set after n v ∙ h.sized;
@@ -141,12 +141,12 @@ times_grow m (suc k) some = omega arith
 pub divided_within : (divisor : ℕ) (before after : List ℤ) (most : ℕ) → 0 < divisor → AreOver divisor before after → AreWithin before most → AreWithin after most
 divided_within divisor before after most some h within = λ c.
     let is : nat_abs (whole_at after c) * divisor ≡ nat_abs (whole_at before c) = sym (nat_abs-*ℤ (whole_at after c) (pos divisor)) ∙ ap nat_abs (h.numbers c) in
-    let grown = times_grow (nat_abs (whole_at after c)) divisor some in
+    let extended = times_grow (nat_abs (whole_at after c)) divisor some in
     let low = within c in
     omega arith
 
-pub lessened_within : (a b : ℤ) (before others after : List ℤ) (most m : ℕ) → AreLessened a b before others after most → HaveRoom m a b before others → AreWithin after m
-lessened_within a b before others after most m h room = λ c. let low = h.within c in let high = h.small m room in omega arith
+pub lessened_within : (a b : ℤ) (before others after : List ℤ) (most m : ℕ) → AreLessened a b before others after most → CombinationsStayWithin m a b before others → AreWithin after m
+lessened_within a b before others after most m h within_bound = λ c. let low = h.within c in let high = h.small m within_bound in omega arith
 
 pub cleared_within : (numbers : List ℤ) (place most : ℕ) → AreWithin numbers most → AreWithin (set numbers place (pos 0)) most
 cleared_within numbers place most within = λ c.

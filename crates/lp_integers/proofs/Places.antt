@@ -4,7 +4,7 @@ use Rattle.std.specs.Prelude.{slice_get}
 use Rattle.std.proofs.lemmas.Bool.{cases_eq}
 use Rattle.std.proofs.lemmas.Int.{ints}
 use Rattle.std.proofs.lemmas.Option.{slice_get_within, slice_get-get_or}
-use Rattle.lp_integers.specs.Lines.{whole_at, AreWithin, HaveRoom, ArePlaces, AreLessenedAt, AreLessenedFrom}
+use Rattle.lp_integers.specs.Lines.{whole_at, AreWithin, CombinationsStayWithin, ArePlaces, AreLessenedAt, AreLessenedFrom}
 use Rattle.lp_integers.proofs.Lines.{written_here, written_other}
 
 -- ---- the places
@@ -106,15 +106,15 @@ lessened_none b before others places least within =
       done = λ i c less. absurd (omega arith);
       left = λ c none. refl;
       within = within;
-      grown = omega arith;
-      small = λ m room more. more;
+      extended = omega arith;
+      small = λ m within_bound more. more;
     }
 
 -- at a place nothing was done before
 pub place_left : (b : ℤ) (before others after : List ℤ) (places : List ℕ) (n w least most c : ℕ) → ArePlaces others w places → AreLessenedAt b before others after places n least most → slice_get places n ≡ Some c → whole_at after c ≡ whole_at before c
 place_left b before others after places n w least most c p h there = h.left c (λ i less at. absurd (let e = p.apart i n c at there in omega arith))
 
-pub lessened_at_more : (b : ℤ) (before others after : List ℤ) (places : List ℕ) (n w least most c : ℕ) (v : ℤ) (more : ℕ) → ArePlaces others w places → AreLessenedAt b before others after places n least most → slice_get places n ≡ Some c → c < length after → v ≡ pos 1 *ℤ whole_at before c -ℤ b *ℤ whole_at others c → most ≤ more → nat_abs v ≤ more → ((m : ℕ) → HaveRoom m (pos 1) b before others → least ≤ m → more ≤ m) → AreLessenedAt b before others (set after c v) places (n + 1) least more
+pub lessened_at_more : (b : ℤ) (before others after : List ℤ) (places : List ℕ) (n w least most c : ℕ) (v : ℤ) (more : ℕ) → ArePlaces others w places → AreLessenedAt b before others after places n least most → slice_get places n ≡ Some c → c < length after → v ≡ pos 1 *ℤ whole_at before c -ℤ b *ℤ whole_at others c → most ≤ more → nat_abs v ≤ more → ((m : ℕ) → CombinationsStayWithin m (pos 1) b before others → least ≤ m → more ≤ m) → AreLessenedAt b before others (set after c v) places (n + 1) least more
 lessened_at_more b before others after places n w least most c v more p h there within is grows high small =
     record {
       sized = length-set after c v ∙ h.sized;
@@ -132,7 +132,7 @@ lessened_at_more b before others after places n w least most c v more p h there 
         | inl same ↦ subst (λ z. nat_abs z ≤ more) (sym (written_here before after c v within d same)) high
         | inr other ↦ subst (λ z. nat_abs z ≤ more) (sym (written_other before after c v within d other)) (let low = h.within d in omega arith)
       ];
-      grown = let low = h.grown in omega arith;
+      extended = let low = h.extended in omega arith;
       small = small;
     }
 
@@ -150,12 +150,12 @@ lessened_at_all b before others after places n least most p sized all h =
             h.done found.0 c (let less = slice_get_within places found.0 c found.1 in omega arith) found.1
       ];
       within = h.within;
-      grown = h.grown;
+      extended = h.extended;
       small = h.small;
     }
 
-pub lessened_from_within : (least : ℕ) (b : ℤ) (before others after : List ℤ) (most m : ℕ) → AreLessenedFrom least b before others after most → HaveRoom m (pos 1) b before others → least ≤ m → AreWithin after m
-lessened_from_within least b before others after most m h room more = λ c. let low = h.within c in let high = h.small m room more in omega arith
+pub lessened_from_within : (least : ℕ) (b : ℤ) (before others after : List ℤ) (most m : ℕ) → AreLessenedFrom least b before others after most → CombinationsStayWithin m (pos 1) b before others → least ≤ m → AreWithin after m
+lessened_from_within least b before others after most m h within_bound more = λ c. let low = h.within c in let high = h.small m within_bound more in omega arith
 
 pub same_lessened_from : {b q : ℤ} {before others after first second third : List ℤ} {least most : ℕ} → b ≡ q → before ≡ first → others ≡ second → after ≡ third → AreLessenedFrom least b before others after most → AreLessenedFrom least q first second third most
 same_lessened_from {b} {q} {before} {others} {after} {first} {second} {third} {least} {most} b_is before_is others_is after_is h =

@@ -16,8 +16,8 @@ AreDivided numbers divisor = (c : ℕ) → divisor ∣ nat_abs (whole_at numbers
 
 -- Each number times a, less the other times b, stays within a magnitude, and so does each product
 -- on the way.
-abbrev pub HaveRoom : ℕ → ℤ → ℤ → List ℤ → List ℤ → Type 0
-HaveRoom most a b numbers others = (c : ℕ) → nat_abs a * nat_abs (whole_at numbers c) + nat_abs b * nat_abs (whole_at others c) ≤ most
+abbrev pub CombinationsStayWithin : ℕ → ℤ → ℤ → List ℤ → List ℤ → Type 0
+CombinationsStayWithin most a b numbers others = (c : ℕ) → nat_abs a * nat_abs (whole_at numbers c) + nat_abs b * nat_abs (whole_at others c) ≤ most
 
 -- The numbers of the columns below n have become a times themselves less b times the others'; the
 -- rest is unchanged. None of those has a magnitude above `most`, which is no larger than needed.
@@ -26,7 +26,7 @@ pub record AreLessenedTo (a b : ℤ) (before others after : List ℤ) (n most : 
   pub done : (c : ℕ) → c < n → whole_at after c ≡ a *ℤ whole_at before c -ℤ b *ℤ whole_at others c
   pub left : (c : ℕ) → n ≤ c → whole_at after c ≡ whole_at before c
   pub within : (c : ℕ) → c < n → nat_abs (whole_at after c) ≤ most
-  pub small : (m : ℕ) → HaveRoom m a b before others → most ≤ m
+  pub small : (m : ℕ) → CombinationsStayWithin m a b before others → most ≤ m
 
 -- The numbers of the columns below n are divided, those of the others are as before.
 pub record AreDividedTo (divisor : ℕ) (before after : List ℤ) (n : ℕ) : Type 0 where
@@ -46,7 +46,7 @@ pub record AreLessened (a b : ℤ) (before others after : List ℤ) (most : ℕ)
   pub sized : length after ≡ length before
   pub numbers : (c : ℕ) → c < length before → whole_at after c ≡ a *ℤ whole_at before c -ℤ b *ℤ whole_at others c
   pub within : AreWithin after most
-  pub small : (m : ℕ) → HaveRoom m a b before others → most ≤ m
+  pub small : (m : ℕ) → CombinationsStayWithin m a b before others → most ≤ m
 
 -- Numbers are those of a list, each divided by a common divisor.
 pub record AreOver (divisor : ℕ) (before after : List ℤ) : Type 0 where
@@ -71,8 +71,8 @@ pub record AreLessenedAt (b : ℤ) (before others after : List ℤ) (places : Li
   pub done : (i c : ℕ) → i < n → slice_get places i ≡ Some c → whole_at after c ≡ pos 1 *ℤ whole_at before c -ℤ b *ℤ whole_at others c
   pub left : (c : ℕ) → ((i : ℕ) → i < n → slice_get places i ≢ Some c) → whole_at after c ≡ whole_at before c
   pub within : AreWithin after most
-  pub grown : least ≤ most
-  pub small : (m : ℕ) → HaveRoom m (pos 1) b before others → least ≤ m → most ≤ m
+  pub extended : least ≤ most
+  pub small : (m : ℕ) → CombinationsStayWithin m (pos 1) b before others → least ≤ m → most ≤ m
 
 -- Numbers are those of a list less b times those of another. None has a magnitude above `most`, and
 -- `most` is at most any bound from `least` up that all steps stay within.
@@ -80,5 +80,5 @@ pub record AreLessenedFrom (least : ℕ) (b : ℤ) (before others after : List �
   pub sized : length after ≡ length before
   pub numbers : (c : ℕ) → c < length before → whole_at after c ≡ pos 1 *ℤ whole_at before c -ℤ b *ℤ whole_at others c
   pub within : AreWithin after most
-  pub grown : least ≤ most
-  pub small : (m : ℕ) → HaveRoom m (pos 1) b before others → least ≤ m → most ≤ m
+  pub extended : least ≤ most
+  pub small : (m : ℕ) → CombinationsStayWithin m (pos 1) b before others → least ≤ m → most ≤ m

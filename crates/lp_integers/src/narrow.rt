@@ -1,7 +1,7 @@
 //! The loops over integers of one word each.
 ghost use Rattle.std.specs.Prelude.{◌≡◌, ◌⊎◌, ℕ, ◌+◌, ◌*◌, ◌<◌, ◌≤◌, ◌^◌, ◌-◌, pos, ◌-ℤ◌, ◌*ℤ◌, neg_ℤ, nat_abs, length, IfOk};
 ghost use Rattle.std.specs.Int.{◌∣◌};
-ghost use Rattle.lp_integers.specs.Lines.{whole_at, AreWithin, AreDivided, HaveRoom, AreLessened, ArePlaces, AreLessenedFrom, AreOver, AreNegated};
+ghost use Rattle.lp_integers.specs.Lines.{whole_at, AreWithin, AreDivided, CombinationsStayWithin, AreLessened, ArePlaces, AreLessenedFrom, AreOver, AreNegated};
 
 use crate::divisor::Divisor;
 use std::alloc::{AllocError, Global};
@@ -76,7 +76,7 @@ pub(crate) fn greatest(numbers: &[i64]) -> u64
 /// magnitudes of the results.
 pub(crate) fn lessen(numbers: &mut [i64], a: i64, b: i64, others: &[i64]) -> u64
     requires sized { length others.now ≡ length numbers.old }
-    requires room { HaveRoom (2 ^ 63 - 1) a b numbers.old others.now }
+    requires within_bound { CombinationsStayWithin (2 ^ 63 - 1) a b numbers.old others.now }
     ensures { AreLessened a b numbers.old others.now numbers.new result }
 {
     let mut most = 0;
@@ -102,7 +102,7 @@ pub(crate) fn lessen_at(
     requires sized { length others.now ≡ length numbers.old }
     requires places { ArePlaces others.now (length others.now) places.now }
     requires within { AreWithin numbers.old least }
-    requires room { HaveRoom (2 ^ 63 - 1) (pos 1) b numbers.old others.now }
+    requires within_bound { CombinationsStayWithin (2 ^ 63 - 1) (pos 1) b numbers.old others.now }
     ensures { AreLessenedFrom least b numbers.old others.now numbers.new result }
 {
     let mut most = least;

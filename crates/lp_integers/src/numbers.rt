@@ -1,7 +1,7 @@
 //! Integers in a list, of one word each or of two.
 ghost use Rattle.std.specs.Prelude.{◌≡◌, ℕ, ◌+◌, ◌*◌, ◌<◌, ◌≤◌, ◌^◌, ◌-◌, ◌-ℤ◌, ◌*ℤ◌, [], pos, nat_abs, length, slice_set, true, false, IfOk, MatchOption};
 ghost use Rattle.std.specs.Int.{◌∣◌};
-ghost use Rattle.lp_integers.specs.Lines.{whole_at, AreWithin, AreDivided, HaveRoom, AreLessened, ArePlaces, AreLessenedFrom, AreOver, AreNegated};
+ghost use Rattle.lp_integers.specs.Lines.{whole_at, AreWithin, AreDivided, CombinationsStayWithin, AreLessened, ArePlaces, AreLessenedFrom, AreOver, AreNegated};
 ghost use Rattle.lp_integers.specs.Widths.{listed, AreWithinWidth};
 
 use crate::common::{WORD, gcd};
@@ -138,7 +138,7 @@ impl Numbers {
         requires sized { length others.now ≡ length self.now }
         requires zero { zero < length self.now }
         requires place { place < length self.now }
-        requires room { nat_abs (whole_at others.now zero) * nat_abs (whole_at self.now place) + nat_abs (whole_at self.now zero) * nat_abs (whole_at others.now place) < 2 ^ 127 }
+        requires within_bound { nat_abs (whole_at others.now zero) * nat_abs (whole_at self.now place) + nat_abs (whole_at self.now zero) * nat_abs (whole_at others.now place) < 2 ^ 127 }
         ensures { result ≡ whole_at others.now zero *ℤ whole_at self.now place -ℤ whole_at self.now zero *ℤ whole_at others.now place }
     {
         if let Kept::Narrow(own) = &self.kept {
@@ -181,7 +181,7 @@ impl Numbers {
     /// for each; else the numbers stay.
     fn lessen_narrow(&mut self, a: i64, b: i64, others: &Numbers) -> Option<u64>
         requires sized { length others.now ≡ length self.old }
-        requires room { HaveRoom (2 ^ 63 - 1) a b self.old others.now }
+        requires within_bound { CombinationsStayWithin (2 ^ 63 - 1) a b self.old others.now }
         ensures { MatchOption result (self.new ≡ self.old) (AreLessened a b self.old others.now self.new) }
     {
         let Kept::Narrow(other) = &others.kept else {
@@ -206,7 +206,7 @@ impl Numbers {
         others: &Numbers,
     ) -> Result<u128, AllocError>
         requires sized { length others.now ≡ length self.old }
-        requires room { HaveRoom (2 ^ 127 - 1) a b self.old others.now }
+        requires within_bound { CombinationsStayWithin (2 ^ 127 - 1) a b self.old others.now }
         ensures { IfOk result (AreLessened a b self.old others.now self.new) }
     {
         let mut own = self.copied(alloc)?;
@@ -225,14 +225,14 @@ impl Numbers {
         a: i128,
         b: i128,
         others: &Numbers,
-        room: u128,
+        within_bound: u128,
     ) -> Result<u128, AllocError>
         requires sized { length others.now ≡ length self.old }
-        requires small { room < 2 ^ 127 }
-        requires room { HaveRoom room a b self.old others.now }
+        requires small { within_bound < 2 ^ 127 }
+        requires within_bound { CombinationsStayWithin within_bound a b self.old others.now }
         ensures { IfOk result (AreLessened a b self.old others.now self.new) }
     {
-        if room < HALF && a.unsigned_abs() < HALF && b.unsigned_abs() < HALF {
+        if within_bound < HALF && a.unsigned_abs() < HALF && b.unsigned_abs() < HALF {
             if let Some(most) = self.lessen_narrow(a as i64, b as i64, others) {
                 return Ok(most as u128);
             }
@@ -253,7 +253,7 @@ impl Numbers {
         requires places { ArePlaces others.now (length others.now) places.now }
         requires small { least < 2 ^ 63 }
         requires within { AreWithin self.old least }
-        requires room { HaveRoom (2 ^ 63 - 1) (pos 1) b self.old others.now }
+        requires within_bound { CombinationsStayWithin (2 ^ 63 - 1) (pos 1) b self.old others.now }
         ensures { MatchOption result (self.new ≡ self.old) (AreLessenedFrom least b self.old others.now self.new) }
     {
         let Kept::Narrow(other) = &others.kept else {
@@ -275,23 +275,23 @@ impl Numbers {
     }
 
     /// Subtracts `b` times the other's number from each number, if only the places where the other
-    /// is not 0 have to be visited and no number exceeds `room`. Answers a bound of the magnitudes,
-    /// at least `least`, which bounded the numbers before. Else the numbers stay.
+    /// is not 0 have to be visited and no number exceeds `within_bound`. Answers a bound of the
+    /// magnitudes, at least `least`, which bounded the numbers before. Else the numbers stay.
     pub fn lessen_at(
         &mut self,
         b: i128,
         others: &Numbers,
         places: &[usize],
         least: u128,
-        room: u128,
+        within_bound: u128,
     ) -> Option<u128>
         requires sized { length others.now ≡ length self.old }
         requires places { ArePlaces others.now (length others.now) places.now }
         requires within { AreWithin self.old least }
-        requires room { HaveRoom room (pos 1) b self.old others.now }
+        requires within_bound { CombinationsStayWithin within_bound (pos 1) b self.old others.now }
         ensures { MatchOption result (self.new ≡ self.old) (AreLessenedFrom least b self.old others.now self.new) }
     {
-        if room < HALF && least < HALF && b.unsigned_abs() < HALF {
+        if within_bound < HALF && least < HALF && b.unsigned_abs() < HALF {
             if let Some(most) = self.lessen_narrow_at(b as i64, others, places, least as u64) {
                 return Some(most as u128);
             }

@@ -1,7 +1,7 @@
 //! The loops over integers of two words each.
 ghost use Rattle.std.specs.Prelude.{◌≡◌, ◌⊎◌, ℕ, ◌+◌, ◌*◌, ◌<◌, ◌≤◌, ◌^◌, ◌-◌, pos, ◌-ℤ◌, ◌*ℤ◌, neg_ℤ, nat_abs, length, IfOk};
 ghost use Rattle.std.specs.Int.{◌∣◌};
-ghost use Rattle.lp_integers.specs.Lines.{whole_at, AreWithin, AreDivided, HaveRoom, AreLessened, AreOver, AreNegated};
+ghost use Rattle.lp_integers.specs.Lines.{whole_at, AreWithin, AreDivided, CombinationsStayWithin, AreLessened, AreOver, AreNegated};
 
 use crate::narrow::spread;
 use std::alloc::{AllocError, Global};
@@ -49,7 +49,7 @@ fn greater(most: u128, n: i128) -> u128
 /// magnitudes of the results.
 pub(crate) fn lessen(numbers: &mut [i128], a: i128, b: i128, others: &[i128]) -> u128
     requires sized { length others.now ≡ length numbers.old }
-    requires room { HaveRoom (2 ^ 127 - 1) a b numbers.old others.now }
+    requires within_bound { CombinationsStayWithin (2 ^ 127 - 1) a b numbers.old others.now }
     ensures { AreLessened a b numbers.old others.now numbers.new result }
 {
     let mut most = 0;

@@ -15,10 +15,10 @@ use Rattle.lp_core.specs.declared.program.Lp.{Lp}
 use Rattle.lp_core.specs.StandardForm.{Last}
 use Rattle.lp_core.specs.Dictionary.{Dictionary}
 use Rattle.lp_core.specs.Pivots.{IsChosen, ByRule}
-use Rattle.lp_core.specs.Ends.{IsGoingOnBy, EndsAt, LeadsTo, EndsSoBy, ends_by_kind, limit_is_met, step_stops}
+use Rattle.lp_core.specs.Ends.{IsUnfinishedBy, EndsAt, LeadsTo, EndsSoBy, ends_by_kind, limit_is_met, step_stops}
 use Rattle.lp_core.specs.Answers.{IsAnswer, bounds_cross, form_stops, search_ends, EndsCrossed}
 use Rattle.lp_core.specs.WellFormed.{IsWellFormed}
-use Rattle.lp_nocycle.specs.PivotCount.{variable_count, IsInterrupted, HasFewPivots, ComesToEnd}
+use Rattle.lp_nocycle.specs.PivotCount.{variable_count, IsInterrupted, HasFewPivots, EndsUninterrupted}
 use Rattle.lp_nocycle.proofs.Following.{few_pivots}
 
 power_above : (w : ℕ) → 0 < 2 ^ w
@@ -39,7 +39,7 @@ module _ {F : Type 0} (value : F → Number) (limit : ℕ) (lp : Lp F) (iterlim 
   not_refused end step refused is = subst IsInterrupted refused is
 
   -- of a kind of end it is that one alone which an interrupted search tells
-  at_kind : (Chosen : ℕ → Type 0) (pivots : ℕ) (d : Dictionary) (how : EndKind) (last : Last) (end : End F) → IsInterrupted end → EndsAt Chosen ((pivots ≡ iterlim) × IsGoingOnBy Chosen d) d how last → LeadsTo value lp how last end → pivots ≡ iterlim
+  at_kind : (Chosen : ℕ → Type 0) (pivots : ℕ) (d : Dictionary) (how : EndKind) (last : Last) (end : End F) → IsInterrupted end → EndsAt Chosen ((pivots ≡ iterlim) × IsUnfinishedBy Chosen d) d how last → LeadsTo value lp how last end → pivots ≡ iterlim
   at_kind Chosen pivots d kind.Interrupted last end is at leads = at.2.0
   at_kind Chosen pivots d kind.Optimal last (Interrupted phase levels row_levels) is at leads = absurd leads
   at_kind Chosen pivots d kind.Infeasible last (Interrupted phase levels row_levels) is at leads = absurd leads
@@ -60,7 +60,7 @@ module _ {F : Type 0} (value : F → Number) (limit : ℕ) (lp : Lp F) (iterlim 
   has_few answer formed (form_stops none stopped) = no_pivots answer.pivots (variable_count value lp) none
   has_few answer formed (search_ends ordered fit most last way ends) = few_pivots value lp answer.pivots last formed way.0
 
-  pub comes_to_end : (answer : Answer F) → IsWellFormed value lp → IsAnswer value limit lp iterlim Bland answer → ComesToEnd value lp iterlim answer
+  pub comes_to_end : (answer : Answer F) → IsWellFormed value lp → IsAnswer value limit lp iterlim Bland answer → EndsUninterrupted value lp iterlim answer
   comes_to_end answer formed (bounds_cross none crossed) enough is = not_crossed answer.end is crossed
   comes_to_end answer formed (form_stops none stopped) enough is = not_refused answer.end stopped.1.0 stopped.1.1 is
   comes_to_end answer formed (search_ends ordered fit most last way ends) enough is =

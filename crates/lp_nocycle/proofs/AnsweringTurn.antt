@@ -17,7 +17,7 @@ use Rattle.lp_fraction_dict.specs.Pivots.{IsProper}
 use Rattle.lp_fraction_dict.proofs.Begins.{first_proper}
 use Rattle.lp_fraction_dict.proofs.InForm.{form_in_order}
 use Rattle.lp_nocycle.specs.PivotCount.{twice_sets, variable_count}
-use Rattle.lp_nocycle.specs.Turns.{TurnsToBland, pivots_by_turn, HasFewPivotsByTurn, ComesToEndByTurn}
+use Rattle.lp_nocycle.specs.Turns.{TurnsToBland, pivots_by_turn, HasFewPivotsByTurn, EndsUninterruptedByTurn}
 use Rattle.lp_nocycle.proofs.Places.{pivot_at, done_at, none_done, one_more_done, dictionary_at, row_at, first_at, allowed_at, variables_at, run_of}
 use Rattle.lp_nocycle.proofs.Counts.{few_by_turn}
 use Rattle.lp_nocycle.proofs.Answering.{two_power_above, not_crossed, not_refused, at_the_limit}
@@ -58,7 +58,7 @@ module _ {F : Type 0} (value : F → Number) (limit : ℕ) (lp : Lp F) (iterlim 
   has_few_by_turn answer formed (form_stops none stopped) = none_below answer.pivots none
   has_few_by_turn answer formed (search_ends ordered fit most last way ends) = few_of_program answer.pivots last formed way.0
 
-  pub comes_to_end_by_turn : (answer : Answer F) → IsWellFormed value lp → IsAnswerByChoice value limit lp iterlim choice answer → ComesToEndByTurn value lp iterlim answer
+  pub comes_to_end_by_turn : (answer : Answer F) → IsWellFormed value lp → IsAnswerByChoice value limit lp iterlim choice answer → EndsUninterruptedByTurn value lp iterlim answer
   comes_to_end_by_turn answer formed (bounds_cross none crossed) enough is = not_crossed value limit lp iterlim answer.end is crossed
   comes_to_end_by_turn answer formed (form_stops none stopped) enough is = not_refused value limit lp iterlim answer.end stopped.1.0 stopped.1.1 is
   comes_to_end_by_turn answer formed (search_ends ordered fit most last way ends) enough is =

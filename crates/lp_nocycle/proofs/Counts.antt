@@ -12,7 +12,7 @@ use Rattle.lp_core.specs.Dictionary.{Dictionary, constant_at, exchanged}
 use Rattle.lp_core.specs.Pivots.{IsChosen, IsTaken}
 use Rattle.lp_core.specs.Ends.{IsPhase}
 use Rattle.lp_core.specs.Choices.{leaving_row, after_pivot, reached, AllAlong}
-use Rattle.lp_core.specs.LargestCoefficient.{IsOfPhase, StandsStill, HasTurned}
+use Rattle.lp_core.specs.LargestCoefficient.{IsOfPhase, IsDegeneratePivot, HasTurned}
 use Rattle.lp_fraction_dict.specs.Pivots.{IsProper}
 use Rattle.lp_fraction_dict.proofs.Improving.{same_or_not, found_or_not}
 use Rattle.lp_fraction_dict.proofs.Kept.{contains_get}
@@ -33,8 +33,8 @@ Zero = whole (pos 0)
 
 phase_is : (d : Dictionary) (m n : ℕ) → IsPhase d m → IsPhase d n → m ≡ n
 phase_is d m n (inl one) (inl too) = one.0 ∙ sym too.0
-phase_is d m n (inl one) (inr two) = absurd (elim one.1 [ inl due ↦ two.1 due | inr here ↦ two.2 here ])
-phase_is d m n (inr two) (inl one) = absurd (elim one.1 [ inl due ↦ two.1 due | inr here ↦ two.2 here ])
+phase_is d m n (inl one) (inr two) = absurd (elim one.1 [ inl required ↦ two.1 required | inr here ↦ two.2 here ])
+phase_is d m n (inr two) (inl one) = absurd (elim one.1 [ inl required ↦ two.1 required | inr here ↦ two.2 here ])
 phase_is d m n (inr two) (inr too) = two.0 ∙ sym too.0
 
 -- the phase of a dictionary
@@ -169,7 +169,7 @@ module _ (m w : ℕ) (at : ℕ → Dictionary) (pivot : ℕ → Pivot) (row : �
       pub streak : List Pivot
       pub split : done j ≡ before ++ streak
       pub long : length streak ≡ c
-      pub gains_nothing : AllAlong (StandsStill phase) (reached first before) streak
+      pub gains_nothing : AllAlong (IsDegeneratePivot phase) (reached first before) streak
       pub now : IsPhase (at j) phase
 
     leaving_is : (j : ℕ) → j < m → leaving_row (at j) (pivot j) ≡ row j
@@ -181,11 +181,11 @@ module _ (m w : ℕ) (at : ℕ → Dictionary) (pivot : ℕ → Pivot) (row : �
         runs.next j (omega arith) ∙ ap (exchanged (at j) (pivot j).enter) (sym (leaving_is j (omega arith))) ∙ ap (λ d. after_pivot d (pivot j)) (here j (omega arith))
         ∙ sym (reached_append first (done j) (pivot j ∷ [])) ∙ ap (reached first) (sym (more j (omega arith)))
 
-    reached_by : (j : ℕ) (before behind : List Pivot) → j ≤ m → done j ≡ before ++ behind → reached (reached first before) behind ≡ at j
-    reached_by j before behind within split = sym (reached_append first before behind) ∙ ap (reached first) (sym split) ∙ sym (here j within)
+    reached_by : (j : ℕ) (before following : List Pivot) → j ≤ m → done j ≡ before ++ following → reached (reached first before) following ≡ at j
+    reached_by j before following within split = sym (reached_append first before following) ∙ ap (reached first) (sym split) ∙ sym (here j within)
 
-    done_more : (j : ℕ) (before behind : List Pivot) → j < m → done j ≡ before ++ behind → done (suc j) ≡ before ++ (behind ++ pivot j ∷ [])
-    done_more j before behind less split = more j less ∙ ap (λ l. l ++ pivot j ∷ []) split ∙ append_assoc before behind (pivot j ∷ [])
+    done_more : (j : ℕ) (before following : List Pivot) → j < m → done j ≡ before ++ following → done (suc j) ≡ before ++ (following ++ pivot j ∷ [])
+    done_more j before following less split = more j less ∙ ap (λ l. l ++ pivot j ∷ []) split ∙ append_assoc before following (pivot j ∷ [])
 
     no_streak : (j c : ℕ) → c ≡ 0 → IsStreak j c
     no_streak j c none =
@@ -199,7 +199,7 @@ module _ (m w : ℕ) (at : ℕ → Dictionary) (pivot : ℕ → Pivot) (row : �
     longer j c n less none is s =
         let size = length-append s.streak (pivot j ∷ []) in
         let long = s.long in
-        let stands : StandsStill s.phase (at j) (pivot j) = (s.now, ap (constant_at (at j)) (leaving_is j less) ∙ none.1) in
+        let stands : IsDegeneratePivot s.phase (at j) (pivot j) = (s.now, ap (constant_at (at j)) (leaving_is j less) ∙ none.1) in
         record {
           phase = s.phase;
           before = s.before;
@@ -207,8 +207,8 @@ module _ (m w : ℕ) (at : ℕ → Dictionary) (pivot : ℕ → Pivot) (row : �
           split = done_more j s.before s.streak less s.split;
           long = omega arith;
           gains_nothing =
-              along_more (StandsStill s.phase) (reached first s.before) s.streak (pivot j) s.gains_nothing
-              (subst (λ d. StandsStill s.phase d (pivot j)) (sym (reached_by j s.before s.streak (omega arith) s.split)) stands);
+              along_more (IsDegeneratePivot s.phase) (reached first s.before) s.streak (pivot j) s.gains_nothing
+              (subst (λ d. IsDegeneratePivot s.phase d (pivot j)) (sym (reached_by j s.before s.streak (omega arith) s.split)) stands);
           now = next_phase j s.phase none.0 s.now;
         }
 
@@ -220,7 +220,7 @@ module _ (m w : ℕ) (at : ℕ → Dictionary) (pivot : ℕ → Pivot) (row : �
           phase = s.phase;
           before = s.before;
           still = s.streak;
-          behind = [];
+          following = [];
           split = s.split ∙ sym (append-nil (s.before ++ s.streak));
           many = omega arith;
           gains_nothing = s.gains_nothing;
@@ -230,7 +230,7 @@ module _ (m w : ℕ) (at : ℕ → Dictionary) (pivot : ℕ → Pivot) (row : �
 
     stays_turned : (j : ℕ) → j < m → SamePhase (at j) (at (suc j)) → HasTurned first (done j) (at j) → HasTurned first (done (suc j)) (at (suc j))
     stays_turned j less same t =
-        let split : done j ≡ (t.before ++ t.still) ++ t.behind = t.split in
+        let split : done j ≡ (t.before ++ t.still) ++ t.following = t.split in
         let are = variables j in
         let too = variables (suc j) in
         let many = t.many in
@@ -238,13 +238,13 @@ module _ (m w : ℕ) (at : ℕ → Dictionary) (pivot : ℕ → Pivot) (row : �
           phase = t.phase;
           before = t.before;
           still = t.still;
-          behind = t.behind ++ pivot j ∷ [];
-          split = done_more j (t.before ++ t.still) t.behind less split;
+          following = t.following ++ pivot j ∷ [];
+          split = done_more j (t.before ++ t.still) t.following less split;
           many = omega arith;
           gains_nothing = t.gains_nothing;
           same_phase =
-              along_more (IsOfPhase t.phase) (reached first (t.before ++ t.still)) t.behind (pivot j) t.same_phase
-              (subst (λ d. IsPhase d t.phase) (sym (reached_by j (t.before ++ t.still) t.behind (omega arith) split)) t.now);
+              along_more (IsOfPhase t.phase) (reached first (t.before ++ t.still)) t.following (pivot j) t.same_phase
+              (subst (λ d. IsPhase d t.phase) (sym (reached_by j (t.before ++ t.still) t.following (omega arith) split)) t.now);
           now = next_phase j t.phase same t.now;
         }
 
@@ -282,7 +282,7 @@ module _ (m w : ℕ) (at : ℕ → Dictionary) (pivot : ℕ → Pivot) (row : �
 module _ (n : ℕ) (at : ℕ → Dictionary) (pivot : ℕ → Pivot) (row : ℕ → ℕ) (back : Returns n at pivot row) where
   phase_on : (j : ℕ) → j < n → SamePhase (at j) (at (suc j))
   phase_on j less =
-      let none = (back.step j less).not_due in
+      let none = (back.step j less).not_required in
       let none_after = none_due_at n at pivot row back.runs j less in
       elim (found_or_not (at j).basic 0) [
         | inl found ↦ phases_same (at j) (at (suc j)) (inl (inr (contains_get (at j).basic found.0 0 found.1), inr (in_at n at pivot row back.runs 0 j less (back.zero_stays j less) (contains_get (at j).basic found.0 0 found.1))))

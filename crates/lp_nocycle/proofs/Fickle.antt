@@ -141,7 +141,7 @@ module _ (m : ℕ) (at : ℕ → Dictionary) (pivot : ℕ → Pivot) (row : ℕ 
       ]
     where
       kept : (w : ℕ) → ((j : ℕ) → j < m → row j ≢ i) → (x y : ℕ) → x ≤ y → y ≤ m → slice_get (at x).basic i ≡ Some w → slice_get (at y).basic i ≡ Some w
-      kept w never = Runs.walk (λ j. slice_get (at j).basic i ≡ Some w) m (λ j less there. Runs.there_at m at pivot row returns.runs i w j less (never j less) there)
+      kept w never = Runs.pivot_run (λ j. slice_get (at j).basic i ≡ Some w) m (λ j less there. Runs.there_at m at pivot row returns.runs i w j less (never j less) there)
 
       from_before : ((j : ℕ) → j < m → row j ≢ i) → a ≤ l → ⊥
       from_before never before =
@@ -169,7 +169,7 @@ module _ (m : ℕ) (at : ℕ → Dictionary) (pivot : ℕ → Pivot) (row : ℕ 
     -- a variable that improves at a is not below t
     improving_least : (v : ℕ) → v ≢ 0 → v ≤ (at a).variables → ¬ (Contains (at a).basic v) → whole (pos 0) <ℚ entry_at (at a) (Level.priced m at pivot row returns).0 v → (pivot a).enter ≤ v
     improving_least v other there none above =
-        ((bland a less_a).enters (returns.step a less_a).not_due).1 v
+        ((bland a less_a).enters (returns.step a less_a).not_required).1 v
         (record { other = other; there = there; not_basic = none; above = λ k p. subst (λ i. whole (pos 0) <ℚ entry_at (at a) i v) (priced_same k ((Level.priced m at pivot row returns).1 a (omega arith)) p) above })
       where
         priced_same : (k : ℕ) → IsPriced (at a) (Level.priced m at pivot row returns).0 → IsPriced (at a) k → (Level.priced m at pivot row returns).0 ≡ k
@@ -202,7 +202,7 @@ module _ (m : ℕ) (at : ℕ → Dictionary) (pivot : ℕ → Pivot) (row : ℕ 
         let limits : Limits (at l) (pivot l).enter i = (get_within (at l).basic i v here, above) in
         let least : (j : ℕ) → Limits (at l) (pivot l).enter j → ratio_at (at l) (pivot l).enter i ≤ℚ ratio_at (at l) (pivot l).enter j =
         λ j limited. subst (λ x. x ≤ℚ ratio_at (at l) (pivot l).enter j) (Level.ratio_none m at pivot row returns l less_l ∙ sym flat) ((returns.step l less_l).ties.least j limited) in
-        let most = (bland l less_l).leaves i (returns.step l less_l).not_due (record { limits = limits; least = least }) in
+        let most = (bland l less_l).leaves i (returns.step l less_l).not_required (record { limits = limits; least = least }) in
         let is = get_index (at l).basic i v 0 here in
         omega arith
 
@@ -261,17 +261,17 @@ module _ (n : ℕ) (at : ℕ → Dictionary) (pivot : ℕ → Pivot) (row : ℕ 
       elim phase_first [
         | inl one ↦ elim phase_last [
           | inl here ↦ elim here.1 [
-            | inl due ↦ Runs.none_due_at (suc n) at pivot row runs n (omega arith) due
+            | inl required ↦ Runs.none_due_at (suc n) at pivot row runs n (omega arith) required
             | inr basic ↦ Runs.entering_at (suc n) at pivot row runs 0 (omega arith) (subst (λ v. Contains (at 0).basic v) (sym o.enters) ((same 0).1 basic))
           ]
           | inr two ↦ let a = one.0 in let b = two.0 in absurd (omega arith)
         ]
-        | inr two ↦ two.1 o.due
+        | inr two ↦ two.1 o.required
       ]
 
   no_opening : (j : ℕ) → j < suc n → ¬ (IsOpening (at j) (pivot j) (row j))
   no_opening zero less o = no_opening_first o
-  no_opening (suc j) less o = Runs.none_due_at (suc n) at pivot row runs j (omega arith) o.due
+  no_opening (suc j) less o = Runs.none_due_at (suc n) at pivot row runs j (omega arith) o.required
 
   step : (j : ℕ) → j < suc n → IsStep (at j) (pivot j) (row j)
   step j less = elim (runs.legal j less) [ inl o ↦ absurd (no_opening j less o) | inr s ↦ s ]

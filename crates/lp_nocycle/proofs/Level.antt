@@ -16,13 +16,13 @@ use Rattle.lp_fraction_dict.proofs.Equations.{no_quotient}
 use Rattle.lp_fraction_dict.proofs.Proper
 use Rattle.lp_nocycle.specs.Cycling.{SameBasic}
 use Rattle.lp_nocycle.proofs.Units.{some_is, same_constant, same_objective}
-use Rattle.lp_nocycle.proofs.Runs.{IsRun, walk}
+use Rattle.lp_nocycle.proofs.Runs.{IsRun, pivot_run}
 use Rattle.lp_nocycle.proofs.Runs
 
 -- ---- numbers that fall and come back stay
 
 fall : (z : ℕ → Number) (m : ℕ) → ((j : ℕ) → j < m → z (suc j) ≤ℚ z j) → (a b : ℕ) → a ≤ b → b ≤ m → z b ≤ℚ z a
-fall z m falls a b more within = walk (λ j. z j ≤ℚ z a) m (λ j less most. ≤ℚ_trans (z (suc j)) (z j) (z a) (falls j less) most) a b more within (≤ℚ_refl (z a))
+fall z m falls a b more within = pivot_run (λ j. z j ≤ℚ z a) m (λ j less most. ≤ℚ_trans (z (suc j)) (z j) (z a) (falls j less) most) a b more within (≤ℚ_refl (z a))
 
 pub stay : (z : ℕ → Number) (m : ℕ) → ((j : ℕ) → j < m → z (suc j) ≤ℚ z j) → z 0 ≡ z m → (j : ℕ) → j < m → z (suc j) ≡ z j
 stay z m falls back j less =
@@ -57,7 +57,7 @@ module _ (m : ℕ) (at : ℕ → Dictionary) (pivot : ℕ → Pivot) (row : ℕ 
       elim (found_or_not (at 0).basic 0) [
         | inl found ↦
             let there : (j : ℕ) → j ≤ m → slice_get (at j).basic found.0 ≡ Some 0 = λ j within.
-            walk (λ j. slice_get (at j).basic found.0 ≡ Some 0) m (λ j less here. Runs.there_at m at pivot row returns.runs found.0 0 j less (zero_untouched found.0 j less here) here) 0 j (omega arith) within found.1 in
+            pivot_run (λ j. slice_get (at j).basic found.0 ≡ Some 0) m (λ j less here. Runs.there_at m at pivot row returns.runs found.0 0 j less (zero_untouched found.0 j less here) here) 0 j (omega arith) within found.1 in
             (found.0, λ j within. inl (there j within), same_constant (at 0) (at m) (proper 0 (omega arith)) (proper m (omega arith)) agrees returns.back found.0 found.0 0 found.1 (there m (omega arith)))
         | inr none ↦
             let sized : (j : ℕ) → j ≤ m → length (at j).basic ≡ length (at 0).basic = Runs.sized_from m at pivot row returns.runs in (
@@ -119,7 +119,7 @@ module _ (m : ℕ) (at : ℕ → Dictionary) (pivot : ℕ → Pivot) (row : ℕ 
       ]
 
   constant_from : (k j : ℕ) → j ≤ m → constant_at (at j) k ≡ constant_at (at 0) k
-  constant_from k j within = walk (λ j. constant_at (at j) k ≡ constant_at (at 0) k) m (λ j less same. constant_same k j less ∙ same) 0 j (omega arith) within refl
+  constant_from k j within = pivot_run (λ j. constant_at (at j) k ≡ constant_at (at 0) k) m (λ j less same. constant_same k j less ∙ same) 0 j (omega arith) within refl
 
   -- a row that is touched has the constant 0 all along
   pub touched : (k i l : ℕ) → i < m → row i ≡ k → l ≤ m → constant_at (at l) k ≡ whole (pos 0)

@@ -6,7 +6,7 @@ use Rattle.std.proofs.lemmas.Bool.{cases_lt}
 use Rattle.gq_number.specs.Number.{whole}
 use Rattle.gq_number.specs.Order.{◌<ℚ◌}
 use Rattle.gq_number.proofs.Order.{≤ℚ_or_above, not_above}
-use Rattle.lp_core.specs.Dictionary.{Dictionary, constant_at, OpeningIsDue, InPhaseOne}
+use Rattle.lp_core.specs.Dictionary.{Dictionary, constant_at, OpeningIsRequired, InPhaseOne}
 use Rattle.lp_core.specs.Ends.{IsPhase}
 use Rattle.lp_fraction_dict.specs.Pivots.{IsProper}
 use Rattle.lp_fraction_dict.proofs.Kept.{contains_get}
@@ -127,18 +127,18 @@ some_constant_below d (suc n) =
     ]
 
 abbrev pub IsFirst : Dictionary → Type 0
-IsFirst d = OpeningIsDue d ⊎ InPhaseOne d
+IsFirst d = OpeningIsRequired d ⊎ InPhaseOne d
 
 abbrev pub IsSecond : Dictionary → Type 0
-IsSecond d = ¬ (OpeningIsDue d) × ¬ (InPhaseOne d)
+IsSecond d = ¬ (OpeningIsRequired d) × ¬ (InPhaseOne d)
 
 pub first_or_second : (d : Dictionary) → IsFirst d ⊎ IsSecond d
 first_or_second d =
     elim (found_or_not d.basic 0) [
       | inl found ↦ inl (inr (contains_get d.basic found.0 0 found.1))
       | inr none ↦ elim (some_constant_below d (length d.basic)) [
-        | inl due ↦ inl (inl due)
-        | inr never ↦ inr (λ due. never due.0 due.1 due.2, none)
+        | inl required ↦ inl (inl required)
+        | inr never ↦ inr (λ required. never required.0 required.1 required.2, none)
       ]
     ]
 

@@ -4,7 +4,7 @@ use Rattle.std.proofs.Common.{◌≡◌, ◌≢◌, ℕ, zero, suc, ◌<◌, ◌
 use Rattle.std.specs.Prelude.{slice_get, Contains}
 use Rattle.lp_core.specs.declared.answer.Pivot.{Pivot}
 use Rattle.lp_core.specs.declared.answer.Rule.TheVariants.{Bland}
-use Rattle.lp_core.specs.Dictionary.{Dictionary, OpeningIsDue, IsLegal, exchanged}
+use Rattle.lp_core.specs.Dictionary.{Dictionary, OpeningIsRequired, IsLegal, exchanged}
 use Rattle.lp_core.specs.Pivots.{IsChosen, IsTaken}
 use Rattle.lp_fraction_dict.specs.Pivots.{IsProper}
 use Rattle.lp_fraction_dict.proofs.Kept.{contains_get}
@@ -92,12 +92,12 @@ abbrev pub AreBlands : ℕ → (ℕ → Dictionary) → (ℕ → Pivot) → Type
 AreBlands m at pivot = (j : ℕ) → j < m → IsTaken (IsChosen Bland (at j)) (at j) (pivot j)
 
 -- what a step keeps holds from a place on
-pub walk : (P : ℕ → Type 0) (m : ℕ) → ((j : ℕ) → j < m → P j → P (suc j)) → (a b : ℕ) → a ≤ b → b ≤ m → P a → P b
-walk P m step a zero more within here = subst P (let h : a ≡ 0 = omega arith in h) here
-walk P m step a (suc b) more within here =
+pub pivot_run : (P : ℕ → Type 0) (m : ℕ) → ((j : ℕ) → j < m → P j → P (suc j)) → (a b : ℕ) → a ≤ b → b ≤ m → P a → P b
+pivot_run P m step a zero more within here = subst P (let h : a ≡ 0 = omega arith in h) here
+pivot_run P m step a (suc b) more within here =
     elim (same_or_not a (suc b)) [
       | inl same ↦ subst P same here
-      | inr other ↦ step b (omega arith) (walk P m step a b (omega arith) (omega arith) here)
+      | inr other ↦ step b (omega arith) (pivot_run P m step a b (omega arith) (omega arith) here)
     ]
 
 module _ (m : ℕ) (at : ℕ → Dictionary) (pivot : ℕ → Pivot) (row : ℕ → ℕ) (runs : IsRun m at pivot row) where
@@ -105,8 +105,8 @@ module _ (m : ℕ) (at : ℕ → Dictionary) (pivot : ℕ → Pivot) (row : ℕ 
   proper_at zero within = runs.proper
   proper_at (suc j) within = subst IsProper (sym (runs.next j (omega arith))) (Proper.proper_after (at j) (pivot j) (row j) (proper_at j (omega arith)) (runs.legal j (omega arith)))
 
-  pub none_due_at : (j : ℕ) → j < m → ¬ (OpeningIsDue (at (suc j)))
-  none_due_at j less = subst (λ d. ¬ (OpeningIsDue d)) (sym (runs.next j less)) (Proper.none_due (at j) (pivot j) (row j) (proper_at j (omega arith)) (runs.legal j less))
+  pub none_due_at : (j : ℕ) → j < m → ¬ (OpeningIsRequired (at (suc j)))
+  none_due_at j less = subst (λ d. ¬ (OpeningIsRequired d)) (sym (runs.next j less)) (Proper.none_due (at j) (pivot j) (row j) (proper_at j (omega arith)) (runs.legal j less))
 
   pub out_at : (v j : ℕ) → j < m → (pivot j).enter ≢ v → ¬ (Contains (at j).basic v) → ¬ (Contains (at (suc j)).basic v)
   out_at v j less other none = subst (λ d. ¬ (Contains d.basic v)) (sym (runs.next j less)) (stays_out (at j) (pivot j) (row j) (proper_at j (omega arith)) (runs.legal j less) v other none)
@@ -132,19 +132,19 @@ module _ (m : ℕ) (at : ℕ → Dictionary) (pivot : ℕ → Pivot) (row : ℕ 
   -- a variable that never enters stays out, one that never leaves stays in, and one whose row is
   -- never chosen keeps its row
   pub out_from : (v : ℕ) → ((j : ℕ) → j < m → (pivot j).enter ≢ v) → (a b : ℕ) → a ≤ b → b ≤ m → ¬ (Contains (at a).basic v) → ¬ (Contains (at b).basic v)
-  out_from v never = walk (λ j. ¬ (Contains (at j).basic v)) m (λ j less none. out_at v j less (never j less) none)
+  out_from v never = pivot_run (λ j. ¬ (Contains (at j).basic v)) m (λ j less none. out_at v j less (never j less) none)
 
   pub in_from : (v : ℕ) → ((j : ℕ) → j < m → (pivot j).leave ≢ v) → (a b : ℕ) → a ≤ b → b ≤ m → Contains (at a).basic v → Contains (at b).basic v
-  in_from v never = walk (λ j. Contains (at j).basic v) m (λ j less here. in_at v j less (never j less) here)
+  in_from v never = pivot_run (λ j. Contains (at j).basic v) m (λ j less here. in_at v j less (never j less) here)
 
   pub sized_from : (j : ℕ) → j ≤ m → length (at j).basic ≡ length (at 0).basic
   sized_from j within =
-      walk (λ j. length (at j).basic ≡ length (at 0).basic) m (λ j less same. ap (λ (d : Dictionary). length d.basic) (runs.next j less) ∙ Proper.same_size (at j) (pivot j) (row j) (proper_at j (omega arith)) (runs.legal j less) ∙ same) 0 j (omega arith) within refl
+      pivot_run (λ j. length (at j).basic ≡ length (at 0).basic) m (λ j less same. ap (λ (d : Dictionary). length d.basic) (runs.next j less) ∙ Proper.same_size (at j) (pivot j) (row j) (proper_at j (omega arith)) (runs.legal j less) ∙ same) 0 j (omega arith) within refl
 
   -- where variable 0 never leaves all dictionaries agree
   pub agrees_from : ((j : ℕ) → j < m → (pivot j).leave ≢ 0) → (j : ℕ) → j ≤ m → Agrees (at 0) (at j)
   agrees_from never j within =
-      walk (λ j. Agrees (at 0) (at j)) m (λ j less agrees. agrees_on (at 0) (at j) (at (suc j)) agrees (subst (Agrees (at j)) (sym (runs.next j less)) (agrees_after (at j) (pivot j) (row j) (proper_at j (omega arith)) (runs.legal j less) (never j less)))) 0 j (omega arith) within (agrees_itself (at 0))
+      pivot_run (λ j. Agrees (at 0) (at j)) m (λ j less agrees. agrees_on (at 0) (at j) (at (suc j)) agrees (subst (Agrees (at j)) (sym (runs.next j less)) (agrees_after (at j) (pivot j) (row j) (proper_at j (omega arith)) (runs.legal j less) (never j less)))) 0 j (omega arith) within (agrees_itself (at 0))
 
   pub agree : ((j : ℕ) → j < m → (pivot j).leave ≢ 0) → (a b : ℕ) → a ≤ m → b ≤ m → Agrees (at a) (at b)
   agree never a b within_a within_b = agrees_on (at a) (at 0) (at b) (agrees_back (at 0) (at a) (agrees_from never a within_a)) (agrees_from never b within_b)

@@ -26,8 +26,8 @@ abbrev pub HasFewPivots : {F : Type 0} → (F → Number) → Lp F → Answer F 
 HasFewPivots value lp answer = length answer.pivots < twice_sets (variable_count value lp)
 
 -- with a limit of at least that many pivots an answer is not interrupted
-abbrev pub ComesToEnd : {F : Type 0} → (F → Number) → Lp F → ℕ → Answer F → Type 0
-ComesToEnd value lp iterlim answer = twice_sets (variable_count value lp) ≤ iterlim → ¬ (IsInterrupted answer.end)
+abbrev pub EndsUninterrupted : {F : Type 0} → (F → Number) → Lp F → ℕ → Answer F → Type 0
+EndsUninterrupted value lp iterlim answer = twice_sets (variable_count value lp) ≤ iterlim → ¬ (IsInterrupted answer.end)
 
 -- twice 2^n for n variables, if that is below 2^64
 abbrev pub pivot_bound : ℕ → Option ℕ

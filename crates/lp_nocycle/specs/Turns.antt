@@ -27,5 +27,5 @@ abbrev pub HasFewPivotsByTurn : {F : Type 0} → (F → Number) → Lp F → Ans
 HasFewPivotsByTurn value lp answer = length answer.pivots < pivots_by_turn (variable_count value lp)
 
 -- with a limit of at least that many pivots an answer is not interrupted
-abbrev pub ComesToEndByTurn : {F : Type 0} → (F → Number) → Lp F → ℕ → Answer F → Type 0
-ComesToEndByTurn value lp iterlim answer = pivots_by_turn (variable_count value lp) ≤ iterlim → ¬ (IsInterrupted answer.end)
+abbrev pub EndsUninterruptedByTurn : {F : Type 0} → (F → Number) → Lp F → ℕ → Answer F → Type 0
+EndsUninterruptedByTurn value lp iterlim answer = pivots_by_turn (variable_count value lp) ≤ iterlim → ¬ (IsInterrupted answer.end)

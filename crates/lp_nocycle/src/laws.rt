@@ -9,8 +9,8 @@ ghost use Rattle.lp_core.specs.Dictionary.{Dictionary};
 ghost use Rattle.lp_core.specs.LargestCoefficient.{IsLargestAnswer};
 ghost use Rattle.lp_core.specs.WellFormed.{IsWellFormed};
 ghost use Rattle.lp_nocycle.specs.Cycling.{NoneRepeats};
-ghost use Rattle.lp_nocycle.specs.PivotCount.{HasFewPivots, ComesToEnd};
-ghost use Rattle.lp_nocycle.specs.Turns.{TurnsToBland, HasFewPivotsByTurn, ComesToEndByTurn};
+ghost use Rattle.lp_nocycle.specs.PivotCount.{HasFewPivots, EndsUninterrupted};
+ghost use Rattle.lp_nocycle.specs.Turns.{TurnsToBland, HasFewPivotsByTurn, EndsUninterruptedByTurn};
 
 use gq_field::ExactField;
 
@@ -28,7 +28,7 @@ pub fn pivots_end<F: ExactField>()
     ensures few { (lp : Lp F) (limit iterlim : ℕ) (answer : Answer F) → IsWellFormed F.value lp →
         IsAnswer F.value limit lp iterlim Bland answer → HasFewPivots F.value lp answer }
     ensures to_the_end { (lp : Lp F) (limit iterlim : ℕ) (answer : Answer F) → IsWellFormed F.value lp →
-        IsAnswer F.value limit lp iterlim Bland answer → ComesToEnd F.value lp iterlim answer }
+        IsAnswer F.value limit lp iterlim Bland answer → EndsUninterrupted F.value lp iterlim answer }
 {}
 
 /// A choice of the entering variable that turns to Bland's rule after as many pivots without gain
@@ -50,7 +50,7 @@ pub fn turns_end<F: ExactField, C: Turning>()
     ensures few { (lp : Lp F) (limit iterlim : ℕ) (answer : Answer F) → IsWellFormed F.value lp →
         IsAnswerByChoice F.value limit lp iterlim C.chooses answer → HasFewPivotsByTurn F.value lp answer }
     ensures to_the_end { (lp : Lp F) (limit iterlim : ℕ) (answer : Answer F) → IsWellFormed F.value lp →
-        IsAnswerByChoice F.value limit lp iterlim C.chooses answer → ComesToEndByTurn F.value lp iterlim answer }
+        IsAnswerByChoice F.value limit lp iterlim C.chooses answer → EndsUninterruptedByTurn F.value lp iterlim answer }
 {}
 
 /// A search by the rule of the largest coefficient ends: it is a choice that turns to Bland's rule.
@@ -58,5 +58,5 @@ pub fn largest_ends<F: ExactField>()
     ensures few { (lp : Lp F) (limit iterlim : ℕ) (answer : Answer F) → IsWellFormed F.value lp →
         IsLargestAnswer F.value limit lp iterlim answer → HasFewPivotsByTurn F.value lp answer }
     ensures to_the_end { (lp : Lp F) (limit iterlim : ℕ) (answer : Answer F) → IsWellFormed F.value lp →
-        IsLargestAnswer F.value limit lp iterlim answer → ComesToEndByTurn F.value lp iterlim answer }
+        IsLargestAnswer F.value limit lp iterlim answer → EndsUninterruptedByTurn F.value lp iterlim answer }
 {}

@@ -26,7 +26,7 @@ use Rattle.lp_core.specs.DualBound.{row_lower, row_upper, used, total, both, red
 use Rattle.lp_core.specs.Proofs.{Crosses}
 use Rattle.lp_core.specs.StandardForm as form
 use Rattle.lp_core.specs.StandardForm.{Shift, Standard, base, width, changed_back, shifted_back, column_at, columns_of, variables_of, standard_form, point_of, directed, multiplier, duals_from, dual_by_sense, rows_of_sense, levels_back}
-use Rattle.lp_core.specs.Dictionary.{Dictionary, constant_at, entry_at, InPhaseOne, OpeningIsDue}
+use Rattle.lp_core.specs.Dictionary.{Dictionary, constant_at, entry_at, InPhaseOne, OpeningIsRequired}
 use Rattle.lp_core.specs.Pivots.{row_of_basic, last_of, NothingImproves}
 use Rattle.lp_core.proofs.RowSums.{sum_by_same, unit_at, unit_sum}
 use Rattle.lp_core.proofs.Duality.{low_at_most, high_at_least}
@@ -265,14 +265,14 @@ module _ {F : Type 0} (value : F → Number) (limit : ℕ) (lp : Lp F) (formed :
     improves_none : NothingImproves e
     improves_none = nothing_raised d c t second nothing.0 (stays_below limit d second nothing lp.maximize c move stay)
 
-    not_due : ¬ (OpeningIsDue e)
-    not_due = improves_none.0
+    not_required : ¬ (OpeningIsRequired e)
+    not_required = improves_none.0
 
     inside_new : All (λ (row : form.StandardRow). Within (length new.objective) row.entries) new.rows
     inside_new = raised_within d c t s is second nothing.0 low_c high_c inside_form
 
     priced_new : Costs new (last_of e).costs (constant_at e (length d.basic)) (objective_at new)
-    priced_new = optimal_costs new e of_form not_due inside_new second improves_none
+    priced_new = optimal_costs new e of_form not_required inside_new second improves_none
 
     priced_same : (y : List Number) → priced_at s (last_of e).costs y ≡ priced_at new (last_of e).costs y
     priced_same y =
@@ -301,7 +301,7 @@ module _ {F : Type 0} (value : F → Number) (limit : ℕ) (lp : Lp F) (formed :
     level_is : directed lp.maximize (cost_at lp (costs_with lp j cost) levels) ≡ neg_ℚ start
     level_is =
         let values = (last_of e).values in
-        let at_values : target (last_of e).values ≡ neg_ℚ start = ap (λ u. u +ℚ t *ℚ base c.1) (values_objective new e of_form not_due inside_new second) ∙ turned (constant_at e (length d.basic)) (t *ℚ base c.1) in
+        let at_values : target (last_of e).values ≡ neg_ℚ start = ap (λ u. u +ℚ t *ℚ base c.1) (values_objective new e of_form not_required inside_new second) ∙ turned (constant_at e (length d.basic)) (t *ℚ base c.1) in
         ap (λ vs. directed lp.maximize (cost_at lp (costs_with lp j cost) (point_of s vs))) (sym (values_same d c t))
         ∙ ap (directed lp.maximize) (sym (aim values)) ∙ directed_twice lp.maximize (target values) ∙ at_values
       where

@@ -27,7 +27,7 @@ use Rattle.lp_core.specs.DualBound.{objective_costs}
 use Rattle.lp_core.specs.StandardForm.{width, numbered}
 use Rattle.lp_core.specs.StandardForm as form
 use Rattle.lp_core.specs.Dictionary.{Dictionary, entry_at, IsLegal, exchanged}
-use Rattle.lp_core.specs.Steps.{Due, AllFit, FirstStop, exchange_steps, count_of_rows}
+use Rattle.lp_core.specs.Steps.{ExpectedStep, AllFit, FirstStop, exchange_steps, count_of_rows}
 use Rattle.lp_core.specs.Pivots.{row_of_basic, change_by_row, ByRule, LeadsWithin}
 use Rattle.lp_std.specs.declared.types.Shift.{Shift}
 use Rattle.lp_std.specs.Meaning.{shift_value}
@@ -173,8 +173,8 @@ module _ {F : Type 0} (value : F → Number) (lp : Lp F) (formed : IsWellFormed 
   pub slack_room : form.variables_of value lp + 1 + count_of_rows lp.rows ≤ d.variables + 1
   slack_room =
       let first = rows_over value (form.columns_of value lp) 0 lp.rows in
-      let behind = bounds_over value (form.columns_of value lp) 0 lp.columns in
-      omega (arith, is.variables, count_is value lp formed, length-append first behind, rows_over_counted value (form.columns_of value lp) 0 lp.rows)
+      let following = bounds_over value (form.columns_of value lp) 0 lp.columns in
+      omega (arith, is.variables, count_is value lp formed, length-append first following, rows_over_counted value (form.columns_of value lp) 0 lp.rows)
 
 module _ {F : Type 0} (value : F → Number) (limit : ℕ) (d : Dictionary) (lp : Lp F) (shifts : List (Shift F)) (j : ℕ) (shift : Shift F) (here : j < length shifts) (is : shift ≡ get_or shifts j shift) where
   pub widths_left : sum_by (λ (s : Shift F). width (shift_value value s)) (drop j shifts) ≡ width (shift_value value shift) + sum_by (λ (s : Shift F). width (shift_value value s)) (drop (j + 1) shifts)
@@ -193,10 +193,10 @@ costs_end value limit d lp shifts j v made end =
 
 -- ---- pivots
 
-pub fit_or_stop : (steps : List Due) (name : StepName) → AllFit steps → FirstStop steps name → ⊥
+pub fit_or_stop : (steps : List ExpectedStep) (name : StepName) → AllFit steps → FirstStop steps name → ⊥
 fit_or_stop steps name fit stop =
-    let rest = All-append_right (λ (step : Due). step.1 ≡ true) stop.before ((name, false) ∷ stop.behind) (subst AllFit stop.split fit) in
-    absurd (let clash : false ≡ true = All-head (λ (step : Due). step.1 ≡ true) (name, false) stop.behind rest in cc)
+    let rest = All-append_right (λ (step : ExpectedStep). step.1 ≡ true) stop.before ((name, false) ∷ stop.following) (subst AllFit stop.split fit) in
+    absurd (let clash : false ≡ true = All-head (λ (step : ExpectedStep). step.1 ≡ true) (name, false) stop.following rest in cc)
 
 pub leaves_row : (d : Dictionary) (p : Pivot) (k : ℕ) → IsLegal d p k → slice_get d.basic k ≡ Some p.leave
 leaves_row d p k legal = elim legal [ inl opening ↦ opening.leaves | inr step ↦ step.leaves ]

@@ -13,7 +13,7 @@ use Rattle.gq_number.proofs.Ring.{ring_ℚ}
 use Rattle.gq_number.proofs.Sums.{sum_by_ℚ-nil, sum_by_ℚ-cons, sum_by_ℚ--ℚ}
 use Rattle.lp_core.specs.Sums.{value_of_column}
 use Rattle.lp_core.specs.StandardForm as form
-use Rattle.lp_core.specs.Dictionary.{Dictionary, basic_at, constant_at, entry_at, row_at, Meets, InPhaseOne, OpeningIsDue, no_row, first_dictionary}
+use Rattle.lp_core.specs.Dictionary.{Dictionary, basic_at, constant_at, entry_at, row_at, Meets, InPhaseOne, OpeningIsRequired, no_row, first_dictionary}
 use Rattle.lp_core.specs.Pivots.{row_of_basic, cost_by_row, priced_row, all_variables, last_of, NothingImproves}
 use Rattle.lp_core.proofs.RowSums.{sum_by_same}
 use Rattle.lp_std.specs.Points.{sum_at}
@@ -86,9 +86,9 @@ module _ (push : ℕ → Number) (d : Dictionary) where
   pub costs_same : (last_of moved).costs ≡ (last_of d).costs
   costs_same = ap (λ (f : ℕ → Number). map f (all_variables d)) (fun_ext (λ v. cost_same (priced_row d) v (row_of_basic d v)))
 
-  pub nothing_moved : ¬ (OpeningIsDue moved) → NothingImproves d → NothingImproves moved
-  nothing_moved not_due nothing = (
-    not_due,
+  pub nothing_moved : ¬ (OpeningIsRequired moved) → NothingImproves d → NothingImproves moved
+  nothing_moved not_required nothing = (
+    not_required,
     λ v better. nothing.1 v (record {
       other = better.other;
       there = better.there;
@@ -98,7 +98,7 @@ module _ (push : ℕ → Number) (d : Dictionary) where
   )
 
   -- ---- against the two forms
-  module _ (s t : form.Standard) (is : IsDictionaryOf s d) (form_moved : IsMovedForm push s t) (second : ¬ (InPhaseOne d)) (not_due : ¬ (OpeningIsDue moved)) (within : All (λ (row : form.StandardRow). Within (length s.objective) row.entries) s.rows) where
+  module _ (s t : form.Standard) (is : IsDictionaryOf s d) (form_moved : IsMovedForm push s t) (second : ¬ (InPhaseOne d)) (not_required : ¬ (OpeningIsRequired moved)) (within : All (λ (row : form.StandardRow). Within (length s.objective) row.entries) s.rows) where
     count_same : length t.objective ≡ length s.objective
     count_same = ap length form_moved.objective
 
@@ -178,7 +178,7 @@ module _ (push : ℕ → Number) (d : Dictionary) where
           }
 
     none_zero : ¬ (HasZero moved)
-    none_zero h = elim h [ inl phase ↦ second phase | inr due ↦ not_due due ]
+    none_zero h = elim h [ inl phase ↦ second phase | inr required ↦ not_required required ]
 
     pub moved_of_form : IsDictionaryOf t moved
     moved_of_form =
@@ -189,5 +189,5 @@ module _ (push : ℕ → Number) (d : Dictionary) where
           own = λ k h. entry_moved k (basic_at d k) ∙ is.own k h;
           alone = λ i k most here other. entry_moved i (basic_at d k) ∙ is.alone i k most here other;
           same = λ x objective zero_there. (to_first x (zero_there none_zero) objective, from_first x (zero_there none_zero) objective);
-          zero_above = λ k at due. absurd (second (contains_get d.basic k 0 at));
+          zero_above = λ k at required. absurd (second (contains_get d.basic k 0 at));
         }

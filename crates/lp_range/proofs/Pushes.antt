@@ -189,17 +189,17 @@ module _ (lp : Lp Number) (formed : IsWellFormed itself lp) (i : ℕ) (row : Row
       let columns = form.columns_of itself lp in
       let v = form.variables_of itself lp + 1 in
       let first = rows_over itself (form.columns_of itself lp) 0 lp.rows in
-      let behind = bounds_over itself (form.columns_of itself lp) 0 lp.columns in
+      let following = bounds_over itself (form.columns_of itself lp) 0 lp.columns in
       let count : length (rows_over itself (form.columns_of itself lp) 0 lp.rows) ≡ count_of_rows lp.rows = rows_over_counted itself (form.columns_of itself lp) 0 lp.rows in
       let high = slack_high (form.variables_of itself lp + 1) i lp.rows row at in
-      moved_append push v first behind (rows_over itself columns 0 (rows_with_right i right lp.rows)) behind (rows_moved columns right v i 0 lp.rows row at)
-      (unmoved push (v + length first) behind (λ w low less. push_past row.sense slack (right -ℚ row.right) w (omega (arith, high, count, low))))
+      moved_append push v first following (rows_over itself columns 0 (rows_with_right i right lp.rows)) following (rows_moved columns right v i 0 lp.rows row at)
+      (unmoved push (v + length first) following (λ w low less. push_past row.sense slack (right -ℚ row.right) w (omega (arith, high, count, low))))
 
   pub rows_room : count_of_rows lp.rows ≤ length (form.rows_of itself lp)
   rows_room =
       let first = rows_over itself (form.columns_of itself lp) 0 lp.rows in
-      let behind = bounds_over itself (form.columns_of itself lp) 0 lp.columns in
-      omega (arith, length-append first behind, rows_over_counted itself (form.columns_of itself lp) 0 lp.rows)
+      let following = bounds_over itself (form.columns_of itself lp) 0 lp.columns in
+      omega (arith, length-append first following, rows_over_counted itself (form.columns_of itself lp) 0 lp.rows)
 
   pub form_is_moved : IsMovedForm push (form.standard_form itself lp) (form.standard_form itself (with_right i right lp))
   form_is_moved =
@@ -225,8 +225,8 @@ module _ (limit : ℕ) (d : Dictionary) (v : ℕ) (t : Number) (k : ℕ) where
       ∙ range_unit w c (entry_at d k) 0 (d.variables + 1) (omega arith) (omega arith)
 
   pub gained_is : (s : Sense) → v + rows_of_sense s ≤ d.variables + 1 → gained (push_of s v t) d k ≡ t *ℚ (right_gain limit d s v k).each
-  gained_is sense.E room =
-      let far : v + 2 ≤ d.variables + 1 = room in
+  gained_is sense.E within_bound =
+      let far : v + 2 ≤ d.variables + 1 = within_bound in
       sum_by_same (λ u. entry_at d k u *ℚ (unit_at v t u +ℚ unit_at (v + 1) (neg_ℚ t) u)) (λ u. entry_at d k u *ℚ unit_at v t u +ℚ entry_at d k u *ℚ unit_at (v + 1) (neg_ℚ t) u) (range_with_len 0 (d.variables + 1)) (λ u. apart (entry_at d k u) (unit_at v t u) (unit_at (v + 1) (neg_ℚ t) u))
       ∙ sum_by_ℚ-+ℚ (λ u. entry_at d k u *ℚ unit_at v t u) (λ u. entry_at d k u *ℚ unit_at (v + 1) (neg_ℚ t) u) (range_with_len 0 (d.variables + 1))
       ∙ ap₂ (λ a b. a +ℚ b) (unit_gained v t (omega arith)) (unit_gained (v + 1) (neg_ℚ t) (omega arith))
@@ -237,10 +237,10 @@ module _ (limit : ℕ) (d : Dictionary) (v : ℕ) (t : Number) (k : ℕ) where
 
       joined : (t a b : Number) → t *ℚ a +ℚ neg_ℚ t *ℚ b ≡ t *ℚ (a -ℚ b)
       joined t a b = simp ring_ℚ
-  gained_is sense.L room = let far : v + 1 ≤ d.variables + 1 = room in unit_gained v t (omega arith)
-  gained_is sense.G room = let far : v + 1 ≤ d.variables + 1 = room in unit_gained v (neg_ℚ t) (omega arith) ∙ turned t (entry_at d k v)
+  gained_is sense.L within_bound = let far : v + 1 ≤ d.variables + 1 = within_bound in unit_gained v t (omega arith)
+  gained_is sense.G within_bound = let far : v + 1 ≤ d.variables + 1 = within_bound in unit_gained v (neg_ℚ t) (omega arith) ∙ turned t (entry_at d k v)
     where
       turned : (t a : Number) → neg_ℚ t *ℚ a ≡ t *ℚ neg_ℚ a
       turned t a = simp ring_ℚ
-  gained_is sense.N room =
+  gained_is sense.N within_bound =
       sum_by_same (λ u. entry_at d k u *ℚ whole (pos 0)) (λ u. whole (pos 0)) (range_with_len 0 (d.variables + 1)) (λ u. *ℚ-zero (entry_at d k u)) ∙ sum_by_ℚ-zero (range_with_len 0 (d.variables + 1)) ∙ sym (*ℚ-zero t)

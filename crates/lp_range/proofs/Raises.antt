@@ -15,7 +15,7 @@ use Rattle.gq_number.proofs.Sums.{sum_by_ℚ-nil, sum_by_ℚ-cons, sum_by_ℚ-+�
 use Rattle.lp_core.specs.Sums.{value_of_column}
 use Rattle.lp_core.specs.StandardForm as form
 use Rattle.lp_core.specs.StandardForm.{Shift, from_lower, from_upper, free, width, changed_back, spread, objective_of}
-use Rattle.lp_core.specs.Dictionary.{Dictionary, basic_at, constant_at, entry_at, row_at, Meets, InPhaseOne, OpeningIsDue, no_row, first_dictionary}
+use Rattle.lp_core.specs.Dictionary.{Dictionary, basic_at, constant_at, entry_at, row_at, Meets, InPhaseOne, OpeningIsRequired, no_row, first_dictionary}
 use Rattle.lp_core.specs.Pivots.{row_of_basic, value_by_row, change_by_row, all_variables, last_of, NothingImproves}
 use Rattle.lp_core.proofs.RowSums.{sum_by_same}
 use Rattle.lp_std.specs.Points.{sum_at, objective_at}
@@ -105,9 +105,9 @@ module _ (d : Dictionary) where
         less_nothing a = simp ring_ℚ
 
     pub column_at : (c : ℕ × Shift) → c.0 + width c.1 ≤ d.variables + 1 → sum_by_ℚ (λ w. column_entry c w *ℚ value_of_column x w) (range_with_len 0 (d.variables + 1)) -ℚ column_constant c ≡ changed_back c x
-    column_at (v, from_lower b) room = let far : v + 1 ≤ d.variables + 1 = room in variable_at v (omega arith) (row_of_basic d v) refl
-    column_at (v, from_upper b) room =
-        let far : v + 1 ≤ d.variables + 1 = room in
+    column_at (v, from_lower b) within_bound = let far : v + 1 ≤ d.variables + 1 = within_bound in variable_at v (omega arith) (row_of_basic d v) refl
+    column_at (v, from_upper b) within_bound =
+        let far : v + 1 ≤ d.variables + 1 = within_bound in
         ap (λ s. s -ℚ neg_ℚ (variable_constant (row_of_basic d v)))
         (sum_by_same (λ w. neg_ℚ (variable_entry v (row_of_basic d v) w) *ℚ value_of_column x w) (λ w. neg_ℚ (variable_entry v (row_of_basic d v) w *ℚ value_of_column x w)) (range_with_len 0 (d.variables + 1)) (λ w. turned (variable_entry v (row_of_basic d v) w) (value_of_column x w))
         ∙ sum_by_ℚ-neg (λ w. variable_entry v (row_of_basic d v) w *ℚ value_of_column x w) (range_with_len 0 (d.variables + 1)))
@@ -119,8 +119,8 @@ module _ (d : Dictionary) where
 
         joined : (s c : Number) → neg_ℚ s -ℚ neg_ℚ c ≡ neg_ℚ (s -ℚ c)
         joined s c = simp ring_ℚ
-    column_at (v, free) room =
-        let far : v + 2 ≤ d.variables + 1 = room in
+    column_at (v, free) within_bound =
+        let far : v + 2 ≤ d.variables + 1 = within_bound in
         let f : ℕ → Number = λ w. variable_entry v (row_of_basic d v) w *ℚ value_of_column x w in
         let g : ℕ → Number = λ w. variable_entry (v + 1) (row_of_basic d (v + 1)) w *ℚ value_of_column x w in
         ap (λ s. s -ℚ (variable_constant (row_of_basic d v) -ℚ variable_constant (row_of_basic d (v + 1))))
@@ -191,8 +191,8 @@ module _ (d : Dictionary) where
         (sum_by_same (λ w. entry_at raised k w *ℚ value_of_column x w) (λ w. entry_at d k w *ℚ value_of_column x w) (range_with_len 0 (d.variables + 1)) (λ w. ap (λ u. u *ℚ value_of_column x w) (raised_row k (w + 1) less)))
         (raised_row k 0 less)
 
-    pub raised_not_due : ¬ (OpeningIsDue d) → ¬ (OpeningIsDue raised)
-    raised_not_due not_due due = not_due (due.0, due.1, subst (λ u. u <ℚ whole (pos 0)) (raised_row due.0 0 due.1) due.2)
+    pub raised_not_due : ¬ (OpeningIsRequired d) → ¬ (OpeningIsRequired raised)
+    raised_not_due not_required required = not_required (required.0, required.1, subst (λ u. u <ℚ whole (pos 0)) (raised_row required.0 0 required.1) required.2)
 
     -- the values are the same
     value_same : (v : ℕ) (r : Option ℕ) → row_of_basic d v ≡ r → value_by_row raised r ≡ value_by_row d r
@@ -202,16 +202,16 @@ module _ (d : Dictionary) where
     pub values_same : (last_of raised).values ≡ (last_of d).values
     values_same = ap (λ (f : ℕ → Number). map f (all_variables d)) (fun_ext (λ v. value_same v (row_of_basic d v) refl))
 
-    pub nothing_raised : ¬ (InPhaseOne d) → ¬ (OpeningIsDue d) → ((q : ℕ) → 1 ≤ q → q ≤ d.variables → row_of_basic d q ≡ None → entry_at d (length d.basic) q +ℚ t *ℚ column_entry c q ≤ℚ whole (pos 0)) → NothingImproves raised
-    nothing_raised second not_due below = (
-      raised_not_due not_due,
+    pub nothing_raised : ¬ (InPhaseOne d) → ¬ (OpeningIsRequired d) → ((q : ℕ) → 1 ≤ q → q ≤ d.variables → row_of_basic d q ≡ None → entry_at d (length d.basic) q +ℚ t *ℚ column_entry c q ≤ℚ whole (pos 0)) → NothingImproves raised
+    nothing_raised second not_required below = (
+      raised_not_due not_required,
       λ v better.
           let other = better.other in
           let above = better.above (length d.basic) (inr (second, refl)) in
           Order.not_above (entry_at d (length d.basic) v +ℚ t *ℚ column_entry c v) (whole (pos 0)) (below v (omega arith) better.there (no_place d.basic v better.not_basic)) (subst (λ u. whole (pos 0) <ℚ u) (raised_entry v) above),
     )
 
-    module _ (s : form.Standard) (is : IsDictionaryOf s d) (second : ¬ (InPhaseOne d)) (not_due : ¬ (OpeningIsDue d)) (low : 1 ≤ c.0) (high : c.0 + width c.1 ≤ 1 + length s.objective) (within : All (λ (row : form.StandardRow). Within (length s.objective) row.entries) s.rows) where
+    module _ (s : form.Standard) (is : IsDictionaryOf s d) (second : ¬ (InPhaseOne d)) (not_required : ¬ (OpeningIsRequired d)) (low : 1 ≤ c.0) (high : c.0 + width c.1 ≤ 1 + length s.objective) (within : All (λ (row : form.StandardRow). Within (length s.objective) row.entries) s.rows) where
       -- the standard form whose objective gains t times the column's variables
       abbrev pub raised_form : form.Standard
       raised_form = record s { objective = summed s.objective (objective_of (length s.objective) (spread c.0 c.1 t)) }
@@ -238,13 +238,13 @@ module _ (d : Dictionary) where
           let L = length d.basic in
           let f : ℕ → Number = λ w. entry_at d (length d.basic) w *ℚ value_of_column x w in
           let g : ℕ → Number = λ w. column_entry c w *ℚ value_of_column x w in
-          let room : c.0 + width c.1 ≤ d.variables + 1 = omega (arith, high, is.variables) in
+          let within_bound : c.0 + width c.1 ≤ d.variables + 1 = omega (arith, high, is.variables) in
           ap₂ (λ a b. a -ℚ b)
           (sum_by_same (λ w. entry_at raised (length d.basic) w *ℚ value_of_column x w) (λ w. f w +ℚ t *ℚ g w) (range_with_len 0 (d.variables + 1)) (λ w. ap (λ u. u *ℚ value_of_column x w) (raised_entry w) ∙ apart (entry_at d (length d.basic) w) t (column_entry c w) (value_of_column x w))
           ∙ sum_by_ℚ-+ℚ f (λ w. t *ℚ g w) (range_with_len 0 (d.variables + 1)) ∙ ap (λ u. sum_by_ℚ f (range_with_len 0 (d.variables + 1)) +ℚ u) (sum_by_ℚ-*ℚ t g (range_with_len 0 (d.variables + 1))))
           raised_constant
           ∙ joined (sum_by_ℚ f (range_with_len 0 (d.variables + 1))) t (sum_by_ℚ g (range_with_len 0 (d.variables + 1))) (constant_at d (length d.basic)) (column_constant c)
-          ∙ ap (λ u. row_at d (length d.basic) x +ℚ t *ℚ u) (column_at x met c room)
+          ∙ ap (λ u. row_at d (length d.basic) x +ℚ t *ℚ u) (column_at x met c within_bound)
         where
           apart : (a t b x : Number) → (a +ℚ t *ℚ b) *ℚ x ≡ a *ℚ x +ℚ t *ℚ (b *ℚ x)
           apart a t b x = simp ring_ℚ
@@ -329,7 +329,7 @@ module _ (d : Dictionary) where
             }
 
       none_zero : ¬ (HasZero raised)
-      none_zero h = elim h [ inl phase ↦ second phase | inr due ↦ raised_not_due not_due due ]
+      none_zero h = elim h [ inl phase ↦ second phase | inr required ↦ raised_not_due not_required required ]
 
       pub raised_of_form : IsDictionaryOf raised_form raised
       raised_of_form =
@@ -340,5 +340,5 @@ module _ (d : Dictionary) where
             own = λ k h. raised_row k (basic_at d k + 1) h ∙ is.own k h;
             alone = alone_raised;
             same = λ x objective zero_there. (to_first x (zero_there none_zero) objective, from_first x (zero_there none_zero) objective);
-            zero_above = λ k at due. absurd (second (contains_get d.basic k 0 at));
+            zero_above = λ k at required. absurd (second (contains_get d.basic k 0 at));
           }

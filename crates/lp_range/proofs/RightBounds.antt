@@ -21,7 +21,7 @@ use Rattle.lp_core.specs.DualBound.{dual_bound}
 use Rattle.lp_core.specs.Proofs.{Crosses}
 use Rattle.lp_core.specs.Numbers.{row_numbers, lp_numbers}
 use Rattle.lp_core.specs.StandardForm.{Standard, standard_form, variables_of, rows_of_sense, dual_by_sense, duals_from, multiplier, directed, levels_back, duals_back}
-use Rattle.lp_core.specs.Dictionary.{Dictionary, constant_at, InPhaseOne, OpeningIsDue}
+use Rattle.lp_core.specs.Dictionary.{Dictionary, constant_at, InPhaseOne, OpeningIsRequired}
 use Rattle.lp_core.specs.Pivots.{last_of, NothingImproves}
 use Rattle.lp_std.specs.Last.{IsDictionaryOf}
 use Rattle.lp_std.proofs.Shapes.{All-from_map}
@@ -50,13 +50,13 @@ module _ (limit : ℕ) (d : Dictionary) (s : Sense) (v : ℕ) where
       let within : k < length d.basic = omega (arith, less, length-range_with_len 0 (length d.basic)) in
       get_or-range_with_len 0 (length d.basic) k e within ∙ (let same : 0 + k ≡ k = omega arith in same)
 
-  pub constants_above : ¬ (OpeningIsDue d) → AreAbove (right_gains limit d s v)
-  constants_above not_due =
+  pub constants_above : ¬ (OpeningIsRequired d) → AreAbove (right_gains limit d s v)
+  constants_above not_required =
       All-map (λ (g : Gain). whole (pos 0) ≤ℚ g.amount) (right_gain limit d s v) (range_with_len 0 (length d.basic))
       (λ k e less.
       let within : k < length d.basic = omega (arith, less, length-range_with_len 0 (length d.basic)) in
       subst (λ j. whole (pos 0) ≤ℚ (right_gain limit d s v j).amount) (sym (number_at k e less))
-      (subst (λ u. whole (pos 0) ≤ℚ u) (sym (amount_is s k)) (Order.≤ℚ_from_not_above (whole (pos 0)) (constant_at d k) (λ below. not_due (k, within, below)))))
+      (subst (λ u. whole (pos 0) ≤ℚ u) (sym (amount_is s k)) (Order.≤ℚ_from_not_above (whole (pos 0)) (constant_at d k) (λ below. not_required (k, within, below)))))
 
   pub constant_stays : (t : Number) → Stay (right_gains limit d s v) t → (k : ℕ) → k < length d.basic → whole (pos 0) ≤ℚ constant_at d k +ℚ t *ℚ (right_gain limit d s v k).each
   constant_stays t stay k less =
@@ -81,20 +81,20 @@ module _ (limit : ℕ) (lp : Lp Number) (formed : IsWellFormed itself lp) (order
   abbrev pushed : ℕ → Number
   pushed = push lp formed i row at right
 
-  room : v + rows_of_sense row.sense ≤ d.variables + 1
-  room =
+  within_bound : v + rows_of_sense row.sense ≤ d.variables + 1
+  within_bound =
       let high = slack_high (variables_of itself lp + 1) i lp.rows row at in
       omega (arith, high, is.variables, count_is itself lp formed, rows_room lp formed i row at right)
 
   stays : (k : ℕ) → k < length d.basic → whole (pos 0) ≤ℚ constant_at (moved pushed d) k
   stays k less =
-      subst (λ u. whole (pos 0) ≤ℚ constant_at d k +ℚ u) (sym (gained_is limit d v (right -ℚ row.right) k row.sense room)) (constant_stays limit d row.sense v (right -ℚ row.right) stay k less)
+      subst (λ u. whole (pos 0) ≤ℚ constant_at d k +ℚ u) (sym (gained_is limit d v (right -ℚ row.right) k row.sense within_bound)) (constant_stays limit d row.sense v (right -ℚ row.right) stay k less)
 
-  not_due : ¬ (OpeningIsDue (moved pushed d))
-  not_due due = Order.not_above (whole (pos 0)) (constant_at (moved pushed d) due.0) (stays due.0 due.1) due.2
+  not_required : ¬ (OpeningIsRequired (moved pushed d))
+  not_required required = Order.not_above (whole (pos 0)) (constant_at (moved pushed d) required.0) (stays required.0 required.1) required.2
 
   of_form : IsDictionaryOf (standard_form itself (with_right i right lp)) (moved pushed d)
-  of_form = moved_of_form pushed d (standard_form itself lp) (standard_form itself (with_right i right lp)) is (form_is_moved lp formed i row at right) second not_due (within_form itself lp formed)
+  of_form = moved_of_form pushed d (standard_form itself lp) (standard_form itself (with_right i right lp)) is (form_is_moved lp formed i row at right) second not_required (within_form itself lp formed)
 
   same_duals : duals_back itself (with_right i right lp) (last_of (moved pushed d)) ≡ duals_back itself lp (last_of d)
   same_duals =
@@ -103,7 +103,7 @@ module _ (limit : ℕ) (lp : Lp Number) (formed : IsWellFormed itself lp) (order
 
   pub meets_with : (x : List Number) × Feasible itself (with_right i right lp) x × (dual_bound itself (with_right i right lp) (duals_back itself lp (last_of d)) ≡ Some (value_of_column x lp.objective))
   meets_with =
-      let proof = optimal_proved itself (with_right i right lp) (with_right_formed right i lp formed) ordered (moved pushed d) of_form not_due second (nothing_moved pushed d not_due nothing) in
+      let proof = optimal_proved itself (with_right i right lp) (with_right_formed right i lp formed) ordered (moved pushed d) of_form not_required second (nothing_moved pushed d not_required nothing) in
       let x = levels_back itself (with_right i right lp) (last_of (moved pushed d)) in
       (x, proof.feasible, subst (λ ds. dual_bound itself (with_right i right lp) ds ≡ Some (value_of_column x lp.objective)) same_duals proof.bound)
 

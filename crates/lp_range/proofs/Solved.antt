@@ -4,7 +4,7 @@ use Rattle.std.specs.List.{All}
 use Rattle.gq_number.specs.Number.{Number}
 use Rattle.lp_core.specs.declared.answer.Pivot.{Pivot}
 use Rattle.lp_core.specs.Pivots.{last_of, NothingImproves, IsAllowed, IsChosen, ByRule, LeadsWithin}
-use Rattle.lp_core.specs.Ends.{IsGoingOnBy, EndsAt, LeadsTo, EndsSoBy, ends_by_kind, limit_is_met, step_stops}
+use Rattle.lp_core.specs.Ends.{IsUnfinishedBy, EndsAt, LeadsTo, EndsSoBy, ends_by_kind, limit_is_met, step_stops}
 use Rattle.lp_core.specs.declared.answer.Rule.{Rule}
 use Rattle.lp_core.specs.declared.answer.Rule.TheVariants.{Bland, Legal}
 use Rattle.lp_core.specs.declared.answer.End.TheVariants.{Optimal}
@@ -58,7 +58,7 @@ module _ {F : Type 0} (value : F → Number) (limit : ℕ) (lp : Lp F) where
 
   told_of : (Allowed : Pivot → ℕ → Type 0) (Chosen : ℕ → Type 0) (iterlim pivots : ℕ) (d : Dictionary) (levels row_levels duals reduced : List F) → EndsSoBy value limit lp iterlim Allowed Chosen pivots d (Optimal levels row_levels duals reduced) → IsTold d levels row_levels duals reduced
   told_of Allowed Chosen iterlim pivots d levels row_levels duals reduced (ends_by_kind how last at (inl told)) =
-      of_kind ((pivots ≡ iterlim) × IsGoingOnBy Chosen d) Chosen d how last levels row_levels duals reduced at told.0 told.1 told.2
+      of_kind ((pivots ≡ iterlim) × IsUnfinishedBy Chosen d) Chosen d how last levels row_levels duals reduced at told.0 told.1 told.2
   told_of Allowed Chosen iterlim pivots d levels row_levels duals reduced (ends_by_kind how last at (inr refused)) = absurd (let e = refused.1 in cc)
   told_of Allowed Chosen iterlim pivots d levels row_levels duals reduced (limit_is_met most one goes is) = absurd (cc)
   told_of Allowed Chosen iterlim pivots d levels row_levels duals reduced (step_stops less step is stops) = absurd (cc)

@@ -22,7 +22,7 @@ use std::cmp::Ordering;
 /// fit.
 fn gain_of<F: ExactField>(dict: &Dict<F>, sense: Sense, slack: usize, row: usize) -> Option<F>
     requires row { row < length dict.now.basic }
-    requires room { slack + rows_of_sense sense ≤ dict.now.variables + 1 }
+    requires within_bound { slack + rows_of_sense sense ≤ dict.now.variables + 1 }
     ensures { IsFound F.value (right_gain F.limit (dictionary F.value dict.now) sense slack row) result }
 {
     dict.keeps();

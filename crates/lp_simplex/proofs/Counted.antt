@@ -8,7 +8,7 @@ use Rattle.lp_core.specs.declared.answer.Pivot.{Pivot}
 use Rattle.lp_core.specs.Dictionary.{Dictionary, constant_at, IsLegal, exchanged}
 use Rattle.lp_core.specs.Ends.{IsPhase}
 use Rattle.lp_core.specs.Choices.{leaving_row, after_pivot, reached, AllAlong}
-use Rattle.lp_core.specs.LargestCoefficient.{IsOfPhase, StandsStill, HasTurned}
+use Rattle.lp_core.specs.LargestCoefficient.{IsOfPhase, IsDegeneratePivot, HasTurned}
 use Rattle.lp_fraction_dict.specs.Pivots.{IsProper}
 use Rattle.lp_fraction_dict.proofs.Improving.{same_or_not}
 use Rattle.lp_simplex.proofs.Lists.{split_more}
@@ -28,20 +28,20 @@ nil_behind (x ∷ l) = ap (λ m. x ∷ m) (nil_behind l)
 
 -- ---- before any pivot
 
-nothing_in : (before still behind : List Pivot) → [] ≡ before ++ still ++ behind → still ≡ []
-nothing_in [] [] behind e = refl
-nothing_in [] (p ∷ still) behind e = absurd (cc)
-nothing_in (p ∷ before) still behind e = absurd (cc)
+nothing_in : (before still following : List Pivot) → [] ≡ before ++ still ++ following → still ≡ []
+nothing_in [] [] following e = refl
+nothing_in [] (p ∷ still) following e = absurd (cc)
+nothing_in (p ∷ before) still following e = absurd (cc)
 
 none_still : (d : Dictionary) → ¬ (HasTurned d [] d)
-none_still d turned = let none = ap length (nothing_in turned.before turned.still turned.behind turned.split) in let many = turned.many in absurd (omega arith)
+none_still d turned = let none = ap length (nothing_in turned.before turned.still turned.following turned.split) in let many = turned.many in absurd (omega arith)
 
 pub begins : (d : Dictionary) → Remembers (counts.Still 0) d [] d
 begins d =
     record {
       here = refl;
       few = omega arith;
-      so_many = inl refl;
+      is_count = inl refl;
       at_most = λ still ends. let none = ap length (nothing_in ends.before still [] (ends.split ∙ sym (nil_behind (ends.before ++ still)))) in omega arith;
       not_turned = none_still d;
     }
@@ -51,10 +51,10 @@ begins d =
 -- the last pivots gained nothing, and the one more is of this phase
 record OneMore (first : Dictionary) (pivots : List Pivot) (d : Dictionary) (p : Pivot) (e : Dictionary) (still : List Pivot) : Type 0 where
   phase : ℕ
-  front : List Pivot
-  is : still ≡ front ++ p ∷ []
-  ends : EndsStill first pivots d front
-  gains_nothing : StandsStill phase d p
+  prefix : List Pivot
+  is : still ≡ prefix ++ p ∷ []
+  ends : EndsStill first pivots d prefix
+  gains_nothing : IsDegeneratePivot phase d p
   now : IsPhase e phase
 
 module _ (first : Dictionary) (pivots : List Pivot) (d : Dictionary) (p : Pivot) (k : ℕ) (proper : IsProper d) (legal : IsLegal d p k) (here : d ≡ reached first pivots) where
@@ -67,21 +67,21 @@ module _ (first : Dictionary) (pivots : List Pivot) (d : Dictionary) (p : Pivot)
   here_next : Next ≡ reached first All
   here_next = after_is d p k proper (leaves_row d p k legal) ∙ ap (λ x. after_pivot x p) here ∙ sym (reached_append first pivots (p ∷ []))
 
-  reached_by : (before front : List Pivot) → pivots ≡ before ++ front → reached (reached first before) front ≡ d
-  reached_by before front split = sym (reached_append first before front) ∙ ap (reached first) (sym split) ∙ sym here
+  reached_by : (before prefix : List Pivot) → pivots ≡ before ++ prefix → reached (reached first before) prefix ≡ d
+  reached_by before prefix split = sym (reached_append first before prefix) ∙ ap (reached first) (sym split) ∙ sym here
 
   row_is : constant_at d (leaving_row d p) ≡ constant_at d k
   row_is = ap (constant_at d) (row_is_leaving d p k proper (leaves_row d p k legal))
 
-  ends_before : (still front before : List Pivot) (phase : ℕ) → still ≡ front ++ p ∷ [] → pivots ≡ before ++ front → AllAlong (StandsStill phase) (reached first before) still → IsPhase Next phase → OneMore first pivots d p Next still
-  ends_before still front before phase is split nothing now =
-      let all : AllAlong (StandsStill phase) (reached first before) (front ++ p ∷ []) = subst (AllAlong (StandsStill phase) (reached first before)) is nothing in
-      let last : StandsStill phase d p = subst (λ x. StandsStill phase x p) (reached_by before front split) (along_last (StandsStill phase) (reached first before) front p all) in
+  ends_before : (still prefix before : List Pivot) (phase : ℕ) → still ≡ prefix ++ p ∷ [] → pivots ≡ before ++ prefix → AllAlong (IsDegeneratePivot phase) (reached first before) still → IsPhase Next phase → OneMore first pivots d p Next still
+  ends_before still prefix before phase is split nothing now =
+      let all : AllAlong (IsDegeneratePivot phase) (reached first before) (prefix ++ p ∷ []) = subst (AllAlong (IsDegeneratePivot phase) (reached first before)) is nothing in
+      let last : IsDegeneratePivot phase d p = subst (λ x. IsDegeneratePivot phase x p) (reached_by before prefix split) (along_last (IsDegeneratePivot phase) (reached first before) prefix p all) in
       record {
         phase = phase;
-        front = front;
+        prefix = prefix;
         is = is;
-        ends = record { phase = phase; before = before; split = split; gains_nothing = along_front (StandsStill phase) (reached first before) front p all; now = last.0 };
+        ends = record { phase = phase; before = before; split = split; gains_nothing = along_front (IsDegeneratePivot phase) (reached first before) prefix p all; now = last.0 };
         gains_nothing = last;
         now = now;
       }
@@ -100,20 +100,20 @@ module _ (first : Dictionary) (pivots : List Pivot) (d : Dictionary) (p : Pivot)
   abbrev ByThis : Type 0
   ByThis = (still : List Pivot) × (length still ≡ d.variables + 1) × OneMore first pivots d p Next still
 
-  earlier : (turned : HasTurned first All Next) (front : List Pivot) → turned.behind ≡ front ++ p ∷ [] → pivots ≡ (turned.before ++ turned.still) ++ front → Earlier
-  earlier turned front is split =
+  earlier : (turned : HasTurned first All Next) (prefix : List Pivot) → turned.following ≡ prefix ++ p ∷ [] → pivots ≡ (turned.before ++ turned.still) ++ prefix → Earlier
+  earlier turned prefix is split =
       let start = reached first (turned.before ++ turned.still) in
-      let all : AllAlong (IsOfPhase turned.phase) start (front ++ p ∷ []) = subst (AllAlong (IsOfPhase turned.phase) start) is turned.same_phase in
-      let last : IsPhase d turned.phase = subst (λ x. IsPhase x turned.phase) (reached_by (turned.before ++ turned.still) front split) (along_last (IsOfPhase turned.phase) start front p all) in (
+      let all : AllAlong (IsOfPhase turned.phase) start (prefix ++ p ∷ []) = subst (AllAlong (IsOfPhase turned.phase) start) is turned.same_phase in
+      let last : IsPhase d turned.phase = subst (λ x. IsPhase x turned.phase) (reached_by (turned.before ++ turned.still) prefix split) (along_last (IsOfPhase turned.phase) start prefix p all) in (
         record {
           phase = turned.phase;
           before = turned.before;
           still = turned.still;
-          behind = front;
+          following = prefix;
           split = split;
           many = turned.many;
           gains_nothing = turned.gains_nothing;
-          same_phase = along_front (IsOfPhase turned.phase) start front p all;
+          same_phase = along_front (IsOfPhase turned.phase) start prefix p all;
           now = last;
         },
         (turned.phase, last, turned.now),
@@ -122,7 +122,7 @@ module _ (first : Dictionary) (pivots : List Pivot) (d : Dictionary) (p : Pivot)
   some_still : (still : List Pivot) (n : ℕ) → still ≡ [] → length still ≡ n + 1 → ⊥
   some_still still n none many = let zero = ap length none in absurd (omega arith)
 
-  by_this : (turned : HasTurned first All Next) → turned.behind ≡ [] → ByThis
+  by_this : (turned : HasTurned first All Next) → turned.following ≡ [] → ByThis
   by_this turned none =
       let split : All ≡ turned.before ++ turned.still = turned.split ∙ ap (λ l. turned.before ++ turned.still ++ l) none ∙ nil_behind (turned.before ++ turned.still) in
       elim (split_more pivots turned.before turned.still p split) [
@@ -132,7 +132,7 @@ module _ (first : Dictionary) (pivots : List Pivot) (d : Dictionary) (p : Pivot)
 
   turned_last : HasTurned first All Next → Earlier ⊎ ByThis
   turned_last turned =
-      elim (split_more pivots (turned.before ++ turned.still) turned.behind p turned.split) [
+      elim (split_more pivots (turned.before ++ turned.still) turned.following p turned.split) [
         | inl none ↦ inr (by_this turned none)
         | inr found ↦ inl (earlier turned found.0 found.1 found.2)
       ]
@@ -144,7 +144,7 @@ module _ (first : Dictionary) (pivots : List Pivot) (d : Dictionary) (p : Pivot)
       record {
         here = here_next;
         few = omega arith;
-        so_many = inl refl;
+        is_count = inl refl;
         at_most = λ still ends. elim (ends_last still ends) [ inl empty ↦ let zero = ap length empty in omega arith | inr more ↦ absurd (none still more) ];
         not_turned = not_turned;
       }
@@ -159,21 +159,21 @@ module _ (first : Dictionary) (pivots : List Pivot) (d : Dictionary) (p : Pivot)
 
   -- ---- where it continues
 
-  module _ (goes_on : p.leave ≢ 0) where
+  module _ (continues : p.leave ≢ 0) where
     pub stays_turned : HasTurned first pivots d → HasTurned first All Next
     stays_turned turned =
         record {
           phase = turned.phase;
           before = turned.before;
           still = turned.still;
-          behind = turned.behind ++ p ∷ [];
-          split = ap (λ l. l ++ p ∷ []) turned.split ∙ append_assoc (turned.before ++ turned.still) turned.behind (p ∷ []);
+          following = turned.following ++ p ∷ [];
+          split = ap (λ l. l ++ p ∷ []) turned.split ∙ append_assoc (turned.before ++ turned.still) turned.following (p ∷ []);
           many = turned.many;
           gains_nothing = turned.gains_nothing;
           same_phase =
-              along_more (IsOfPhase turned.phase) (reached first (turned.before ++ turned.still)) turned.behind p turned.same_phase
-              (subst (λ x. IsPhase x turned.phase) (sym (reached_by (turned.before ++ turned.still) turned.behind turned.split)) turned.now);
-          now = same_phase d p k proper legal goes_on turned.phase turned.now;
+              along_more (IsOfPhase turned.phase) (reached first (turned.before ++ turned.still)) turned.following p turned.same_phase
+              (subst (λ x. IsPhase x turned.phase) (sym (reached_by (turned.before ++ turned.still) turned.following turned.split)) turned.now);
+          now = same_phase d p k proper legal continues turned.phase turned.now;
         }
 
     -- a pivot that gains
@@ -186,19 +186,19 @@ module _ (first : Dictionary) (pivots : List Pivot) (d : Dictionary) (p : Pivot)
 
     -- one that does not
     module _ (count : ℕ) (h : IsCounting first pivots d count) (nothing : constant_at d k ≡ Zero) where
-      here_still : (n : ℕ) → IsPhase d n → StandsStill n d p
+      here_still : (n : ℕ) → IsPhase d n → IsDegeneratePivot n d p
       here_still n phase = (phase, row_is ∙ nothing)
 
-      ends_more : (front : List Pivot) → EndsStill first pivots d front → EndsStill first All Next (front ++ p ∷ [])
-      ends_more front ends =
+      ends_more : (prefix : List Pivot) → EndsStill first pivots d prefix → EndsStill first All Next (prefix ++ p ∷ [])
+      ends_more prefix ends =
           record {
             phase = ends.phase;
             before = ends.before;
-            split = ap (λ l. l ++ p ∷ []) ends.split ∙ append_assoc ends.before front (p ∷ []);
+            split = ap (λ l. l ++ p ∷ []) ends.split ∙ append_assoc ends.before prefix (p ∷ []);
             gains_nothing =
-                along_more (StandsStill ends.phase) (reached first ends.before) front p ends.gains_nothing
-                (subst (λ x. StandsStill ends.phase x p) (sym (reached_by ends.before front ends.split)) (here_still ends.phase ends.now));
-            now = same_phase d p k proper legal goes_on ends.phase ends.now;
+                along_more (IsDegeneratePivot ends.phase) (reached first ends.before) prefix p ends.gains_nothing
+                (subst (λ x. IsDegeneratePivot ends.phase x p) (sym (reached_by ends.before prefix ends.split)) (here_still ends.phase ends.now));
+            now = same_phase d p k proper legal continues ends.phase ends.now;
           }
 
       no_pivots : EndsStill first pivots d []
@@ -209,15 +209,15 @@ module _ (first : Dictionary) (pivots : List Pivot) (d : Dictionary) (p : Pivot)
       -- the pivots at the end that gained nothing, and this one
       one_more : (still : List Pivot) × EndsStill first All Next still × (length still ≡ count + 1)
       one_more =
-          elim h.so_many [
+          elim h.is_count [
             | inl none ↦ (p ∷ [], ends_more [] no_pivots, ap (λ n. n + 1) (sym none))
             | inr found ↦ (found.0 ++ p ∷ [], ends_more found.0 found.1, length-append found.0 (p ∷ []) ∙ ap (λ n. n + 1) found.2)
           ]
 
       counted : (still : List Pivot) → OneMore first pivots d p Next still → length still ≤ count + 1
       counted still more =
-          let most = h.at_most more.front more.ends in
-          let long = ap length more.is ∙ length-append more.front (p ∷ []) in
+          let most = h.at_most more.prefix more.ends in
+          let long = ap length more.is ∙ length-append more.prefix (p ∷ []) in
           omega arith
 
       pub one_still : count < d.variables → IsCounting first All Next (count + 1)
@@ -225,7 +225,7 @@ module _ (first : Dictionary) (pivots : List Pivot) (d : Dictionary) (p : Pivot)
           record {
             here = here_next;
             few = omega arith;
-            so_many = inr one_more;
+            is_count = inr one_more;
             at_most = λ still ends. elim (ends_last still ends) [ inl empty ↦ let zero = ap length empty in omega arith | inr more ↦ counted still more ];
             not_turned = λ turned. elim (turned_last turned) [
               | inl before ↦ h.not_turned before.0
@@ -242,7 +242,7 @@ module _ (first : Dictionary) (pivots : List Pivot) (d : Dictionary) (p : Pivot)
             phase = last.phase;
             before = last.before;
             still = one_more.0;
-            behind = [];
+            following = [];
             split = last.split ∙ sym (nil_behind (last.before ++ one_more.0));
             many = omega arith;
             gains_nothing = last.gains_nothing;

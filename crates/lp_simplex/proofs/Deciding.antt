@@ -8,7 +8,7 @@ use Rattle.gq_number.specs.Order.{◌≤ℚ◌, ◌<ℚ◌}
 use Rattle.gq_number.proofs.Order.{≤ℚ_refl, ≤ℚ_trans, ≤ℚ_or_above, ≤ℚ_from_<ℚ, not_above, ≤ℚ-<ℚ_trans, <ℚ-≤ℚ_trans}
 use Rattle.lp_core.specs.declared.answer.Pivot.{Pivot}
 use Rattle.lp_core.specs.declared.answer.StepName.{StepName}
-use Rattle.lp_core.specs.Dictionary.{Dictionary, basic_at, constant_at, entry_at, OpeningIsDue, IsPriced, Improves, Limits, ratio_at, IsLeast, IsOpening}
+use Rattle.lp_core.specs.Dictionary.{Dictionary, basic_at, constant_at, entry_at, OpeningIsRequired, IsPriced, Improves, Limits, ratio_at, IsLeast, IsOpening}
 use Rattle.lp_core.specs.Steps.{AllFit, FirstStop, ratio_steps}
 use Rattle.lp_core.specs.Pivots.{IsAllowedBy, NothingImproves, TestFits}
 use Rattle.lp_std.specs.InnerSteps.{first_stop}
@@ -56,7 +56,7 @@ module _ (P : ℕ → Type 0) (decide : (i : ℕ) → P i ⊎ ¬ (P i)) where
           ];
           first = λ i within p most. elim (cases_lt i n) [
             | inl early ↦
-                let behind = h.first i early p (≤ℚ_trans (measure i) (measure n) (measure k) most less) in
+                let following = h.first i early p (≤ℚ_trans (measure i) (measure n) (measure k) most less) in
                 let ahead = before (≤ℚ_trans (measure k) (measure i) (measure n) (h.least i early p) most) in
                 omega arith
             | inr late ↦ let same : n ≡ i = omega arith in subst (λ j. variable n ≤ variable j) same (omega arith)
@@ -148,18 +148,18 @@ module _ (d : Dictionary) (k : ℕ) (h : IsFirst (IsBelow d) (constant_at d) (ba
   )
 
   opening_there : IsOpening d (turn_of 0 (basic_at d k)) k
-  opening_there = record { due = (k, h.below, h.holds); enters = refl; leaves = at_row d k h.below; least = least_constant }
+  opening_there = record { required = (k, h.below, h.holds); enters = refl; leaves = at_row d k h.below; least = least_constant }
 
   opening_least : (i : ℕ) → IsLeast d i → basic_at d k ≤ basic_at d i
   opening_least i least =
       let most = least.1 k h.below in
       h.first i least.0 (≤ℚ-<ℚ_trans (constant_at d i) (constant_at d k) (whole (pos 0)) most h.holds) most
 
-pub due_or_not : (d : Dictionary) → ((k : ℕ) × IsFirst (IsBelow d) (constant_at d) (basic_at d) (length d.basic) k) ⊎ ¬ (OpeningIsDue d)
+pub due_or_not : (d : Dictionary) → ((k : ℕ) × IsFirst (IsBelow d) (constant_at d) (basic_at d) (length d.basic) k) ⊎ ¬ (OpeningIsRequired d)
 due_or_not d =
     elim (first_below (IsBelow d) (λ i. below_or_not (constant_at d i)) (constant_at d) (basic_at d) (length d.basic)) [
       | inl found ↦ inl found
-      | inr none ↦ inr (λ due. none due.0 due.1 due.2)
+      | inr none ↦ inr (λ required. none required.0 required.1 required.2)
     ]
 
 -- ---- the variable that improves
@@ -216,21 +216,21 @@ leaves_first d q k h = (
 -- what is the case at a dictionary before the n-th pivot
 pub data Case (Chosen : ℕ → Type 0) (limit n : ℕ) (d : Dictionary) : Type 0 where
   nothing_improves : NothingImproves d → Case Chosen limit n d
-  none_limits : (q : ℕ) → ¬ (OpeningIsDue d) → Chosen q → ((k : ℕ) → ¬ (Limits d q k)) → Case Chosen limit n d
-  test_stops : (q : ℕ) → ¬ (OpeningIsDue d) → Chosen q → (name : StepName) → FirstStop (ratio_steps limit n d q) name → Case Chosen limit n d
+  none_limits : (q : ℕ) → ¬ (OpeningIsRequired d) → Chosen q → ((k : ℕ) → ¬ (Limits d q k)) → Case Chosen limit n d
+  test_stops : (q : ℕ) → ¬ (OpeningIsRequired d) → Chosen q → (name : StepName) → FirstStop (ratio_steps limit n d q) name → Case Chosen limit n d
   pivot_is_due : (p : Pivot) (k : ℕ) → IsAllowedBy Chosen d p k → TestFits limit n d p → Case Chosen limit n d
 
 module _ (Chosen : ℕ → Type 0) (limit n : ℕ) (d : Dictionary) (improves : (q : ℕ) → Chosen q → Improves d q) where
-  with_leaving : (q : ℕ) → ¬ (OpeningIsDue d) → Chosen q → AllFit (ratio_steps limit n d q) → Case Chosen limit n d
+  with_leaving : (q : ℕ) → ¬ (OpeningIsRequired d) → Chosen q → AllFit (ratio_steps limit n d q) → Case Chosen limit n d
   with_leaving q none chosen fit =
       elim (first_below (IsAbove d q) (λ i. above_or_not (entry_at d i q)) (ratio_at d q) (basic_at d) (length d.basic)) [
         | inl found ↦
-            let due = step_is_due Chosen limit n d q (basic_at d found.0) none (improves q chosen) chosen (leaves_first d q found.0 found.1) fit in
-            pivot_is_due (turn_of q (basic_at d found.0)) due.0 due.1 due.2
+            let required = step_is_due Chosen limit n d q (basic_at d found.0) none (improves q chosen) chosen (leaves_first d q found.0 found.1) fit in
+            pivot_is_due (turn_of q (basic_at d found.0)) required.0 required.1 required.2
         | inr free ↦ none_limits q none chosen (λ k limits. free k limits.0 limits.1)
       ]
 
-  with_entering : (q : ℕ) → ¬ (OpeningIsDue d) → Chosen q → (o : Option StepName) → first_stop (ratio_steps limit n d q) ≡ o → Case Chosen limit n d
+  with_entering : (q : ℕ) → ¬ (OpeningIsRequired d) → Chosen q → (o : Option StepName) → first_stop (ratio_steps limit n d q) ≡ o → Case Chosen limit n d
   with_entering q none chosen None fit = with_leaving q none chosen (all_fit (ratio_steps limit n d q) fit)
   with_entering q none chosen (Some name) stops = test_stops q none chosen name (stops_first (ratio_steps limit n d q) name stops)
 
@@ -239,8 +239,8 @@ module _ (Chosen : ℕ → Type 0) (limit n : ℕ) (d : Dictionary) (improves : 
       elim (due_or_not d) [
         | inl found ↦
             let p : Pivot = turn_of 0 (basic_at d found.0) in
-            let due = opening_is_due Chosen limit n d p (found.0, opening_there d found.0 found.1) (opening_least d found.0 found.1) in
-            pivot_is_due p due.0 due.1 due.2
+            let required = opening_is_due Chosen limit n d p (found.0, opening_there d found.0 found.1) (opening_least d found.0 found.1) in
+            pivot_is_due p required.0 required.1 required.2
         | inr none ↦ elim some [
           | inl found ↦ with_entering found.0 none found.1 (first_stop (ratio_steps limit n d found.0)) refl
           | inr nothing_there ↦ nothing_improves (none, nothing_there)

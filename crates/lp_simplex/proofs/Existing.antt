@@ -17,10 +17,10 @@ use Rattle.lp_core.specs.declared.program.Lp.{Lp}
 use Rattle.lp_core.specs.WellFormed.{IsWellFormed}
 use Rattle.lp_core.specs.Proofs.{Crosses, FirstCrossed, row_sums}
 use Rattle.lp_core.specs.StandardForm.{standard_form, levels_back, duals_back, reduced_back, farkas_back, ray_back}
-use Rattle.lp_core.specs.Dictionary.{Dictionary, InPhaseOne, OpeningIsDue, Improves, Limits, first_dictionary, exchanged}
-use Rattle.lp_core.specs.Steps.{Due, AllFit, standard_steps, exchange_steps, levels_steps, row_levels_steps, duals_steps, reduced_costs_steps, ray_steps, optimal_steps, infeasible_steps, unbounded_steps, interrupted_steps}
+use Rattle.lp_core.specs.Dictionary.{Dictionary, InPhaseOne, OpeningIsRequired, Improves, Limits, first_dictionary, exchanged}
+use Rattle.lp_core.specs.Steps.{ExpectedStep, AllFit, standard_steps, exchange_steps, levels_steps, row_levels_steps, duals_steps, reduced_costs_steps, ray_steps, optimal_steps, infeasible_steps, unbounded_steps, interrupted_steps}
 use Rattle.lp_core.specs.Pivots.{IsAllowedBy, NothingImproves, TestFits, ByRule, ByChoice, Leads, LeadsWithin, last_of, last_along}
-use Rattle.lp_core.specs.Ends.{IsUnlimitedBy, IsGoingOnBy, IsPhase, LeadsTo, EndsWith, EndsSoBy, ends_by_kind, limit_is_met, step_stops}
+use Rattle.lp_core.specs.Ends.{IsUnlimitedBy, IsUnfinishedBy, IsPhase, LeadsTo, EndsWith, EndsSoBy, ends_by_kind, limit_is_met, step_stops}
 use Rattle.lp_core.specs.Answers.{bounds_cross, form_stops, search_ends, IsAnswerByChoice}
 use Rattle.lp_core.specs.declared.answer.EndKind.TheVariants as kind
 use Rattle.lp_std.specs.InnerSteps.{first_stop}
@@ -52,11 +52,11 @@ pub proper_there : (done : List Pivot) (first : Dictionary) (pivots : List Pivot
 proper_there done first [] d proper way = subst IsProper (sym way) proper
 proper_there done first (p ∷ pivots) d proper way = proper_there (done ++ p ∷ []) (exchanged first p.enter way.0) pivots d (proper_after first p way.0 proper way.1) way.2
 
-abbrev Fit : Due → Type 0
+abbrev Fit : ExpectedStep → Type 0
 Fit step = step.1 ≡ true
 
 -- the phase of a dictionary
-phase_at : (d : Dictionary) → IsPhase d 1 ⊎ (IsPhase d 2 × ¬ (OpeningIsDue d) × ¬ (InPhaseOne d))
+phase_at : (d : Dictionary) → IsPhase d 1 ⊎ (IsPhase d 2 × ¬ (OpeningIsRequired d) × ¬ (InPhaseOne d))
 phase_at d =
     elim (due_or_not d) [
       | inl found ↦ inl (inl (refl, inl (found.0, found.1.below, found.1.holds)))
@@ -82,17 +82,17 @@ module _ {F : Type 0} (value : F → Number) (limit : ℕ) (some : 1 ≤ limit) 
     optimal_end : ¬ (InPhaseOne d) → NothingImproves d → (o : Option StepName) → first_stop (optimal_steps value limit lp (last_of d)) ≡ o → (end : End F) × EndsWith value limit lp kind.Optimal (last_of d) end
     optimal_end away none (Some step) stops = (Refused step, inr (step, refl, stops_first (optimal_steps value limit lp (last_of d)) step stops))
     optimal_end away none None fits =
-        let first : List Due = levels_steps value limit lp (last_of d) in
-        let second : List Due = row_levels_steps value limit lp (last_of d) in
-        let third : List Due = duals_steps value limit lp (last_of d) in
-        let fourth : List Due = reduced_costs_steps value limit lp (last_of d) in
+        let first : List ExpectedStep = levels_steps value limit lp (last_of d) in
+        let second : List ExpectedStep = row_levels_steps value limit lp (last_of d) in
+        let third : List ExpectedStep = duals_steps value limit lp (last_of d) in
+        let fourth : List ExpectedStep = reduced_costs_steps value limit lp (last_of d) in
         let fit : AllFit (first ++ second ++ third ++ fourth) = all_fit (optimal_steps value limit lp (last_of d)) fits in
-        let front : AllFit (first ++ second ++ third) = All-append_left Fit (first ++ second ++ third) fourth fit in
-        let point : AllFit (first ++ second) = All-append_left Fit (first ++ second) third front in
+        let prefix : AllFit (first ++ second ++ third) = All-append_left Fit (first ++ second ++ third) fourth fit in
+        let point : AllFit (first ++ second) = All-append_left Fit (first ++ second) third prefix in
         let costs = costs_within limit some d fitting in
         let xs = levels_meant (All-append_left Fit first second point) in
         let sums = sums_meant (All-append_right Fit first second point) in
-        let ys = meant (duals_back value lp (last_of d)) (duals_back_within value limit some small within lp (last_of d) costs (All-append_right Fit (first ++ second) third front)) in
+        let ys = meant (duals_back value lp (last_of d)) (duals_back_within value limit some small within lp (last_of d) costs (All-append_right Fit (first ++ second) third prefix)) in
         let rs = meant (reduced_back value lp (last_of d)) (reduced_back_within value limit some small within lp (last_of d) costs (All-append_right Fit (first ++ second ++ third) fourth fit)) in
         let told : LeadsTo value lp kind.Optimal (last_of d) (Optimal xs.0 sums.0 ys.0 rs.0) = (xs.1, sums.1, ys.1, rs.1) in
         (Optimal xs.0 sums.0 ys.0 rs.0, inl (told, fit, proved_at value lp formed ordered d stands.of_form kind.Optimal (last_of d) (away, none, refl) (Optimal xs.0 sums.0 ys.0 rs.0) told))
@@ -108,9 +108,9 @@ module _ {F : Type 0} (value : F → Number) (limit : ℕ) (some : 1 ≤ limit) 
     unbounded_end : (q : ℕ) → ¬ (InPhaseOne d) → IsUnlimitedBy (Improves d) d q → (o : Option StepName) → first_stop (unbounded_steps value limit lp (last_along d q)) ≡ o → (end : End F) × EndsWith value limit lp kind.Unbounded (last_along d q) end
     unbounded_end q away along (Some step) stops = (Refused step, inr (step, refl, stops_first (unbounded_steps value limit lp (last_along d q)) step stops))
     unbounded_end q away along None fits =
-        let first : List Due = levels_steps value limit lp (last_along d q) in
-        let second : List Due = row_levels_steps value limit lp (last_along d q) in
-        let third : List Due = ray_steps value limit lp (last_along d q) in
+        let first : List ExpectedStep = levels_steps value limit lp (last_along d q) in
+        let second : List ExpectedStep = row_levels_steps value limit lp (last_along d q) in
+        let third : List ExpectedStep = ray_steps value limit lp (last_along d q) in
         let fit : AllFit (first ++ second ++ third) = all_fit (unbounded_steps value limit lp (last_along d q)) fits in
         let point : AllFit (first ++ second) = All-append_left Fit (first ++ second) third fit in
         let xs = levels_meant (All-append_left Fit first second point) in
@@ -119,11 +119,11 @@ module _ {F : Type 0} (value : F → Number) (limit : ℕ) (some : 1 ≤ limit) 
         let told : LeadsTo value lp kind.Unbounded (last_along d q) (Unbounded xs.0 sums.0 rs.0) = (xs.1, sums.1, rs.1) in
         (Unbounded xs.0 sums.0 rs.0, inl (told, fit, proved_at value lp formed ordered d stands.of_form kind.Unbounded (last_along d q) (away, (q, along, refl)) (Unbounded xs.0 sums.0 rs.0) told))
 
-    interrupted_end : ¬ (OpeningIsDue d) → ¬ (InPhaseOne d) → ((q : ℕ) × Improves d q) → (o : Option StepName) → first_stop (interrupted_steps value limit lp (last_of d)) ≡ o → (end : End F) × EndsWith value limit lp kind.Interrupted (last_of d) end
+    interrupted_end : ¬ (OpeningIsRequired d) → ¬ (InPhaseOne d) → ((q : ℕ) × Improves d q) → (o : Option StepName) → first_stop (interrupted_steps value limit lp (last_of d)) ≡ o → (end : End F) × EndsWith value limit lp kind.Interrupted (last_of d) end
     interrupted_end none away more (Some step) stops = (Refused step, inr (step, refl, stops_first (interrupted_steps value limit lp (last_of d)) step stops))
     interrupted_end none away more None fits =
-        let first : List Due = levels_steps value limit lp (last_of d) in
-        let second : List Due = row_levels_steps value limit lp (last_of d) in
+        let first : List ExpectedStep = levels_steps value limit lp (last_of d) in
+        let second : List ExpectedStep = row_levels_steps value limit lp (last_of d) in
         let fit : AllFit (first ++ second) = all_fit (interrupted_steps value limit lp (last_of d)) fits in
         let xs = levels_meant (All-append_left Fit first second fit) in
         let sums = sums_meant (All-append_right Fit first second fit) in
@@ -148,19 +148,19 @@ module _ {F : Type 0} (value : F → Number) (limit : ℕ) (some : 1 ≤ limit) 
                 (made.0, ends_by_kind kind.Optimal (last_of d) (away, none, refl) made.1)
           ]
 
-      ends_unlimited : (q : ℕ) → ¬ (OpeningIsDue d) → Chosen q → ((k : ℕ) → ¬ (Limits d q k)) → (end : End F) × So end
+      ends_unlimited : (q : ℕ) → ¬ (OpeningIsRequired d) → Chosen q → ((k : ℕ) → ¬ (Limits d q k)) → (end : End F) × So end
       ends_unlimited q none chosen free =
           let away = limits_in_one d q (improves q chosen) free in
           let made = unbounded_end q away (none, improves q chosen, free) (first_stop (unbounded_steps value limit lp (last_along d q))) refl in
           (made.0, ends_by_kind kind.Unbounded (last_along d q) (away, (q, (none, chosen, free), refl)) made.1)
 
       -- where the limit of pivots is met
-      ends_broken : pivots ≡ iterlim → IsGoingOnBy Chosen d → (end : End F) × So end
+      ends_broken : pivots ≡ iterlim → IsUnfinishedBy Chosen d → (end : End F) × So end
       ends_broken most goes =
           elim (phase_at d) [
             | inl one ↦ (Interrupted 1 [] [], limit_is_met most one goes refl)
             | inr two ↦
-                let more : (q : ℕ) × Improves d q = elim goes [ inl due ↦ absurd (two.1 due) | inr on ↦ (on.1.0, improves on.1.0 on.1.2) ] in
+                let more : (q : ℕ) × Improves d q = elim goes [ inl required ↦ absurd (two.1 required) | inr on ↦ (on.1.0, improves on.1.0 on.1.2) ] in
                 let made = interrupted_end two.1 two.2 more (first_stop (interrupted_steps value limit lp (last_of d))) refl in
                 (made.0, ends_by_kind kind.Interrupted (last_of d) (two.2, two.1, (most, goes), refl) made.1)
           ]
@@ -244,8 +244,8 @@ module _ {F : Type 0} (value : F → Number) (limit : ℕ) (some : 1 ≤ limit) 
         (record { pivots = pivots; end = end }, search_ends ordered fit few last way (subst (λ n. Ended pivots n last end) same ends))
 
     -- the answer where the steps of the standard form fit
-    pub walked : AllFit (standard_steps value limit lp) → (answer : Answer F) × IsAnswerByChoice value limit lp iterlim choice answer
-    walked fit =
+    pub run_of_pivots : AllFit (standard_steps value limit lp) → (answer : Answer F) × IsAnswerByChoice value limit lp iterlim choice answer
+    run_of_pivots fit =
         let begun = first_stands value lp formed in
         made_answer fit (goes iterlim 0 [] First (omega arith) begun.proper refl begun (form_within value limit some small within lp formed fit))
 
@@ -285,7 +285,7 @@ module _ {F : Type 0} (value : F → Number) (limit : ℕ) (some : 1 ≤ limit) 
       (record { pivots = []; end = Infeasible zeros.0 (Some j) }, bounds_cross refl (zeros.0, j, refl, record { first = first; duals_zero = zeros.1 }))
 
   formed_answer : FirstCrossed value lp.columns None → (o : Option StepName) → first_stop (standard_steps value limit lp) ≡ o → (answer : Answer F) × IsAnswerByChoice value limit lp iterlim choice answer
-  formed_answer ordered None fits = walked value limit some small within each lp formed iterlim ordered choice improves always (all_fit (standard_steps value limit lp) fits)
+  formed_answer ordered None fits = run_of_pivots value limit some small within each lp formed iterlim ordered choice improves always (all_fit (standard_steps value limit lp) fits)
   formed_answer ordered (Some step) stops =
       (record { pivots = []; end = Refused step }, form_stops refl (ordered, (step, refl, stops_first (standard_steps value limit lp) step stops)))
 

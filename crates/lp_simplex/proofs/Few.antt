@@ -7,7 +7,7 @@ use Rattle.lp_core.specs.declared.answer.Answer.{Answer}
 use Rattle.lp_core.specs.declared.program.Lp.{Lp}
 use Rattle.lp_core.specs.Dictionary.{Dictionary}
 use Rattle.lp_core.specs.WellFormed.{IsWellFormed}
-use Rattle.lp_nocycle.specs.Turns.{TurnsToBland, HasFewPivotsByTurn, ComesToEndByTurn}
+use Rattle.lp_nocycle.specs.Turns.{TurnsToBland, HasFewPivotsByTurn, EndsUninterruptedByTurn}
 use Rattle.lp_nocycle.proofs.AnsweringTurn.{has_few_by_turn, comes_to_end_by_turn}
 use Rattle.lp_simplex.specs.Turn.{IsNextBy, IsTurningAnswer}
 
@@ -21,6 +21,6 @@ module _ (Picks : Dictionary → ℕ → Type 0) where
     few_if_ok (Ok answer) answers = has_few_by_turn value limit lp iterlim (IsNextBy Picks) next_turns answer formed answers
     few_if_ok (Err e) answers = answers
 
-    pub ends_if_ok : (r : Result (Answer F) E) → IfOk r (IsTurningAnswer value limit Picks lp iterlim) → IfOk r (ComesToEndByTurn value lp iterlim)
+    pub ends_if_ok : (r : Result (Answer F) E) → IfOk r (IsTurningAnswer value limit Picks lp iterlim) → IfOk r (EndsUninterruptedByTurn value lp iterlim)
     ends_if_ok (Ok answer) answers = comes_to_end_by_turn value limit lp iterlim (IsNextBy Picks) next_turns answer formed answers
     ends_if_ok (Err e) answers = answers

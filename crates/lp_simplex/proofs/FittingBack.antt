@@ -18,12 +18,12 @@ use Rattle.lp_core.specs.declared.program.Lp.{Lp}
 use Rattle.lp_core.specs.Sums.{value_of_column, row_sum}
 use Rattle.lp_core.specs.Proofs.{row_sums}
 use Rattle.lp_core.specs.StandardForm as form
-use Rattle.lp_core.specs.Steps.{Due, AllFit, product_fits, difference_fits, level_step, row_level_steps, dual_steps, reduced_steps, ray_step, count_of_rows, levels_steps, row_levels_steps, duals_steps, reduced_costs_steps, ray_steps}
+use Rattle.lp_core.specs.Steps.{ExpectedStep, AllFit, product_fits, difference_fits, level_step, row_level_steps, dual_steps, reduced_steps, ray_step, count_of_rows, levels_steps, row_levels_steps, duals_steps, reduced_costs_steps, ray_steps}
 use Rattle.lp_std.proofs.Sums.{All-append_left, All-append_right}
 use Rattle.lp_simplex.proofs.Fitting.{Fitting, neg_within, sum_within, difference_within, directed_within, number_within}
 use Rattle.lp_simplex.proofs.FittingForm.{BaseFits, bases_within}
 
-abbrev Fit : Due → Type 0
+abbrev Fit : ExpectedStep → Type 0
 Fit step = step.1 ≡ true
 
 module _ {F : Type 0} (value : F → Number) (limit : ℕ) (some : 1 ≤ limit) (small : limit < 2 ^ 127) (within : (x : F) → Fitting limit (value x)) where
@@ -37,8 +37,8 @@ module _ {F : Type 0} (value : F → Number) (limit : ℕ) (some : 1 ≤ limit) 
   levels_from : (j : ℕ) (columns : List (ℕ × form.Shift)) (y : List Number) → All (BaseFits limit some) columns → All (Fitting limit) y → AllFit (map (λ (p : ℕ × (ℕ × form.Shift)). level_step limit p.0 p.1 y) (enumerate_from j columns)) → All (Fitting limit) (map (λ c. form.shifted_back c y) columns)
   levels_from j [] y bases h fit = All-nil (Fitting limit)
   levels_from j (c ∷ columns) y bases h fit =
-      let here : Due = level_step limit j c y in
-      let rest : List Due = map (λ (p : ℕ × (ℕ × form.Shift)). level_step limit p.0 p.1 y) (enumerate_from (j + 1) columns) in
+      let here : ExpectedStep = level_step limit j c y in
+      let rest : List ExpectedStep = map (λ (p : ℕ × (ℕ × form.Shift)). level_step limit p.0 p.1 y) (enumerate_from (j + 1) columns) in
       All-cons (Fitting limit) (form.shifted_back c y) (map (λ c. form.shifted_back c y) columns) (level_within j c y (All-head (BaseFits limit some) c columns bases) h (All-head Fit here rest fit))
       (levels_from (j + 1) columns y (All-tail (BaseFits limit some) c columns bases) h (All-tail Fit here rest fit))
 
@@ -49,19 +49,19 @@ module _ {F : Type 0} (value : F → Number) (limit : ℕ) (some : 1 ≤ limit) 
       subst (Fitting limit) (sym (ap (λ t. s +ℚ t) (sum_by_ℚ-nil (λ (p : ℕ × F). value p.1 *ℚ value_of_column x p.0)) ∙ +ℚ-zero s)) h
   sum_from i e s (p ∷ entries) x h fit =
       let term : Number = value p.1 *ℚ value_of_column x p.0 in
-      let product : Due = (Recover 1 i e 0, product_fits limit (value p.1) (value_of_column x p.0)) in
-      let total : Due = (Recover 1 i e 1, sum_fits limit s term) in
-      let rest : List Due = row_level_steps value limit i (e + 1) (s +ℚ term) entries x in
-      let behind = All-tail Fit product (total ∷ rest) fit in
-      let here = sum_within limit s term small h (All-head Fit product (total ∷ rest) fit) (All-head Fit total rest behind) in
+      let product : ExpectedStep = (Recover 1 i e 0, product_fits limit (value p.1) (value_of_column x p.0)) in
+      let total : ExpectedStep = (Recover 1 i e 1, sum_fits limit s term) in
+      let rest : List ExpectedStep = row_level_steps value limit i (e + 1) (s +ℚ term) entries x in
+      let following = All-tail Fit product (total ∷ rest) fit in
+      let here = sum_within limit s term small h (All-head Fit product (total ∷ rest) fit) (All-head Fit total rest following) in
       subst (Fitting limit) (+ℚ_assoc s term (row_sum value entries x) ∙ ap (λ t. s +ℚ t) (sym (sum_by_ℚ-cons (λ (p : ℕ × F). value p.1 *ℚ value_of_column x p.0) p entries)))
-      (sum_from i (e + 1) (s +ℚ term) entries x here (All-tail Fit total rest behind))
+      (sum_from i (e + 1) (s +ℚ term) entries x here (All-tail Fit total rest following))
 
   sums_from : (i : ℕ) (rows : List (Row F)) (x : List Number) → AllFit (flat_map (λ (p : ℕ × Row F). row_level_steps value limit p.0 0 (whole (pos 0)) p.1.entries x) (enumerate_from i rows)) → All (Fitting limit) (map (λ (row : Row F). row_sum value row.entries x) rows)
   sums_from i [] x fit = All-nil (Fitting limit)
   sums_from i (row ∷ rows) x fit =
-      let here : List Due = row_level_steps value limit i 0 (whole (pos 0)) row.entries x in
-      let rest : List Due = flat_map (λ (p : ℕ × Row F). row_level_steps value limit p.0 0 (whole (pos 0)) p.1.entries x) (enumerate_from (i + 1) rows) in
+      let here : List ExpectedStep = row_level_steps value limit i 0 (whole (pos 0)) row.entries x in
+      let rest : List ExpectedStep = flat_map (λ (p : ℕ × Row F). row_level_steps value limit p.0 0 (whole (pos 0)) p.1.entries x) (enumerate_from (i + 1) rows) in
       All-cons (Fitting limit) (row_sum value row.entries x) (map (λ (r : Row F). row_sum value r.entries x) rows)
       (subst (Fitting limit) (zero-+ℚ (row_sum value row.entries x)) (sum_from i 0 (whole (pos 0)) row.entries x (fits-zero limit some) (All-append_left Fit here rest fit)))
       (sums_from (i + 1) rows x (All-append_right Fit here rest fit))
@@ -77,8 +77,8 @@ module _ {F : Type 0} (value : F → Number) (limit : ℕ) (some : 1 ≤ limit) 
   duals_from : (p : ℕ → Number) (i r : ℕ) (rows : List (Row F)) → ((r : ℕ) → Fitting limit (p r)) → AllFit (dual_steps limit p i r rows) → All (Fitting limit) (form.duals_from p r rows)
   duals_from p i r [] h fit = All-nil (Fitting limit)
   duals_from p i r (row ∷ rows) h fit =
-      let here : List Due = cond (form.rows_of_sense row.sense == 2) ((Recover 2 i 0 1, difference_fits limit (p r) (p (r + 1))) ∷ []) [] in
-      let rest : List Due = dual_steps limit p (i + 1) (r + form.rows_of_sense row.sense) rows in
+      let here : List ExpectedStep = cond (form.rows_of_sense row.sense == 2) ((Recover 2 i 0 1, difference_fits limit (p r) (p (r + 1))) ∷ []) [] in
+      let rest : List ExpectedStep = dual_steps limit p (i + 1) (r + form.rows_of_sense row.sense) rows in
       All-cons (Fitting limit) (form.dual_by_sense row.sense p r) (form.duals_from p (r + form.rows_of_sense row.sense) rows) (dual_within p i r row.sense h (All-append_left Fit here rest fit))
       (duals_from p (i + 1) (r + form.rows_of_sense row.sense) rows h (All-append_right Fit here rest fit))
 
@@ -94,8 +94,8 @@ module _ {F : Type 0} (value : F → Number) (limit : ℕ) (some : 1 ≤ limit) 
   reduced_from costs p j r [] columns all h fit = All-nil (Fitting limit)
   reduced_from costs p j r (s ∷ shifts) [] all h fit = All-nil (Fitting limit)
   reduced_from costs p j r (s ∷ shifts) (column ∷ columns) all h fit =
-      let here : List Due = cond (form.rows_of_bounds column.lower column.upper == 1) ((Recover 3 j 0 1, sum_fits limit (value_of_column costs s.0) (p r)) ∷ []) [] in
-      let rest : List Due = reduced_steps limit costs p (j + 1) (r + form.rows_of_bounds column.lower column.upper) shifts columns in
+      let here : List ExpectedStep = cond (form.rows_of_bounds column.lower column.upper == 1) ((Recover 3 j 0 1, sum_fits limit (value_of_column costs s.0) (p r)) ∷ []) [] in
+      let rest : List ExpectedStep = reduced_steps limit costs p (j + 1) (r + form.rows_of_bounds column.lower column.upper) shifts columns in
       All-cons (Fitting limit) (form.reduced_by_bounds costs p s.0 r column.lower column.upper) (form.reduced_from costs p (r + form.rows_of_bounds column.lower column.upper) shifts columns)
       (reduced_within costs p j s.0 r column.lower column.upper all h (All-append_left Fit here rest fit))
       (reduced_from costs p (j + 1) (r + form.rows_of_bounds column.lower column.upper) shifts columns all h (All-append_right Fit here rest fit))
@@ -111,8 +111,8 @@ module _ {F : Type 0} (value : F → Number) (limit : ℕ) (some : 1 ≤ limit) 
   changes_from : (j : ℕ) (columns : List (ℕ × form.Shift)) (changes : List Number) → All (Fitting limit) changes → AllFit (flat_map (λ (p : ℕ × (ℕ × form.Shift)). ray_step limit p.0 p.1 changes) (enumerate_from j columns)) → All (Fitting limit) (map (λ c. form.changed_back c changes) columns)
   changes_from j [] changes all fit = All-nil (Fitting limit)
   changes_from j (c ∷ columns) changes all fit =
-      let here : List Due = ray_step limit j c changes in
-      let rest : List Due = flat_map (λ (p : ℕ × (ℕ × form.Shift)). ray_step limit p.0 p.1 changes) (enumerate_from (j + 1) columns) in
+      let here : List ExpectedStep = ray_step limit j c changes in
+      let rest : List ExpectedStep = flat_map (λ (p : ℕ × (ℕ × form.Shift)). ray_step limit p.0 p.1 changes) (enumerate_from (j + 1) columns) in
       All-cons (Fitting limit) (form.changed_back c changes) (map (λ c. form.changed_back c changes) columns) (change_within j c changes all (All-append_left Fit here rest fit)) (changes_from (j + 1) columns changes all (All-append_right Fit here rest fit))
 
   -- ---- the lists of the recovery

@@ -18,7 +18,7 @@ use Rattle.lp_core.specs.WellFormed.{IsWellFormed}
 use Rattle.lp_core.specs.StandardForm as form
 use Rattle.lp_core.specs.Dictionary.{Dictionary, some_below, of_variable, first_row, first_objective, no_row, first_dictionary}
 use Rattle.lp_core.specs.declared.answer.StepName.TheVariants.{Standard as StandardStep}
-use Rattle.lp_core.specs.Steps.{Due, AllFit, product_fits, difference_fits, shifting, row_steps, rows_steps, bound_step, bounds_steps, count_of_rows, standard_steps}
+use Rattle.lp_core.specs.Steps.{ExpectedStep, AllFit, product_fits, difference_fits, shifting, row_steps, rows_steps, bound_step, bounds_steps, count_of_rows, standard_steps}
 use Rattle.lp_std.specs.InnerSteps.{right_after, spread_entries, shifted_over, rows_over, bounds_over}
 use Rattle.lp_std.proofs.Sums.{All-append_left, All-append_right}
 use Rattle.lp_std.proofs.LoopSteps.{right_sum}
@@ -27,7 +27,7 @@ use Rattle.lp_fraction_dict.proofs.Filling.{of_later, of_first}
 use Rattle.lp_fraction_dict.proofs.InForm.{form_in_order}
 use Rattle.lp_simplex.proofs.Fitting.{Fitting, neg_within, difference_within, one_within, cond_within, directed_within, number_within, range_holds}
 
-abbrev Fit : Due → Type 0
+abbrev Fit : ExpectedStep → Type 0
 Fit step = step.1 ≡ true
 
 -- Each number of a dictionary fits: those of its rows and of its objective, at each of its columns.
@@ -132,8 +132,8 @@ module _ {F : Type 0} (value : F → Number) (limit : ℕ) (some : 1 ≤ limit) 
 
   two_within : (r j : ℕ) (a b right : Number) → Fitting limit right → AllFit ((StandardStep r (j + 1) 0, product_fits limit a b) ∷ (StandardStep r (j + 1) 1, difference_fits limit right (a *ℚ b)) ∷ []) → Fitting limit (right -ℚ a *ℚ b)
   two_within r j a b right h fit =
-      let product : Due = (StandardStep r (j + 1) 0, product_fits limit a b) in
-      let difference : Due = (StandardStep r (j + 1) 1, difference_fits limit right (a *ℚ b)) in
+      let product : ExpectedStep = (StandardStep r (j + 1) 0, product_fits limit a b) in
+      let difference : ExpectedStep = (StandardStep r (j + 1) 1, difference_fits limit right (a *ℚ b)) in
       difference_within limit right (a *ℚ b) small h (All-head Fit product (difference ∷ []) fit) (All-head Fit difference [] (All-tail Fit product (difference ∷ []) fit))
 
   shifted_within : (r j : ℕ) (s : form.Shift) (a right : Number) → Fitting limit right → AllFit (shifting limit r j s a right) → Fitting limit (right -ℚ a *ℚ form.base s)
@@ -149,8 +149,8 @@ module _ {F : Type 0} (value : F → Number) (limit : ℕ) (some : 1 ≤ limit) 
   right_within columns r right (e ∷ entries) h fit =
       let c : ℕ × form.Shift = form.column_at columns e.0 in
       let next : Number = right -ℚ value e.1 *ℚ form.base c.1 in
-      let here : List Due = shifting limit r e.0 c.1 (value e.1) right in
-      let rest : List Due = row_steps value limit columns r next entries in
+      let here : List ExpectedStep = shifting limit r e.0 c.1 (value e.1) right in
+      let rest : List ExpectedStep = row_steps value limit columns r next entries in
       right_within columns r next entries (shifted_within r e.0 c.1 (value e.1) right h (All-append_left Fit here rest fit)) (All-append_right Fit here rest fit)
 
   -- ---- the rows
@@ -174,8 +174,8 @@ module _ {F : Type 0} (value : F → Number) (limit : ℕ) (some : 1 ≤ limit) 
   rows_within : (columns : List (ℕ × form.Shift)) (r i : ℕ) (rows : List (Row F)) → AllFit (rows_steps value limit columns r rows) → All (RowFits limit some) (rows_over value columns i rows)
   rows_within columns r i [] fit = All-nil (RowFits limit some)
   rows_within columns r i (row ∷ rows) fit =
-      let here : List Due = cond (form.rows_of_sense row.sense == 0) [] (row_steps value limit columns r (value row.right) row.entries) in
-      let rest : List Due = rows_steps value limit columns (r + form.rows_of_sense row.sense) rows in
+      let here : List ExpectedStep = cond (form.rows_of_sense row.sense == 0) [] (row_steps value limit columns r (value row.right) row.entries) in
+      let rest : List ExpectedStep = rows_steps value limit columns (r + form.rows_of_sense row.sense) rows in
       All-append (RowFits limit some) (form.rows_by_sense row.sense i (shifted_over value columns i row)) (rows_over value columns (i + 1) rows)
       (sense_within columns r i row row.sense (All-append_left Fit here rest fit)) (rows_within columns (r + form.rows_of_sense row.sense) (i + 1) rows (All-append_right Fit here rest fit))
 
@@ -192,8 +192,8 @@ module _ {F : Type 0} (value : F → Number) (limit : ℕ) (some : 1 ≤ limit) 
   bounds_within : (columns : List (ℕ × form.Shift)) (r j : ℕ) (bounded : List (Column F)) → AllFit (bounds_steps value limit r j bounded) → All (RowFits limit some) (bounds_over value columns j bounded)
   bounds_within columns r j [] fit = All-nil (RowFits limit some)
   bounds_within columns r j (column ∷ bounded) fit =
-      let here : List Due = bound_step limit r j (bound_value value column.lower) (bound_value value column.upper) in
-      let rest : List Due = bounds_steps value limit (r + form.rows_of_bounds column.lower column.upper) (j + 1) bounded in
+      let here : List ExpectedStep = bound_step limit r j (bound_value value column.lower) (bound_value value column.upper) in
+      let rest : List ExpectedStep = bounds_steps value limit (r + form.rows_of_bounds column.lower column.upper) (j + 1) bounded in
       All-append (RowFits limit some) (form.bound_rows j (form.column_at columns j).0 (bound_value value column.lower) (bound_value value column.upper)) (bounds_over value columns (j + 1) bounded)
       (bound_within r j (form.column_at columns j).0 column.lower column.upper (All-append_left Fit here rest fit)) (bounds_within columns (r + form.rows_of_bounds column.lower column.upper) (j + 1) bounded (All-append_right Fit here rest fit))
 
@@ -207,10 +207,10 @@ module _ {F : Type 0} (value : F → Number) (limit : ℕ) (some : 1 ≤ limit) 
   form_within lp formed fit =
       let columns : List (ℕ × form.Shift) = form.columns_of value lp in
       let z : ℕ × form.Shift = form.column_at columns lp.objective in
-      let first : List Due = rows_steps value limit columns 1 lp.rows in
-      let behind : List Due = bounds_steps value limit (1 + count_of_rows lp.rows) 0 lp.columns in
+      let first : List ExpectedStep = rows_steps value limit columns 1 lp.rows in
+      let following : List ExpectedStep = bounds_steps value limit (1 + count_of_rows lp.rows) 0 lp.columns in
       let ordered = form_in_order value lp formed in
       first_fits limit some (form.standard_form value lp) 1 (length (form.standard_form value lp).objective + 1) ordered.rows
-      (All-append (RowFits limit some) (rows_over value columns 0 lp.rows) (bounds_over value columns 0 lp.columns) (rows_within columns 1 0 lp.rows (All-append_left Fit first behind fit)) (bounds_within columns (1 + count_of_rows lp.rows) 0 lp.columns (All-append_right Fit first behind fit)))
+      (All-append (RowFits limit some) (rows_over value columns 0 lp.rows) (bounds_over value columns 0 lp.columns) (rows_within columns 1 0 lp.rows (All-append_left Fit first following fit)) (bounds_within columns (1 + count_of_rows lp.rows) 0 lp.columns (All-append_right Fit first following fit)))
       (directed_within limit lp.maximize (form.base z.1) (column_fits limit some columns lp.objective (bases_within 1 lp.columns)))
       (spread_objective (form.variables_of value lp) z.0 z.1 (form.directed lp.maximize (whole (pos 1))) (directed_within limit lp.maximize (whole (pos 1)) (one_within limit some)))

@@ -10,19 +10,19 @@ use Rattle.gq_number.specs.Number.{whole, ◌-ℚ◌, ◌*ℚ◌}
 use Rattle.lp_form.proofs.Zeros.{fits-zero}
 use Rattle.lp_core.specs.declared.answer.StepName.TheVariants.{Exchange}
 use Rattle.lp_core.specs.Dictionary.{Dictionary, basic_at, entry_at, divided_entry, exchanged_numbers, exchanged}
-use Rattle.lp_core.specs.Steps.{Due, AllFit, quotient_fits, product_fits, difference_fits, pivot_row_steps, other_row_steps, exchange_steps}
+use Rattle.lp_core.specs.Steps.{ExpectedStep, AllFit, quotient_fits, product_fits, difference_fits, pivot_row_steps, other_row_steps, exchange_steps}
 use Rattle.lp_core.specs.Pivots.{row_of_basic, value_by_row, change_by_row, cost_by_row, priced_row, all_variables, last_of, last_along}
 use Rattle.lp_std.proofs.Sums.{All-append_left, All-append_right}
 use Rattle.lp_fraction_dict.proofs.Exchanging.{length-put}
 use Rattle.lp_simplex.proofs.Fitting.{Fitting, neg_within, difference_within, one_within, cond_within, range_holds}
 use Rattle.lp_simplex.proofs.FittingForm.{HasFitting}
 
-abbrev Fit : Due → Type 0
+abbrev Fit : ExpectedStep → Type 0
 Fit step = step.1 ≡ true
 
 -- ---- steps for each number of a range
 
-map_each : (f : ℕ → Due) (a n i : ℕ) → AllFit (map f (range_with_len a n)) → a ≤ i → i < a + n → (f i).1 ≡ true
+map_each : (f : ℕ → ExpectedStep) (a n i : ℕ) → AllFit (map f (range_with_len a n)) → a ≤ i → i < a + n → (f i).1 ≡ true
 map_each f a zero i fit low high = absurd (omega arith)
 map_each f a (suc n) i fit low high =
     elim (cases_eq a i) [
@@ -30,7 +30,7 @@ map_each f a (suc n) i fit low high =
       | inr other ↦ map_each f (a + 1) n i (All-tail Fit (f a) (map f (range_with_len (a + 1) n)) fit) (omega arith) (omega arith)
     ]
 
-joined_each : (f : ℕ → List Due) (a n i : ℕ) → AllFit (flat_map f (range_with_len a n)) → a ≤ i → i < a + n → AllFit (f i)
+joined_each : (f : ℕ → List ExpectedStep) (a n i : ℕ) → AllFit (flat_map f (range_with_len a n)) → a ≤ i → i < a + n → AllFit (f i)
 joined_each f a zero i fit low high = absurd (omega arith)
 joined_each f a (suc n) i fit low high =
     elim (cases_eq a i) [
@@ -39,7 +39,7 @@ joined_each f a (suc n) i fit low high =
     ]
 
 -- the same of those numbers that pass a test
-passing_each : (f : ℕ → List Due) (p : ℕ → Bool) (a n i : ℕ) → AllFit (flat_map f (filter p (range_with_len a n))) → a ≤ i → i < a + n → p i ≡ true → AllFit (f i)
+passing_each : (f : ℕ → List ExpectedStep) (p : ℕ → Bool) (a n i : ℕ) → AllFit (flat_map f (filter p (range_with_len a n))) → a ≤ i → i < a + n → p i ≡ true → AllFit (f i)
 passing_each f p a zero i fit low high passes = absurd (omega arith)
 passing_each f p a (suc n) i fit low high passes =
     let rest : List ℕ = filter p (range_with_len (a + 1) n) in
@@ -51,24 +51,24 @@ passing_each f p a (suc n) i fit low high passes =
             | inr other ↦ passing_each f p (a + 1) n i (All-append_right Fit (f a) (flat_map f rest) both) (omega arith) (omega arith) passes
           ]
       | inr is_false ↦
-          let behind : AllFit (flat_map f rest) = subst (λ b. AllFit (flat_map f (cond b (a ∷ rest) rest))) is_false fit in
+          let following : AllFit (flat_map f rest) = subst (λ b. AllFit (flat_map f (cond b (a ∷ rest) rest))) is_false fit in
           elim (cases_eq a i) [
             | inl same ↦ absurd (true≢false (sym (subst (λ k. p k ≡ true) (sym same) passes) ∙ is_false))
-            | inr other ↦ passing_each f p (a + 1) n i behind (omega arith) (omega arith) passes
+            | inr other ↦ passing_each f p (a + 1) n i following (omega arith) (omega arith) passes
           ]
     ]
 
 -- ---- the exchange
 
 module _ (limit : ℕ) (some : 1 ≤ limit) (small : limit < 2 ^ 127) (n : ℕ) (d : Dictionary) (q k : ℕ) (h : HasFitting limit d) (fit : AllFit (exchange_steps limit n d q k)) where
-  abbrev others : List Due
+  abbrev others : List ExpectedStep
   others = flat_map (other_row_steps limit n d q k) (filter (λ i. not (i == k)) (range_with_len 0 (length d.basic + 1)))
 
   divided_within : (c : ℕ) → c < d.variables + 2 → Fitting limit (divided_entry d q k c)
   divided_within c less =
       map_each (λ c. (Exchange n (k + 1) c 0, quotient_fits limit (d.numbers k c) (entry_at d k q))) 0 (d.variables + 2) c (All-append_left Fit (pivot_row_steps limit n d q k) others fit) (omega arith) (omega arith)
 
-  abbrev step_pair : ℕ → ℕ → List Due
+  abbrev step_pair : ℕ → ℕ → List ExpectedStep
   step_pair i c =
       (Exchange n (i + 1) c 0, product_fits limit (entry_at d i q) (divided_entry d q k c))
       ∷ (Exchange n (i + 1) c 1, difference_fits limit (d.numbers i c) (entry_at d i q *ℚ divided_entry d q k c)) ∷ []
@@ -78,8 +78,8 @@ module _ (limit : ℕ) (some : 1 ≤ limit) (small : limit < 2 ^ 127) (n : ℕ) 
       let row : AllFit (other_row_steps limit n d q k i) =
       passing_each (other_row_steps limit n d q k) (λ i. not (i == k)) 0 (length d.basic + 1) i (All-append_right Fit (pivot_row_steps limit n d q k) others fit) (omega arith) (omega arith) (not_from_false (i == k) (ne_eqb i k other)) in
       let both : AllFit (step_pair i c) = joined_each (step_pair i) 0 (d.variables + 2) c row (omega arith) (omega arith) in
-      let product : Due = (Exchange n (i + 1) c 0, product_fits limit (entry_at d i q) (divided_entry d q k c)) in
-      let difference : Due = (Exchange n (i + 1) c 1, difference_fits limit (d.numbers i c) (entry_at d i q *ℚ divided_entry d q k c)) in
+      let product : ExpectedStep = (Exchange n (i + 1) c 0, product_fits limit (entry_at d i q) (divided_entry d q k c)) in
+      let difference : ExpectedStep = (Exchange n (i + 1) c 1, difference_fits limit (d.numbers i c) (entry_at d i q *ℚ divided_entry d q k c)) in
       difference_within limit (d.numbers i c) (entry_at d i q *ℚ divided_entry d q k c) small (h.each i c within less) (All-head Fit product (difference ∷ []) both) (All-head Fit difference [] (All-tail Fit product (difference ∷ []) both))
 
   numbers_within : (i c : ℕ) → i < length d.basic + 1 → c < d.variables + 2 → Fitting limit (exchanged_numbers d q k i c)

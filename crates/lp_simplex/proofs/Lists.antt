@@ -4,7 +4,7 @@ use Rattle.std.proofs.lemmas.List.{same_from_push, append_assoc}
 
 module _ {X : Type 0} where
   -- a list that is not empty ends with an element
-  pub ends_with : (xs : List X) → (xs ≡ []) ⊎ ((front : List X) × (x : X) × (xs ≡ front ++ x ∷ []))
+  pub ends_with : (xs : List X) → (xs ≡ []) ⊎ ((prefix : List X) × (x : X) × (xs ≡ prefix ++ x ∷ []))
   ends_with [] = inl refl
   ends_with (x ∷ xs) =
       elim (ends_with xs) [
@@ -14,7 +14,7 @@ module _ {X : Type 0} where
 
   -- a list with one element appended, split before a rest: the rest is empty, or ends with that
   -- element
-  pub split_more : (xs before rest : List X) (x : X) → xs ++ x ∷ [] ≡ before ++ rest → (rest ≡ []) ⊎ ((front : List X) × (rest ≡ front ++ x ∷ []) × (xs ≡ before ++ front))
+  pub split_more : (xs before rest : List X) (x : X) → xs ++ x ∷ [] ≡ before ++ rest → (rest ≡ []) ⊎ ((prefix : List X) × (rest ≡ prefix ++ x ∷ []) × (xs ≡ before ++ prefix))
   split_more xs before rest x e =
       elim (ends_with rest) [
         | inl none ↦ inl none

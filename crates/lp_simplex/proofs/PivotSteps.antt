@@ -6,9 +6,9 @@ use Rattle.gq_number.specs.Number.{Number, whole}
 use Rattle.gq_number.specs.Order.{◌<ℚ◌}
 use Rattle.gq_number.proofs.Order.{≤ℚ_or_above, not_above}
 use Rattle.lp_core.specs.declared.answer.Pivot.{Pivot}
-use Rattle.lp_core.specs.Ends.{IsGoingOnBy}
+use Rattle.lp_core.specs.Ends.{IsUnfinishedBy}
 use Rattle.lp_core.specs.declared.answer.StepName.{StepName}
-use Rattle.lp_core.specs.Dictionary.{Dictionary, entry_at, InPhaseOne, OpeningIsDue, Improves, Limits, IsOpening, IsStep, IsLegal, IsLeast, basic_at, exchanged}
+use Rattle.lp_core.specs.Dictionary.{Dictionary, entry_at, InPhaseOne, OpeningIsRequired, Improves, Limits, IsOpening, IsStep, IsLegal, IsLeast, basic_at, exchanged}
 use Rattle.lp_core.specs.Steps.{AllFit, FirstStop, ratio_steps, exchange_steps}
 use Rattle.lp_core.specs.Pivots.{TestFits, IsTaken, IsAllowedBy, LeadsWithin}
 use Rattle.lp_core.specs.Choices.{leaving_row, after_pivot, reached}
@@ -17,7 +17,7 @@ use Rattle.lp_fraction_dict.proofs.Kept.{get_within, get_index}
 use Rattle.lp_fraction_dict.proofs.Improving.{found_or_not}
 use Rattle.lp_fraction_dict.proofs.Lists.{place_is}
 use Rattle.lp_fraction_dict.proofs.Steps.{ratios_fit}
-use Rattle.lp_simplex.specs.InnerStates.{NoneIsDue, StopsBy}
+use Rattle.lp_simplex.specs.InnerStates.{NothingIsNext, StopsBy}
 use Rattle.lp_simplex.proofs.Stops.{fit_or_stop}
 
 -- ---- a legal pivot
@@ -30,27 +30,27 @@ leaves_row d p k legal = elim legal [ inl opening ↦ opening.leaves | inr step 
 
 pub opening_is_due : (Chosen : ℕ → Type 0) (limit n : ℕ) (d : Dictionary) (p : Pivot) → ((k : ℕ) × IsOpening d p k) → ((i : ℕ) → IsLeast d i → p.leave ≤ basic_at d i) → (k : ℕ) × IsAllowedBy Chosen d p k × TestFits limit n d p
 opening_is_due Chosen limit n d p opening fewest =
-    let taken : IsTaken Chosen d p = record { enters = λ none. absurd (none opening.1.due); leaves = λ i none ties. absurd (none opening.1.due); opens = λ i due least. fewest i least } in
-    (opening.0, (inl opening.1, taken), λ none. absurd (none opening.1.due))
+    let taken : IsTaken Chosen d p = record { enters = λ none. absurd (none opening.1.required); leaves = λ i none ties. absurd (none opening.1.required); opens = λ i required least. fewest i least } in
+    (opening.0, (inl opening.1, taken), λ none. absurd (none opening.1.required))
 
 abbrev pub turn_of : ℕ → ℕ → Pivot
 turn_of q v = record { enter = q; leave = v }
 
 -- the least of the tied variables leaves
-step_is : (d : Dictionary) (q v : ℕ) (leaving : IsLeaving d q (Some v)) → ¬ (OpeningIsDue d) → Improves d q → IsStep d (turn_of q v) leaving.0.0
+step_is : (d : Dictionary) (q v : ℕ) (leaving : IsLeaving d q (Some v)) → ¬ (OpeningIsRequired d) → Improves d q → IsStep d (turn_of q v) leaving.0.0
 step_is d q v leaving none improves =
     record {
-      not_due = none;
+      not_required = none;
       improves = improves;
       leaves = leaving.0.1;
       ties = leaving.0.2;
       zero_first = λ i at ties. let most = leaving.1 i ties in let here = get_index d.basic i 0 0 at in omega arith;
     }
 
-step_taken : (Chosen : ℕ → Type 0) (d : Dictionary) (q v : ℕ) → IsLeaving d q (Some v) → ¬ (OpeningIsDue d) → Chosen q → IsTaken Chosen d (turn_of q v)
-step_taken Chosen d q v leaving none chosen = record { enters = λ no. chosen; leaves = λ i no ties. leaving.1 i ties; opens = λ i due least. absurd (none due) }
+step_taken : (Chosen : ℕ → Type 0) (d : Dictionary) (q v : ℕ) → IsLeaving d q (Some v) → ¬ (OpeningIsRequired d) → Chosen q → IsTaken Chosen d (turn_of q v)
+step_taken Chosen d q v leaving none chosen = record { enters = λ no. chosen; leaves = λ i no ties. leaving.1 i ties; opens = λ i required least. absurd (none required) }
 
-pub step_is_due : (Chosen : ℕ → Type 0) (limit n : ℕ) (d : Dictionary) (q v : ℕ) → ¬ (OpeningIsDue d) → Improves d q → Chosen q → IsLeaving d q (Some v) → AllFit (ratio_steps limit n d q) → (k : ℕ) × IsAllowedBy Chosen d (turn_of q v) k × TestFits limit n d (turn_of q v)
+pub step_is_due : (Chosen : ℕ → Type 0) (limit n : ℕ) (d : Dictionary) (q v : ℕ) → ¬ (OpeningIsRequired d) → Improves d q → Chosen q → IsLeaving d q (Some v) → AllFit (ratio_steps limit n d q) → (k : ℕ) × IsAllowedBy Chosen d (turn_of q v) k × TestFits limit n d (turn_of q v)
 step_is_due Chosen limit n d q v none improves chosen leaving fit =
     (leaving.0.0, (inr (step_is d q v leaving none improves), step_taken Chosen d q v leaving none chosen), λ no. fit)
 
@@ -62,7 +62,7 @@ limits_in_one d q improves none phase =
       | inr free ↦ free phase
     ]
 
-pub none_is_due : (Chosen : ℕ → Type 0) (d : Dictionary) (q : ℕ) → ¬ (OpeningIsDue d) → Improves d q → Chosen q → IsLeaving d q None → NoneIsDue Chosen d (Some q)
+pub none_is_due : (Chosen : ℕ → Type 0) (d : Dictionary) (q : ℕ) → ¬ (OpeningIsRequired d) → Improves d q → Chosen q → IsLeaving d q None → NothingIsNext Chosen d (Some q)
 none_is_due Chosen d q none improves chosen leaving = (limits_in_one d q improves leaving, (none, chosen, leaving))
 
 -- ---- a step of the ratio test that does not fit is that of a row which limits
@@ -91,21 +91,21 @@ some_limits limit n d q name stop =
       | inr none ↦ absurd (fit_or_stop (ratio_steps limit n d q) name (ratios_fit limit n d q (λ i less above. absurd (none i less above))) stop)
     ]
 
-pub ratio_stops : (Chosen : ℕ → Type 0) (limit n : ℕ) (d : Dictionary) (q : ℕ) (name : StepName) → ¬ (OpeningIsDue d) → Chosen q → FirstStop (ratio_steps limit n d q) name → StopsBy Chosen limit n d name
+pub ratio_stops : (Chosen : ℕ → Type 0) (limit n : ℕ) (d : Dictionary) (q : ℕ) (name : StepName) → ¬ (OpeningIsRequired d) → Chosen q → FirstStop (ratio_steps limit n d q) name → StopsBy Chosen limit n d name
 ratio_stops Chosen limit n d q name none chosen stop =
     let row = some_limits limit n d q name stop in
     inl (none, (q, row.0, chosen, row.1, stop))
 
 -- ---- a further pivot is required
 
-pub goes_on_by_pivot : (Chosen : ℕ → Type 0) (d : Dictionary) (p : Pivot) (k : ℕ) → IsAllowedBy Chosen d p k → IsGoingOnBy Chosen d
+pub goes_on_by_pivot : (Chosen : ℕ → Type 0) (d : Dictionary) (p : Pivot) (k : ℕ) → IsAllowedBy Chosen d p k → IsUnfinishedBy Chosen d
 goes_on_by_pivot Chosen d p k allowed =
     elim allowed.0 [
-      | inl opening ↦ inl opening.due
-      | inr step ↦ inr (step.not_due, (p.enter, k, allowed.1.enters step.not_due, step.ties.limits))
+      | inl opening ↦ inl opening.required
+      | inr step ↦ inr (step.not_required, (p.enter, k, allowed.1.enters step.not_required, step.ties.limits))
     ]
 
-pub goes_on_by_stop : (Chosen : ℕ → Type 0) (limit n : ℕ) (d : Dictionary) (name : StepName) → StopsBy Chosen limit n d name → IsGoingOnBy Chosen d
+pub goes_on_by_stop : (Chosen : ℕ → Type 0) (limit n : ℕ) (d : Dictionary) (name : StepName) → StopsBy Chosen limit n d name → IsUnfinishedBy Chosen d
 goes_on_by_stop Chosen limit n d name stops =
     elim stops [
       | inl ratio ↦ inr (ratio.0, (ratio.1.0, ratio.1.1, ratio.1.2, ratio.1.3))

@@ -6,25 +6,25 @@ use Rattle.gq_number.specs.Number.{Number}
 use Rattle.lp_core.specs.declared.answer.Pivot.{Pivot}
 use Rattle.lp_core.specs.declared.answer.StepName.{StepName}
 use Rattle.lp_core.specs.StandardForm.{Standard}
-use Rattle.lp_core.specs.Dictionary.{Dictionary, OpeningIsDue, Improves, IsLegal, exchanged}
+use Rattle.lp_core.specs.Dictionary.{Dictionary, OpeningIsRequired, Improves, IsLegal, exchanged}
 use Rattle.lp_core.specs.Steps.{AllFit, FirstStop, ratio_steps, exchange_steps}
 use Rattle.lp_core.specs.Pivots.{TestFits, IsTaken, ByChoice}
 use Rattle.lp_std.specs.Last.{IsDictionaryOf}
 use Rattle.lp_fraction_dict.specs.Pivots.{IsProper, IsLeaving}
 use Rattle.lp_dict.specs.Tableau.{Tableau, dictionary}
 use Rattle.lp_fraction_dict.proofs.Proper.{proper_after}
-use Rattle.lp_simplex.specs.declared.pivoting.Due.{Due}
+use Rattle.lp_simplex.specs.declared.pivoting.NextStep.{NextStep}
 use Rattle.lp_simplex.specs.declared.pivoting.Halt.{Halt}
 use Rattle.lp_simplex.specs.declared.pivoting.Halt.TheVariants as halt
 use Rattle.lp_simplex.specs.declared.pivoting.Step.TheVariants as step
-use Rattle.lp_simplex.specs.declared.pivoting.Walk.{Walk}
-use Rattle.lp_simplex.specs.InnerStates.{due_with, IsDue, IsAfter, IsSoFar, StopsBy, StepsTo, HaltsAtLimit, HaltsAt, IsWalk}
+use Rattle.lp_simplex.specs.declared.pivoting.PivotRun.{PivotRun}
+use Rattle.lp_simplex.specs.InnerStates.{next_with, IsNextStep, IsAfter, IsSoFar, StopsBy, StepsTo, HaltsAtLimit, HaltsAt, IsPivotRun}
 use Rattle.lp_simplex.proofs.PivotSteps.{step_is_due, none_is_due, leaves_row, way_more}
 
 -- what is required if this variable leaves, or if none does
-pub due_by : (limit : ℕ) (Chosen : ℕ → Type 0) (n : ℕ) (d : Dictionary) (q : ℕ) (leave : Option ℕ) (r : Due) → ¬ (OpeningIsDue d) → Improves d q → Chosen q → IsLeaving d q leave → AllFit (ratio_steps limit n d q) → r ≡ due_with q leave → IsDue limit Chosen n d r
-due_by limit Chosen n d q None r none improves chosen leaving fit is = subst (IsDue limit Chosen n d) (sym is) (none_is_due Chosen d q none improves chosen leaving)
-due_by limit Chosen n d q (Some v) r none improves chosen leaving fit is = subst (IsDue limit Chosen n d) (sym is) (step_is_due Chosen limit n d q v none improves chosen leaving fit)
+pub due_by : (limit : ℕ) (Chosen : ℕ → Type 0) (n : ℕ) (d : Dictionary) (q : ℕ) (leave : Option ℕ) (r : NextStep) → ¬ (OpeningIsRequired d) → Improves d q → Chosen q → IsLeaving d q leave → AllFit (ratio_steps limit n d q) → r ≡ next_with q leave → IsNextStep limit Chosen n d r
+due_by limit Chosen n d q None r none improves chosen leaving fit is = subst (IsNextStep limit Chosen n d) (sym is) (none_is_due Chosen d q none improves chosen leaving)
+due_by limit Chosen n d q (Some v) r none improves chosen leaving fit is = subst (IsNextStep limit Chosen n d) (sym is) (step_is_due Chosen limit n d q v none improves chosen leaving fit)
 
 module _ {F : Type 0} (value : F → Number) (limit : ℕ) (before : Tableau F) (p : Pivot) (legal : (k : ℕ) × IsLegal (dictionary value before) p k × TestFits limit before.upcoming (dictionary value before) p) where
   pub pivot_legal : (k : ℕ) × IsLegal (dictionary value before) p k
@@ -66,8 +66,8 @@ module _ {F : Type 0} (value : F → Number) (limit : ℕ) (choice : Dictionary 
       next : (u : ℕ) → u ≡ 1 → u ≡ min (length {A = Pivot} [] + 1) (2 ^ 64 - 1)
       next u one = omega arith
 
-  pub goes_on : (Before : List Pivot → Dictionary → Type 0) (pivots more : List Pivot) (before after : Tableau F) (p : Pivot) → length pivots + 1 < 2 ^ 64 → more ≡ pivots ++ p ∷ [] → IsSoFar limit value choice Before first pivots before → IsAfter limit value (choice first pivots (dictionary value before)) (Known (pivots ++ p ∷ [])) before p after → IsSoFar limit value choice Known first more after
-  goes_on Before pivots more before after p few more_is so_far step_is =
+  pub continues : (Before : List Pivot → Dictionary → Type 0) (pivots more : List Pivot) (before after : Tableau F) (p : Pivot) → length pivots + 1 < 2 ^ 64 → more ≡ pivots ++ p ∷ [] → IsSoFar limit value choice Before first pivots before → IsAfter limit value (choice first pivots (dictionary value before)) (Known (pivots ++ p ∷ [])) before p after → IsSoFar limit value choice Known first more after
+  continues Before pivots more before after p few more_is so_far step_is =
       let count = so_far.upcoming in
       let next : before.upcoming ≡ 1 + length pivots = omega arith in
       let way = way_more (ByChoice choice first) limit before.upcoming 1 [] first pivots (dictionary value before) (dictionary value after) p step_is.row next so_far.leads step_is.allowed step_is.tested step_is.fit step_is.is_exchanged in
@@ -99,6 +99,6 @@ module _ {F : Type 0} (value : F → Number) (limit : ℕ) (Chosen : ℕ → Typ
   halts_at_limit (halt.Refused name) most h = absurd h
 
 -- a run that halted
-pub walk_is : {F : Type 0} (value : F → Number) (limit : ℕ) (choice : Dictionary → List Pivot → Dictionary → ℕ → Type 0) (Known : List Pivot → Dictionary → Type 0) (first : Dictionary) (iterlim : ℕ) (walk : Walk F) (at : Tableau F) → length walk.pivots.items ≤ iterlim → IsSoFar limit value choice Known first walk.pivots.items at → HaltsAt limit value (choice first walk.pivots.items (dictionary value at)) iterlim (length walk.pivots.items) (dictionary value at) walk.halt → IsWalk limit value choice first iterlim walk
-walk_is value limit choice Known first iterlim walk at few so_far halts =
+pub walk_is : {F : Type 0} (value : F → Number) (limit : ℕ) (choice : Dictionary → List Pivot → Dictionary → ℕ → Type 0) (Known : List Pivot → Dictionary → Type 0) (first : Dictionary) (iterlim : ℕ) (pivot_run : PivotRun F) (at : Tableau F) → length pivot_run.pivots.items ≤ iterlim → IsSoFar limit value choice Known first pivot_run.pivots.items at → HaltsAt limit value (choice first pivot_run.pivots.items (dictionary value at)) iterlim (length pivot_run.pivots.items) (dictionary value at) pivot_run.halt → IsPivotRun limit value choice first iterlim pivot_run
+walk_is value limit choice Known first iterlim pivot_run at few so_far halts =
     record { last = dictionary value at; few = few; leads = so_far.leads; of_form = so_far.of_form; halts = halts }

@@ -5,7 +5,7 @@ use Rattle.std.proofs.lemmas.List.{append_assoc, append-nil}
 use Rattle.std.proofs.lemmas.Option.{slice_get_within}
 use Rattle.gq_number.specs.Number.{Number}
 use Rattle.lp_core.specs.declared.answer.Pivot.{Pivot}
-use Rattle.lp_core.specs.Ends.{IsUnlimitedBy, IsGoingOnBy, IsPhase, EndsAt, LeadsTo, EndsWith, EndsSoBy, ends_by_kind, limit_is_met, step_stops}
+use Rattle.lp_core.specs.Ends.{IsUnlimitedBy, IsUnfinishedBy, IsPhase, EndsAt, LeadsTo, EndsWith, EndsSoBy, ends_by_kind, limit_is_met, step_stops}
 use Rattle.lp_core.specs.Pivots.{NothingImproves, TestFits, last_of, last_along, IsAllowedBy, ByChoice, LeadsWithin}
 use Rattle.lp_core.specs.declared.answer.StepName.{StepName}
 use Rattle.lp_core.specs.declared.answer.End.{End}
@@ -18,7 +18,7 @@ use Rattle.lp_core.specs.declared.program.Lp.{Lp}
 use Rattle.lp_core.specs.WellFormed.{IsWellFormed}
 use Rattle.lp_core.specs.Proofs.{Crosses, FirstCrossed, row_sums}
 use Rattle.lp_core.specs.StandardForm.{Last, standard_form, levels_back, duals_back, reduced_back, farkas_back, ray_back}
-use Rattle.lp_core.specs.Dictionary.{Dictionary, basic_at, OpeningIsDue, Improves, Limits, Ties, IsLegal, first_dictionary, exchanged}
+use Rattle.lp_core.specs.Dictionary.{Dictionary, basic_at, OpeningIsRequired, Improves, Limits, Ties, IsLegal, first_dictionary, exchanged}
 use Rattle.lp_core.specs.Steps.{AllFit, FirstStop, ratio_steps, exchange_steps, standard_steps, steps_back}
 use Rattle.lp_core.specs.Answers.{EndsCrossed, EndsUnformed, bounds_cross, form_stops, search_ends, IsAnswerByChoice}
 use Rattle.lp_fraction_dict.specs.Pivots.{IsProper}
@@ -49,8 +49,8 @@ module _ (d : Dictionary) (Chosen : ℕ → Type 0) (improves : (q : ℕ) → Ch
   leaves_at_most p q k j one two enters =
       subst (λ n. p.leave ≤ n) (row_is d q j two.0)
       (elim two.0 [
-        | inl opening ↦ one.1.opens j opening.due opening.least
-        | inr step ↦ one.1.leaves j step.not_due (subst (λ e. Ties d e j) (sym enters) step.ties)
+        | inl opening ↦ one.1.opens j opening.required opening.least
+        | inr step ↦ one.1.leaves j step.not_required (subst (λ e. Ties d e j) (sym enters) step.ties)
       ])
 
   enters_same : (p q : Pivot) (k j : ℕ) → Allowed p k → Allowed q j → p.enter ≡ q.enter
@@ -58,9 +58,9 @@ module _ (d : Dictionary) (Chosen : ℕ → Type 0) (improves : (q : ℕ) → Ch
       elim one.0 [
         | inl opening ↦ elim two.0 [
           | inl again ↦ opening.enters ∙ sym again.enters
-          | inr step ↦ absurd (step.not_due opening.due)
+          | inr step ↦ absurd (step.not_required opening.required)
         ]
-        | inr step ↦ once p.enter q.enter (one.1.enters step.not_due) (two.1.enters step.not_due)
+        | inr step ↦ once p.enter q.enter (one.1.enters step.not_required) (two.1.enters step.not_required)
       ]
 
   pub same_pivot : (p q : Pivot) (k j : ℕ) → Allowed p k → Allowed q j → p ≡ q
@@ -75,21 +75,21 @@ module _ (d : Dictionary) (Chosen : ℕ → Type 0) (improves : (q : ℕ) → Ch
 
   -- ---- what is the case at a dictionary excludes all else
 
-  nothing_or_goes : NothingImproves d → IsGoingOnBy Chosen d → ⊥
-  nothing_or_goes none goes = elim goes [ inl due ↦ none.0 due | inr more ↦ none.1 more.1.0 (improves more.1.0 more.1.2) ]
+  nothing_or_goes : NothingImproves d → IsUnfinishedBy Chosen d → ⊥
+  nothing_or_goes none goes = elim goes [ inl required ↦ none.0 required | inr more ↦ none.1 more.1.0 (improves more.1.0 more.1.2) ]
 
   nothing_or_unlimited : (q : ℕ) → NothingImproves d → IsUnlimitedBy Chosen d q → ⊥
   nothing_or_unlimited q none along = none.1 q (improves q along.1)
 
-  unlimited_or_goes : (q : ℕ) → IsUnlimitedBy Chosen d q → IsGoingOnBy Chosen d → ⊥
+  unlimited_or_goes : (q : ℕ) → IsUnlimitedBy Chosen d q → IsUnfinishedBy Chosen d → ⊥
   unlimited_or_goes q along goes =
       elim goes [
-        | inl due ↦ along.0 due
+        | inl required ↦ along.0 required
         | inr more ↦ along.2 more.1.1 (subst (λ r. Limits d r more.1.1) (once more.1.0 q more.1.2 along.1) more.1.3)
       ]
 
   -- the ratio test of an allowed pivot is that of the variable which is chosen
-  ratio_or_pivot : (limit n : ℕ) (p : Pivot) (k q : ℕ) (a : StepName) → Allowed p k → TestFits limit n d p → ¬ (OpeningIsDue d) → Chosen q → FirstStop (ratio_steps limit n d q) a → ⊥
+  ratio_or_pivot : (limit n : ℕ) (p : Pivot) (k q : ℕ) (a : StepName) → Allowed p k → TestFits limit n d p → ¬ (OpeningIsRequired d) → Chosen q → FirstStop (ratio_steps limit n d q) a → ⊥
   ratio_or_pivot limit n p k q a allowed tested none chosen stop =
       let same = once q p.enter chosen (allowed.1.enters none) in
       fit_or_stop (ratio_steps limit n d p.enter) a (tested none) (subst (λ r. FirstStop (ratio_steps limit n d r) a) same stop)
@@ -126,8 +126,8 @@ same_list value inj (x ∷ xs) (y ∷ ys) e = ap₂ (λ z l. z ∷ l) (inj x y (
 phase_once : (d : Dictionary) (a b : ℕ) → IsPhase d a → IsPhase d b → a ≡ b
 phase_once d a b (inl one) (inl two) = one.0 ∙ sym two.0
 phase_once d a b (inr one) (inr two) = one.0 ∙ sym two.0
-phase_once d a b (inl one) (inr two) = absurd (elim one.1 [ inl due ↦ two.1 due | inr phase ↦ two.2 phase ])
-phase_once d a b (inr one) (inl two) = absurd (elim two.1 [ inl due ↦ one.1 due | inr phase ↦ one.2 phase ])
+phase_once d a b (inl one) (inr two) = absurd (elim one.1 [ inl required ↦ two.1 required | inr phase ↦ two.2 phase ])
+phase_once d a b (inr one) (inl two) = absurd (elim two.1 [ inl required ↦ one.1 required | inr phase ↦ one.2 phase ])
 
 module _ {F : Type 0} (value : F → Number) (inj : (x y : F) → value x ≡ value y → x ≡ y) (limit : ℕ) (lp : Lp F) where
   -- what the recovery of each kind computes, with the end that has it
@@ -180,7 +180,7 @@ module _ {F : Type 0} (value : F → Number) (inj : (x y : F) → value x ≡ va
 module _ {F : Type 0} (value : F → Number) (inj : (x y : F) → value x ≡ value y → x ≡ y) (limit : ℕ) (lp : Lp F) (iterlim pivots : ℕ) (d : Dictionary) (proper : IsProper d) (Chosen : ℕ → Type 0) (improves : (q : ℕ) → Chosen q → Improves d q) (once : (q r : ℕ) → Chosen q → Chosen r → q ≡ r) where
   -- at the dictionary a search ends by this kind, and this is read
   abbrev At : EndKind → Last → Type 0
-  At how last = EndsAt Chosen ((pivots ≡ iterlim) × IsGoingOnBy Chosen d) d how last
+  At how last = EndsAt Chosen ((pivots ≡ iterlim) × IsUnfinishedBy Chosen d) d how last
 
   same_with : (h k : EndKind) (l m : Last) (a b : End F) → At h l → At k m → EndsWith value limit lp h l a → EndsWith value limit lp k m b → a ≡ b
   same_with kind.Optimal kind.Optimal l m a b at also one two = read_once value inj limit lp kind.Optimal l m (last_of d) a b at.2 also.2 one two
@@ -207,7 +207,7 @@ module _ {F : Type 0} (value : F → Number) (inj : (x y : F) → value x ≡ va
 
   -- a search does not end with a kind if a further pivot is required and the limit is not met, or
   -- in phase 1
-  at_or_more : (how : EndKind) (last : Last) → At how last → pivots < iterlim → IsGoingOnBy Chosen d → ⊥
+  at_or_more : (how : EndKind) (last : Last) → At how last → pivots < iterlim → IsUnfinishedBy Chosen d → ⊥
   at_or_more kind.Optimal last at less goes = nothing_or_goes d Chosen improves once at.1 goes
   at_or_more kind.Infeasible last at less goes = nothing_or_goes d Chosen improves once at.1 goes
   at_or_more kind.Unbounded last at less goes = unlimited_or_goes d Chosen improves once at.1.0 at.1.1 goes
@@ -216,13 +216,13 @@ module _ {F : Type 0} (value : F → Number) (inj : (x y : F) → value x ≡ va
   one_or_two : (n : ℕ) → n ≡ 1 → n ≡ 2 → ⊥
   one_or_two n one two = omega arith
 
-  at_or_one : (how : EndKind) (last : Last) → At how last → IsPhase d 1 → IsGoingOnBy Chosen d → ⊥
+  at_or_one : (how : EndKind) (last : Last) → At how last → IsPhase d 1 → IsUnfinishedBy Chosen d → ⊥
   at_or_one kind.Optimal last at phase goes = nothing_or_goes d Chosen improves once at.1 goes
   at_or_one kind.Infeasible last at phase goes = nothing_or_goes d Chosen improves once at.1 goes
   at_or_one kind.Unbounded last at phase goes = unlimited_or_goes d Chosen improves once at.1.0 at.1.1 goes
   at_or_one kind.Interrupted last at phase goes = one_or_two 1 refl (phase_once d 1 2 phase (inr (refl, at.1, at.0)))
 
-  stop_goes : (step : StepName) → StopsBy Chosen limit (pivots + 1) d step → IsGoingOnBy Chosen d
+  stop_goes : (step : StepName) → StopsBy Chosen limit (pivots + 1) d step → IsUnfinishedBy Chosen d
   stop_goes step stops = goes_on_by_stop Chosen limit (pivots + 1) d step stops
 
   pub one_end : (a b : End F) → EndsSoBy value limit lp iterlim (IsAllowedBy Chosen d) Chosen pivots d a → EndsSoBy value limit lp iterlim (IsAllowedBy Chosen d) Chosen pivots d b → a ≡ b

@@ -4,7 +4,7 @@ use Rattle.lp_core.specs.declared.answer.Pivot.{Pivot}
 use Rattle.lp_core.specs.Dictionary.{Dictionary}
 use Rattle.lp_core.specs.Ends.{IsPhase}
 use Rattle.lp_core.specs.Choices.{reached, AllAlong}
-use Rattle.lp_core.specs.LargestCoefficient.{StandsStill, HasTurned}
+use Rattle.lp_core.specs.LargestCoefficient.{IsDegeneratePivot, HasTurned}
 use Rattle.lp_simplex.specs.declared.turning.Count.{Count}
 use Rattle.lp_simplex.specs.declared.turning.Count.TheVariants as counts
 
@@ -14,7 +14,7 @@ pub record EndsStill (first : Dictionary) (pivots : List Pivot) (d : Dictionary)
   pub phase : ℕ
   pub before : List Pivot
   pub split : pivots ≡ before ++ still
-  pub gains_nothing : AllAlong (StandsStill phase) (reached first before) still
+  pub gains_nothing : AllAlong (IsDegeneratePivot phase) (reached first before) still
   pub now : IsPhase d phase
 
 -- The search has not turned, and `count` is the greatest number of pivots at the end that gained
@@ -22,7 +22,7 @@ pub record EndsStill (first : Dictionary) (pivots : List Pivot) (d : Dictionary)
 pub record IsCounting (first : Dictionary) (pivots : List Pivot) (d : Dictionary) (count : ℕ) : Type 0 where
   pub here : d ≡ reached first pivots
   pub few : count ≤ d.variables
-  pub so_many : (count ≡ 0) ⊎ ((still : List Pivot) × EndsStill first pivots d still × (length still ≡ count))
+  pub is_count : (count ≡ 0) ⊎ ((still : List Pivot) × EndsStill first pivots d still × (length still ≡ count))
   pub at_most : (still : List Pivot) → EndsStill first pivots d still → length still ≤ count
   pub not_turned : ¬ (HasTurned first pivots d)
 

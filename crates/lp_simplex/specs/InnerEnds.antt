@@ -6,7 +6,7 @@ use Rattle.lp_core.specs.declared.answer.End.{End}
 use Rattle.lp_core.specs.declared.answer.End.TheVariants.{Interrupted, Refused}
 use Rattle.lp_core.specs.declared.program.Lp.{Lp}
 use Rattle.lp_core.specs.StandardForm.{Standard}
-use Rattle.lp_core.specs.Dictionary.{Dictionary, OpeningIsDue, Improves}
+use Rattle.lp_core.specs.Dictionary.{Dictionary, OpeningIsRequired, Improves}
 use Rattle.lp_core.specs.Answers.{EndsCrossed, EndsUnformed}
 use Rattle.lp_core.specs.declared.answer.EndKind.{EndKind}
 use Rattle.lp_std.specs.Last.{IsDictionaryOf, IsReadAt}
@@ -17,14 +17,14 @@ use Rattle.lp_simplex.specs.declared.pivoting.Halt.{Halt}
 use Rattle.lp_simplex.specs.declared.pivoting.Halt.TheVariants as halt
 
 -- a further pivot may be required: the opening one, or a variable improves
-abbrev pub MayGoOn : Dictionary → Type 0
-MayGoOn d = OpeningIsDue d ⊎ ((q : ℕ) × Improves d q)
+abbrev pub MayContinue : Dictionary → Type 0
+MayContinue d = OpeningIsRequired d ⊎ ((q : ℕ) × Improves d q)
 
 module _ {F : Type 0} (value : F → Number) where
   -- where a run over dictionaries of this standard form may halt
   abbrev pub CanEnd : Standard → Halt F → Type 0
   CanEnd s (halt.Ended d enter) = IsDictionaryOf s (dictionary value d) × IsDone (dictionary value d) enter
-  CanEnd s (halt.Interrupted d) = IsDictionaryOf s (dictionary value d) × MayGoOn (dictionary value d)
+  CanEnd s (halt.Interrupted d) = IsDictionaryOf s (dictionary value d) × MayContinue (dictionary value d)
   CanEnd s (halt.Refused step) = Unit {0}
 
 module _ {F : Type 0} (value : F → Number) (limit : ℕ) (lp : Lp F) where

@@ -15,10 +15,10 @@ ghost use Rattle.lp_std.specs.Recovery.{IsFormOf};
 ghost use Rattle.lp_std.specs.Last.{IsDictionaryOf};
 ghost use Rattle.lp_dict.specs.Tableau.{dictionary};
 ghost use Rattle.lp_fraction_dict.specs.Reading.{IsDone};
-ghost use Rattle.lp_simplex.specs.InnerEnds.{MayGoOn, CanEnd, IsLedBack, IsBrokenOff, EndsHalted, EndsFormless};
+ghost use Rattle.lp_simplex.specs.InnerEnds.{MayContinue, CanEnd, IsLedBack, IsBrokenOff, EndsHalted, EndsFormless};
 
 use crate::choosing::Choosing;
-use crate::pivoting::{Halt, walked};
+use crate::pivoting::{Halt, run_of_pivots};
 use gq_field::ExactField;
 use lp_core::{Answer, End, Lp, Sequence, StepName};
 use lp_dict::Dict;
@@ -69,7 +69,7 @@ fn interrupted<F: ExactField>(
     requires well_formed { IsWellFormed F.value lp.now }
     requires form { IsFormOf F.value lp.now s.now }
     requires of_form { IsDictionaryOf (standard_value F.value s.now) (dictionary F.value dict.now) }
-    requires goes_on { MayGoOn (dictionary F.value dict.now) }
+    requires continues { MayContinue (dictionary F.value dict.now) }
     ensures { IfOk result (IsBrokenOff F.value F.limit lp.now (dictionary F.value dict.now)) }
 {
     if dict.phase() == 2 {
@@ -116,10 +116,10 @@ fn searched<C: Choosing<F>, F: ExactField>(
     ensures { IfOk result (IsAnswerByChoice F.value F.limit lp.now iterlim (C.chooses (C.rule choice.old))) }
 {
     let first = Dict::of(alloc, s)?;
-    let walk = walked(alloc, first, iterlim, choice)?;
-    let end = end_of(alloc, lp, s, walk.halt)?;
+    let pivot_run = run_of_pivots(alloc, first, iterlim, choice)?;
+    let end = end_of(alloc, lp, s, pivot_run.halt)?;
     Ok(Answer {
-        pivots: Sequence::new(walk.pivots),
+        pivots: Sequence::new(pivot_run.pivots),
         end,
     })
 }

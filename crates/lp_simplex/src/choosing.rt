@@ -1,7 +1,7 @@
 //! Which of the variables that improve enters.
 ghost use Rattle.std.specs.Prelude.{◌≡◌, ℕ, List, [], ◌∷◌, ◌++◌, slice_get, Some, MatchOption};
 ghost use Rattle.lp_core.specs.declared.answer.Pivot.{Pivot};
-ghost use Rattle.lp_core.specs.Dictionary.{Dictionary, OpeningIsDue, Improves, IsLegal, exchanged};
+ghost use Rattle.lp_core.specs.Dictionary.{Dictionary, OpeningIsRequired, Improves, IsLegal, exchanged};
 ghost use Rattle.lp_fraction_dict.specs.Pivots.{IsProper};
 ghost use Rattle.lp_dict.specs.Tableau.{dictionary};
 
@@ -28,7 +28,7 @@ pub trait Choosing<F: ExactField> {
 
     /// The entering variable among those that improve. None exactly if no variable improves.
     fn entering(&self, dict: &Dict<F>) -> Option<u32>
-        requires { ¬ (OpeningIsDue (dictionary F.value dict.now)) }
+        requires { ¬ (OpeningIsRequired (dictionary F.value dict.now)) }
         ensures { MatchOption result ((v : ℕ) → ¬ (Improves (dictionary F.value dict.now) v))
             (λ q. Improves (dictionary F.value dict.now) q × ((first : Dictionary) (pivots : List Pivot) →
             remembers self.now first pivots (dictionary F.value dict.now) → chooses (rule self.now) first pivots (dictionary F.value dict.now) q)) };

@@ -1,6 +1,6 @@
 //! A rule of choice: which of the improving variables enters, by the dictionary alone.
 ghost use Rattle.std.specs.Prelude.{ℕ, MatchOption};
-ghost use Rattle.lp_core.specs.Dictionary.{Dictionary, OpeningIsDue, Improves};
+ghost use Rattle.lp_core.specs.Dictionary.{Dictionary, OpeningIsRequired, Improves};
 ghost use Rattle.lp_dict.specs.Tableau.{dictionary};
 
 use gq_field::ExactField;
@@ -14,7 +14,7 @@ pub trait Picking<F: ExactField>: Drop {
 
     /// A variable that the rule picks. None exactly if no variable improves.
     fn pick(&self, dict: &Dict<F>) -> Option<u32>
-        requires { ¬ (OpeningIsDue (dictionary F.value dict.now)) }
+        requires { ¬ (OpeningIsRequired (dictionary F.value dict.now)) }
         ensures { MatchOption result ((v : ℕ) → ¬ (Improves (dictionary F.value dict.now) v)) (picks self.now (dictionary F.value dict.now)) };
 
     /// A picked variable improves.

@@ -16,7 +16,7 @@ use std::alloc::{AllocError, Global};
 
 /// What follows at a dictionary.
 #[derive(Clone, Copy)]
-enum Due {
+enum NextStep {
     /// This pivot.
     Pivot(Pivot),
     /// This step of a pivot's ratio test does not fit.
@@ -47,37 +47,37 @@ enum Step<F: ExactField> {
 
 /// A run of pivots: the pivots it made, and where it halted.
 #[derive(Drop)]
-pub(crate) struct Walk<F: ExactField> {
+pub(crate) struct PivotRun<F: ExactField> {
     pub(crate) pivots: Vec<Pivot>,
     pub(crate) halt: Halt<F>,
 }
 
 /// What follows when this variable enters: a pivot with the variable that leaves, or an end if none
 /// leaves.
-fn due_with(enter: u32, leave: Option<u32>) -> Due
-    ensures { result ≡ walks.due_with enter leave }
+fn next_with(enter: u32, leave: Option<u32>) -> NextStep
+    ensures { result ≡ walks.next_with enter leave }
 {
     match leave {
-        Some(leave) => Due::Pivot(Pivot { enter, leave }),
-        None => Due::End(Some(enter)),
+        Some(leave) => NextStep::Pivot(Pivot { enter, leave }),
+        None => NextStep::End(Some(enter)),
     }
 }
 
 /// What follows at a dictionary.
-fn due_at<C: Choosing<F>, F: ExactField>(dict: &Dict<F>, choice: &C) -> Due
-    ensures legal { walks.IsDue F.limit (Improves (dictionary F.value dict.now)) dict.now.upcoming (dictionary F.value dict.now) result }
+fn next_at<C: Choosing<F>, F: ExactField>(dict: &Dict<F>, choice: &C) -> NextStep
+    ensures legal { walks.IsNextStep F.limit (Improves (dictionary F.value dict.now)) dict.now.upcoming (dictionary F.value dict.now) result }
     ensures chosen { (first : Dictionary) (pivots : List Pivot) → C.remembers choice.now first pivots (dictionary F.value dict.now) →
-        walks.IsDue F.limit (C.chooses (C.rule choice.now) first pivots (dictionary F.value dict.now)) dict.now.upcoming (dictionary F.value dict.now) result }
+        walks.IsNextStep F.limit (C.chooses (C.rule choice.now) first pivots (dictionary F.value dict.now)) dict.now.upcoming (dictionary F.value dict.now) result }
 {
     if let Some(pivot) = dict.opening() {
-        return Due::Pivot(pivot);
+        return NextStep::Pivot(pivot);
     }
     let Some(enter) = choice.entering(dict) else {
-        return Due::End(None);
+        return NextStep::End(None);
     };
     match dict.leaving(enter) {
-        Ok(leave) => due_with(enter, leave),
-        Err(Stop::Limit(step)) => Due::Stop(step),
+        Ok(leave) => next_with(enter, leave),
+        Err(Stop::Limit(step)) => NextStep::Stop(step),
         Err(Stop::Crossed(_)) => unreachable!(),
         Err(Stop::Memory) => unreachable!(),
     }
@@ -117,10 +117,10 @@ fn stepped<C: Choosing<F>, F: ExactField>(
     ensures steps { IfOk result (λ step. (first : Dictionary) (pivots : List Pivot) → C.remembers choice.old first pivots (dictionary F.value dict) →
         walks.StepsTo F.limit F.value (C.chooses (C.rule choice.old) first pivots (dictionary F.value dict)) (C.remembers choice.new first) pivots dict step) }
 {
-    match due_at(&dict, choice) {
-        Due::Pivot(pivot) => pivoted(alloc, dict, pivot, choice),
-        Due::Stop(step) => Ok(Step::Halted(Halt::Refused(step))),
-        Due::End(enter) => Ok(Step::Halted(Halt::Ended(dict, enter))),
+    match next_at(&dict, choice) {
+        NextStep::Pivot(pivot) => pivoted(alloc, dict, pivot, choice),
+        NextStep::Stop(step) => Ok(Step::Halted(Halt::Refused(step))),
+        NextStep::End(enter) => Ok(Step::Halted(Halt::Ended(dict, enter))),
     }
 }
 
@@ -129,24 +129,24 @@ fn halted<C: Choosing<F>, F: ExactField>(dict: Dict<F>, choice: &C) -> Halt<F>
     ensures { (first : Dictionary) (pivots : List Pivot) → C.remembers choice.now first pivots (dictionary F.value dict) →
         walks.HaltsAtLimit F.limit F.value (C.chooses (C.rule choice.now) first pivots (dictionary F.value dict)) dict result }
 {
-    match due_at(&dict, choice) {
-        Due::Pivot(_) => Halt::Interrupted(dict),
-        Due::Stop(_) => Halt::Interrupted(dict),
-        Due::End(enter) => Halt::Ended(dict, enter),
+    match next_at(&dict, choice) {
+        NextStep::Pivot(_) => Halt::Interrupted(dict),
+        NextStep::Stop(_) => Halt::Interrupted(dict),
+        NextStep::End(enter) => Halt::Ended(dict, enter),
     }
 }
 
 /// The run of at most `iterlim` pivots from a first dictionary.
-pub(crate) fn walked<C: Choosing<F>, F: ExactField>(
+pub(crate) fn run_of_pivots<C: Choosing<F>, F: ExactField>(
     alloc: Global,
     first: Dict<F>,
     iterlim: u64,
     choice: &mut C,
-) -> Result<Walk<F>, AllocError>
+) -> Result<PivotRun<F>, AllocError>
     requires upcoming { first.upcoming ≡ 1 }
     requires proper { IsProper (dictionary F.value first) }
     requires fresh { C.remembers choice.old (dictionary F.value first) [] (dictionary F.value first) }
-    ensures { IfOk result (walks.IsWalk F.limit F.value (C.chooses (C.rule choice.old)) (dictionary F.value first) iterlim) }
+    ensures { IfOk result (walks.IsPivotRun F.limit F.value (C.chooses (C.rule choice.old)) (dictionary F.value first) iterlim) }
 {
     let mut pivots = Vec::new(alloc);
     let mut dict = first;
@@ -156,9 +156,9 @@ pub(crate) fn walked<C: Choosing<F>, F: ExactField>(
                 pivots.push(pivot)?;
                 dict = after;
             }
-            Step::Halted(halt) => return Ok(Walk { pivots, halt }),
+            Step::Halted(halt) => return Ok(PivotRun { pivots, halt }),
         }
     }
     let halt = halted(dict, choice);
-    Ok(Walk { pivots, halt })
+    Ok(PivotRun { pivots, halt })
 }

@@ -3,7 +3,7 @@ ghost use Rattle.std.specs.Prelude.{IfOk};
 ghost use Rattle.lp_core.specs.declared.answer.Rule.TheVariants as by;
 ghost use Rattle.lp_core.specs.Answers.{IsAnswer};
 ghost use Rattle.lp_core.specs.WellFormed.{IsWellFormed};
-ghost use Rattle.lp_nocycle.specs.Turns.{HasFewPivotsByTurn, ComesToEndByTurn};
+ghost use Rattle.lp_nocycle.specs.Turns.{HasFewPivotsByTurn, EndsUninterruptedByTurn};
 ghost use Rattle.lp_simplex.specs.Turn.{IsTurningAnswer};
 
 use crate::answer::solve_by;
@@ -32,7 +32,7 @@ pub fn solve_with<P: Picking<F>, F: ExactField>(
     ensures turning { IfOk result (IsTurningAnswer F.value F.limit (P.picks rule) lp.now iterlim) }
     ensures legal { IfOk result (IsAnswer F.value F.limit lp.now iterlim by.Legal) }
     ensures few { IfOk result (HasFewPivotsByTurn F.value lp.now) }
-    ensures to_the_end { IfOk result (ComesToEndByTurn F.value lp.now iterlim) }
+    ensures to_the_end { IfOk result (EndsUninterruptedByTurn F.value lp.now iterlim) }
 {
     let mut choice = Turning::new(rule);
     solve_by(alloc, lp, iterlim, &mut choice)

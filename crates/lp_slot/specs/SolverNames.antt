@@ -10,13 +10,13 @@ begins_with_letter [] = false
 begins_with_letter (byte ∷ bytes) = is_ascii_alphabetic byte
 
 -- a letter, a digit or `_`, which is byte 95
-abbrev pub may_stand_in_name : ℕ → Bool
-may_stand_in_name byte = is_ascii_alphanumeric byte || byte == 95
+abbrev pub is_solver_name_byte : ℕ → Bool
+is_solver_name_byte byte = is_ascii_alphanumeric byte || byte == 95
 
 -- A solver's name: a letter, then letters, digits and `_`, at most 63 bytes. No solver is named
 -- `none`, in any letter case: that word denotes a list without solvers.
 pub record IsSolverName (name : List ℕ) : Type 0 where
   pub letter : IsTrue (begins_with_letter name)
-  pub plain : IsTrue (list_all may_stand_in_name name)
+  pub plain : IsTrue (list_all is_solver_name_byte name)
   pub short : length name ≤ 63
   pub not_none : IsTrue (not (str_eq_ignore_ascii_case name (codes "none")))

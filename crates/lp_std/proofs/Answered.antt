@@ -14,7 +14,7 @@ use Rattle.lp_core.specs.WellFormed.{IsWellFormed}
 use Rattle.lp_core.specs.Feasible.{bound_value}
 use Rattle.lp_core.specs.Proofs.{FirstCrossed, IsProved}
 use Rattle.lp_core.specs.StandardForm as form
-use Rattle.lp_core.specs.Steps.{AllFit, Due, count_of_rows, steps_back}
+use Rattle.lp_core.specs.Steps.{AllFit, ExpectedStep, count_of_rows, steps_back}
 use Rattle.lp_core.specs.Dictionary.{Dictionary}
 use Rattle.lp_core.specs.Pivots.{last_of, value_by_row, cost_by_row, change_by_row, row_of_basic, priced_row, all_variables}
 use Rattle.lp_std.specs.declared.types.Shift.{Shift}
@@ -27,7 +27,7 @@ use Rattle.lp_std.specs.declared.stop.Stop.TheVariants as stop
 use Rattle.lp_std.specs.Meaning.{shift_value, row_value, standard_value}
 use Rattle.lp_std.specs.InnerSteps.{StopsAt, ComputesEnd, IsSized, HasRay, AreSized, rows_over, bounds_over}
 use Rattle.lp_std.specs.Last.{IsDictionaryOf, IsReadAt, IsLast, last_value}
-use Rattle.lp_std.specs.Recovery.{HasNoWayBack}
+use Rattle.lp_std.specs.Recovery.{HasNoRecovery}
 use Rattle.lp_std.proofs.Stops.{all_fit, stops_first}
 use Rattle.lp_std.proofs.BoundSteps.{counted_by_bounds}
 use Rattle.lp_std.proofs.Shapes.{widths_of_shifts, widths-numbered, variables_counted, variables_few, rows_few}
@@ -101,7 +101,7 @@ module _ {F : Type 0} (value : F → Number) (lp : Lp F) (formed : IsWellFormed 
     proper : IsDictionaryOf (form.standard_form value lp) d
     proper = subst (λ t. IsDictionaryOf t d) is_form is
 
-  pub end_proved : FirstCrossed value lp.columns None → (final : Final F) → IsLast value s final → (steps : List Due) (r : Result (End F) Stop) → ComputesEnd steps (LeadsTo value lp final.kind (last_value value final)) r → IfOk r (IsProved value lp)
+  pub end_proved : FirstCrossed value lp.columns None → (final : Final F) → IsLast value s final → (steps : List ExpectedStep) (r : Result (End F) Stop) → ComputesEnd steps (LeadsTo value lp final.kind (last_value value final)) r → IfOk r (IsProved value lp)
   end_proved none final last steps (Ok end) h = proved_at value lp formed none last.0 (proper none last.0 last.1) final.kind (last_value value final) last.2 end h.1
   end_proved none final last steps (Err stop) h = tt
 
@@ -116,12 +116,12 @@ module _ {F : Type 0} (value : F → Number) (limit : ℕ) (lp : Lp F) (k : EndK
   end_fits (Ok end) h = all_fit (steps_back value limit lp k last) h.0
   end_fits (Err s) h = tt
 
-  stop_back : (s : Stop) → StopsAt (steps_back value limit lp k last) s → HasNoWayBack value limit lp k last s
+  stop_back : (s : Stop) → StopsAt (steps_back value limit lp k last) s → HasNoRecovery value limit lp k last s
   stop_back (stop.Limit step) h = stops_first (steps_back value limit lp k last) step h
   stop_back (stop.Crossed j) h = h
   stop_back stop.Memory h = tt
 
-  pub end_stops : (r : Result (End F) Stop) → ComputesEnd (steps_back value limit lp k last) (LeadsTo value lp k last) r → IfErr r (HasNoWayBack value limit lp k last)
+  pub end_stops : (r : Result (End F) Stop) → ComputesEnd (steps_back value limit lp k last) (LeadsTo value lp k last) r → IfErr r (HasNoRecovery value limit lp k last)
   end_stops (Ok end) h = tt
   end_stops (Err s) h = stop_back s h
 

@@ -7,7 +7,7 @@ use Rattle.gq_number.specs.Number.{Number}
 use Rattle.lp_core.specs.declared.program.Column.{Column}
 use Rattle.lp_core.specs.Feasible.{bound_value}
 use Rattle.lp_core.specs.StandardForm as form
-use Rattle.lp_core.specs.Steps.{Due, bound_step, bounds_steps}
+use Rattle.lp_core.specs.Steps.{ExpectedStep, bound_step, bounds_steps}
 use Rattle.lp_form.proofs.LoopSteps.{drop_item}
 use Rattle.lp_std.specs.declared.types.Shift.{Shift}
 use Rattle.lp_std.specs.declared.types.StdRow.{StdRow}
@@ -25,7 +25,7 @@ counted_by_bounds value j v None (Some u) = refl
 counted_by_bounds value j v None None = refl
 
 module _ {F : Type 0} (value : F → Number) (limit : ℕ) (columns : List (ℕ × Shift F)) (bounded : List (Column F)) (j : ℕ) (column : Column F) (p : ℕ × Shift F) (here : j < length bounded) (is : column ≡ get_or bounded j column) (there : j < length columns) (p_is : p ≡ get_or columns j p) where
-  abbrev step : ℕ → List Due
+  abbrev step : ℕ → List ExpectedStep
   step r = bound_step limit r j (bound_value value column.lower) (bound_value value column.upper)
 
   abbrev row_there : List form.StandardRow

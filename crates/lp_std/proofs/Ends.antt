@@ -28,7 +28,7 @@ use Rattle.lp_core.specs.WellFormed.{IsWellFormed}
 use Rattle.lp_core.specs.DualBound.{row_lower, row_upper, used, total, both, low, high, dual_bound, reduced_cost, objective_costs, no_costs}
 use Rattle.lp_core.specs.Proofs.{Crosses, KeepsSenseAlong, KeepsLowerAlong, KeepsUpperAlong, ImprovesObjective, row_sums, ProvesOptimal, ProvesInfeasible, ProvesUnbounded, FirstCrossed, IsProved}
 use Rattle.lp_core.specs.StandardForm as form
-use Rattle.lp_core.specs.Dictionary.{Dictionary, constant_at, InPhaseOne, OpeningIsDue}
+use Rattle.lp_core.specs.Dictionary.{Dictionary, constant_at, InPhaseOne, OpeningIsRequired}
 use Rattle.lp_core.specs.Pivots.{NothingImproves, last_of, last_along}
 use Rattle.lp_core.proofs.RowSums.{sum_by_same, unit_sum}
 use Rattle.lp_core.proofs.Duality.{bound_below, bound_above}
@@ -82,8 +82,8 @@ module _ {F : Type 0} (value : F → Number) (n : ℕ) (columns : List (ℕ × f
   width_above form.free = omega arith
 
   bounds_there : (j : ℕ) (bounded : List (Column F)) → j + length bounded ≤ length columns → All (λ (row : form.StandardRow). Within n row.entries) (bounds_over value columns j bounded)
-  bounds_there j [] room = All-nil (λ (row : form.StandardRow). Within n row.entries)
-  bounds_there j (column ∷ bounded) room =
+  bounds_there j [] within_bound = All-nil (λ (row : form.StandardRow). Within n row.entries)
+  bounds_there j (column ∷ bounded) within_bound =
       let c = form.column_at columns j in
       let within = numbered j (0, form.free) (omega arith) in
       All-append (λ (row : form.StandardRow). Within n row.entries) (form.bound_rows j c.0 (bound_value value column.lower) (bound_value value column.upper)) (bounds_over value columns (j + 1) bounded) (bound_there j c.0 within.0 (omega (arith, within.1, width_above c.1)) (bound_value value column.lower) (bound_value value column.upper)) (bounds_there (j + 1) bounded (omega arith))
@@ -191,7 +191,7 @@ both_pick : {F : Type 0} (value : F → Number) (lp : Lp F) (prices : ℕ → Nu
 both_pick value lp prices factors true t e = e
 both_pick value lp prices factors false t e = e
 
-module _ {F : Type 0} (value : F → Number) (lp : Lp F) (formed : IsWellFormed value lp) (ordered : All (λ (column : Column F). ¬ (Crosses value column.lower column.upper)) lp.columns) (d : Dictionary) (is : IsDictionaryOf (form.standard_form value lp) d) (not_due : ¬ (OpeningIsDue d)) where
+module _ {F : Type 0} (value : F → Number) (lp : Lp F) (formed : IsWellFormed value lp) (ordered : All (λ (column : Column F). ¬ (Crosses value column.lower column.upper)) lp.columns) (d : Dictionary) (is : IsDictionaryOf (form.standard_form value lp) d) (not_required : ¬ (OpeningIsRequired d)) where
   abbrev s : form.Standard
   s = form.standard_form value lp
 
@@ -199,14 +199,14 @@ module _ {F : Type 0} (value : F → Number) (lp : Lp F) (formed : IsWellFormed 
   module _ (phase_two : ¬ (InPhaseOne d)) where
     pub point_feasible : Feasible value lp (form.levels_back value lp (last_of d))
     point_feasible =
-        (same_points value lp (last_of d).values formed (values_above (form.standard_form value lp) d is not_due (within_form value lp formed))).0 (values_keep (form.standard_form value lp) d is not_due (within_form value lp formed) phase_two)
+        (same_points value lp (last_of d).values formed (values_above (form.standard_form value lp) d is not_required (within_form value lp formed))).0 (values_keep (form.standard_form value lp) d is not_required (within_form value lp formed) phase_two)
 
     level_is : form.directed lp.maximize (value_of_column (form.levels_back value lp (last_of d)) lp.objective) ≡ whole (pos 0) -ℚ constant_at d (length d.basic)
-    level_is = sym (same_objective value lp (last_of d).values formed) ∙ values_objective (form.standard_form value lp) d is not_due (within_form value lp formed) phase_two
+    level_is = sym (same_objective value lp (last_of d).values formed) ∙ values_objective (form.standard_form value lp) d is not_required (within_form value lp formed) phase_two
 
     module _ (nothing : NothingImproves d) where
       priced : Costs (form.standard_form value lp) (last_of d).costs (constant_at d (length d.basic)) (objective_at (form.standard_form value lp))
-      priced = optimal_costs (form.standard_form value lp) d is not_due (within_form value lp formed) phase_two nothing
+      priced = optimal_costs (form.standard_form value lp) d is not_required (within_form value lp formed) phase_two nothing
 
       aim : (y : List Number) → form.directed lp.maximize (objective_at (form.standard_form value lp) y) ≡ sum_by_ℚ (λ (q : ℕ × Column F). objective_costs lp q.0 *ℚ value_of_column (form.point_of (form.standard_form value lp) y) q.0) (enumerate_from 0 lp.columns)
       aim y =
@@ -285,12 +285,12 @@ module _ {F : Type 0} (value : F → Number) (lp : Lp F) (formed : IsWellFormed 
       unbounded_proved =
           let y = (last_along d q).changes in
           let columns = form.columns_of value lp in
-          let above = changes_above (form.standard_form value lp) d is not_due (within_form value lp formed) phase_two q unlimited in
-          let rows = rows_along (form.standard_form value lp) d is not_due (within_form value lp formed) phase_two q unlimited in
+          let above = changes_above (form.standard_form value lp) d is not_required (within_form value lp formed) phase_two q unlimited in
+          let rows = rows_along (form.standard_form value lp) d is not_required (within_form value lp formed) phase_two q unlimited in
           let first = rows_over value columns 0 lp.rows in
-          let behind = bounds_over value columns 0 lp.columns in
+          let following = bounds_over value columns 0 lp.columns in
           let P = λ (row : form.StandardRow). sum_at row.entries y ≤ℚ whole (pos 0) in
-          let bounds = bounds_kept_along value columns y 0 lp.columns (omega (arith, columns_sized value lp y)) (λ k d h. ap (λ m. (form.column_at columns m).1) (let c : 0 + k ≡ k = omega arith in c) ∙ column_at-numbered 1 (map (shift_for value) lp.columns) k (omega (arith, length-map lp.columns (shift_for value))) ∙ get_or-map (shift_for value) lp.columns k d form.free h) above (All-append_right P first behind rows) in
+          let bounds = bounds_kept_along value columns y 0 lp.columns (omega (arith, columns_sized value lp y)) (λ k d h. ap (λ m. (form.column_at columns m).1) (let c : 0 + k ≡ k = omega arith in c) ∙ column_at-numbered 1 (map (shift_for value) lp.columns) k (omega (arith, length-map lp.columns (shift_for value))) ∙ get_or-map (shift_for value) lp.columns k d form.free h) above (All-append_right P first following rows) in
           record {
             feasible = point_feasible;
             rows = refl;
@@ -298,15 +298,15 @@ module _ {F : Type 0} (value : F → Number) (lp : Lp F) (formed : IsWellFormed 
               sized = length-map columns (λ c. form.changed_back c y) ∙ columns_sized value lp y;
               lower = λ k e h. (bounds k e h).0;
               upper = λ k e h. (bounds k e h).1;
-              rows = rows_kept_along value columns y 0 lp.rows (entries_within value lp (length columns) formed (columns_sized value lp y)) (All-append_left P first behind rows);
-              better = better lp.maximize (value_of_column (form.ray_back value lp (last_along d q)) lp.objective) (subst (λ u. whole (pos 0) <ℚ u) (sym ray_objective) (objective_along (form.standard_form value lp) d is not_due (within_form value lp formed) phase_two q unlimited));
+              rows = rows_kept_along value columns y 0 lp.rows (entries_within value lp (length columns) formed (columns_sized value lp y)) (All-append_left P first following rows);
+              better = better lp.maximize (value_of_column (form.ray_back value lp (last_along d q)) lp.objective) (subst (λ u. whole (pos 0) <ℚ u) (sym ray_objective) (objective_along (form.standard_form value lp) d is not_required (within_form value lp formed) phase_two q unlimited));
             };
           }
 
   -- ---- phase 1
   module _ (phase_one : InPhaseOne d) (nothing : NothingImproves d) where
     priced_one : Costs (form.standard_form value lp) (last_of d).costs (constant_at d phase_one.0) (λ y. whole (pos 0))
-    priced_one = infeasible_costs (form.standard_form value lp) d is not_due (within_form value lp formed) phase_one nothing
+    priced_one = infeasible_costs (form.standard_form value lp) d is not_required (within_form value lp formed) phase_one nothing
 
     aim_none : (y : List Number) → form.directed false (whole (pos 0)) ≡ sum_by_ℚ (λ (q : ℕ × Column F). no_costs q.0 *ℚ value_of_column (form.point_of (form.standard_form value lp) y) q.0) (enumerate_from 0 lp.columns)
     aim_none y =
@@ -321,7 +321,7 @@ module _ {F : Type 0} (value : F → Number) (lp : Lp F) (formed : IsWellFormed 
         let found = bound_is value lp (last_of d).costs formed k (λ y. whole (pos 0)) priced_one false no_costs aim_none ordered in
         record {
           sized = length-map (form.duals_from (form.multiplier (form.variables_of value lp) (last_of d).costs) 0 lp.rows) neg_ℚ ∙ length-duals_from (form.multiplier (form.variables_of value lp) (last_of d).costs) 0 lp.rows;
-          above = (found.0, found.1, Order.<ℚ-≤ℚ_trans (whole (pos 0)) k found.0 (infeasible_above (form.standard_form value lp) d is not_due (within_form value lp formed) phase_one) (≤ℚ_from found.2 (balanced k found.0)));
+          above = (found.0, found.1, Order.<ℚ-≤ℚ_trans (whole (pos 0)) k found.0 (infeasible_above (form.standard_form value lp) d is not_required (within_form value lp formed) phase_one) (≤ℚ_from found.2 (balanced k found.0)));
         }
       where
         balanced : (k t : Number) → k +ℚ neg_ℚ k ≡ t +ℚ neg_ℚ t

@@ -5,7 +5,7 @@ use Rattle.std.specs.List.{enumerate_from}
 use Rattle.std.proofs.lemmas.List.{take_more, drop_all, take_all, map-append}
 use Rattle.gq_number.specs.Number.{Number}
 use Rattle.lp_core.specs.declared.answer.StepName.{StepName}
-use Rattle.lp_core.specs.Steps.{Due}
+use Rattle.lp_core.specs.Steps.{ExpectedStep}
 use Rattle.lp_form.proofs.LoopSteps.{drop_item}
 use Rattle.lp_std.specs.InnerSteps.{first_stop}
 use Rattle.lp_std.proofs.Stops.{stop_behind, stop_before}
@@ -14,33 +14,33 @@ pub map-map : {X Y Z : Type 0} (f : Y → Z) (g : X → Y) (xs : List X) → map
 map-map f g [] = refl
 map-map f g (x ∷ xs) = ap (λ ys. f (g x) ∷ ys) (map-map f g xs)
 
-module _ {X Y : Type 0} (view : X → Y) (steps : ℕ × Y → List Due) (xs : List X) where
+module _ {X Y : Type 0} (view : X → Y) (steps : ℕ × Y → List ExpectedStep) (xs : List X) where
   -- the steps on the elements from place i on
-  abbrev pub walk : ℕ → List Due
-  walk i = flat_map steps (enumerate_from i (map view (drop i xs)))
+  abbrev pub traversal : ℕ → List ExpectedStep
+  traversal i = flat_map steps (enumerate_from i (map view (drop i xs)))
 
   module _ (i : ℕ) (x : X) (here : i < length xs) (is : x ≡ get_or xs i x) where
-    walk_here : walk i ≡ steps (i, view x) ++ walk (i + 1)
+    walk_here : traversal i ≡ steps (i, view x) ++ traversal (i + 1)
     walk_here = ap (λ ys. flat_map steps (enumerate_from i (map view ys))) (drop_item xs i x here is)
 
-    pub walk_goes : first_stop (steps (i, view x)) ≡ None → first_stop (walk i) ≡ first_stop (walk (i + 1))
-    walk_goes h = ap first_stop walk_here ∙ stop_behind (steps (i, view x)) (walk (i + 1)) h
+    pub walk_goes : first_stop (steps (i, view x)) ≡ None → first_stop (traversal i) ≡ first_stop (traversal (i + 1))
+    walk_goes h = ap first_stop walk_here ∙ stop_behind (steps (i, view x)) (traversal (i + 1)) h
 
-    pub walk_stops : (step : StepName) → first_stop (steps (i, view x)) ≡ Some step → first_stop (walk i) ≡ Some step
-    walk_stops step h = ap first_stop walk_here ∙ stop_before (steps (i, view x)) (walk (i + 1)) step h
+    pub walk_stops : (step : StepName) → first_stop (steps (i, view x)) ≡ Some step → first_stop (traversal i) ≡ Some step
+    walk_stops step h = ap first_stop walk_here ∙ stop_before (steps (i, view x)) (traversal (i + 1)) step h
 
-  pub walk_ends : (i : ℕ) → length xs ≤ i → first_stop (walk i) ≡ None
+  pub walk_ends : (i : ℕ) → length xs ≤ i → first_stop (traversal i) ≡ None
   walk_ends i end = ap (λ ys. first_stop (flat_map steps (enumerate_from i (map view ys)))) (drop_all i xs end)
 
 -- steps of one each
-pub walk_single : {Y : Type 0} (step : ℕ × Y → Due) (ys : List (ℕ × Y)) → map step ys ≡ flat_map (λ p. step p ∷ []) ys
+pub walk_single : {Y : Type 0} (step : ℕ × Y → ExpectedStep) (ys : List (ℕ × Y)) → map step ys ≡ flat_map (λ p. step p ∷ []) ys
 walk_single step [] = refl
 walk_single step (y ∷ ys) = ap (λ zs. step y ∷ zs) (walk_single step ys)
 
 module _ {X F : Type 0} (value : F → Number) (f : X → Number) (xs : List X) where
   pub made_more : (i : ℕ) (x : X) (made : List F) (y : F) → i < length xs → x ≡ get_or xs i x → map value made ≡ map f (take i xs) → value y ≡ f x → map value (made ++ y ∷ []) ≡ map f (take (i + 1) xs)
   made_more i x made y here is so h =
-      map-append value made (y ∷ []) ∙ ap₂ (λ front a. front ++ a ∷ []) so h ∙ sym (map-append f (take i xs) (x ∷ [])) ∙ sym (ap (map f) (take_more xs i x here ∙ ap (λ y. take i xs ++ y ∷ []) (sym is)))
+      map-append value made (y ∷ []) ∙ ap₂ (λ prefix a. prefix ++ a ∷ []) so h ∙ sym (map-append f (take i xs) (x ∷ [])) ∙ sym (ap (map f) (take_more xs i x here ∙ ap (λ y. take i xs ++ y ∷ []) (sym is)))
 
   pub made_all : (i : ℕ) (made : List F) → length xs ≤ i → map value made ≡ map f (take i xs) → map value made ≡ map f xs
   made_all i made end so = so ∙ ap (map f) (take_all i xs end)

@@ -13,7 +13,7 @@ use Rattle.lp_core.specs.declared.program.Column.{Column}
 use Rattle.lp_core.specs.declared.program.Row.{Row}
 use Rattle.lp_core.specs.Sums.{value_of_column, row_sum}
 use Rattle.lp_core.specs.StandardForm as form
-use Rattle.lp_core.specs.Steps.{Due, product_fits, row_level_steps, count_of_rows, dual_steps, reduced_steps}
+use Rattle.lp_core.specs.Steps.{ExpectedStep, product_fits, row_level_steps, count_of_rows, dual_steps, reduced_steps}
 use Rattle.lp_form.proofs.LoopSteps.{drop_item}
 use Rattle.lp_std.specs.declared.types.Shift.{Shift}
 use Rattle.lp_std.specs.Meaning.{shift_value}
@@ -26,7 +26,7 @@ module _ {F : Type 0} (value : F → Number) (limit i : ℕ) (entries : List (�
   level_there : value_of_column (map value levels) e.0 ≡ value level
   level_there = get_or-map value levels e.0 level (whole (pos 0)) there ∙ ap value (sym level_is)
 
-  abbrev two_steps : Number → List Due
+  abbrev two_steps : Number → List ExpectedStep
   two_steps s = (Recover 1 i k 0, product_fits limit (value e.1) (value level)) ∷ (Recover 1 i k 1, sum_fits limit s (value e.1 *ℚ value level)) ∷ []
 
   entry_here : (s : Number) → row_level_steps value limit i k s (drop k entries) (map value levels) ≡ two_steps s ++ row_level_steps value limit i (k + 1) (s +ℚ value e.1 *ℚ value level) (drop (k + 1) entries) (map value levels)

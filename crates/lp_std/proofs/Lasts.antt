@@ -19,7 +19,7 @@ use Rattle.lp_core.specs.declared.answer.Rule.TheVariants.{Legal}
 use Rattle.lp_core.specs.Ends.{IsUnlimited}
 use Rattle.lp_core.specs.Sums.{value_of_column}
 use Rattle.lp_core.specs.StandardForm as form
-use Rattle.lp_core.specs.Dictionary.{Dictionary, basic_at, constant_at, entry_at, row_at, Meets, InPhaseOne, OpeningIsDue, IsPriced, no_row, first_dictionary}
+use Rattle.lp_core.specs.Dictionary.{Dictionary, basic_at, constant_at, entry_at, row_at, Meets, InPhaseOne, OpeningIsRequired, IsPriced, no_row, first_dictionary}
 use Rattle.lp_core.specs.Pivots.{row_of_basic, value_by_row, change_by_row, cost_by_row, priced_row, all_variables, NothingImproves}
 use Rattle.lp_core.proofs.RowSums.{sum_by_same}
 use Rattle.lp_std.specs.Last.{IsDictionaryOf}
@@ -43,12 +43,12 @@ row_at_listed d i f =
 
 -- the values of entries of two lists added
 added_sum : (f g : ℕ → Number) (n k : ℕ) (entries : List (ℕ × Number)) → Within n entries → 1 + n ≤ k → sum_at entries (map (λ v. f v +ℚ g v) (range_with_len 0 k)) ≡ sum_at entries (map f (range_with_len 0 k)) +ℚ sum_at entries (map g (range_with_len 0 k))
-added_sum f g n k [] within room = sum_by_ℚ-nil _ ∙ sym (ap₂ (λ u w. u +ℚ w) (sum_by_ℚ-nil _) (sum_by_ℚ-nil _) ∙ simp ring_ℚ)
-added_sum f g n k (e ∷ entries) within room =
+added_sum f g n k [] within within_bound = sum_by_ℚ-nil _ ∙ sym (ap₂ (λ u w. u +ℚ w) (sum_by_ℚ-nil _) (sum_by_ℚ-nil _) ∙ simp ring_ℚ)
+added_sum f g n k (e ∷ entries) within within_bound =
     let here = All-head (λ (e : ℕ × Number). (1 ≤ e.0) × (e.0 < 1 + n)) e entries within in
     let low : e.0 < k = omega (arith, here.1) in
     sum_by_ℚ-cons _ e entries
-    ∙ ap₂ (λ u w. e.1 *ℚ u +ℚ w) (listed_at (λ v. f v +ℚ g v) k e.0 low) (added_sum f g n k entries (All-tail (λ (e : ℕ × Number). (1 ≤ e.0) × (e.0 < 1 + n)) e entries within) room)
+    ∙ ap₂ (λ u w. e.1 *ℚ u +ℚ w) (listed_at (λ v. f v +ℚ g v) k e.0 low) (added_sum f g n k entries (All-tail (λ (e : ℕ × Number). (1 ≤ e.0) × (e.0 < 1 + n)) e entries within) within_bound)
     ∙ apart e.1 (f e.0) (g e.0) (sum_at entries (map f (range_with_len 0 k))) (sum_at entries (map g (range_with_len 0 k)))
     ∙ ap₂ (λ u w. u +ℚ w) (ap (λ u. e.1 *ℚ u +ℚ sum_at entries (map f (range_with_len 0 k))) (sym (listed_at f k e.0 low)) ∙ sym (sum_by_ℚ-cons _ e entries)) (ap (λ u. e.1 *ℚ u +ℚ sum_at entries (map g (range_with_len 0 k))) (sym (listed_at g k e.0 low)) ∙ sym (sum_by_ℚ-cons _ e entries))
   where
@@ -90,7 +90,7 @@ moved_over a c t e = apart a c ∙ ap (λ u. c +ℚ u) e
     apart : (a c : Number) → a ≡ c +ℚ (a -ℚ c)
     apart a c = simp ring_ℚ
 
-module _ (s : form.Standard) (d : Dictionary) (is : IsDictionaryOf s d) (not_due : ¬ (OpeningIsDue d)) (within : All (λ (row : form.StandardRow). Within (length s.objective) row.entries) s.rows) where
+module _ (s : form.Standard) (d : Dictionary) (is : IsDictionaryOf s d) (not_required : ¬ (OpeningIsRequired d)) (within : All (λ (row : form.StandardRow). Within (length s.objective) row.entries) s.rows) where
   abbrev pub values : List Number
   values = map (λ v. value_by_row d (row_of_basic d v)) (all_variables d)
 
@@ -99,7 +99,7 @@ module _ (s : form.Standard) (d : Dictionary) (is : IsDictionaryOf s d) (not_due
     where
       by : (v : ℕ) (r : Option ℕ) → row_of_basic d v ≡ r → whole (pos 0) ≤ℚ value_by_row d r
       by v None e = Order.≤ℚ_refl (whole (pos 0))
-      by v (Some k) e = Order.≤ℚ_from_not_above (whole (pos 0)) (constant_at d k) (λ below. not_due (k, (row_some d v k e).0, below))
+      by v (Some k) e = Order.≤ℚ_from_not_above (whole (pos 0)) (constant_at d k) (λ below. not_required (k, (row_some d v k e).0, below))
 
   values_meet : Meets d values (whole (pos 0) -ℚ constant_at d (length d.basic))
   values_meet =
@@ -273,7 +273,7 @@ module _ (s : form.Standard) (d : Dictionary) (is : IsDictionaryOf s d) (not_due
   abbrev pub costs : List Number
   costs = map (λ v. cost_by_row d (priced_row d) v (row_of_basic d v)) (all_variables d)
 
-  module _ (priced : ℕ) (row_is : priced_row d ≡ priced) (room : priced ≤ length d.basic) (own : (k : ℕ) → k < length d.basic → priced ≡ k → basic_at d k ≡ 0) where
+  module _ (priced : ℕ) (row_is : priced_row d ≡ priced) (within_bound : priced ≤ length d.basic) (own : (k : ℕ) → k < length d.basic → priced ≡ k → basic_at d k ≡ 0) where
     cost_is : (v : ℕ) → 1 ≤ v → v < d.variables + 1 → value_of_column costs v ≡ entry_at d priced v
     cost_is v past low = listed_at (λ v. cost_by_row d (priced_row d) v (row_of_basic d v)) (d.variables + 1) v low ∙ ap (λ k. cost_by_row d k v (row_of_basic d v)) row_is ∙ by (row_of_basic d v) refl
       where
@@ -282,7 +282,7 @@ module _ (s : form.Standard) (d : Dictionary) (is : IsDictionaryOf s d) (not_due
         by (Some k) e =
             let found = row_some d v k e in
             let other : priced ≢ k = λ same. absurd (let clash : v ≡ 0 = sym found.1 ∙ own k found.0 same in omega arith) in
-            sym (ap (entry_at d priced) (sym found.1) ∙ is.alone priced k room found.0 other)
+            sym (ap (entry_at d priced) (sym found.1) ∙ is.alone priced k within_bound found.0 other)
 
     -- the value of the coefficients, if the values extend to a list whose sum in the priced row is
     -- known
@@ -299,12 +299,12 @@ module _ (s : form.Standard) (d : Dictionary) (is : IsDictionaryOf s d) (not_due
         ap₂ (λ u w. u +ℚ w)
         (range_same (λ v. value_of_column costs v *ℚ value_of_column y v) g 1 n (λ v low high. ap (λ u. value_of_column costs v *ℚ u) (sym (filled_other s y sized v (omega arith)))))
         (sym (placed_sum (value_of_column costs) (λ (row : form.StandardRow). row.right -ℚ sum_at row.entries y) (n + 1) s.rows)
-        ∙ range_same (λ v. value_of_column costs v *ℚ value_of_column (map (λ (row : form.StandardRow). row.right -ℚ sum_at row.entries y) s.rows) (v - (n + 1))) g (n + 1) m (λ v low high. ap (λ u. value_of_column costs v *ℚ u) (behind v low (omega arith)))
+        ∙ range_same (λ v. value_of_column costs v *ℚ value_of_column (map (λ (row : form.StandardRow). row.right -ℚ sum_at row.entries y) s.rows) (v - (n + 1))) g (n + 1) m (λ v low high. ap (λ u. value_of_column costs v *ℚ u) (following v low (omega arith)))
         ∙ ap (λ a. sum_by_ℚ g (range_with_len a m)) (let c : n + 1 ≡ 1 + n = omega arith in c))
         ∙ sym (sum_by_ℚ-append g (range_with_len 1 n) (range_with_len (1 + n) m)) ∙ ap (sum_by_ℚ g) (sym (range-append 1 n m)) ∙ all
       where
-        behind : (v : ℕ) → length s.objective + 1 ≤ v → v < length s.objective + 1 + length s.rows → value_of_column (map (λ (row : form.StandardRow). row.right -ℚ sum_at row.entries y) s.rows) (v - (length s.objective + 1)) ≡ value_of_column (filled s y) v
-        behind v low high =
+        following : (v : ℕ) → length s.objective + 1 ≤ v → v < length s.objective + 1 + length s.rows → value_of_column (map (λ (row : form.StandardRow). row.right -ℚ sum_at row.entries y) s.rows) (v - (length s.objective + 1)) ≡ value_of_column (filled s y) v
+        following v low high =
             let r = v - (length s.objective + 1) in
             sym (ap (λ k. value_of_column (filled s y) k) (let c : v ≡ length y + r = omega (arith, sized) in c) ∙ get_or-append-add y (map (λ (row : form.StandardRow). row.right -ℚ sum_at row.entries y) s.rows) r (whole (pos 0)))
 
@@ -328,7 +328,7 @@ module _ (s : form.Standard) (d : Dictionary) (is : IsDictionaryOf s d) (not_due
         by low (Some k) e =
             let found = row_some d v k e in
             let other : priced ≢ k = λ same. absurd (let clash : v ≡ 0 = sym found.1 ∙ own k found.0 same in omega arith) in
-            Order.≤ℚ_from_≡ (entry_at d priced v) (whole (pos 0)) (ap (entry_at d priced) (sym found.1) ∙ is.alone priced k room found.0 other)
+            Order.≤ℚ_from_≡ (entry_at d priced v) (whole (pos 0)) (ap (entry_at d priced) (sym found.1) ∙ is.alone priced k within_bound found.0 other)
 
   -- in phase 2 the priced row is the objective
   pub optimal_costs : ¬ (InPhaseOne d) → NothingImproves d → Costs s costs (constant_at d (length d.basic)) (objective_at s)
@@ -370,4 +370,4 @@ module _ (s : form.Standard) (d : Dictionary) (is : IsDictionaryOf s d) (not_due
       by k (inr h) = absurd (h.0 phase)
 
   pub infeasible_above : (phase : InPhaseOne d) → whole (pos 0) <ℚ constant_at d phase.0
-  infeasible_above phase = is.zero_above phase.0 (slice_get-get_or d.basic phase.0 0 phase.1 ∙ ap Some phase.2) not_due
+  infeasible_above phase = is.zero_above phase.0 (slice_get-get_or d.basic phase.0 0 phase.1 ∙ ap Some phase.2) not_required

@@ -32,17 +32,17 @@ length-piece (form.from_upper b) a c = refl
 length-piece form.free a c = refl
 
 -- a value after others
-value_at : (front : List Number) (a : Number) (rest y : List Number) (v : ℕ) → y ≡ front ++ a ∷ rest → length front ≡ v → value_of_column y v ≡ a
-value_at front a rest y v e n = ap (λ l. value_of_column l v) e ∙ get_or_at front a rest (whole (pos 0)) v n
+value_at : (prefix : List Number) (a : Number) (rest y : List Number) (v : ℕ) → y ≡ prefix ++ a ∷ rest → length prefix ≡ v → value_of_column y v ≡ a
+value_at prefix a rest y v e n = ap (λ l. value_of_column l v) e ∙ get_or_at prefix a rest (whole (pos 0)) v n
 
-value_next : (front : List Number) (a c : Number) (rest y : List Number) (v : ℕ) → y ≡ front ++ a ∷ c ∷ rest → length front ≡ v → value_of_column y (v + 1) ≡ c
-value_next front a c rest y v e n = value_at (front ++ a ∷ []) c rest y (v + 1) (e ∙ sym (append_assoc front (a ∷ []) (c ∷ rest))) (length-append front (a ∷ []) ∙ ap (λ k. k + 1) n)
+value_next : (prefix : List Number) (a c : Number) (rest y : List Number) (v : ℕ) → y ≡ prefix ++ a ∷ c ∷ rest → length prefix ≡ v → value_of_column y (v + 1) ≡ c
+value_next prefix a c rest y v e n = value_at (prefix ++ a ∷ []) c rest y (v + 1) (e ∙ sym (append_assoc prefix (a ∷ []) (c ∷ rest))) (length-append prefix (a ∷ []) ∙ ap (λ k. k + 1) n)
 
 -- the column has that value there
-pub piece_back : (s : form.Shift) (front : List Number) (a c : Number) (rest y : List Number) (v : ℕ) → y ≡ front ++ (piece s a c ++ rest) → length front ≡ v → form.shifted_back (v, s) y ≡ a
-piece_back (form.from_lower b) front a c rest y v e n = ap (λ u. b +ℚ u) (value_at front (a -ℚ b) rest y v e n) ∙ simp ring_ℚ
-piece_back (form.from_upper b) front a c rest y v e n = ap (λ u. b -ℚ u) (value_at front (b -ℚ a) rest y v e n) ∙ simp ring_ℚ
-piece_back form.free front a c rest y v e n = ap₂ (λ u w. u -ℚ w) (value_at front (a +ℚ c) (c ∷ rest) y v e n) (value_next front (a +ℚ c) c rest y v e n) ∙ simp ring_ℚ
+pub piece_back : (s : form.Shift) (prefix : List Number) (a c : Number) (rest y : List Number) (v : ℕ) → y ≡ prefix ++ (piece s a c ++ rest) → length prefix ≡ v → form.shifted_back (v, s) y ≡ a
+piece_back (form.from_lower b) prefix a c rest y v e n = ap (λ u. b +ℚ u) (value_at prefix (a -ℚ b) rest y v e n) ∙ simp ring_ℚ
+piece_back (form.from_upper b) prefix a c rest y v e n = ap (λ u. b -ℚ u) (value_at prefix (b -ℚ a) rest y v e n) ∙ simp ring_ℚ
+piece_back form.free prefix a c rest y v e n = ap₂ (λ u w. u -ℚ w) (value_at prefix (a +ℚ c) (c ∷ rest) y v e n) (value_next prefix (a +ℚ c) c rest y v e n) ∙ simp ring_ℚ
 
 module _ {F : Type 0} (value : F → Number) (costs : List Number) (n : ℕ) where
   -- the share of a column in the value of coefficients: one part by its value, one by its second
@@ -87,17 +87,17 @@ module _ (x t : ℕ → Number) where
   length-lift [] j = refl
   length-lift (s ∷ shifts) j = length-append (piece s (x j) (t j)) (lift shifts (j + 1)) ∙ ap₂ (λ a b. a + b) (length-piece s (x j) (t j)) (length-lift shifts (j + 1)) ∙ sym (sum_by-cons form.width s shifts)
 
-  longer : (s : form.Shift) (front : List Number) (v j : ℕ) → length front ≡ v → length (front ++ piece s (x j) (t j)) ≡ v + form.width s
-  longer s front v j n = length-append front (piece s (x j) (t j)) ∙ ap₂ (λ a b. a + b) n (length-piece s (x j) (t j))
+  longer : (s : form.Shift) (prefix : List Number) (v j : ℕ) → length prefix ≡ v → length (prefix ++ piece s (x j) (t j)) ≡ v + form.width s
+  longer s prefix v j n = length-append prefix (piece s (x j) (t j)) ∙ ap₂ (λ a b. a + b) n (length-piece s (x j) (t j))
 
-  behind : (s : form.Shift) (shifts : List form.Shift) (front y : List Number) (j : ℕ) → y ≡ front ++ lift (s ∷ shifts) j → y ≡ (front ++ piece s (x j) (t j)) ++ lift shifts (j + 1)
-  behind s shifts front y j e = e ∙ sym (append_assoc front (piece s (x j) (t j)) (lift shifts (j + 1)))
+  following : (s : form.Shift) (shifts : List form.Shift) (prefix y : List Number) (j : ℕ) → y ≡ prefix ++ lift (s ∷ shifts) j → y ≡ (prefix ++ piece s (x j) (t j)) ++ lift shifts (j + 1)
+  following s shifts prefix y j e = e ∙ sym (append_assoc prefix (piece s (x j) (t j)) (lift shifts (j + 1)))
 
   -- they stand for the point
-  pub lift_back : (shifts : List form.Shift) (front y : List Number) (v j : ℕ) → y ≡ front ++ lift shifts j → length front ≡ v → map (λ c. form.shifted_back c y) (form.numbered v shifts) ≡ map x (range_with_len j (length shifts))
-  lift_back [] front y v j e n = refl
-  lift_back (s ∷ shifts) front y v j e n =
-      ap₂ (λ a more. a ∷ more) (piece_back s front (x j) (t j) (lift shifts (j + 1)) y v e n) (lift_back shifts (front ++ piece s (x j) (t j)) y (v + form.width s) (j + 1) (behind s shifts front y j e) (longer s front v j n))
+  pub lift_back : (shifts : List form.Shift) (prefix y : List Number) (v j : ℕ) → y ≡ prefix ++ lift shifts j → length prefix ≡ v → map (λ c. form.shifted_back c y) (form.numbered v shifts) ≡ map x (range_with_len j (length shifts))
+  lift_back [] prefix y v j e n = refl
+  lift_back (s ∷ shifts) prefix y v j e n =
+      ap₂ (λ a more. a ∷ more) (piece_back s prefix (x j) (t j) (lift shifts (j + 1)) y v e n) (lift_back shifts (prefix ++ piece s (x j) (t j)) y (v + form.width s) (j + 1) (following s shifts prefix y j e) (longer s prefix v j n))
 
   module _ {F : Type 0} (value : F → Number) (costs : List Number) (n : ℕ) where
     one_term : (f : ℕ → Number) (v : ℕ) → sum_by_ℚ f (range_with_len v 1) ≡ f v
@@ -109,40 +109,40 @@ module _ (x t : ℕ → Number) where
     one_entry : (v : ℕ) (y : List Number) → sum_at ((v, whole (pos 1)) ∷ []) y ≡ value_of_column y v
     one_entry v y = sum_by_ℚ-cons _ (v, whole (pos 1)) [] ∙ ap (λ u. whole (pos 1) *ℚ value_of_column y v +ℚ u) (sum_by_ℚ-nil _) ∙ simp ring_ℚ
 
-    column_sum : (lower upper : Option F) (front : List Number) (a c : Number) (rest y : List Number) (v r j : ℕ) → y ≡ front ++ (piece (form.shift_of (bound_value value lower) (bound_value value upper)) a c ++ rest) → length front ≡ v → sum_by_ℚ (λ w. value_of_column costs w *ℚ value_of_column y w) (range_with_len v (form.width (form.shift_of (bound_value value lower) (bound_value value upper)))) +ℚ slack_sum costs y (n + 1 + r) (form.bound_rows j v (bound_value value lower) (bound_value value upper)) ≡ slope value costs n v r lower upper *ℚ a +ℚ second value costs n v r lower upper *ℚ c +ℚ constant value costs n v r lower upper
-    column_sum (Some l) (Some u) front a c rest y v r j e m =
-        let is = value_at front (a -ℚ value l) rest y v e m in
+    column_sum : (lower upper : Option F) (prefix : List Number) (a c : Number) (rest y : List Number) (v r j : ℕ) → y ≡ prefix ++ (piece (form.shift_of (bound_value value lower) (bound_value value upper)) a c ++ rest) → length prefix ≡ v → sum_by_ℚ (λ w. value_of_column costs w *ℚ value_of_column y w) (range_with_len v (form.width (form.shift_of (bound_value value lower) (bound_value value upper)))) +ℚ slack_sum costs y (n + 1 + r) (form.bound_rows j v (bound_value value lower) (bound_value value upper)) ≡ slope value costs n v r lower upper *ℚ a +ℚ second value costs n v r lower upper *ℚ c +ℚ constant value costs n v r lower upper
+    column_sum (Some l) (Some u) prefix a c rest y v r j e m =
+        let is = value_at prefix (a -ℚ value l) rest y v e m in
         ap₂ (λ s w. s +ℚ w) (one_term (λ w. value_of_column costs w *ℚ value_of_column y w) v ∙ ap (λ k. value_of_column costs v *ℚ k) is) (one_slack costs y (n + 1 + r) _ ∙ ap (λ k. value_of_column costs (n + 1 + r) *ℚ ((value u -ℚ value l) -ℚ k)) (one_entry v y ∙ is))
         ∙ apart (value_of_column costs v) (value_of_column costs (n + 1 + r)) (value l) (value u) a c
       where
         apart : (k p l u a c : Number) → k *ℚ (a -ℚ l) +ℚ p *ℚ ((u -ℚ l) -ℚ (a -ℚ l)) ≡ (k +ℚ neg_ℚ p) *ℚ a +ℚ whole (pos 0) *ℚ c +ℚ neg_ℚ (k *ℚ l +ℚ neg_ℚ p *ℚ u)
         apart k p l u a c = simp ring_ℚ
-    column_sum (Some l) None front a c rest y v r j e m =
-        ap₂ (λ s w. s +ℚ w) (one_term (λ w. value_of_column costs w *ℚ value_of_column y w) v ∙ ap (λ k. value_of_column costs v *ℚ k) (value_at front (a -ℚ value l) rest y v e m)) (sum_by_ℚ-nil _)
+    column_sum (Some l) None prefix a c rest y v r j e m =
+        ap₂ (λ s w. s +ℚ w) (one_term (λ w. value_of_column costs w *ℚ value_of_column y w) v ∙ ap (λ k. value_of_column costs v *ℚ k) (value_at prefix (a -ℚ value l) rest y v e m)) (sum_by_ℚ-nil _)
         ∙ apart (value_of_column costs v) (value l) a c
       where
         apart : (k l a c : Number) → k *ℚ (a -ℚ l) +ℚ whole (pos 0) ≡ k *ℚ a +ℚ whole (pos 0) *ℚ c +ℚ neg_ℚ (k *ℚ l)
         apart k l a c = simp ring_ℚ
-    column_sum None (Some u) front a c rest y v r j e m =
-        ap₂ (λ s w. s +ℚ w) (one_term (λ w. value_of_column costs w *ℚ value_of_column y w) v ∙ ap (λ k. value_of_column costs v *ℚ k) (value_at front (value u -ℚ a) rest y v e m)) (sum_by_ℚ-nil _)
+    column_sum None (Some u) prefix a c rest y v r j e m =
+        ap₂ (λ s w. s +ℚ w) (one_term (λ w. value_of_column costs w *ℚ value_of_column y w) v ∙ ap (λ k. value_of_column costs v *ℚ k) (value_at prefix (value u -ℚ a) rest y v e m)) (sum_by_ℚ-nil _)
         ∙ apart (value_of_column costs v) (value u) a c
       where
         apart : (k u a c : Number) → k *ℚ (u -ℚ a) +ℚ whole (pos 0) ≡ neg_ℚ k *ℚ a +ℚ whole (pos 0) *ℚ c +ℚ k *ℚ u
         apart k u a c = simp ring_ℚ
-    column_sum None None front a c rest y v r j e m =
-        ap₂ (λ s w. s +ℚ w) (two_terms (λ w. value_of_column costs w *ℚ value_of_column y w) v ∙ ap₂ (λ k l. value_of_column costs v *ℚ k +ℚ value_of_column costs (v + 1) *ℚ l) (value_at front (a +ℚ c) (c ∷ rest) y v e m) (value_next front (a +ℚ c) c rest y v e m)) (sum_by_ℚ-nil _)
+    column_sum None None prefix a c rest y v r j e m =
+        ap₂ (λ s w. s +ℚ w) (two_terms (λ w. value_of_column costs w *ℚ value_of_column y w) v ∙ ap₂ (λ k l. value_of_column costs v *ℚ k +ℚ value_of_column costs (v + 1) *ℚ l) (value_at prefix (a +ℚ c) (c ∷ rest) y v e m) (value_next prefix (a +ℚ c) c rest y v e m)) (sum_by_ℚ-nil _)
         ∙ apart (value_of_column costs v) (value_of_column costs (v + 1)) a c
       where
         apart : (k l a c : Number) → (k *ℚ (a +ℚ c) +ℚ l *ℚ c) +ℚ whole (pos 0) ≡ k *ℚ a +ℚ (k +ℚ l) *ℚ c +ℚ whole (pos 0)
         apart k l a c = simp ring_ℚ
 
     -- columns and their own rows
-    pub columns_sum : (all : List (ℕ × form.Shift)) (columns : List (Column F)) (front y : List Number) (v r j : ℕ) → y ≡ front ++ lift (map (shift_for value) columns) j → length front ≡ v → ((k : ℕ) → form.column_at all (j + k) ≡ form.column_at (form.numbered v (map (shift_for value) columns)) k) → sum_by_ℚ (λ w. value_of_column costs w *ℚ value_of_column y w) (range_with_len v (sum_by form.width (map (shift_for value) columns))) +ℚ slack_sum costs y (n + 1 + r) (bounds_over value all j columns) ≡ weighted x j (by_columns value costs n (slope value costs n) v r columns) +ℚ weighted t j (by_columns value costs n (second value costs n) v r columns) +ℚ plain (by_columns value costs n (constant value costs n) v r columns)
-    columns_sum all [] front y v r j e m at = ap₂ (λ a b. a +ℚ b) (sum_by_ℚ-nil _) (sum_by_ℚ-nil _) ∙ nothing ∙ sym (ap₂ (λ a b. a +ℚ b) (ap₂ (λ a b. a +ℚ b) (sum_by_ℚ-nil _) (sum_by_ℚ-nil _)) (sum_by_ℚ-nil _))
+    pub columns_sum : (all : List (ℕ × form.Shift)) (columns : List (Column F)) (prefix y : List Number) (v r j : ℕ) → y ≡ prefix ++ lift (map (shift_for value) columns) j → length prefix ≡ v → ((k : ℕ) → form.column_at all (j + k) ≡ form.column_at (form.numbered v (map (shift_for value) columns)) k) → sum_by_ℚ (λ w. value_of_column costs w *ℚ value_of_column y w) (range_with_len v (sum_by form.width (map (shift_for value) columns))) +ℚ slack_sum costs y (n + 1 + r) (bounds_over value all j columns) ≡ weighted x j (by_columns value costs n (slope value costs n) v r columns) +ℚ weighted t j (by_columns value costs n (second value costs n) v r columns) +ℚ plain (by_columns value costs n (constant value costs n) v r columns)
+    columns_sum all [] prefix y v r j e m at = ap₂ (λ a b. a +ℚ b) (sum_by_ℚ-nil _) (sum_by_ℚ-nil _) ∙ nothing ∙ sym (ap₂ (λ a b. a +ℚ b) (ap₂ (λ a b. a +ℚ b) (sum_by_ℚ-nil _) (sum_by_ℚ-nil _)) (sum_by_ℚ-nil _))
       where
         nothing : whole (pos 0) +ℚ whole (pos 0) ≡ whole (pos 0) +ℚ whole (pos 0) +ℚ whole (pos 0)
         nothing = simp ring_ℚ
-    columns_sum all (column ∷ columns) front y v r j e m at =
+    columns_sum all (column ∷ columns) prefix y v r j e m at =
         let s = shift_for value column in
         let shifts = map (shift_for value) columns in
         let g = λ (w : ℕ). value_of_column costs w *ℚ value_of_column y w in
@@ -150,14 +150,14 @@ module _ (x t : ℕ → Number) where
         let here : form.column_at all j ≡ (v, s) = ap (form.column_at all) (let c : j ≡ j + 0 = omega arith in c) ∙ at 0 in
         let first = form.bound_rows j v (bound_value value column.lower) (bound_value value column.upper) in
         let count = form.rows_of_bounds column.lower column.upper in
-        let rest = columns_sum all columns (front ++ piece s (x j) (t j)) y (v + form.width s) (r + form.rows_of_bounds column.lower column.upper) (j + 1) (behind s shifts front y j e) (longer s front v j m) (λ k. ap (form.column_at all) (let c : j + 1 + k ≡ j + suc k = omega arith in c) ∙ at (suc k)) in
+        let rest = columns_sum all columns (prefix ++ piece s (x j) (t j)) y (v + form.width s) (r + form.rows_of_bounds column.lower column.upper) (j + 1) (following s shifts prefix y j e) (longer s prefix v j m) (λ k. ap (form.column_at all) (let c : j + 1 + k ≡ j + suc k = omega arith in c) ∙ at (suc k)) in
         ap₂ (λ a b. a +ℚ b)
         (ap (λ k. sum_by_ℚ g (range_with_len v k)) (sum_by-cons form.width s shifts) ∙ ap (sum_by_ℚ g) (range-append v (form.width s) W) ∙ sum_by_ℚ-append g (range_with_len v (form.width s)) (range_with_len (v + form.width s) W))
         (ap (λ (c : ℕ × form.Shift). slack_sum costs y (n + 1 + r) (form.bound_rows j c.0 (bound_value value column.lower) (bound_value value column.upper) ++ bounds_over value all (j + 1) columns)) here
         ∙ slack_sum-append costs y (n + 1 + r) first (bounds_over value all (j + 1) columns)
         ∙ ap (λ k. slack_sum costs y (n + 1 + r) first +ℚ slack_sum costs y k (bounds_over value all (j + 1) columns)) (ap (λ k. n + 1 + r + k) (counted_by_bounds value j v column.lower column.upper) ∙ (let c : n + 1 + r + form.rows_of_bounds column.lower column.upper ≡ n + 1 + (r + form.rows_of_bounds column.lower column.upper) = omega arith in c)))
         ∙ paired _ _ _ _
-        ∙ ap₂ (λ a b. a +ℚ b) (column_sum column.lower column.upper front (x j) (t j) (lift shifts (j + 1)) y v r j e m) rest
+        ∙ ap₂ (λ a b. a +ℚ b) (column_sum column.lower column.upper prefix (x j) (t j) (lift shifts (j + 1)) y v r j e m) rest
         ∙ sorted _ _ _ _ _ _
         ∙ sym (ap₂ (λ a b. a +ℚ b) (ap₂ (λ a b. a +ℚ b) (sum_by_ℚ-cons _ (j, slope value costs n v r column.lower column.upper) (enumerate_from (j + 1) (by_columns value costs n (slope value costs n) (v + form.width s) (r + form.rows_of_bounds column.lower column.upper) columns))) (sum_by_ℚ-cons _ (j, second value costs n v r column.lower column.upper) (enumerate_from (j + 1) (by_columns value costs n (second value costs n) (v + form.width s) (r + form.rows_of_bounds column.lower column.upper) columns)))) (sum_by_ℚ-cons _ (constant value costs n v r column.lower column.upper) (by_columns value costs n (constant value costs n) (v + form.width s) (r + form.rows_of_bounds column.lower column.upper) columns)))
       where

@@ -173,14 +173,14 @@ module _ {F : Type 0} (value : F → Number) (lp : Lp F) (costs : List Number) w
         let count : length (form.standard_form value lp).objective ≡ form.variables_of value lp = length-map-range_with_len _ 1 (form.variables_of value lp) in
         let g = λ (w : ℕ). value_of_column costs w *ℚ value_of_column lifted w in
         let first = rows_over value columns 0 lp.rows in
-        let behind = bounds_over value columns 0 lp.columns in
+        let following = bounds_over value columns 0 lp.columns in
         let there = entries_within value lp (length columns) formed (columns_sized value lp lifted) in
         ap₂ (λ u w. u +ℚ w)
         (ap (λ k. sum_by_ℚ g (range_with_len 1 k)) (count ∙ variables_counted value lp))
-        (ap (λ k. slack_sum costs lifted (k + 1) (first ++ behind)) count ∙ slack_sum-append costs lifted (form.variables_of value lp + 1) first behind
+        (ap (λ k. slack_sum costs lifted (k + 1) (first ++ following)) count ∙ slack_sum-append costs lifted (form.variables_of value lp + 1) first following
         ∙ ap₂ (λ u w. u +ℚ w)
         (ap (λ k. slack_sum costs lifted k first) (let c : form.variables_of value lp + 1 ≡ form.variables_of value lp + 1 + 0 = omega arith in c) ∙ rows_sum costs lifted (form.variables_of value lp) value columns 0 0 lp.rows there ∙ ap (λ X. neg_ℚ (sum_by_ℚ (λ (q : Row F × Number). q.1 *ℚ (value q.0.right -ℚ row_sum value q.0.entries X)) (zip lp.rows duals))) lifted_point)
-        (ap (λ k. slack_sum costs lifted (form.variables_of value lp + 1 + k) behind) (rows_over_counted value columns 0 lp.rows)))
+        (ap (λ k. slack_sum costs lifted (form.variables_of value lp + 1 + k) following) (rows_over_counted value columns 0 lp.rows)))
         ∙ turned _ _ _
         ∙ ap (λ u. u +ℚ neg_ℚ (sum_by_ℚ (λ (q : Row F × Number). q.1 *ℚ (value q.0.right -ℚ row_sum value q.0.entries at_point)) (zip lp.rows duals)))
         (columns_sum x t value costs (form.variables_of value lp) columns lp.columns (whole (pos 0) ∷ []) lifted 1 own_place 0 refl refl (λ k. ap (form.column_at columns) (let c : 0 + k ≡ k = omega arith in c)))

@@ -14,7 +14,7 @@ use Rattle.lp_core.specs.Sums.{value_of_column, row_sum}
 use Rattle.lp_core.specs.WellFormed.{AreRowEntries, IsWellFormed}
 use Rattle.lp_core.specs.Proofs.{row_sums}
 use Rattle.lp_core.specs.StandardForm as form
-use Rattle.lp_core.specs.Steps.{Due, level_step, row_level_steps, dual_steps, reduced_steps, levels_steps, row_levels_steps, count_of_rows}
+use Rattle.lp_core.specs.Steps.{ExpectedStep, level_step, row_level_steps, dual_steps, reduced_steps, levels_steps, row_levels_steps, count_of_rows}
 use Rattle.lp_core.proofs.Points.{AllPairs-first, AllPairs-rest, entries_within}
 use Rattle.lp_std.specs.declared.types.Shift.{Shift}
 use Rattle.lp_std.specs.declared.types.Final.{Final}
@@ -32,9 +32,9 @@ ascending_few : {F : Type 0} (low n : ℕ) (entries : List (ℕ × F)) → AllPa
 ascending_few low n [] ascending there h = omega arith
 ascending_few {F} low n (e ∷ entries) ascending there h =
     let here = All-head (λ (e : ℕ × F). (low ≤ e.0) × (e.0 < n)) e entries there in
-    let behind = AllPairs-first (λ (a b : ℕ × F). a.0 < b.0) e entries ascending in
+    let following = AllPairs-first (λ (a b : ℕ × F). a.0 < b.0) e entries ascending in
     let rest = All-tail (λ (e : ℕ × F). (low ≤ e.0) × (e.0 < n)) e entries there in
-    let few = ascending_few (e.0 + 1) n entries (AllPairs-rest (λ (a b : ℕ × F). a.0 < b.0) e entries ascending) (λ k d less. (omega (arith, behind k d less), (rest k d less).1)) (omega (arith, here.1)) in
+    let few = ascending_few (e.0 + 1) n entries (AllPairs-rest (λ (a b : ℕ × F). a.0 < b.0) e entries ascending) (λ k d less. (omega (arith, following k d less), (rest k d less).1)) (omega (arith, here.1)) in
     omega (arith, few, here.0)
 
 module _ {F : Type 0} (value : F → Number) (lp : Lp F) (formed : IsWellFormed value lp) where
@@ -61,7 +61,7 @@ module _ {F : Type 0} (value : F → Number) (lp : Lp F) (formed : IsWellFormed 
 -- ---- the point
 
 module _ {F : Type 0} (value : F → Number) (limit : ℕ) (lp : Lp F) (columns : List (ℕ × Shift F)) (numbered : placed_value value columns ≡ form.columns_of value lp) (final : Final F) (values : List F) (values_are : values ≡ final.values) where
-  abbrev pub level_dues : List Due
+  abbrev pub level_dues : List ExpectedStep
   level_dues = map (λ (p : ℕ × (ℕ × form.Shift)). level_step limit p.0 p.1 (map value values)) (enumerate_from 0 (placed_value value columns))
 
   level_dues_are : level_dues ≡ levels_steps value limit lp (last_value value final)
@@ -84,7 +84,7 @@ module _ {F : Type 0} (value : F → Number) (limit : ℕ) (lp : Lp F) (columns 
       entries_there formed =
           subst (λ rs. All (λ (row : Row F). All (λ (e : ℕ × F). e.0 < length given) row.entries) rs) (sym rows_are) (entries_within value lp (length given) formed (ap length given_is ∙ levels_sized ∙ placed_sized value lp columns numbered))
 
-      abbrev row_dues : List Due
+      abbrev row_dues : List ExpectedStep
       row_dues = flat_map (λ (p : ℕ × Row F). row_level_steps value limit p.0 0 (whole (pos 0)) p.1.entries (map value given)) (enumerate_from 0 rows)
 
       row_dues_are : row_dues ≡ row_levels_steps value limit lp (last_value value final)

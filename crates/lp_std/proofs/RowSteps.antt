@@ -11,7 +11,7 @@ use Rattle.lp_core.specs.declared.program.Sense.{Sense}
 use Rattle.lp_core.specs.declared.program.Sense.TheVariants as sense
 use Rattle.lp_core.specs.declared.program.Row.{Row}
 use Rattle.lp_core.specs.StandardForm as form
-use Rattle.lp_core.specs.Steps.{Due, rows_steps, count_of_rows}
+use Rattle.lp_core.specs.Steps.{ExpectedStep, rows_steps, count_of_rows}
 use Rattle.lp_form.proofs.LoopSteps.{drop_item}
 use Rattle.lp_std.specs.declared.types.StdRow.{StdRow}
 use Rattle.lp_std.specs.declared.types.Origin.TheVariants as origin
@@ -42,12 +42,12 @@ module _ {F : Type 0} (value : F → Number) where
   shifted_row_is columns i row right entries h k = λ t. record { right = (h ∙ right_sum value columns (value row.right) row.entries) t; entries = k t; origin = form.of_row i }
 
 -- what stops in a part stops in the whole, where what came before fits
-pub stops_on : (all rest : List Due) (s : Stop) → first_stop all ≡ first_stop rest → StopsAt rest s → StopsAt all s
+pub stops_on : (all rest : List ExpectedStep) (s : Stop) → first_stop all ≡ first_stop rest → StopsAt rest s → StopsAt all s
 stops_on all rest (stop.Limit step) e h = e ∙ h
 stops_on all rest (stop.Crossed j) e h = absurd h
 stops_on all rest stop.Memory e h = h
 
-pub stops_in_front : (a b : List Due) (s : Stop) → StopsAt a s → StopsAt (a ++ b) s
+pub stops_in_front : (a b : List ExpectedStep) (s : Stop) → StopsAt a s → StopsAt (a ++ b) s
 stops_in_front a b (stop.Limit step) h = stop_before a b step h
 stops_in_front a b (stop.Crossed j) h = absurd h
 stops_in_front a b stop.Memory h = h

@@ -230,9 +230,9 @@ module _ {F : Type 0} (value : F → Number) (lp : Lp F) (y : List Number) where
       let rows = rows_kept value columns y 0 lp.rows (entries_within value lp (length columns) formed columns_sized) in
       let bounds = bounds_kept value columns y 0 lp.columns (omega (arith, columns_sized)) (λ k d h. ap (λ m. (form.column_at (form.columns_of value lp) m).1) (let c : 0 + k ≡ k = omega arith in c) ∙ column_at-numbered 1 (map (shift_for value) lp.columns) k (omega (arith, length-map lp.columns (shift_for value))) ∙ get_or-map (shift_for value) lp.columns k d form.free h) above in
       let first = rows_over value columns 0 lp.rows in
-      let behind = bounds_over value columns 0 lp.columns in (
-        λ all. record { sized = length-map columns (λ c. form.shifted_back c y) ∙ columns_sized; bounds = bounds.0 (All-append_right (RowKept y) first behind all); rows = rows.0 (All-append_left (RowKept y) first behind all) },
-        λ feasible. All-append (RowKept y) first behind (rows.1 feasible.rows) (bounds.1 feasible.bounds),
+      let following = bounds_over value columns 0 lp.columns in (
+        λ all. record { sized = length-map columns (λ c. form.shifted_back c y) ∙ columns_sized; bounds = bounds.0 (All-append_right (RowKept y) first following all); rows = rows.0 (All-append_left (RowKept y) first following all) },
+        λ feasible. All-append (RowKept y) first following (rows.1 feasible.rows) (bounds.1 feasible.bounds),
       )
 
 -- the variables of a column are among those of the form

@@ -43,7 +43,7 @@ module _ {F : Type 0} (value : F → Number) (key : Key) (u : F) where
         own = λ k h. absurd (omega (arith, h));
         alone = λ i k g h other. absurd (omega (arith, h));
         same = λ x o zero_there. (λ m. m, λ m. m);
-        zero_above = λ k at not_due. absurd (cc);
+        zero_above = λ k at not_required. absurd (cc);
       }
 
   no_phase_one : ¬ (InPhaseOne (first_dictionary s))
@@ -51,7 +51,7 @@ module _ {F : Type 0} (value : F → Number) (key : Key) (u : F) where
 
   nothing : NothingImproves (first_dictionary s)
   nothing = (
-    λ due. absurd (omega (arith, due.1)),
+    λ required. absurd (omega (arith, required.1)),
     λ v better.
         let other = better.other in
         let one : v ≡ 1 = omega (arith, better.there) in

@@ -10,7 +10,7 @@ use Rattle.gq_number.proofs.Compares.{number_cmp_decides}
 use Rattle.gq_number.proofs.Ring.{ring_ℚ}
 use Rattle.lp_core.specs.declared.answer.StepName.{StepName}
 use Rattle.lp_core.specs.StandardForm as form
-use Rattle.lp_core.specs.Steps.{Due, AllFit, FirstStop, shifting}
+use Rattle.lp_core.specs.Steps.{ExpectedStep, AllFit, FirstStop, shifting}
 use Rattle.lp_std.specs.declared.types.Shift.{Shift}
 use Rattle.lp_std.specs.declared.types.Shift.TheVariants as shift
 use Rattle.lp_std.specs.Meaning.{shift_value}
@@ -22,39 +22,39 @@ below_test b r x y b_is r_is =
 
 -- ---- lists of steps joined
 
-pub stop_behind : (a b : List Due) → first_stop a ≡ None → first_stop (a ++ b) ≡ first_stop b
+pub stop_behind : (a b : List ExpectedStep) → first_stop a ≡ None → first_stop (a ++ b) ≡ first_stop b
 stop_behind [] b e = refl
 stop_behind ((name, true) ∷ a) b e = stop_behind a b e
 stop_behind ((name, false) ∷ a) b e = absurd (cc)
 
-pub stop_before : (a b : List Due) (step : StepName) → first_stop a ≡ Some step → first_stop (a ++ b) ≡ Some step
+pub stop_before : (a b : List ExpectedStep) (step : StepName) → first_stop a ≡ Some step → first_stop (a ++ b) ≡ Some step
 stop_before [] b step e = absurd (cc)
 stop_before ((name, true) ∷ a) b step e = stop_before a b step e
 stop_before ((name, false) ∷ a) b step e = e
 
 -- no first one: all fit
-pub all_fit : (steps : List Due) → first_stop steps ≡ None → AllFit steps
-all_fit [] e = All-nil (λ (step : Due). step.1 ≡ true)
-all_fit ((name, true) ∷ steps) e = All-cons (λ (step : Due). step.1 ≡ true) (name, true) steps refl (all_fit steps e)
+pub all_fit : (steps : List ExpectedStep) → first_stop steps ≡ None → AllFit steps
+all_fit [] e = All-nil (λ (step : ExpectedStep). step.1 ≡ true)
+all_fit ((name, true) ∷ steps) e = All-cons (λ (step : ExpectedStep). step.1 ≡ true) (name, true) steps refl (all_fit steps e)
 all_fit ((name, false) ∷ steps) e = absurd (cc)
 
 -- the first one is the first that does not fit
-pub stops_first : (steps : List Due) (step : StepName) → first_stop steps ≡ Some step → FirstStop steps step
+pub stops_first : (steps : List ExpectedStep) (step : StepName) → first_stop steps ≡ Some step → FirstStop steps step
 stops_first [] step e = absurd (cc)
 stops_first ((name, true) ∷ steps) step e =
     let later = stops_first steps step e in
     record {
       before = (name, true) ∷ later.before;
-      behind = later.behind;
+      following = later.following;
       split = ap (λ s. (name, true) ∷ s) later.split;
-      fit = All-cons (λ (s : Due). s.1 ≡ true) (name, true) later.before refl later.fit;
+      fit = All-cons (λ (s : ExpectedStep). s.1 ≡ true) (name, true) later.before refl later.fit;
     }
 stops_first ((name, false) ∷ steps) step e =
     record {
       before = [];
-      behind = steps;
+      following = steps;
       split = ap (λ s. (s, false) ∷ steps) (ap (λ o. unwrap_or o step) e);
-      fit = All-nil (λ (s : Due). s.1 ≡ true);
+      fit = All-nil (λ (s : ExpectedStep). s.1 ≡ true);
     }
 
 -- ---- one entry

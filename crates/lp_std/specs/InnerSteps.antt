@@ -16,7 +16,7 @@ use Rattle.lp_core.specs.declared.program.Lp.{Lp}
 use Rattle.lp_core.specs.Feasible.{bound_value}
 use Rattle.lp_core.specs.StandardForm as form
 use Rattle.lp_core.specs.Sums.{value_of_column}
-use Rattle.lp_core.specs.Steps.{Due, row_steps, bound_step, difference_fits, count_of_rows}
+use Rattle.lp_core.specs.Steps.{ExpectedStep, row_steps, bound_step, difference_fits, count_of_rows}
 use Rattle.lp_std.specs.declared.types.Shift.{Shift}
 use Rattle.lp_std.specs.declared.types.Shift.TheVariants as shift
 use Rattle.lp_std.specs.declared.types.StdRow.{StdRow}
@@ -28,13 +28,13 @@ use Rattle.lp_std.specs.declared.stop.Stop.TheVariants as stop
 use Rattle.lp_std.specs.Meaning.{shift_value, row_value}
 
 -- the first of these steps that does not fit, if there is one
-abbrev pub first_stop : List Due → Option StepName
+abbrev pub first_stop : List ExpectedStep → Option StepName
 first_stop [] = None
 first_stop ((name, true) ∷ steps) = first_stop steps
 first_stop ((name, false) ∷ steps) = Some name
 
 -- what stops is the first of these steps that does not fit; out of memory has no cause
-abbrev pub StopsAt : List Due → Stop → Type 0
+abbrev pub StopsAt : List ExpectedStep → Stop → Type 0
 StopsAt steps (stop.Limit step) = first_stop steps ≡ Some step
 StopsAt steps (stop.Crossed j) = ⊥
 StopsAt steps stop.Memory = Unit {0}
@@ -80,7 +80,7 @@ bound_of_shift (shift.Upper b) = Some b
 bound_of_shift shift.Free = None
 
 -- the steps on a row, whose first standard row has number r
-abbrev pub sense_steps : {F : Type 0} → (F → Number) → ℕ → List (ℕ × form.Shift) → ℕ → Row F → List Due
+abbrev pub sense_steps : {F : Type 0} → (F → Number) → ℕ → List (ℕ × form.Shift) → ℕ → Row F → List ExpectedStep
 sense_steps value limit columns r row =
     if form.rows_of_sense row.sense == 0 then [] else row_steps value limit columns r (value row.right) row.entries
 
@@ -100,12 +100,12 @@ BoundsPush value limit j v column old new (Err stop) =
 -- ---- the recovery
 
 -- the result of these steps: the number if all fit, and else the first that does not
-abbrev pub Computes : {F : Type 0} → (F → Number) → List Due → Number → Result F StepName → Type 0
+abbrev pub Computes : {F : Type 0} → (F → Number) → List ExpectedStep → Number → Result F StepName → Type 0
 Computes value steps x (Ok y) = (first_stop steps ≡ None) × (value y ≡ x)
 Computes value steps x (Err step) = first_stop steps ≡ Some step
 
 -- the result of these steps for a list of numbers
-abbrev pub ComputesAll : {F : Type 0} → (F → Number) → List Due → List Number → Result (Vec F Global) Stop → Type 0
+abbrev pub ComputesAll : {F : Type 0} → (F → Number) → List ExpectedStep → List Number → Result (Vec F Global) Stop → Type 0
 ComputesAll value steps xs (Ok ys) = (first_stop steps ≡ None) × (map value ys.items ≡ xs)
 ComputesAll value steps xs (Err stop) = StopsAt steps stop
 
@@ -114,16 +114,16 @@ abbrev pub slack_multiplier : {F : Type 0} → (F → Number) → List F → ℕ
 slack_multiplier value slacks r = neg_ℚ (value_of_column (map value slacks) r)
 
 -- the step on the dual of row i of this sense, whose first standard row has place r
-abbrev pub dual_step : ℕ → (ℕ → Number) → ℕ → ℕ → Sense → List Due
+abbrev pub dual_step : ℕ → (ℕ → Number) → ℕ → ℕ → Sense → List ExpectedStep
 dual_step limit p i r sense = if form.rows_of_sense sense == 2 then (Recover 2 i 0 1, difference_fits limit (p r) (p (r + 1))) ∷ [] else []
 
 -- the step on the reduced cost of column j, whose first variable is v and whose standard row has
 -- place r
-abbrev pub reduced_step : {F : Type 0} → ℕ → List Number → (ℕ → Number) → ℕ → ℕ → ℕ → Option F → Option F → List Due
+abbrev pub reduced_step : {F : Type 0} → ℕ → List Number → (ℕ → Number) → ℕ → ℕ → ℕ → Option F → Option F → List ExpectedStep
 reduced_step limit costs p j v r lower upper = if form.rows_of_bounds lower upper == 1 then (Recover 3 j 0 1, sum_fits limit (value_of_column costs v) (p r)) ∷ [] else []
 
 -- the result of these steps for an end with this property
-abbrev pub ComputesEnd : {F : Type 0} → List Due → (End F → Type 0) → Result (End F) Stop → Type 0
+abbrev pub ComputesEnd : {F : Type 0} → List ExpectedStep → (End F → Type 0) → Result (End F) Stop → Type 0
 ComputesEnd steps P (Ok end) = (first_stop steps ≡ None) × P end
 ComputesEnd steps P (Err stop) = StopsAt steps stop
 

@@ -7,7 +7,7 @@ use Rattle.gq_number.specs.Order.{◌<ℚ◌}
 use Rattle.lp_core.specs.Ends.{EndsAt}
 use Rattle.lp_core.specs.Sums.{value_of_column}
 use Rattle.lp_core.specs.StandardForm as form
-use Rattle.lp_core.specs.Dictionary.{Dictionary, basic_at, constant_at, entry_at, Meets, InPhaseOne, OpeningIsDue, Improves, first_dictionary}
+use Rattle.lp_core.specs.Dictionary.{Dictionary, basic_at, constant_at, entry_at, Meets, InPhaseOne, OpeningIsRequired, Improves, first_dictionary}
 use Rattle.lp_std.specs.declared.types.Standard.{Standard}
 use Rattle.lp_std.specs.declared.types.Final.{Final}
 use Rattle.lp_core.specs.declared.answer.EndKind.{EndKind}
@@ -15,7 +15,7 @@ use Rattle.lp_std.specs.Meaning.{standard_value}
 
 -- variable 0 has a part in a dictionary: it is basic, or is still to enter
 abbrev pub HasZero : Dictionary → Type 0
-HasZero d = InPhaseOne d ⊎ OpeningIsDue d
+HasZero d = InPhaseOne d ⊎ OpeningIsRequired d
 
 -- A dictionary of a standard form. Its basic variables are variables of the form, and each occurs
 -- in its own row alone. The values that satisfy it are those that satisfy the first dictionary,
@@ -28,7 +28,7 @@ pub record IsDictionaryOf (s : form.Standard) (d : Dictionary) : Type 0 where
   pub own : (k : ℕ) → k < length d.basic → entry_at d k (basic_at d k) ≡ whole (pos 1)
   pub alone : (i k : ℕ) → i ≤ length d.basic → k < length d.basic → i ≢ k → entry_at d i (basic_at d k) ≡ whole (pos 0)
   pub same : (x : List Number) (objective : Number) → (¬ (HasZero d) → value_of_column x 0 ≡ whole (pos 0)) → Meets d x objective ↔ Meets (first_dictionary s) x objective
-  pub zero_above : (k : ℕ) → slice_get d.basic k ≡ Some 0 → ¬ (OpeningIsDue d) → whole (pos 0) <ℚ constant_at d k
+  pub zero_above : (k : ℕ) → slice_get d.basic k ≡ Some 0 → ¬ (OpeningIsRequired d) → whole (pos 0) <ℚ constant_at d k
 
 -- the lists of a final dictionary, as numbers
 abbrev pub last_value : {F : Type 0} → (F → Number) → Final F → form.Last

@@ -18,7 +18,7 @@ module _ {F : Type 0} (value : F → Number) (lp : Lp F) where
 
 module _ {F : Type 0} (value : F → Number) (limit : ℕ) (lp : Lp F) where
   -- Why the recovery fails: a step does not fit. Out of memory has no cause.
-  abbrev pub HasNoWayBack : EndKind → form.Last → Stop → Type 0
-  HasNoWayBack k last (stop.Limit step) = FirstStop (steps_back value limit lp k last) step
-  HasNoWayBack k last (stop.Crossed j) = ⊥
-  HasNoWayBack k last stop.Memory = Unit {0}
+  abbrev pub HasNoRecovery : EndKind → form.Last → Stop → Type 0
+  HasNoRecovery k last (stop.Limit step) = FirstStop (steps_back value limit lp k last) step
+  HasNoRecovery k last (stop.Crossed j) = ⊥
+  HasNoRecovery k last stop.Memory = Unit {0}

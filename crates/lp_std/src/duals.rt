@@ -71,7 +71,7 @@ pub(crate) fn duals_of<F: ExactField>(
     maximize: bool,
 ) -> Result<Vec<F>, Stop>
     requires few { count_of_rows rows.now ≤ 1500 }
-    requires room { count_of_rows rows.now ≤ length slacks.now }
+    requires within_bound { count_of_rows rows.now ≤ length slacks.now }
     ensures { ComputesAll F.value (dual_steps F.limit (slack_multiplier F.value slacks.now) 0 0 rows.now)
         (map (form.directed maximize) (form.duals_from (slack_multiplier F.value slacks.now) 0 rows.now)) result }
 {
@@ -106,7 +106,7 @@ fn reduced_of<F: ExactField>(
     place: u32,
 ) -> Result<F, StepName>
     requires there { variable < length costs.now }
-    requires room { place + form.rows_of_bounds column.now.lower column.now.upper ≤ length slacks.now }
+    requires within_bound { place + form.rows_of_bounds column.now.lower column.now.upper ≤ length slacks.now }
     ensures { Computes F.value
         (reduced_step F.limit (map F.value costs.now) (slack_multiplier F.value slacks.now) j variable place column.now.lower column.now.upper)
         (form.reduced_by_bounds (map F.value costs.now) (slack_multiplier F.value slacks.now) variable place column.now.lower column.now.upper)
@@ -144,7 +144,7 @@ pub(crate) fn reduced_costs_of<F: ExactField>(
     requires sized { length bounded.now ≡ length columns.now }
     requires there { All (λ p. p.0 < length costs.now) columns.now }
     requires few { first + sum_by (λ column. form.rows_of_bounds column.lower column.upper) bounded.now ≤ 1500 }
-    requires room { first + sum_by (λ column. form.rows_of_bounds column.lower column.upper) bounded.now ≤ length slacks.now }
+    requires within_bound { first + sum_by (λ column. form.rows_of_bounds column.lower column.upper) bounded.now ≤ length slacks.now }
     ensures { ComputesAll F.value
         (reduced_steps F.limit (map F.value costs.now) (slack_multiplier F.value slacks.now) 0 first (placed_value F.value columns.now) bounded.now)
         (map (form.directed maximize)

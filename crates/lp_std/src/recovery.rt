@@ -6,7 +6,7 @@ ghost use Rattle.lp_core.specs.Ends.{LeadsTo};
 ghost use Rattle.lp_core.specs.StandardForm as form;
 ghost use Rattle.lp_core.specs.Steps.{AllFit, levels_steps, row_levels_steps, duals_steps, reduced_costs_steps, optimal_steps, infeasible_steps, unbounded_steps, interrupted_steps, steps_back};
 ghost use Rattle.lp_core.specs.WellFormed.{IsWellFormed};
-ghost use Rattle.lp_std.specs.Recovery.{IsFormOf, HasNoWayBack};
+ghost use Rattle.lp_std.specs.Recovery.{IsFormOf, HasNoRecovery};
 ghost use Rattle.lp_std.specs.Last.{last_value, IsLast};
 ghost use Rattle.lp_core.specs.declared.answer.EndKind.TheVariants as kind;
 ghost use Rattle.lp_std.specs.InnerSteps.{first_stop, StopsAt, placed_value, ComputesAll, ComputesEnd, IsSized, AreSized};
@@ -240,7 +240,7 @@ pub fn recover<F: ExactField>(
     ensures end { IfOk result (LeadsTo F.value lp.now dict.now.kind (last_value F.value dict.now)) }
     ensures all_fit { IfOk result (λ end. AllFit (steps_back F.value F.limit lp.now dict.now.kind (last_value F.value dict.now))) }
     ensures proved { IfOk result (IsProved F.value lp.now) }
-    ensures stop { IfErr result (HasNoWayBack F.value F.limit lp.now dict.now.kind (last_value F.value dict.now)) }
+    ensures stop { IfErr result (HasNoRecovery F.value F.limit lp.now dict.now.kind (last_value F.value dict.now)) }
 {
     led_back(alloc, lp, s, dict)
 }

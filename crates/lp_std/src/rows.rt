@@ -213,7 +213,7 @@ fn push_row<F: ExactField>(
     columns: &[(u32, Shift<F>)],
     row: &Row<F>,
 ) -> Result<(), Stop>
-    requires room { length rows.old.items ≤ 1500 }
+    requires within_bound { length rows.old.items ≤ 1500 }
     requires few { length columns.now ≤ 3000 }
     requires low { All (λ p. p.0 + 1 < 2 ^ 32) columns.now }
     requires there { All (λ e. e.0 < length columns.now) row.now.entries }
@@ -240,7 +240,7 @@ pub(crate) fn rows_of<F: ExactField>(
     columns: &[(u32, Shift<F>)],
     program: &[Row<F>],
 ) -> Result<Vec<StdRow<F>>, Stop>
-    requires room { count_of_rows program.now ≤ 1500 }
+    requires within_bound { count_of_rows program.now ≤ 1500 }
     requires few { length columns.now ≤ 3000 }
     requires low { All (λ p. p.0 + 1 < 2 ^ 32) columns.now }
     requires there { All (λ row. All (λ e. e.0 < length columns.now) row.entries) program.now }
@@ -284,7 +284,7 @@ fn push_bound_row<F: ExactField>(
     variable: u32,
     column: &Column<F>,
 ) -> Result<(), Stop>
-    requires room { length rows.old.items ≤ 1500 }
+    requires within_bound { length rows.old.items ≤ 1500 }
     requires within { j + 1 < 2 ^ 32 }
     ensures { BoundsPush F.value F.limit j variable column.now rows.old.items rows.new.items result }
 {
@@ -310,7 +310,7 @@ pub(crate) fn with_bound_rows<F: ExactField>(
     columns: &[(u32, Shift<F>)],
     bounded: &[Column<F>],
 ) -> Result<Vec<StdRow<F>>, Stop>
-    requires room { length rows.items + sum_by (λ column. form.rows_of_bounds column.lower column.upper) bounded.now ≤ 1500 }
+    requires within_bound { length rows.items + sum_by (λ column. form.rows_of_bounds column.lower column.upper) bounded.now ≤ 1500 }
     requires few { length columns.now ≤ 3000 }
     requires sized { length bounded.now ≡ length columns.now }
     ensures ok { IfOk result (λ all.

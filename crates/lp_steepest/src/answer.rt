@@ -4,7 +4,7 @@ ghost use Rattle.lp_core.specs.declared.answer.Rule.TheVariants as by;
 ghost use Rattle.lp_core.specs.Answers.{IsAnswer};
 ghost use Rattle.lp_core.specs.Dictionary.{Improves};
 ghost use Rattle.lp_core.specs.WellFormed.{IsWellFormed};
-ghost use Rattle.lp_nocycle.specs.Turns.{HasFewPivotsByTurn, ComesToEndByTurn};
+ghost use Rattle.lp_nocycle.specs.Turns.{HasFewPivotsByTurn, EndsUninterruptedByTurn};
 ghost use Rattle.lp_simplex.specs.Turn.{IsTurningAnswer};
 
 use crate::limiting::Limiting;
@@ -33,7 +33,7 @@ pub fn solve_in<F: ExactField>(
     ensures turning { IfOk result (IsTurningAnswer F.value F.limit Improves lp.now iterlim) }
     ensures answers { IfOk result (IsAnswer F.value F.limit lp.now iterlim by.Legal) }
     ensures few { IfOk result (HasFewPivotsByTurn F.value lp.now) }
-    ensures to_the_end { IfOk result (ComesToEndByTurn F.value lp.now iterlim) }
+    ensures to_the_end { IfOk result (EndsUninterruptedByTurn F.value lp.now iterlim) }
 {
     solve_with(alloc, lp, iterlim, Limiting)
 }

@@ -19,15 +19,15 @@ pub(crate) struct Leaders {
     /// How many variables the list has.
     count: usize,
     /// How many variables the list may have.
-    room: usize,
+    within_bound: usize,
     /// When the list is full, the place of the variable with the least coefficient, and of equal
     /// ones the greatest.
     last: usize,
 }
 
 impl Leaders {
-    /// An empty list that holds at most `room` variables.
-    pub(crate) fn new(room: usize) -> Leaders {
+    /// An empty list that holds at most `within_bound` variables.
+    pub(crate) fn new(within_bound: usize) -> Leaders {
         let none = Leader {
             variable: 0,
             gain: Size::of(0),
@@ -35,7 +35,7 @@ impl Leaders {
         Leaders {
             list: [none; MOST],
             count: 0,
-            room: room.min(MOST),
+            within_bound: within_bound.min(MOST),
             last: 0,
         }
     }
@@ -82,10 +82,10 @@ impl Leaders {
     /// last one, provided that its coefficient is greater.
     pub(crate) fn add(&mut self, other: Leader) {
         let other = self.exchanged(other);
-        if self.count < self.room && self.count < MOST {
+        if self.count < self.within_bound && self.count < MOST {
             self.list[self.count] = other;
             self.count += 1;
-            if self.count == self.room {
+            if self.count == self.within_bound {
                 self.find_last();
             }
             return;

@@ -6,7 +6,7 @@ ghost use Rattle.lp_core.specs.Answers.{IsAnswer};
 ghost use Rattle.lp_core.specs.Dictionary.{Improves};
 ghost use Rattle.lp_slot.specs.declared.solver.SolverRule.TheVariants as slot;
 ghost use Rattle.lp_core.specs.WellFormed.{IsWellFormed};
-ghost use Rattle.lp_nocycle.specs.Turns.{HasFewPivotsByTurn, ComesToEndByTurn};
+ghost use Rattle.lp_nocycle.specs.Turns.{HasFewPivotsByTurn, EndsUninterruptedByTurn};
 ghost use Rattle.lp_steepest.specs.Name.{steepest_is_name};
 ghost use Rattle.lp_simplex.specs.Turn.{IsTurningAnswer};
 
@@ -77,7 +77,7 @@ impl LpSolver for Steepest {
         ensures legal { IfOk result (IsAnswer frac_value frac_limit lp.now iterlim by.Legal) }
         ensures answers { IfOk result (IsTurningAnswer frac_value frac_limit Improves lp.now iterlim) }
         ensures few { IfOk result (HasFewPivotsByTurn frac_value lp.now) }
-        ensures to_the_end { IfOk result (ComesToEndByTurn frac_value lp.now iterlim) }
+        ensures to_the_end { IfOk result (EndsUninterruptedByTurn frac_value lp.now iterlim) }
         ensures paths { IfOk result (λ answer. self.new ≡ self.old ++ answer.pivots ∷ []) }
         ensures unchanged { OnErr result (self.new ≡ self.old) }
     {

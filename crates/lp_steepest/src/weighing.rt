@@ -1,6 +1,6 @@
 //! The worth of a variable's entering, and the variable that is worth most.
 ghost use Rattle.std.specs.Prelude.{◌≤◌, ◌+◌, ℕ, length, MatchOption};
-ghost use Rattle.lp_core.specs.Dictionary.{OpeningIsDue, Improves};
+ghost use Rattle.lp_core.specs.Dictionary.{OpeningIsRequired, Improves};
 ghost use Rattle.lp_dict.specs.Tableau.{dictionary};
 
 use crate::leaders::{Leader, Leaders, MOST};
@@ -23,7 +23,7 @@ struct Candidate {
 }
 
 /// How many variables are weighed at most.
-fn room_of<F: ExactField>(dict: &Dict<F>) -> usize {
+fn most_weighed<F: ExactField>(dict: &Dict<F>) -> usize {
     let rows = dict.len().saturating_add(1);
     (NUMBERS / rows).max(LEAST).min(MOST)
 }
@@ -56,7 +56,7 @@ fn size_above<F: ExactField>(dict: &Dict<F>, row: usize, column: usize) -> Optio
 /// The variables with the greatest coefficients.
 fn leaders_of<F: ExactField>(dict: &Dict<F>) -> Leaders {
     let row = priced_row(dict);
-    let mut leaders = Leaders::new(room_of(dict));
+    let mut leaders = Leaders::new(most_weighed(dict));
     for variable in 1..=dict.variables() {
         if let Some(gain) = size_above(dict, row, variable as usize + 1) {
             leaders.add(Leader { variable, gain });
@@ -124,7 +124,7 @@ fn weighed<F: ExactField>(
 /// The variable worth most of those with the greatest coefficients, and of equal ones the least.
 /// None exactly if no variable improves.
 pub(crate) fn worthiest<F: ExactField>(dict: &Dict<F>) -> Option<u32>
-    requires { ¬ (OpeningIsDue (dictionary F.value dict.now)) }
+    requires { ¬ (OpeningIsRequired (dictionary F.value dict.now)) }
     ensures { MatchOption result ((v : ℕ) → ¬ (Improves (dictionary F.value dict.now) v)) (Improves (dictionary F.value dict.now)) }
 {
     let leaders = leaders_of(dict);

@@ -6,4 +6,4 @@ use Rattle.gms_check.proofs.declaration.first_whole.Given as goal
 
 abbrev pub invariant-loop-i : goal.invariant-loop-i
 invariant-loop-i g l =
-    l.i + length (take_while (λ (item : Item _). not (is_wrong_count l.due (length item.parts))) (drop l.i l.items)) ≡ length (take_while (λ (item : Item _). not (is_wrong_count l.due (length item.parts))) l.items)
+    l.i + length (take_while (λ (item : Item _). not (is_wrong_count l.expected (length item.parts))) (drop l.i l.items)) ≡ length (take_while (λ (item : Item _). not (is_wrong_count l.expected (length item.parts))) l.items)

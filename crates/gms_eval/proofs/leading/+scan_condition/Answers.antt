@@ -73,7 +73,7 @@ scan_condition-returns-in_ok-second-in-Guard g t c =
     record {
       known = known-Guard g.F.ExactField.value g.F.ExactField.limit c.args.store.now c.args.b.now c.args.sets.now e c.in-Guard.operand c.in-Guard.guards c.deref-in-Guard.result.now c.and.result c.in-Guard.is c.deref-in-Guard.ensures.value c.deref-in-Guard-2.result.now c.deref-in-Guard-2.ensures (c.and.ensures.known sure c.args.store.now c.args.b.now c.args.sets.now (guards_hold g.F.ExactField.value g.F.ExactField.limit c.args.store.now c.deref-in-Guard.result.now) (expression_holds g.F.ExactField.value g.F.ExactField.limit c.args.store.now c.deref-in-Guard-2.result.now) c.in_ok-first-in-Guard.ensures.known c.in_ok-second-in-Guard.ensures.known);
       safe = c.and.ensures.safe ∙ guard-safe e c.in-Guard.operand c.in-Guard.guards c.in-Guard.is c.deref-in-Guard.result.now c.deref-in-Guard.ensures.value c.deref-in-Guard-2.result.now c.deref-in-Guard-2.ensures first.safe second.safe sure c.in_ok-first-in-Guard.ensures.safe c.in_ok-second-in-Guard.ensures.safe;
-      short = λ below small. let one = c.in_ok-first-in-Guard.ensures.short below small in short-both c.args.store.now c.args.b.now c.args.sets.now c.args.bound (λ name indices. LastMayLead name indices (parts_tree c.deref-in-Guard.result.now)) (λ name indices. MayLead name indices (tree_of c.deref-in-Guard-2.result.now)) (λ name indices. MayLead name indices (tree_of e)) first second c.and.result c.and.ensures.bound c.and.ensures.walk (guard-leads e c.in-Guard.operand c.in-Guard.guards c.in-Guard.is c.deref-in-Guard.result.now c.deref-in-Guard.ensures.value c.deref-in-Guard-2.result.now c.deref-in-Guard-2.ensures) one (c.in_ok-second-in-Guard.ensures.short (omega (arith, one.below, below)) small);
+      short = λ below small. let one = c.in_ok-first-in-Guard.ensures.short below small in short-both c.args.store.now c.args.b.now c.args.sets.now c.args.bound (λ name indices. LastMayLead name indices (parts_tree c.deref-in-Guard.result.now)) (λ name indices. MayLead name indices (tree_of c.deref-in-Guard-2.result.now)) (λ name indices. MayLead name indices (tree_of e)) first second c.and.result c.and.ensures.bound c.and.ensures.traversal (guard-leads e c.in-Guard.operand c.in-Guard.guards c.in-Guard.is c.deref-in-Guard.result.now c.deref-in-Guard.ensures.value c.deref-in-Guard-2.result.now c.deref-in-Guard-2.ensures) one (c.in_ok-second-in-Guard.ensures.short (omega (arith, one.below, below)) small);
     }
 
 -- ---- guards
@@ -96,7 +96,7 @@ scan_guards-loop-place-preserved g t c =
     record {
       known = scan-guard g.F.ExactField.value g.F.ExactField.limit c.args.store.now c.args.b.now c.args.sets.now c.args.guards.now c.loop-place.place c.index-guards-place.result c.and-first.result (omega arith) (omega arith) c.index-guards-place.is (c.and-first.ensures.known sure c.args.store.now c.args.b.now c.args.sets.now (guards_hold g.F.ExactField.value g.F.ExactField.limit c.args.store.now (drop c.loop-place.place c.args.guards.now)) (expression_holds g.F.ExactField.value g.F.ExactField.limit c.args.store.now c.index-guards-place.result) c.loop-place.invariant.known c.in_ok-second.ensures.known);
       safe = guard-more c.args.guards.now c.loop-place.place c.index-guards-place.result (omega arith) (omega arith) c.index-guards-place.is first.safe second.safe c.and-first.result.safe sure c.loop-place.invariant.safe c.in_ok-second.ensures.safe c.and-first.ensures.safe;
-      short = λ below small. let one = c.loop-place.invariant.short below small in short-both c.args.store.now c.args.b.now c.args.sets.now c.args.bound (λ name indices. LastMayLead name indices (parts_tree (drop c.loop-place.place c.args.guards.now))) (λ name indices. MayLead name indices (tree_of c.index-guards-place.result)) _ first second c.and-first.result c.and-first.ensures.bound c.and-first.ensures.walk (guard-more_leads c.args.guards.now c.loop-place.place c.index-guards-place.result (omega arith) (omega arith) c.index-guards-place.is) one (c.in_ok-second.ensures.short (omega (arith, one.below, below)) small);
+      short = λ below small. let one = c.loop-place.invariant.short below small in short-both c.args.store.now c.args.b.now c.args.sets.now c.args.bound (λ name indices. LastMayLead name indices (parts_tree (drop c.loop-place.place c.args.guards.now))) (λ name indices. MayLead name indices (tree_of c.index-guards-place.result)) _ first second c.and-first.result c.and-first.ensures.bound c.and-first.ensures.traversal (guard-more_leads c.args.guards.now c.loop-place.place c.index-guards-place.result (omega arith) (omega arith) c.index-guards-place.is) one (c.in_ok-second.ensures.short (omega (arith, one.below, below)) small);
     }
 
 -- ---- parts
@@ -119,5 +119,5 @@ scan_parts-loop-part-preserved g t c =
     record {
       known = scan-part g.F.ExactField.value g.F.ExactField.limit c.args.store.now c.args.b.now c.args.sets.now c.args.parts.now c.loop-part.part-index c.part-item.result c.and-known.result c.loop-part-test.true c.part-item.is (c.and-known.ensures.known sure c.args.store.now c.args.b.now c.args.sets.now (all_hold_in_turn g.F.ExactField.value g.F.ExactField.limit c.args.store.now (take c.loop-part.part-index c.args.parts.now)) (expression_holds g.F.ExactField.value g.F.ExactField.limit c.args.store.now c.part-item.result) c.loop-part.invariant.known c.in_ok-second.ensures.known);
       safe = part-safe c.args.parts.now c.loop-part.part-index c.part-item.result c.loop-part-test.true c.part-item.is first.safe second.safe c.and-known.result.safe sure c.loop-part.invariant.safe c.in_ok-second.ensures.safe c.and-known.ensures.safe;
-      short = λ below small. let one = c.loop-part.invariant.short below small in short-both c.args.store.now c.args.b.now c.args.sets.now c.args.bound (λ name indices. OneMayLead name indices (parts_tree (take c.loop-part.part-index c.args.parts.now))) (λ name indices. MayLead name indices (tree_of c.part-item.result)) _ first second c.and-known.result c.and-known.ensures.bound c.and-known.ensures.walk (part-leads c.args.parts.now c.loop-part.part-index c.part-item.result c.loop-part-test.true c.part-item.is) one (c.in_ok-second.ensures.short (omega (arith, one.below, below)) small);
+      short = λ below small. let one = c.loop-part.invariant.short below small in short-both c.args.store.now c.args.b.now c.args.sets.now c.args.bound (λ name indices. OneMayLead name indices (parts_tree (take c.loop-part.part-index c.args.parts.now))) (λ name indices. MayLead name indices (tree_of c.part-item.result)) _ first second c.and-known.result c.and-known.ensures.bound c.and-known.ensures.traversal (part-leads c.args.parts.now c.loop-part.part-index c.part-item.result c.loop-part-test.true c.part-item.is) one (c.in_ok-second.ensures.short (omega (arith, one.below, below)) small);
     }

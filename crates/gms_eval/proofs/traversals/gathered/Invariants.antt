@@ -9,4 +9,4 @@ use Rattle.gms_eval.proofs.traversals.gathered.Given as goal
 
 abbrev pub invariant-loop-place : goal.invariant-loop-place
 invariant-loop-place g l =
-    IsOrdered l.found × ((t : List ℕ) → has l.found t ≡ (has (flat_map (spread_over l.store l.walk.free.items l.walk.places.items) (slice_range (given_of l.store l.walk.name) l.walk.from l.place)) t && has (elements l.store l.sets) t))
+    IsOrdered l.found × ((t : List ℕ) → has l.found t ≡ (has (flat_map (spread_over l.store l.traversal.free.items l.traversal.places.items) (slice_range (given_of l.store l.traversal.name) l.traversal.from l.place)) t && has (elements l.store l.sets) t))

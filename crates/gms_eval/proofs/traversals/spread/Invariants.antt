@@ -7,4 +7,4 @@ use Rattle.gms_eval.proofs.traversals.spread.Given as goal
 
 abbrev pub invariant-loop-number : goal.invariant-loop-number
 invariant-loop-number g l =
-    IsOrdered l.more × ((t : List ℕ) → has l.more t ≡ (has l.fn.found t || (has (map (λ rest. picked l.walk.places.items (l.tuple ++ rest)) (take l.number (elements l.store l.walk.free.items))) t && has (elements l.store l.sets) t)))
+    IsOrdered l.more × ((t : List ℕ) → has l.more t ≡ (has l.fn.found t || (has (map (λ rest. picked l.traversal.places.items (l.tuple ++ rest)) (take l.number (elements l.store l.traversal.free.items))) t && has (elements l.store l.sets) t)))

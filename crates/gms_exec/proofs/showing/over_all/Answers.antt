@@ -9,8 +9,8 @@ loop-number-init g c = ap (entries_in g.F.ExactField.value) c.new-entries.ensure
 
 pub loop-number-preserved : goal.loop-number-preserved
 loop-number-preserved g c =
-    entries-more c.args.store.now c.args.name c.args.suffix (entries_in g.F.ExactField.value c.loop-number.entries.items) (entries_in g.F.ExactField.value c.add.new.entries.items) (elements_at c.args.walk.now.labels c.args.walk.now.store.now c.args.walk.now.positions.now) c.loop-number.number c.in_ok-t.t (omega (arith, c.loop-number-test.true, c.requires)) c.in_ok-t.ensures c.loop-number.invariant c.in_ok-add.ensures
+    entries-more c.args.store.now c.args.name c.args.suffix (entries_in g.F.ExactField.value c.loop-number.entries.items) (entries_in g.F.ExactField.value c.add.new.entries.items) (elements_at c.args.name_domain.now.labels c.args.name_domain.now.store.now c.args.name_domain.now.positions.now) c.loop-number.number c.in_ok-t.t (omega (arith, c.loop-number-test.true, c.requires)) c.in_ok-t.ensures c.loop-number.invariant c.in_ok-add.ensures
 
 pub returns : goal.returns
 returns g c =
-    entries-end c.args.store.now c.args.name c.args.suffix (entries_in g.F.ExactField.value c.loop-number.entries.items) (elements_at c.args.walk.now.labels c.args.walk.now.store.now c.args.walk.now.positions.now) c.loop-number.number (omega (arith, c.loop-number-test.false, c.requires)) c.loop-number.invariant
+    entries-end c.args.store.now c.args.name c.args.suffix (entries_in g.F.ExactField.value c.loop-number.entries.items) (elements_at c.args.name_domain.now.labels c.args.name_domain.now.store.now c.args.name_domain.now.positions.now) c.loop-number.number (omega (arith, c.loop-number-test.false, c.requires)) c.loop-number.invariant

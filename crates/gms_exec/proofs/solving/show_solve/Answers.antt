@@ -2,32 +2,32 @@ use Rattle.std.proofs.Common.{◌∙◌, ◌∷◌, ◌++◌, [], ℕ, List, len
 use Rattle.gms_event.specs.declared.event.Event.TheVariants as event
 use Rattle.gms_store.specs.State.{attributes_of}
 use Rattle.gms_rows.specs.Rows.{equations_of}
-use Rattle.gms_exec.proofs.SolveRuns.{counted, grown-same, grown-one}
+use Rattle.gms_exec.proofs.SolveRuns.{counted, extended-same, extended-one}
 use Rattle.gms_exec.proofs.solving.show_solve.Goals as goal
 
 pub returns-in_err-equations-clause-answers : goal.returns-in_err-equations-clause-answers
-returns-in_err-equations-clause-answers g c = grown-same c.args.answers.now.items c.args.answers.now.items refl
+returns-in_err-equations-clause-answers g c = extended-same c.args.answers.now.items c.args.answers.now.items refl
 
 pub returns-in_err-equations-clause-events : goal.returns-in_err-equations-clause-events
-returns-in_err-equations-clause-events g c = grown-same c.args.events.now.items c.args.events.now.items refl
+returns-in_err-equations-clause-events g c = extended-same c.args.events.now.items c.args.events.now.items refl
 
 pub returns-in_err-push-clause-answers : goal.returns-in_err-push-clause-answers
-returns-in_err-push-clause-answers g c = grown-same c.args.answers.now.items c.push.new.self.items c.in_err-push.ensures.items
+returns-in_err-push-clause-answers g c = extended-same c.args.answers.now.items c.push.new.self.items c.in_err-push.ensures.items
 
 pub returns-in_err-push-clause-events : goal.returns-in_err-push-clause-events
-returns-in_err-push-clause-events g c = grown-same c.args.events.now.items c.args.events.now.items refl
+returns-in_err-push-clause-events g c = extended-same c.args.events.now.items c.args.events.now.items refl
 
 pub returns-in_err-push-2-clause-answers : goal.returns-in_err-push-2-clause-answers
-returns-in_err-push-2-clause-answers g c = grown-one c.args.answers.now.items c.push.new.self.items c.args.answer c.in_ok-push.ensures.items
+returns-in_err-push-2-clause-answers g c = extended-one c.args.answers.now.items c.push.new.self.items c.args.answer c.in_ok-push.ensures.items
 
 pub returns-in_err-push-2-clause-events : goal.returns-in_err-push-2-clause-events
-returns-in_err-push-2-clause-events g c = grown-same c.args.events.now.items c.push-2.new.self.items c.in_err-push-2.ensures.items
+returns-in_err-push-2-clause-events g c = extended-same c.args.events.now.items c.push-2.new.self.items c.in_err-push-2.ensures.items
 
 pub returns-clause-answers : goal.returns-clause-answers
-returns-clause-answers g c = grown-one c.args.answers.now.items c.push.new.self.items c.args.answer c.in_ok-push.ensures.items
+returns-clause-answers g c = extended-one c.args.answers.now.items c.push.new.self.items c.args.answer c.in_ok-push.ensures.items
 
 pub returns-clause-events : goal.returns-clause-events
-returns-clause-events g c = grown-one c.args.events.now.items c.push-2.new.self.items _ c.in_ok-push-2.ensures.items
+returns-clause-events g c = extended-one c.args.events.now.items c.push-2.new.self.items _ c.in_ok-push-2.ensures.items
 
 pub returns-clause-shows : goal.returns-clause-shows
 returns-clause-shows g c =

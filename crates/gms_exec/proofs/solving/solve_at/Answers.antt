@@ -37,5 +37,5 @@ returns-clause-paths g c =
     let xs = c.args.solvers.now.items in
     let old = c.index_mut.result.now in
     IfOk-weaker c.solve_one.result (λ r. (goal.LpSolver-dyn g (c.solve_one.new.solver.vtable, c.solve_one.new.solver.value)).paths c.solve_one.new.solver.value ≡ (goal.LpSolver-dyn g (old.vtable, old.value)).paths old.value ++ r.0.pivots ∷ []) (λ r. (k : ℕ) → slice_get (map (λ b. (goal.LpSolver-dyn g (b.vtable, b.value)).paths b.value) (set xs c.args.place c.solve_one.new.solver)) k ≡ option_map (λ before. before ++ path_at c.args.place r.0.pivots k) (slice_get (map (λ b. (goal.LpSolver-dyn g (b.vtable, b.value)).paths b.value) xs) k))
-    (λ r grown k. paths-set (λ b. (goal.LpSolver-dyn g (b.vtable, b.value)).paths b.value) xs c.args.place c.solve_one.new.solver old r.0.pivots c.index_mut.ensures.value grown k)
+    (λ r extended k. paths-set (λ b. (goal.LpSolver-dyn g (b.vtable, b.value)).paths b.value) xs c.args.place c.solve_one.new.solver old r.0.pivots c.index_mut.ensures.value extended k)
     c.solve_one.ensures.paths

@@ -7,12 +7,12 @@ use Rattle.gms_eval.specs.declared.stop.StopKind.TheVariants.{NoSolver}
 use Rattle.gms_rows.specs.ProgramLp.{program_lp}
 use Rattle.gms_rows.specs.Rows.{equations_of}
 use Rattle.gms_exec.specs.Run.{with_evaluated, answered, solve}
-use Rattle.gms_exec.specs.ValidEvents.{ShowsStanding}
-use Rattle.gms_exec.specs.Stepping.{RunView, Answered, come_to}
+use Rattle.gms_exec.specs.ValidEvents.{ShowsValidEvents}
+use Rattle.gms_exec.specs.Stepping.{RunView, Answered, course_from_view}
 use Rattle.gms_exec.proofs.Arms.{runs-value_stops, unless-any}
 use Rattle.gms_exec.proofs.Joining.{answered-nothing}
-use Rattle.gms_exec.proofs.SolveRuns.{runs-fault, runs-grown, solve-does, solve-none, solves-runs, solves-answered, solves-standing, is-none, is-some, some-there}
-use Rattle.gms_exec.proofs.ValidSequences.{standing-nothing}
+use Rattle.gms_exec.proofs.SolveRuns.{runs-fault, runs-extended, solve-does, solve-none, solves-runs, solves-answered, solves-valid, is-none, is-some, some-there}
+use Rattle.gms_exec.proofs.ValidSequences.{valid-nothing}
 use Rattle.gms_exec.proofs.solving.solve_model.Goals as goal
 
 pub generate-requires : goal.generate-requires
@@ -28,7 +28,7 @@ returns-then-is_empty-clause-runs g c =
     let seen : RunView Frac = record { state = c.args.store.now; events = c.args.events.now.items; answers = c.args.answers.now.items } in
     let names = map (λ b. (goal.LpSolver-dyn g (b.vtable, b.value)).name b.value) c.args.solvers.now.items in
     runs-fault frac_value c.stopped.result (faulted NoSolver s.at b nothing nothing) (solve frac_value (2 ^ 127 - 1) names c.args.program.now.statements.items s.model s.objective s.maximize s.at b) seen c.stopped.ensures
-    (λ left. solve-none frac_value (2 ^ 127 - 1) names c.args.program.now.statements.items s.model s.objective s.maximize s.at b (come_to frac_value seen left) (is-none (λ b. (goal.LpSolver-dyn g (b.vtable, b.value)).name b.value) c.args.solvers.now (sym c.is_empty.ensures ∙ c.if-is_empty.true)))
+    (λ left. solve-none frac_value (2 ^ 127 - 1) names c.args.program.now.statements.items s.model s.objective s.maximize s.at b (course_from_view frac_value seen left) (is-none (λ b. (goal.LpSolver-dyn g (b.vtable, b.value)).name b.value) c.args.solvers.now (sym c.is_empty.ensures ∙ c.if-is_empty.true)))
 
 pub returns-in_err-lp-clause-runs : goal.returns-in_err-lp-clause-runs
 returns-in_err-lp-clause-runs g c =
@@ -39,7 +39,7 @@ returns-in_err-lp-clause-runs g c =
     let names = map (λ b. (goal.LpSolver-dyn g (b.vtable, b.value)).name b.value) c.args.solvers.now.items in
     let p = err_from_is_err_and c.from_residual.result c.from_residual.ensures.1 in
     rw (p.1, p.2) (runs-value_stops frac_value c.in_err-lp.field-0.0 (solve frac_value (2 ^ 127 - 1) names statements s.model s.objective s.maximize s.at b) seen (program_lp frac_value (2 ^ 127 - 1) c.args.store.now statements s.model s.objective s.maximize s.at) (λ course lp. answered frac_value (2 ^ 127 - 1) names s.model (equations_of statements s.model) s.objective s.at course lp) c.in_err-lp.ensures.program
-    (λ left. solve-does frac_value (2 ^ 127 - 1) names statements s.model s.objective s.maximize s.at b (come_to frac_value seen left) (is-some (λ b. (goal.LpSolver-dyn g (b.vtable, b.value)).name b.value) c.args.solvers.now (sym c.is_empty.ensures ∙ c.if-is_empty.false))))
+    (λ left. solve-does frac_value (2 ^ 127 - 1) names statements s.model s.objective s.maximize s.at b (course_from_view frac_value seen left) (is-some (λ b. (goal.LpSolver-dyn g (b.vtable, b.value)).name b.value) c.args.solvers.now (sym c.is_empty.ensures ∙ c.if-is_empty.false))))
 
 pub returns-clause-runs : goal.returns-clause-runs
 returns-clause-runs g c =
@@ -49,17 +49,17 @@ returns-clause-runs g c =
     let old : RunView Frac = record { state = c.args.store.now; events = c.args.events.now.items; answers = c.args.answers.now.items } in
     let names = map (λ b. (goal.LpSolver-dyn g (b.vtable, b.value)).name b.value) c.args.solvers.now.items in
     solves-runs frac_value (2 ^ 127 - 1) names _ _ _ s.at s.model (equations_of statements s.model) s.objective c.in_ok-lp.lp old _ c.in_ok-solve_program.ensures.solves tt (solve frac_value (2 ^ 127 - 1) names statements s.model s.objective s.maximize s.at b)
-    (λ left. solve-does frac_value (2 ^ 127 - 1) names statements s.model s.objective s.maximize s.at b (come_to frac_value old left) (is-some (λ b. (goal.LpSolver-dyn g (b.vtable, b.value)).name b.value) c.args.solvers.now (sym c.is_empty.ensures ∙ c.if-is_empty.false))
-    ∙ ap (λ answer. with_evaluated answer (answered frac_value (2 ^ 127 - 1) names s.model (equations_of statements s.model) s.objective s.at (come_to frac_value old left)) (come_to frac_value old left)) c.in_ok-lp.ensures.program)
+    (λ left. solve-does frac_value (2 ^ 127 - 1) names statements s.model s.objective s.maximize s.at b (course_from_view frac_value old left) (is-some (λ b. (goal.LpSolver-dyn g (b.vtable, b.value)).name b.value) c.args.solvers.now (sym c.is_empty.ensures ∙ c.if-is_empty.false))
+    ∙ ap (λ answer. with_evaluated answer (answered frac_value (2 ^ 127 - 1) names s.model (equations_of statements s.model) s.objective s.at (course_from_view frac_value old left)) (course_from_view frac_value old left)) c.in_ok-lp.ensures.program)
 
-pub returns-clause-standing : goal.returns-clause-standing
-returns-clause-standing g c =
-    solves-standing frac_value (2 ^ 127 - 1) _ _ _ _ c.args.s.at c.args.s.model _ c.args.s.objective c.in_ok-lp.lp _ _ c.in_ok-solve_program.ensures.solves c.in_ok-lp.ensures.formed
+pub returns-clause-valid : goal.returns-clause-valid
+returns-clause-valid g c =
+    solves-valid frac_value (2 ^ 127 - 1) _ _ _ _ c.args.s.at c.args.s.model _ c.args.s.objective c.in_ok-lp.lp _ _ c.in_ok-solve_program.ensures.solves c.in_ok-lp.ensures.formed
 
 pub returns-in_err-solve_program-clause-runs : goal.returns-in_err-solve_program-clause-runs
 returns-in_err-solve_program-clause-runs g c =
     let p = err_from_is_err_and c.from_residual-in_err-solve_program.result c.from_residual-in_err-solve_program.ensures.1 in
-    rw p.1 (runs-grown frac_value p.0 _ _ _ p.2 c.in_err-solve_program.ensures.events c.in_err-solve_program.ensures.answers)
+    rw p.1 (runs-extended frac_value p.0 _ _ _ p.2 c.in_err-solve_program.ensures.events c.in_err-solve_program.ensures.answers)
 
 pub returns-then-is_empty-clause-solvers : goal.returns-then-is_empty-clause-solvers
 returns-then-is_empty-clause-solvers g c =
@@ -67,12 +67,12 @@ returns-then-is_empty-clause-solvers g c =
     let seen : RunView Frac = record { state = c.args.store.now; events = c.args.events.now.items; answers = c.args.answers.now.items } in
     unless-any {F = Frac} {A = Unit {0}} (Err c.stopped.result) (Answered frac_value (2 ^ 127 - 1) (λ b. (goal.LpSolver-dyn g (b.vtable, b.value)).name b.value) (λ b. (goal.LpSolver-dyn g (b.vtable, b.value)).rule b.value) (λ b. (goal.LpSolver-dyn g (b.vtable, b.value)).paths b.value) xs xs seen seen) (answered-nothing frac_value (2 ^ 127 - 1) (λ b. (goal.LpSolver-dyn g (b.vtable, b.value)).name b.value) (λ b. (goal.LpSolver-dyn g (b.vtable, b.value)).rule b.value) (λ b. (goal.LpSolver-dyn g (b.vtable, b.value)).paths b.value) xs seen)
 
-pub returns-then-is_empty-clause-standing : goal.returns-then-is_empty-clause-standing
-returns-then-is_empty-clause-standing g c =
+pub returns-then-is_empty-clause-valid : goal.returns-then-is_empty-clause-valid
+returns-then-is_empty-clause-valid g c =
     let rules = map (λ b. (goal.LpSolver-dyn g (b.vtable, b.value)).rule b.value) c.args.solvers.now.items in
     let answers = c.args.answers.now.items in
     let events = c.args.events.now.items in
-    unless-any {F = Frac} {A = Unit {0}} (Err c.stopped.result) (ShowsStanding frac_value (2 ^ 127 - 1) rules answers events events) (standing-nothing frac_value (2 ^ 127 - 1) rules answers events events refl)
+    unless-any {F = Frac} {A = Unit {0}} (Err c.stopped.result) (ShowsValidEvents frac_value (2 ^ 127 - 1) rules answers events events) (valid-nothing frac_value (2 ^ 127 - 1) rules answers events events refl)
 
 pub returns-in_err-lp-clause-solvers : goal.returns-in_err-lp-clause-solvers
 returns-in_err-lp-clause-solvers g c =
@@ -80,12 +80,12 @@ returns-in_err-lp-clause-solvers g c =
     let seen : RunView Frac = record { state = c.args.store.now; events = c.args.events.now.items; answers = c.args.answers.now.items } in
     unless-any {F = Frac} {A = Unit {0}} (c.from_residual.result) (Answered frac_value (2 ^ 127 - 1) (λ b. (goal.LpSolver-dyn g (b.vtable, b.value)).name b.value) (λ b. (goal.LpSolver-dyn g (b.vtable, b.value)).rule b.value) (λ b. (goal.LpSolver-dyn g (b.vtable, b.value)).paths b.value) xs xs seen seen) (answered-nothing frac_value (2 ^ 127 - 1) (λ b. (goal.LpSolver-dyn g (b.vtable, b.value)).name b.value) (λ b. (goal.LpSolver-dyn g (b.vtable, b.value)).rule b.value) (λ b. (goal.LpSolver-dyn g (b.vtable, b.value)).paths b.value) xs seen)
 
-pub returns-in_err-lp-clause-standing : goal.returns-in_err-lp-clause-standing
-returns-in_err-lp-clause-standing g c =
+pub returns-in_err-lp-clause-valid : goal.returns-in_err-lp-clause-valid
+returns-in_err-lp-clause-valid g c =
     let rules = map (λ b. (goal.LpSolver-dyn g (b.vtable, b.value)).rule b.value) c.args.solvers.now.items in
     let answers = c.args.answers.now.items in
     let events = c.args.events.now.items in
-    unless-any {F = Frac} {A = Unit {0}} (c.from_residual.result) (ShowsStanding frac_value (2 ^ 127 - 1) rules answers events events) (standing-nothing frac_value (2 ^ 127 - 1) rules answers events events refl)
+    unless-any {F = Frac} {A = Unit {0}} (c.from_residual.result) (ShowsValidEvents frac_value (2 ^ 127 - 1) rules answers events events) (valid-nothing frac_value (2 ^ 127 - 1) rules answers events events refl)
 
 pub solve_program-requires-clause-there : goal.solve_program-requires-clause-there
 solve_program-requires-clause-there g c = c.requires.chosen (some-there c.args.solvers.now (sym c.is_empty.ensures ∙ c.if-is_empty.false))
@@ -99,7 +99,7 @@ returns-in_err-solve_program-clause-solvers g c =
     let p = err_from_is_err_and c.from_residual-in_err-solve_program.result c.from_residual-in_err-solve_program.ensures.1 in
     rw (p.1, p.2) tt
 
-pub returns-in_err-solve_program-clause-standing : goal.returns-in_err-solve_program-clause-standing
-returns-in_err-solve_program-clause-standing g c =
+pub returns-in_err-solve_program-clause-valid : goal.returns-in_err-solve_program-clause-valid
+returns-in_err-solve_program-clause-valid g c =
     let p = err_from_is_err_and c.from_residual-in_err-solve_program.result c.from_residual-in_err-solve_program.ensures.1 in
     rw (p.1, p.2) tt

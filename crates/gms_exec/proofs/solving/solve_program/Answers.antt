@@ -2,20 +2,20 @@ use Rattle.std.proofs.Common.{◌^◌, ◌-◌, map, refl}
 use Rattle.std.proofs.lemmas.Result.{on_ok_weaker}
 use Rattle.gq_frac.specs.Frac.{frac_value}
 use Rattle.gms_rows.specs.Rows.{equations_of}
-use Rattle.gms_exec.proofs.SolveRuns.{grown-same, solves-of}
+use Rattle.gms_exec.proofs.SolveRuns.{extended-same, solves-of}
 use Rattle.gms_exec.proofs.solving.solve_program.Goals as goal
 
 pub returns-in_err-answer-clause-answers : goal.returns-in_err-answer-clause-answers
-returns-in_err-answer-clause-answers g c = grown-same c.args.answers.now.items c.args.answers.now.items refl
+returns-in_err-answer-clause-answers g c = extended-same c.args.answers.now.items c.args.answers.now.items refl
 
 pub returns-in_err-answer-clause-events : goal.returns-in_err-answer-clause-events
-returns-in_err-answer-clause-events g c = grown-same c.args.events.now.items c.args.events.now.items refl
+returns-in_err-answer-clause-events g c = extended-same c.args.events.now.items c.args.events.now.items refl
 
 pub returns-in_err-put_answer-clause-answers : goal.returns-in_err-put_answer-clause-answers
-returns-in_err-put_answer-clause-answers g c = grown-same c.args.answers.now.items c.args.answers.now.items refl
+returns-in_err-put_answer-clause-answers g c = extended-same c.args.answers.now.items c.args.answers.now.items refl
 
 pub returns-in_err-put_answer-clause-events : goal.returns-in_err-put_answer-clause-events
-returns-in_err-put_answer-clause-events g c = grown-same c.args.events.now.items c.args.events.now.items refl
+returns-in_err-put_answer-clause-events g c = extended-same c.args.events.now.items c.args.events.now.items refl
 
 pub returns-clause-solves : goal.returns-clause-solves
 returns-clause-solves g c =

@@ -8,7 +8,7 @@ use Rattle.gms_eval.proofs.Shapes.{tree-sets}
 use Rattle.gms_eval.specs.Bindings.{controlled}
 use Rattle.gms_eval.specs.Value.{domain, sets_of}
 use Rattle.gms_exec.specs.Run.{with_evaluated, for_each}
-use Rattle.gms_exec.specs.Stepping.{RunView, come_to}
+use Rattle.gms_exec.specs.Stepping.{RunView, course_from_view}
 use Rattle.gms_exec.proofs.ActSteps.{on-Loop}
 use Rattle.gms_exec.proofs.Arms.{runs-value_stops, runs-memory}
 use Rattle.gms_exec.proofs.Joining.{reaches-memory}
@@ -22,7 +22,7 @@ once-requires g t c = record { no_loop = c.in_default.not-Loop; few = c.requires
 pub returns-in_default : goal.returns-in_default
 returns-in_default g t c =
     let call = c.once.ensures in
-    record { runs = call.runs; solvers = call.solvers; standing = call.standing; settings = call.settings; plain = call.plain }
+    record { runs = call.runs; solvers = call.solvers; valid = call.valid; settings = call.settings; plain = call.plain }
 
 pub returns-in_err-elements : goal.returns-in_err-elements
 returns-in_err-elements g t c =
@@ -33,9 +33,9 @@ returns-in_err-elements g t c =
     let left = leaves-nothing frac_value (2 ^ 127 - 1) (λ b. (dyn.members g.dyn-1 (b.vtable, b.value)).name b.value) (λ b. (dyn.members g.dyn-1 (b.vtable, b.value)).rule b.value) (λ b. (dyn.members g.dyn-1 (b.vtable, b.value)).paths b.value) c.args.program.now c.from_residual.result c.args.solvers.now.items old (record { settings = record { decimals = c.requires.decimals; chosen = c.requires.chosen }; plain = c.requires.plain }) in
     record {
       runs = rw (p.1, p.2) (runs-value_stops frac_value c.in_err-elements.field-0.0 (step_of frac_value (2 ^ 127 - 1) c.args.program.now names c.args.s.now c.args.b.now) old (domain frac_value (2 ^ 127 - 1) c.args.store.now c.args.b.now c.args.s.now.at (control_tree control)) (λ course elements. for_each (sets_of (control_tree control)) (map (step_of frac_value (2 ^ 127 - 1) c.args.program.now names) c.in-Loop.body.items) elements c.args.b.now course) c.in_err-elements.ensures
-          (λ rest. on-Loop frac_value (2 ^ 127 - 1) (record { program = c.args.program.now; solvers = names }) c.args.s.now c.args.b.now (come_to frac_value old rest) control c.in-Loop.body c.in-Loop.is));
+          (λ rest. on-Loop frac_value (2 ^ 127 - 1) (record { program = c.args.program.now; solvers = names }) c.args.s.now c.args.b.now (course_from_view frac_value old rest) control c.in-Loop.body c.in-Loop.is));
       solvers = left.solvers;
-      standing = left.standing;
+      valid = left.valid;
       settings = left.settings;
       plain = left.plain;
     }
@@ -43,7 +43,7 @@ returns-in_err-elements g t c =
 pub returns-in_err-inner : goal.returns-in_err-inner
 returns-in_err-inner g t c =
     let p = err_from_is_err_and c.from_residual-in_err-inner.result c.from_residual-in_err-inner.ensures.1 in
-    rw (p.1, p.2) (record { runs = runs-memory frac_value _ _ _ _ [] refl refl (sym (append-nil c.args.answers.now.items)); solvers = tt; standing = tt; settings = tt; plain = tt })
+    rw (p.1, p.2) (record { runs = runs-memory frac_value _ _ _ _ [] refl refl (sym (append-nil c.args.answers.now.items)); solvers = tt; valid = tt; settings = tt; plain = tt })
 
 pub loop-element-init : goal.loop-element-init
 loop-element-init g t c =
@@ -52,14 +52,14 @@ loop-element-init g t c =
     let sets = sets_of (control_tree control) in
     let names = map (λ b. (dyn.members g.dyn-1 (b.vtable, b.value)).name b.value) c.args.solvers.now.items in
     between-start frac_value (2 ^ 127 - 1) _ _ _ c.args.program.now _ sets c.args.b.now c.in-Loop.body.items c.deref-element-items.result.now c.args.solvers.now.items old c.in_ok-inner.inner c.in_ok-inner.ensures
-    (λ rest. on-Loop frac_value (2 ^ 127 - 1) (record { program = c.args.program.now; solvers = names }) c.args.s.now c.args.b.now (come_to frac_value old rest) control c.in-Loop.body c.in-Loop.is
-    ∙ ap (λ answer. with_evaluated answer (λ elements. for_each sets (map (step_of frac_value (2 ^ 127 - 1) c.args.program.now names) c.in-Loop.body.items) elements c.args.b.now (come_to frac_value old rest)) (come_to frac_value old rest)) (c.in_ok-elements.ensures ∙ ap Ok (sym c.deref-element-items.ensures.value)))
+    (λ rest. on-Loop frac_value (2 ^ 127 - 1) (record { program = c.args.program.now; solvers = names }) c.args.s.now c.args.b.now (course_from_view frac_value old rest) control c.in-Loop.body c.in-Loop.is
+    ∙ ap (λ answer. with_evaluated answer (λ elements. for_each sets (map (step_of frac_value (2 ^ 127 - 1) c.args.program.now names) c.in-Loop.body.items) elements c.args.b.now (course_from_view frac_value old rest)) (course_from_view frac_value old rest)) (c.in_ok-elements.ensures ∙ ap Ok (sym c.deref-element-items.ensures.value)))
     (record { settings = record { decimals = c.requires.decimals; chosen = c.requires.chosen }; plain = c.requires.plain })
 
 pub returns-in_err-control : goal.returns-in_err-control
 returns-in_err-control g t c =
     let p = err_from_is_err_and c.from_residual-in_err-control.result c.from_residual-in_err-control.ensures.1 in
-    rw (p.1, p.2) (record { runs = reaches-memory frac_value _ _ _ _ _ refl c.loop-element.invariant.reached; solvers = tt; standing = tt; settings = tt; plain = tt })
+    rw (p.1, p.2) (record { runs = reaches-memory frac_value _ _ _ _ _ refl c.loop-element.invariant.reached; solvers = tt; valid = tt; settings = tt; plain = tt })
 
 pub loop-statement-init : goal.loop-statement-init
 loop-statement-init g t c =
@@ -76,11 +76,11 @@ returns-in_err-step g t c =
     let p = err_from_is_err_and c.from_residual-in_err-step.result c.from_residual-in_err-step.ensures.1 in
     let in_it = rw c.deref-statement-items.ensures.value at c.loop-statement-test.true in
     let is = rw c.deref-statement-items.ensures.value at c.statement-item.is in
-    let left = within-leaves _ _ _ _ _ c.args.program.now _ _ _ _ _ _ _ (Unit {0}) c.in_err-step.field-0.0 _ _ _ _ _ _ _ _ _ within call.runs call.solvers call.standing call.settings call.plain in
+    let left = within-leaves _ _ _ _ _ c.args.program.now _ _ _ _ _ _ _ (Unit {0}) c.in_err-step.field-0.0 _ _ _ _ _ _ _ _ _ within call.runs call.solvers call.valid call.settings call.plain in
     rw (p.1, p.2) (record {
       runs = within-failed _ _ _ _ _ c.args.program.now _ _ _ _ _ _ _ c.in_err-step.field-0.0 _ _ _ _ _ _ _ _ _ within in_it is refl call.runs;
       solvers = left.solvers;
-      standing = left.standing;
+      valid = left.valid;
       settings = left.settings;
       plain = left.plain;
     })
@@ -90,7 +90,7 @@ loop-statement-preserved g t c =
     let call = c.in_ok-step.ensures in
     let in_it = rw c.deref-statement-items.ensures.value at c.loop-statement-test.true in
     let is = rw c.deref-statement-items.ensures.value at c.statement-item.is in
-    within-more _ _ _ _ _ c.args.program.now _ _ _ _ _ _ _ tt _ _ _ _ _ _ _ _ _ _ c.loop-statement.invariant in_it is refl call.runs (record { answered = call.solvers; standing = call.standing; kept = record { settings = call.settings; plain = call.plain } })
+    within-more _ _ _ _ _ c.args.program.now _ _ _ _ _ _ _ tt _ _ _ _ _ _ _ _ _ _ c.loop-statement.invariant in_it is refl call.runs (record { answered = call.solvers; valid = call.valid; kept = record { settings = call.settings; plain = call.plain } })
 
 pub loop-element-preserved : goal.loop-element-preserved
 loop-element-preserved g t c =
@@ -99,4 +99,4 @@ loop-element-preserved g t c =
 pub returns : goal.returns
 returns g t c =
     let left = c.loop-element.invariant.left in
-    record { runs = between-end _ _ _ _ _ c.args.program.now _ _ _ _ _ _ _ tt _ _ _ _ c.loop-element.invariant c.loop-element-test.false; solvers = left.answered; standing = left.standing; settings = left.kept.settings; plain = left.kept.plain }
+    record { runs = between-end _ _ _ _ _ c.args.program.now _ _ _ _ _ _ _ tt _ _ _ _ c.loop-element.invariant c.loop-element-test.false; solvers = left.answered; valid = left.valid; settings = left.kept.settings; plain = left.kept.plain }

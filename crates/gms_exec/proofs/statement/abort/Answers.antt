@@ -4,12 +4,12 @@ use Rattle.gms_eval.specs.declared.stop.StopKind.TheVariants.{Aborted}
 use Rattle.gms_event.specs.Events.{aborts}
 use Rattle.gms_event.specs.declared.event.Event.TheVariants as event
 use Rattle.gms_exec.specs.Run.{with_evaluated, with_event, stopped_by, abort}
-use Rattle.gms_exec.specs.Stepping.{come_to}
+use Rattle.gms_exec.specs.Stepping.{course_from_view}
 use Rattle.std.proofs.lemmas.Result.{err_from_is_err_and}
 use Rattle.gms_exec.specs.Showing.{all_shown}
 use Rattle.gms_exec.proofs.Arms.{runs-event_stopped, runs-value_stops, runs-memory, no-solve_nothing}
 use Rattle.gms_exec.proofs.Decimals.{few-decimals}
-use Rattle.gms_exec.proofs.ValidSequences.{standing-nothing, standing-abort}
+use Rattle.gms_exec.proofs.ValidSequences.{valid-nothing, valid-abort}
 use Rattle.gms_exec.proofs.statement.abort.Goals as goal
 
 pub returns : goal.returns
@@ -20,10 +20,10 @@ returns g c =
     let fault = faulted Aborted c.args.at c.args.b.now nothing nothing in
     record {
       runs = λ answers. runs-event_stopped v c.stopped.result fault (abort v g.F.ExactField.limit c.args.labels c.args.items.now c.args.at c.args.b.now) c.args.store.now old c.push.new.self.items shown answers c.in_ok-push.ensures.items c.stopped.ensures (λ left.
-          let course = come_to v (record { state = c.args.store.now; events = old; answers = answers }) left in
+          let course = course_from_view v (record { state = c.args.store.now; events = old; answers = answers }) left in
           ap (λ answer. with_evaluated answer (λ shown. stopped_by (with_event course (aborts c.args.at.line shown)) fault) course) c.in_ok-items.ensures);
       quiet = record { shown = shown ∷ []; events = c.in_ok-push.ensures.items; quiet = tt };
-      standing = λ rules answers. standing-abort v g.F.ExactField.limit rules answers old c.push.new.self.items c.args.at.line c.in_ok-items.items c.in_ok-push.ensures.items (few-decimals c.args.labels c.args.store.now c.args.b.now v c.args.items.now c.in_ok-items.items c.in_ok-items.ensures c.requires.decimals);
+      valid = λ rules answers. valid-abort v g.F.ExactField.limit rules answers old c.push.new.self.items c.args.at.line c.in_ok-items.items c.in_ok-push.ensures.items (few-decimals c.args.labels c.args.store.now c.args.b.now v c.args.items.now c.in_ok-items.items c.in_ok-items.ensures c.requires.decimals);
     }
 
 pub returns-in_err-items : goal.returns-in_err-items
@@ -34,7 +34,7 @@ returns-in_err-items g c =
     rw (p.1, p.2) (record {
       runs = λ answers. runs-value_stops v c.in_err-items.field-0.0 (abort v g.F.ExactField.limit c.args.labels c.args.items.now c.args.at c.args.b.now) (record { state = c.args.store.now; events = old; answers = answers }) (all_shown c.args.labels c.args.store.now c.args.b.now c.args.items.now) (λ course shown. stopped_by (with_event course (aborts c.args.at.line shown)) (faulted Aborted c.args.at c.args.b.now nothing nothing)) c.in_err-items.ensures (λ left. refl);
       quiet = no-solve_nothing old old refl;
-      standing = λ rules answers. standing-nothing v g.F.ExactField.limit rules answers old old refl;
+      valid = λ rules answers. valid-nothing v g.F.ExactField.limit rules answers old old refl;
     })
 
 pub returns-in_err-push : goal.returns-in_err-push
@@ -45,5 +45,5 @@ returns-in_err-push g c =
     rw p.1 (record {
       runs = λ answers. runs-memory v p.0 (abort v g.F.ExactField.limit c.args.labels c.args.items.now c.args.at c.args.b.now) (record { state = c.args.store.now; events = old; answers = answers }) (record { state = c.args.store.now; events = c.push.new.self.items; answers = answers }) [] p.2 c.in_err-push.ensures.items (sym (append-nil answers));
       quiet = no-solve_nothing old c.push.new.self.items c.in_err-push.ensures.items;
-      standing = λ rules answers. standing-nothing v g.F.ExactField.limit rules answers old c.push.new.self.items c.in_err-push.ensures.items;
+      valid = λ rules answers. valid-nothing v g.F.ExactField.limit rules answers old c.push.new.self.items c.in_err-push.ensures.items;
     })

@@ -1,7 +1,7 @@
 use Rattle.std.proofs.Common.{◌^◌, ◌-◌, map}
 use Rattle.gq_frac.specs.Frac.{frac_value}
 use Rattle.gq_frac.specs.declared.frac.Frac.{Frac}
-use Rattle.gms_exec.specs.ValidEvents.{ShowsStanding}
+use Rattle.gms_exec.specs.ValidEvents.{ShowsValidEvents}
 use Rattle.gms_exec.specs.Stepping.{RunView, Answered}
 use Rattle.gms_exec.proofs.Acts.{ran-Solve, lent-runs, kept-settings, kept-plain}
 use Rattle.gms_exec.proofs.Arms.{unless-any, answered-quiet}
@@ -23,11 +23,11 @@ returns-in_default-clause-solvers g c =
     let new : RunView Frac = record { state = c.without_solving.new.store; events = c.without_solving.new.events.items; answers = answers } in
     unless-any {F = Frac} {A = Unit {0}} c.without_solving.result (Answered frac_value (2 ^ 127 - 1) (λ b. (goal.LpSolver-dyn g (b.vtable, b.value)).name b.value) (λ b. (goal.LpSolver-dyn g (b.vtable, b.value)).rule b.value) (λ b. (goal.LpSolver-dyn g (b.vtable, b.value)).paths b.value) xs xs old new) (answered-quiet frac_value (2 ^ 127 - 1) (λ b. (goal.LpSolver-dyn g (b.vtable, b.value)).name b.value) (λ b. (goal.LpSolver-dyn g (b.vtable, b.value)).rule b.value) (λ b. (goal.LpSolver-dyn g (b.vtable, b.value)).paths b.value) xs old new c.without_solving.ensures.quiet)
 
-pub returns-in_default-clause-standing : goal.returns-in_default-clause-standing
-returns-in_default-clause-standing g c =
+pub returns-in_default-clause-valid : goal.returns-in_default-clause-valid
+returns-in_default-clause-valid g c =
     let rules = map (λ b. (goal.LpSolver-dyn g (b.vtable, b.value)).rule b.value) c.args.solvers.now.items in
     let answers = c.args.answers.now.items in
-    unless-any {F = Frac} {A = Unit {0}} c.without_solving.result (ShowsStanding frac_value (2 ^ 127 - 1) rules answers c.args.events.now.items c.without_solving.new.events.items) (c.without_solving.ensures.standing rules answers)
+    unless-any {F = Frac} {A = Unit {0}} c.without_solving.result (ShowsValidEvents frac_value (2 ^ 127 - 1) rules answers c.args.events.now.items c.without_solving.new.events.items) (c.without_solving.ensures.valid rules answers)
 
 pub returns-in_default-clause-settings : goal.returns-in_default-clause-settings
 returns-in_default-clause-settings g c =
@@ -69,5 +69,5 @@ returns-clause-plain g c =
 pub returns-clause-solvers : goal.returns-clause-solvers
 returns-clause-solvers g c = c.solve_model.ensures.solvers
 
-pub returns-clause-standing : goal.returns-clause-standing
-returns-clause-standing g c = c.solve_model.ensures.standing
+pub returns-clause-valid : goal.returns-clause-valid
+returns-clause-valid g c = c.solve_model.ensures.valid

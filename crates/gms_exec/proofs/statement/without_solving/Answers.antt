@@ -1,7 +1,7 @@
 use Rattle.std.proofs.Common.{map, refl}
 use Rattle.gms_exec.proofs.Acts.{ran-Assign, ran-Display, ran-Options, ran-Abort, ran-nothing}
 use Rattle.gms_exec.proofs.Arms.{no-solve_nothing}
-use Rattle.gms_exec.proofs.ValidSequences.{standing-nothing}
+use Rattle.gms_exec.proofs.ValidSequences.{valid-nothing}
 use Rattle.gms_exec.proofs.statement.without_solving.Goals as goal
 
 pub returns-in-Assign-clause-runs : goal.returns-in-Assign-clause-runs
@@ -11,9 +11,9 @@ returns-in-Assign-clause-runs g c answers =
 pub returns-in-Assign-clause-quiet : goal.returns-in-Assign-clause-quiet
 returns-in-Assign-clause-quiet g c = no-solve_nothing c.args.events.now.items c.args.events.now.items refl
 
-pub returns-in-Assign-clause-standing : goal.returns-in-Assign-clause-standing
-returns-in-Assign-clause-standing g c rules answers =
-    standing-nothing g.F.ExactField.value g.F.ExactField.limit rules answers c.args.events.now.items c.args.events.now.items refl
+pub returns-in-Assign-clause-valid : goal.returns-in-Assign-clause-valid
+returns-in-Assign-clause-valid g c rules answers =
+    valid-nothing g.F.ExactField.value g.F.ExactField.limit rules answers c.args.events.now.items c.args.events.now.items refl
 
 pub returns-in-Display-clause-runs : goal.returns-in-Display-clause-runs
 returns-in-Display-clause-runs g c answers =
@@ -27,9 +27,9 @@ returns-in-Options-clause-runs g c answers =
 pub returns-in-Options-clause-quiet : goal.returns-in-Options-clause-quiet
 returns-in-Options-clause-quiet g c = no-solve_nothing c.args.events.now.items c.args.events.now.items refl
 
-pub returns-in-Options-clause-standing : goal.returns-in-Options-clause-standing
-returns-in-Options-clause-standing g c rules answers =
-    standing-nothing g.F.ExactField.value g.F.ExactField.limit rules answers c.args.events.now.items c.args.events.now.items refl
+pub returns-in-Options-clause-valid : goal.returns-in-Options-clause-valid
+returns-in-Options-clause-valid g c rules answers =
+    valid-nothing g.F.ExactField.value g.F.ExactField.limit rules answers c.args.events.now.items c.args.events.now.items refl
 
 pub returns-in-Abort-clause-runs : goal.returns-in-Abort-clause-runs
 returns-in-Abort-clause-runs g c answers =
@@ -42,5 +42,5 @@ returns-in_default g c =
     record {
       runs = λ answers. ran-nothing g.F.ExactField.value g.F.ExactField.limit (record { program = c.args.program.now; solvers = map (λ b. (goal.LpSolver-dyn g (b.vtable, b.value)).name b.value) c.args.solvers.now }) c.args.s.now c.args.b.now c.requires.no_loop c.requires.no_solve c.in_default.not-Assign c.in_default.not-Display c.in_default.not-Options c.in_default.not-Abort tt (record { state = c.args.store.now; events = events; answers = answers });
       quiet = no-solve_nothing events events refl;
-      standing = λ rules answers. standing-nothing g.F.ExactField.value g.F.ExactField.limit rules answers events events refl;
+      valid = λ rules answers. valid-nothing g.F.ExactField.value g.F.ExactField.limit rules answers events events refl;
     }

@@ -12,6 +12,6 @@ returns-clause-read g c = said_of g.F.ExactField.limit (λ source. IsControl g.F
     (λ source names labels tree part. control_in_numbers g.F.ExactField.value (control_tree part) ≡ trees.control source names labels tree) (λ source names labels tree part m. m)
     c.reader.result c.args.from c.taken-tables.result c.control-read.new.tables c.control-read.result c.reader.ensures.source c.reader.ensures.tokens c.reader.ensures.unclosed c.taken-tables.ensures.names c.taken-tables.ensures.labels c.give_back.ensures.names c.give_back.ensures.labels c.control-read.ensures
 
-pub returns-clause-goes_on : goal.returns-clause-goes_on
-returns-clause-goes_on g c =
+pub returns-clause-extended : goal.returns-clause-extended
+returns-clause-extended g c =
     went_on _ _ _ c.reader.result c.args.from c.taken-tables.result c.control-read.new.tables c.control-read.result c.taken-tables.ensures.names c.taken-tables.ensures.labels c.give_back.ensures.names c.give_back.ensures.labels c.control-read.ensures

@@ -12,6 +12,6 @@ returns-clause-read g c = said_of g.F.ExactField.limit (λ source. IsMeant g.F.E
     (λ source names labels tree part. in_numbers g.F.ExactField.value (tree_of part) ≡ trees.primary source names labels tree) (λ source names labels tree part m. m.is)
     c.reader.result c.args.from c.taken-tables.result c.primary-read.new.tables c.primary-read.result c.reader.ensures.source c.reader.ensures.tokens c.reader.ensures.unclosed c.taken-tables.ensures.names c.taken-tables.ensures.labels c.give_back.ensures.names c.give_back.ensures.labels c.primary-read.ensures
 
-pub returns-clause-goes_on : goal.returns-clause-goes_on
-returns-clause-goes_on g c =
+pub returns-clause-extended : goal.returns-clause-extended
+returns-clause-extended g c =
     went_on _ _ _ c.reader.result c.args.from c.taken-tables.result c.primary-read.new.tables c.primary-read.result c.taken-tables.ensures.names c.taken-tables.ensures.labels c.give_back.ensures.names c.give_back.ensures.labels c.primary-read.ensures

@@ -13,6 +13,6 @@ returns-clause-read g c = said_of g.F.ExactField.limit (λ source. IsTarget g.F.
     (λ source names labels tree part. reference part.at part.name part.suffix (indices_in_numbers g.F.ExactField.value (indices_of (map index_tree part.indices))) ≡ trees.target source names labels tree) (λ source names labels tree part m. m)
     c.reader.result c.args.from c.taken-tables.result c.target-read.new.tables c.target-read.result c.reader.ensures.source c.reader.ensures.tokens c.reader.ensures.unclosed c.taken-tables.ensures.names c.taken-tables.ensures.labels c.give_back.ensures.names c.give_back.ensures.labels c.target-read.ensures
 
-pub returns-clause-goes_on : goal.returns-clause-goes_on
-returns-clause-goes_on g c =
+pub returns-clause-extended : goal.returns-clause-extended
+returns-clause-extended g c =
     went_on _ _ _ c.reader.result c.args.from c.taken-tables.result c.target-read.new.tables c.target-read.result c.taken-tables.ensures.names c.taken-tables.ensures.labels c.give_back.ensures.names c.give_back.ensures.labels c.target-read.ensures

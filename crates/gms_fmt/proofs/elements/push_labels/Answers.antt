@@ -12,7 +12,7 @@ loop-label-preserved c =
     let text : c.text_of.result.now ≡ label_in_table c.args.labels.now (get_or c.args.t.now c.loop-label.label-index 0) = c.text_of.ensures ∙ ap (λ t. label_in_table c.args.labels.now (get_or t c.loop-label.label-index 0)) c.as_slice-label-items.ensures.value in
     elim c.if-not-first.branch [
       | then-not-first+in_ok-push_str w ↦
-          let behind : false ≡ nat_eq c.loop-label.label-index 0 = sym w.if-not-first.true ∙ c.loop-label.invariant.1 in (
+          let following : false ≡ nat_eq c.loop-label.label-index 0 = sym w.if-not-first.true ∙ c.loop-label.invariant.1 in (
             c.in_ok-push_str-2.ensures.bytes
                 ∙ rw (w.into-is, w.in_ok-push_str.ensures.bytes, c.loop-label.invariant.0, text, joined-further c.args.between.now (label_in_table c.args.labels.now) c.args.t.now c.loop-label.label-index (grind (arith, nat_tests)) within) (simp append_assoc),
             grind (arith, nat_tests),

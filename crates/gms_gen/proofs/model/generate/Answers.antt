@@ -1,7 +1,7 @@
 use Rattle.std.proofs.Common.{◌≡◌, ℕ, ◌+◌, ◌*◌, List, [], ◌∷◌, ◌++◌, refl, sym, ap, ◌∙◌, arith}
 use Rattle.std.specs.Prelude.{codes, string_bytes, decimal}
 use Rattle.gms_gen.specs.Generator.{text_line, set_lines, demand_lines, supply_lines, transport_cost_lines, model_lines}
-use Rattle.gms_gen.proofs.Pieces.{sets-written, behind, behind-two}
+use Rattle.gms_gen.proofs.Pieces.{sets-written, following, following-two}
 use Rattle.gms_gen.proofs.model.generate.Goals as goal
 
 pub push_supplies-requires : goal.push_supplies-requires
@@ -17,11 +17,11 @@ returns c =
     let behind_supplies = c.in_ok-push_supplies.ensures.draws seed markets behind_demands in
     let sets : string_bytes c.in_ok-text.text ≡ set_lines seed plants markets =
     c.in_ok-text.ensures.ok ∙ ap (λ t. codes "set p /p1*p" ++ t) (sets-written (decimal plants) (decimal markets) (codes "set m /m1*m")) in
-    let one = behind _ _ (text_line (codes "parameter b(m) /")) _ c.in_ok-push_str.ensures.bytes sets in
-    let two = behind _ _ (demand_lines seed plants markets) _ (c.in_ok-demand.ensures.text seed plants c.new-draws.ensures) one in
-    let three = behind-two _ _ (text_line (codes "/;")) (text_line (codes "parameter a(p) /")) _ c.in_ok-push_str-2.ensures.bytes two in
-    let four = behind _ _ (supply_lines seed plants markets) _ (c.in_ok-push_supplies.ensures.text seed markets behind_demands total) three in
-    let five = behind-two _ _ (text_line (codes "/;")) (text_line (codes "parameter c(p,m) /")) _ c.in_ok-push_str-3.ensures.bytes four in
-    let six = behind _ _ (transport_cost_lines seed plants markets) _ (c.in_ok-push_costs.ensures seed behind_supplies) five in
-    let seven = behind _ _ (text_line (codes "/;")) _ c.in_ok-push_str-4.ensures.bytes six in
-    behind _ _ (model_lines seed plants markets) _ c.in_ok-push_str-5.ensures.bytes seven
+    let one = following _ _ (text_line (codes "parameter b(m) /")) _ c.in_ok-push_str.ensures.bytes sets in
+    let two = following _ _ (demand_lines seed plants markets) _ (c.in_ok-demand.ensures.text seed plants c.new-draws.ensures) one in
+    let three = following-two _ _ (text_line (codes "/;")) (text_line (codes "parameter a(p) /")) _ c.in_ok-push_str-2.ensures.bytes two in
+    let four = following _ _ (supply_lines seed plants markets) _ (c.in_ok-push_supplies.ensures.text seed markets behind_demands total) three in
+    let five = following-two _ _ (text_line (codes "/;")) (text_line (codes "parameter c(p,m) /")) _ c.in_ok-push_str-3.ensures.bytes four in
+    let six = following _ _ (transport_cost_lines seed plants markets) _ (c.in_ok-push_costs.ensures seed behind_supplies) five in
+    let seven = following _ _ (text_line (codes "/;")) _ c.in_ok-push_str-4.ensures.bytes six in
+    following _ _ (model_lines seed plants markets) _ c.in_ok-push_str-5.ensures.bytes seven

@@ -3,4 +3,4 @@ use Rattle.gms_joint_source.proofs.ProgramPrefixes.{is_front}
 use Rattle.gms_joint_source.proofs.program_laws.joint_program_laws.Goals as goal
 
 pub returns : goal.returns
-returns c = record { front = is_front }
+returns c = record { prefix = is_front }

@@ -9,7 +9,7 @@ use Rattle.gms_joint_source.proofs.source_laws.joint_token_laws.Goals as goal
 pub returns : goal.returns
 returns c = record {
   tokens = have_front;
-  seen = λ saved file tokens joint is front. own_seen saved (10 ∷ 59 ∷ 10 ∷ file) front.own (end_token saved ∷ []) (subst (All (IsPlaced saved)) front.tokens_are (tokens_placed saved tokens is));
-  no_ends = λ saved file tokens joint tree is are first front. no_ends saved file tokens joint is are tree first front;
+  seen = λ saved file tokens joint is prefix. own_seen saved (10 ∷ 59 ∷ 10 ∷ file) prefix.own (end_token saved ∷ []) (subst (All (IsPlaced saved)) prefix.tokens_are (tokens_placed saved tokens is));
+  no_ends = λ saved file tokens joint tree is are first prefix. no_ends saved file tokens joint is are tree first prefix;
   derivation = λ saved file tokens joint first whole is are one other. begins_with saved file tokens joint is are first one whole other;
 }

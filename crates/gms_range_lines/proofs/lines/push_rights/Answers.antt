@@ -5,7 +5,7 @@ use Rattle.lp_core.specs.Numbers.{row_numbers}
 use Rattle.lp_range.specs.Ranges.{span_value}
 use Rattle.lp_range.specs.Spans.{Span}
 use Rattle.gms_range_lines.specs.RangeTexts.{right_line, span_at}
-use Rattle.gms_range_lines.proofs.Appended.{goes_on, gone}
+use Rattle.gms_range_lines.proofs.Appended.{continues, gone}
 use Rattle.gms_range_lines.proofs.lines.push_rights.Goals as goal
 
 pub loop-place-init : goal.loop-place-init
@@ -13,7 +13,7 @@ loop-place-init g c = refl
 
 pub loop-place-preserved : goal.loop-place-preserved
 loop-place-preserved g c =
-    goes_on (λ (p : ℕ × Row Number). right_line c.args.names.now c.args.labels.now p.1 (span_at (map (span_value g.F.ExactField.value) c.args.ranges.now) p.0)) (row_numbers g.F.ExactField.value) c.args.rows.now (string_bytes c.args.text.now) c.loop-place.place c.index-rows-place.result (string_bytes c.loop-place.text) (string_bytes c.push_right.new.text) (omega arith) c.index-rows-place.is c.loop-place.invariant
+    continues (λ (p : ℕ × Row Number). right_line c.args.names.now c.args.labels.now p.1 (span_at (map (span_value g.F.ExactField.value) c.args.ranges.now) p.0)) (row_numbers g.F.ExactField.value) c.args.rows.now (string_bytes c.args.text.now) c.loop-place.place c.index-rows-place.result (string_bytes c.loop-place.text) (string_bytes c.push_right.new.text) (omega arith) c.index-rows-place.is c.loop-place.invariant
     (c.in_ok-push_right.ensures ∙ ap (λ (span : Option Span). string_bytes c.loop-place.text ++ right_line c.args.names.now c.args.labels.now (row_numbers g.F.ExactField.value c.index-rows-place.result) span) c.range_at.ensures)
 
 pub returns : goal.returns

@@ -2,7 +2,7 @@ use Rattle.std.proofs.Common.{◌≡◌, option_map, drop, take, length}
 use Rattle.gms_ast.specs.TreeView.{tree_of}
 use Rattle.gms_rows.specs.Forms.{form_in}
 use Rattle.gms_rows.specs.InnerContracts.{parts_in, added_at, chain_form}
-use Rattle.gms_rows.proofs.Parts.{behind}
+use Rattle.gms_rows.proofs.Parts.{following}
 use Rattle.gms_rows.proofs.linear.+affine.Given as goal
 
 abbrev pub invariant-add_elements-loop-element : goal.invariant-add_elements-loop-element
@@ -12,4 +12,4 @@ invariant-add_elements-loop-element g l =
 
 abbrev pub invariant-chain-loop-at : goal.invariant-chain-loop-at
 invariant-chain-loop-at g l =
-    chain_form g.F.ExactField.value g.F.ExactField.limit l.store l.b l.kind (parts_in l.parts) ≡ behind g.F.ExactField.value g.F.ExactField.limit l.store l.b l.kind (drop l.at-index l.rest) (option_map (form_in g.F.ExactField.value) l.so_far)
+    chain_form g.F.ExactField.value g.F.ExactField.limit l.store l.b l.kind (parts_in l.parts) ≡ following g.F.ExactField.value g.F.ExactField.limit l.store l.b l.kind (drop l.at-index l.rest) (option_map (form_in g.F.ExactField.value) l.so_far)

@@ -10,10 +10,10 @@ use Rattle.gms_run.proofs.top_call.run_restart.Goals as goal
 
 pub returns-clause-ran : goal.returns-clause-ran
 returns-clause-ran g c =
-    of_restart c.run_behind.result (solving (λ b. (goal.LpSolver-dyn g (b.vtable, b.value)).name b.value) (λ b. (goal.LpSolver-dyn g (b.vtable, b.value)).rule b.value) (λ b. (goal.LpSolver-dyn g (b.vtable, b.value)).paths b.value) c.args.solvers.now.items c.run_behind.new.solvers.items c.run_behind.new.run.answers.items) (g.H.Host.meaning c.args.host.now) (g.H.Host.meaning c.read_file.new.host) (g.H.Host.meaning c.run_behind.new.host) (asked_by c.args.request) c.args.saved.now c.args.file.now c.in-Ok.save c.in-Ok.save.items c.requires.named refl c.in-Ok.ensures.outside c.in-Ok.ensures.counts c.run_behind.ensures.ran
+    of_restart c.run_after_save.result (solving (λ b. (goal.LpSolver-dyn g (b.vtable, b.value)).name b.value) (λ b. (goal.LpSolver-dyn g (b.vtable, b.value)).rule b.value) (λ b. (goal.LpSolver-dyn g (b.vtable, b.value)).paths b.value) c.args.solvers.now.items c.run_after_save.new.solvers.items c.run_after_save.new.run.answers.items) (g.H.Host.meaning c.args.host.now) (g.H.Host.meaning c.read_file.new.host) (g.H.Host.meaning c.run_after_save.new.host) (asked_by c.args.request) c.args.saved.now c.args.file.now c.in-Ok.save c.in-Ok.save.items c.requires.named refl c.in-Ok.ensures.outside c.in-Ok.ensures.counts c.run_after_save.ensures.ran
 
 pub returns-clause-counts : goal.returns-clause-counts
-returns-clause-counts g c = counts_restart c.run_behind.result (g.H.Host.meaning c.args.host.now) (g.H.Host.meaning c.read_file.new.host) (g.H.Host.meaning c.run_behind.new.host) c.args.saved.now c.args.file.now c.in-Ok.save c.in-Ok.ensures.outside c.in-Ok.ensures.counts c.run_behind.ensures.counts
+returns-clause-counts g c = counts_restart c.run_after_save.result (g.H.Host.meaning c.args.host.now) (g.H.Host.meaning c.read_file.new.host) (g.H.Host.meaning c.run_after_save.new.host) c.args.saved.now c.args.file.now c.in-Ok.save c.in-Ok.ensures.outside c.in-Ok.ensures.counts c.run_after_save.ensures.counts
 
 pub returns-in-Err-Fault-clause-ran : goal.returns-in-Err-Fault-clause-ran
 returns-in-Err-Fault-clause-ran g c =

@@ -13,7 +13,7 @@ read-requires-clause-open g c = reads_on (c.args.most + 1) _ _ _ c.loop-buffer.i
 
 pub loop-buffer-preserved : goal.loop-buffer-preserved
 loop-buffer-preserved g c =
-    let few : length c.read.new.into + length c.loop-buffer.source.items ≤ c.args.most + 1 = omega (arith, c.read.auto.into, length-take c.min-room.result c.loop-buffer.buffer) in
+    let few : length c.read.new.into + length c.loop-buffer.source.items ≤ c.args.most + 1 = omega (arith, c.read.auto.into, length-take c.min-within_bound.result c.loop-buffer.buffer) in
     read_more (c.args.most + 1) _ _ _ c.loop-buffer.source.items c.extend_from_slice.new.self.items c.read.new.into _ c.in_ok-count.count c.loop-buffer.invariant c.in_ok-count.ensures.count c.in_ok-count.ensures.outside c.in_ok-count.ensures.counts c.in_ok-extend_from_slice.ensures.items few
 
 pub returns-then-count-eq0-clause-outside : goal.returns-then-count-eq0-clause-outside

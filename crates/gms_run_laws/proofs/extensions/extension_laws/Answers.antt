@@ -12,9 +12,9 @@ pub returns-clause-closed : goal.returns-clause-closed
 returns-clause-closed g c program accepted = loaded-closed g.F.ExactField.value program accepted
 
 pub returns-clause-begins : goal.returns-clause-begins
-returns-clause-begins g c saved joint others accepted goes_on =
-    begins-with g.F.ExactField.value saved joint saved.program.statements.items others accepted goes_on.names goes_on.own goes_on.statements (λ count. refl) goes_on.types
+returns-clause-begins g c saved joint others accepted continues =
+    begins-with g.F.ExactField.value saved joint saved.program.statements.items others accepted continues.names continues.own continues.statements (λ count. refl) continues.types
 
 pub returns-clause-solves : goal.returns-clause-solves
-returns-clause-solves g c saved joint others accepted both goes_on =
-    solves-alike g.F.ExactField.value saved joint others accepted both goes_on.names goes_on.own saved.program.statements.items goes_on.statements (λ m. refl) (λ q. refl) goes_on.solvers
+returns-clause-solves g c saved joint others accepted both continues =
+    solves-alike g.F.ExactField.value saved joint others accepted both continues.names continues.own saved.program.statements.items continues.statements (λ m. refl) (λ q. refl) continues.solvers

@@ -13,9 +13,9 @@ pub returns-in_err-left-clause-entries : goal.returns-in_err-left-clause-entries
 returns-in_err-left-clause-entries g c content tuples rest has readable count is =
     let k = c.loop-entry._entry in
     let there : k < length tuples = let test = c.loop-entry-test.true in omega (arith, count) in
-    let behind = flat_map (entry_line content) (drop (k + 1) tuples) ++ rest in
+    let following = flat_map (entry_line content) (drop (k + 1) tuples) ++ rest in
     let line = next_entry c.args.named.name c.args.store.now content tuples rest c.loop-entry.left.now c.loop-entry.store k there (c.loop-entry.invariant.put content tuples rest has readable count is) in
-    handed_on _ _ _ _ c.from_residual.ensures.1 (c.in_err-left.ensures.entry content (get_or tuples k []) behind has (all_at (IsReadable g.F.ExactField.limit c.args.named.arity content) tuples k [] there readable) line)
+    handed_on _ _ _ _ c.from_residual.ensures.1 (c.in_err-left.ensures.entry content (get_or tuples k []) following has (all_at (IsReadable g.F.ExactField.limit c.args.named.arity content) tuples k [] there readable) line)
 
 pub loop-entry-preserved : goal.loop-entry-preserved
 loop-entry-preserved g c =
@@ -24,10 +24,10 @@ loop-entry-preserved g c =
       declared = c.in_ok-left.ensures.declared ∙ c.loop-entry.invariant.declared;
       put = λ content tuples rest has readable count is.
           let there : k < length tuples = let test = c.loop-entry-test.true in omega (arith, count) in
-          let behind = flat_map (entry_line content) (drop (k + 1) tuples) ++ rest in
+          let following = flat_map (entry_line content) (drop (k + 1) tuples) ++ rest in
           let so_far = c.loop-entry.invariant.put content tuples rest has readable count is in
           let line = next_entry c.args.named.name c.args.store.now content tuples rest c.loop-entry.left.now c.loop-entry.store k there so_far in
-          let found = c.in_ok-left.ensures.entry content (get_or tuples k []) behind has (all_at (IsReadable g.F.ExactField.limit c.args.named.arity content) tuples k [] there readable) line in
+          let found = c.in_ok-left.ensures.entry content (get_or tuples k []) following has (all_at (IsReadable g.F.ExactField.limit c.args.named.arity content) tuples k [] there readable) line in
           entry_more c.args.named.name c.args.store.now content tuples rest c.loop-entry.left.now c.in_ok-left.left.now c.loop-entry.store c.read_entry.new.store k there so_far found.0 found.1;
     }
 

@@ -14,9 +14,9 @@ pub returns-then-is_alias-clause-part : goal.returns-then-is_alias-clause-part
 returns-then-is_alias-clause-part g c content rest within readable is =
     let declared = symbol_at c.args.store.now c.args.number in
     let alias = alias_too g.F.ExactField.limit declared content _ readable (sym c.is_alias.ensures ∙ c.if-is_alias.true) in
-    let behind = c.in_ok-behind.ensures (10 ∷ rest) (is ∙ alias_front c.args.name.now content rest alias) in
+    let following = c.in_ok-following.ensures (10 ∷ rest) (is ∙ alias_front c.args.name.now content rest alias) in
     let same = kept c.args.store.now c.args.number content within (readable.declared ∙ emptied_alias content alias) in
-    found_more c.strip.result _ _ (λ r left. (left, same)) (c.strip.ensures rest behind)
+    found_more c.strip.result _ _ (λ r left. (left, same)) (c.strip.ensures rest following)
 
 -- ---- names of which nothing is given
 

@@ -16,9 +16,9 @@ returns-in_err-left-clause-parts g c state rest count readable is =
     let within : k < length old.symbols = let test = c.loop-number-test.true in let size = c.len-number-end.ensures.len in omega (arith, count, size) in
     let same = readable-length g.F.ExactField.limit old.symbols state.symbols readable in
     let so_far = c.loop-number.invariant.parts state rest count readable is in
-    let behind = parts_from state (k + 1) (drop (k + 1) names) ++ rest in
+    let following = parts_from state (k + 1) (drop (k + 1) names) ++ rest in
     let line = next_part old state names c.text.result.now rest c.loop-number.left.now c.loop-number.store k c.text.ensures.value so_far in
-    handed_on _ _ _ _ c.from_residual.ensures.1 (c.in_err-left.ensures.part (symbol_at state k).content behind (within_now old state names rest c.loop-number.left.now c.loop-number.store k same within so_far) (readable_now g.F.ExactField.limit old state names rest c.loop-number.left.now c.loop-number.store k readable within so_far) line)
+    handed_on _ _ _ _ c.from_residual.ensures.1 (c.in_err-left.ensures.part (symbol_at state k).content following (within_now old state names rest c.loop-number.left.now c.loop-number.store k same within so_far) (readable_now g.F.ExactField.limit old state names rest c.loop-number.left.now c.loop-number.store k readable within so_far) line)
 
 pub loop-number-preserved : goal.loop-number-preserved
 loop-number-preserved g c = record {
@@ -30,9 +30,9 @@ loop-number-preserved g c = record {
       let within : k < length old.symbols = let test = c.loop-number-test.true in let size = c.len-number-end.ensures.len in omega (arith, count, size) in
       let same = readable-length g.F.ExactField.limit old.symbols state.symbols readable in
       let so_far = c.loop-number.invariant.parts state rest count readable is in
-      let behind = parts_from state (k + 1) (drop (k + 1) names) ++ rest in
+      let following = parts_from state (k + 1) (drop (k + 1) names) ++ rest in
       let line = next_part old state names c.text.result.now rest c.loop-number.left.now c.loop-number.store k c.text.ensures.value so_far in
-      let found = c.in_ok-left.ensures.part (symbol_at state k).content behind (within_now old state names rest c.loop-number.left.now c.loop-number.store k same within so_far) (readable_now g.F.ExactField.limit old state names rest c.loop-number.left.now c.loop-number.store k readable within so_far) line in
+      let found = c.in_ok-left.ensures.part (symbol_at state k).content following (within_now old state names rest c.loop-number.left.now c.loop-number.store k same within so_far) (readable_now g.F.ExactField.limit old state names rest c.loop-number.left.now c.loop-number.store k readable within so_far) line in
       part_more old state names rest c.loop-number.left.now c.in_ok-left.left.now c.loop-number.store c.read_part.new.store k same within (readable-at g.F.ExactField.limit old.symbols state.symbols k within readable).domain so_far found.0 found.1;
 }
 

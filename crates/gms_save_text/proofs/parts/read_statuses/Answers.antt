@@ -18,32 +18,32 @@ line name m s rest =
     line_front (codes "model ") (name ++ 32 ∷ (decimal m ++ 32 ∷ decimal s)) rest (name ++ 32 ∷ behind_name m s rest)
     (line_item name (decimal m ++ 32 ∷ decimal s) rest (behind_name m s rest) (line_last (decimal m) (decimal s) rest))
 
-pub returns-in_err-behind-clause-statuses : goal.returns-in_err-behind-clause-statuses
-returns-in_err-behind-clause-statuses g c m s rest small less is =
-    handed_on _ _ _ _ c.from_residual.ensures.1 (c.in_err-behind.ensures (32 ∷ behind_name m s rest) (is ∙ line c.args.name.now m s rest))
+pub returns-in_err-following-clause-statuses : goal.returns-in_err-following-clause-statuses
+returns-in_err-following-clause-statuses g c m s rest small less is =
+    handed_on _ _ _ _ c.from_residual.ensures.1 (c.in_err-following.ensures (32 ∷ behind_name m s rest) (is ∙ line c.args.name.now m s rest))
 
 pub returns-in_err-digits-clause-statuses : goal.returns-in_err-digits-clause-statuses
 returns-in_err-digits-clause-statuses g c m s rest small less is =
-    let behind = c.in_ok-behind.ensures (32 ∷ behind_name m s rest) (is ∙ line c.args.name.now m s rest) in
-    handed_on _ _ _ _ c.from_residual-in_err-digits.ensures.1 (c.in_err-digits.ensures (behind_name m s rest) behind)
+    let following = c.in_ok-following.ensures (32 ∷ behind_name m s rest) (is ∙ line c.args.name.now m s rest) in
+    handed_on _ _ _ _ c.from_residual-in_err-digits.ensures.1 (c.in_err-digits.ensures (behind_name m s rest) following)
 
 pub returns-in_err-status-clause-statuses : goal.returns-in_err-status-clause-statuses
 returns-in_err-status-clause-statuses g c m s rest small less is =
-    let behind = c.in_ok-behind.ensures (32 ∷ behind_name m s rest) (is ∙ line c.args.name.now m s rest) in
-    let digits = c.in_ok-digits.ensures (behind_name m s rest) behind in
+    let following = c.in_ok-following.ensures (32 ∷ behind_name m s rest) (is ∙ line c.args.name.now m s rest) in
+    let digits = c.in_ok-digits.ensures (behind_name m s rest) following in
     handed_on _ _ _ _ c.from_residual-in_err-status.ensures.1 (c.in_err-status.ensures m (decimal s ++ 10 ∷ rest) small digits)
 
 pub returns-in_err-solver-clause-statuses : goal.returns-in_err-solver-clause-statuses
 returns-in_err-solver-clause-statuses g c m s rest small less is =
-    let behind = c.in_ok-behind.ensures (32 ∷ behind_name m s rest) (is ∙ line c.args.name.now m s rest) in
-    let digits = c.in_ok-digits.ensures (behind_name m s rest) behind in
+    let following = c.in_ok-following.ensures (32 ∷ behind_name m s rest) (is ∙ line c.args.name.now m s rest) in
+    let digits = c.in_ok-digits.ensures (behind_name m s rest) following in
     let status = c.in_ok-status.ensures m (decimal s ++ 10 ∷ rest) small digits in
     handed_on _ _ _ _ c.from_residual-in_err-solver.ensures.1 (c.in_err-solver.ensures s rest less status.1)
 
 pub returns-clause-statuses : goal.returns-clause-statuses
 returns-clause-statuses g c m s rest small less is =
-    let behind = c.in_ok-behind.ensures (32 ∷ behind_name m s rest) (is ∙ line c.args.name.now m s rest) in
-    let digits = c.in_ok-digits.ensures (behind_name m s rest) behind in
+    let following = c.in_ok-following.ensures (32 ∷ behind_name m s rest) (is ∙ line c.args.name.now m s rest) in
+    let digits = c.in_ok-digits.ensures (behind_name m s rest) following in
     let status = c.in_ok-status.ensures m (decimal s ++ 10 ∷ rest) small digits in
     let solver = c.in_ok-solver.ensures s rest less status.1 in
     (solver.1, rw (← status.0, ← solver.0) c.put_status.ensures)

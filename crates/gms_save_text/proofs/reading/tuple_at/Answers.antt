@@ -33,7 +33,7 @@ loop-place-preserved c =
           let so_far = c.loop-place.invariant.read t rest readable is in
           let line = next_line label_text t rest c.loop-place.left.now c.loop-place.tuple k 0 there so_far in
           let found = c.in_ok-label.ensures (get_or t k 0) (flat_map label_text (drop (k + 1) t) ++ rest) (all_at (λ n. n < 2 ^ 32) t k 0 there readable.small) (line ∙ label_line (get_or t k 0) (flat_map label_text (drop (k + 1) t) ++ rest)) in
-          one_more label_text t rest c.loop-place.left.now c.in_ok-label.behind.now c.loop-place.tuple c.push.new.self k c.in_ok-label.label 0 there so_far found.0 pushed found.1;
+          one_more label_text t rest c.loop-place.left.now c.in_ok-label.following.now c.loop-place.tuple c.push.new.self k c.in_ok-label.label 0 there so_far found.0 pushed found.1;
     }
 
 pub returns : goal.returns

@@ -38,15 +38,15 @@ returns-in_err-count c source rest is =
     let digits = c.in_ok-digits.ensures (decimal (length source) ++ 10 ∷ behind_count source rest) (first ∙ line source rest) in
     handed_on _ _ _ _ c.from_residual-in_err-count.ensures.1 (c.in_err-count.ensures (length source) (behind_count source rest) (no_longer source rest) digits)
 
-pub returns-then-count-behind : goal.returns-then-count-behind
-returns-then-count-behind c source rest is =
+pub returns-then-count-following : goal.returns-then-count-following
+returns-then-count-following c source rest is =
     let first = c.in_ok-first.ensures (source_text source ++ rest) is in
     let digits = c.in_ok-digits.ensures (decimal (length source) ++ 10 ∷ behind_count source rest) (first ∙ line source rest) in
     let found = c.in_ok-count.ensures (length source) (behind_count source rest) (no_longer source rest) digits in
     let count = found.0 in
-    let size : length c.in_ok-count.behind.now ≡ length (behind_count source rest) = ap length found.1 in
+    let size : length c.in_ok-count.following.now ≡ length (behind_count source rest) = ap length found.1 in
     let less = short source rest in
-    let test = c.if-count-behind.true in
+    let test = c.if-count-following.true in
     absurd (omega (arith, count, size, less))
 
 pub returns-in_err-rest : goal.returns-in_err-rest

@@ -14,6 +14,6 @@ returns c =
     let third = further _ _ _ _ second c.in_ok-push_item-3.ensures in
     let fourth = further _ _ _ _ third (c.in_ok-push_item-4.ensures ∙ ap (λ (n : ℕ). c.push_item-3.new.into.items ++ (decimal n ++ blank)) c.from.ensures) in
     let switch = further _ _ _ _ fourth c.in_ok-push_switch.ensures in
-    let behind = further _ _ _ _ switch c.in_ok-push-2.ensures in
-    let solver = further _ _ _ _ behind c.in_ok-push-3.ensures in
+    let following = further _ _ _ _ switch c.in_ok-push-2.ensures in
+    let solver = further _ _ _ _ following c.in_ok-push-3.ensures in
     on_success c.push-4.result _ _ (λ last. further _ _ _ _ solver last ∙ settings_pieces old (codes "settings ") (decimal s.limrow) (decimal s.limcol) (decimal s.iterlim) (decimal s.decimals) (switch_text s.solprint) c.args.solver.now (codes "\n") blank) c.push-4.ensures

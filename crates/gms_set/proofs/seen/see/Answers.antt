@@ -4,11 +4,11 @@ use Rattle.gms_tuple.specs.TupleOrder.{same_tuple}
 use Rattle.gms_tuple.specs.TupleSet.{has}
 use Rattle.gms_tuple.proofs.Members.{inserted-known}
 use Rattle.gms_set.specs.Expansion.{tuples_of}
-use Rattle.gms_set.proofs.LaterTuples.{new-behind, seen-more}
+use Rattle.gms_set.proofs.LaterTuples.{new-following, seen-more}
 use Rattle.gms_set.proofs.seen.see.Goals as goal
 
 pub returns-then-is_behind-clause-new : goal.returns-then-is_behind-clause-new
-returns-then-is_behind-clause-new g c = sym (ap not (new-behind (tuples_of c.args.given.now) c.args.tuple.now (c.is_behind.ensures c.if-is_behind.true)))
+returns-then-is_behind-clause-new g c = sym (ap not (new-following (tuples_of c.args.given.now) c.args.tuple.now (c.is_behind.ensures c.if-is_behind.true)))
 
 pub returns-clause-more : goal.returns-clause-more
 returns-clause-more g c = λ new.

@@ -4,7 +4,7 @@ use Rattle.gms_store.proofs.values.comes_last.Goals as goal
 
 pub returns-in-Some : goal.returns-in-Some
 returns-in-Some g c = λ last.
-    ordered-last c.args.behind.now c.args.t.now c.in-Some.last.now c.requires c.in-Some.ensures.item.1 (sym c.order.ensures ∙ less_from_index c.order.result (sym c.eq.ensures ∙ last))
+    ordered-last c.args.following.now c.args.t.now c.in-Some.last.now c.requires c.in-Some.ensures.item.1 (sym c.order.ensures ∙ less_from_index c.order.result (sym c.eq.ensures ∙ last))
 
 pub returns-in-None : goal.returns-in-None
-returns-in-None g c = λ _. ordered-alone c.args.behind.now c.args.t.now c.in-None.ensures.value
+returns-in-None g c = λ _. ordered-alone c.args.following.now c.args.t.now c.in-None.ensures.value

@@ -12,4 +12,4 @@ returns-in-Ok-clause-there g c =
 
 pub returns-in-Err-clause-absent : goal.returns-in-Err-clause-absent
 returns-in-Err-clause-absent g c =
-    find-missing c.args.behind.now c.args.t.now c.in-Err.field-0 c.requires (c.in-Err.ensures.position (λ e. tuple_cmp e.0 c.args.t.now) (always_returns_same _ (λ a r. r ≡ tuple_cmp a.0.now.0 c.args.t.now) _ (λ a r f k. search rules)))
+    find-missing c.args.following.now c.args.t.now c.in-Err.field-0 c.requires (c.in-Err.ensures.position (λ e. tuple_cmp e.0 c.args.t.now) (always_returns_same _ (λ a r. r ≡ tuple_cmp a.0.now.0 c.args.t.now) _ (λ a r f k. search rules)))

@@ -11,7 +11,7 @@ use Rattle.gms_table.proofs.heading.read_headings.Goals as goal
 pub loop-word-init : goal.loop-word-init
 loop-word-init c = record {
   read = λ limit labels before progress. headings_none limit labels before c.args.table.now c.in_ok-headings.headings.items c.in_ok-headings.ensures.items progress;
-  goes_on = GoesOn-refl c.args.table.now;
+  extended = GoesOn-refl c.args.table.now;
 }
 
 pub loop-word-preserved : goal.loop-word-preserved
@@ -20,7 +20,7 @@ loop-word-preserved c = record {
       subst (λ (ws : List words.Word). HeadingsSoFar limit labels before ws c.enter.new.table c.push.new.self.items) (sym (seen_all-more c.args.words.now c.loop-word.word-index c.loop-word-test.true))
       (subst (λ (hs : List Heading). HeadingsSoFar limit labels before (seen_all (take c.loop-word.word-index c.args.words.now) ++ seen (get_or c.args.words.now c.loop-word.word-index no_word) ∷ []) c.enter.new.table hs) (sym c.in_ok-push.ensures.items)
       (headings_more limit labels before (seen_all (take c.loop-word.word-index c.args.words.now)) (seen (get_or c.args.words.now c.loop-word.word-index no_word)) c.loop-word.table c.enter.new.table c.loop-word.headings.items _ (c.loop-word.invariant.read limit labels before progress) refl refl c.in_ok-labels.ensures.entered));
-  goes_on = GoesOn-trans c.args.table.now c.loop-word.table c.enter.new.table c.loop-word.invariant.goes_on c.in_ok-labels.ensures.goes_on;
+  extended = GoesOn-trans c.args.table.now c.loop-word.table c.enter.new.table c.loop-word.invariant.extended c.in_ok-labels.ensures.extended;
 }
 
 pub returns-in_err-labels-clause-read : goal.returns-in_err-labels-clause-read

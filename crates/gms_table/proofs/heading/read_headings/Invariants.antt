@@ -10,5 +10,5 @@ use Rattle.gms_table.proofs.heading.read_headings.Given as goal
 abbrev pub invariant-loop-word : goal.invariant-loop-word
 invariant-loop-word l = record {
   read : (limit : ℕ) (labels : List (List ℕ)) (before : List TablePart) → Progress limit labels before l.fn.table → HeadingsSoFar limit labels before (seen_all (take l.word-index l.words)) l.table l.headings.items;
-  goes_on : IsPrefix l.fn.table l.table;
+  extended : IsPrefix l.fn.table l.table;
 }

@@ -17,7 +17,7 @@ pub loop-line-init : goal.loop-line-init
 loop-line-init g c = record {
   rows = λ labels before names keeps are spaced.
       lines_begun g.F.ExactField.limit g.F.ExactField.value labels before names (lines_of c.args.lines.now) c.args.table.now c.args.entries.now c.args.headings.items keeps are spaced;
-  goes_on = GoesOn-refl c.args.table.now;
+  extended = GoesOn-refl c.args.table.now;
 }
 
 pub returns-in_err-read_line-clause-rows : goal.returns-in_err-read_line-clause-rows
@@ -32,7 +32,7 @@ loop-line-preserved g c = record {
   rows = λ labels before names keeps are spaced.
       let next = lines_next c.args.lines.now c.loop-line.line-index c.line-item.result c.loop-line-test.true c.line-item.is in
       c.in_ok-read_line.ensures.line labels before names (lines_of c.args.lines.now) (lines_of (drop (c.loop-line.line-index + 1) c.args.lines.now)) (subst (λ (ls : List (List Word)). LinesSoFar g.F.ExactField.limit g.F.ExactField.value labels before names (lines_of c.args.lines.now) ls c.loop-line.table c.loop-line.entries c.loop-line.headings.items) next (c.loop-line.invariant.rows labels before names keeps are spaced));
-  goes_on = GoesOn-trans c.args.table.now c.loop-line.table c.read_line.new.table c.loop-line.invariant.goes_on c.in_ok-read_line.ensures.goes_on;
+  extended = GoesOn-trans c.args.table.now c.loop-line.table c.read_line.new.table c.loop-line.invariant.extended c.in_ok-read_line.ensures.extended;
 }
 
 pub returns-clause-rows : goal.returns-clause-rows

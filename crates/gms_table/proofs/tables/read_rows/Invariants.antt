@@ -11,5 +11,5 @@ abbrev pub invariant-loop-line : goal.invariant-loop-line
 invariant-loop-line g l = record {
   rows : (labels : List (List ℕ)) (before : List TablePart) (names : List Word) → Keeps g.F.ExactField.limit g.F.ExactField.value labels before l.fn.table l.fn.entries → AreHeadings l.fn.table names l.fn.headings.items → AreSpaced names
       → LinesSoFar g.F.ExactField.limit g.F.ExactField.value labels before names (lines_of l.lines) (lines_of (drop l.line-index l.lines)) l.table l.entries l.headings.items;
-  goes_on : IsPrefix l.fn.table l.table;
+  extended : IsPrefix l.fn.table l.table;
 }

@@ -4,4 +4,4 @@ use Rattle.gq_text.specs.Numeral.{spelled}
 use Rattle.gq_text.proofs.literal.spelled.Given as goal
 
 abbrev pub invariant-loop-digit : goal.invariant-loop-digit
-invariant-loop-digit l = (l.value ≡ l.front * 10 ^ l.digit-index + spelled (take l.digit-index l.digits)) × (l.value < 2 ^ 128)
+invariant-loop-digit l = (l.value ≡ l.prefix * 10 ^ l.digit-index + spelled (take l.digit-index l.digits)) × (l.value < 2 ^ 128)

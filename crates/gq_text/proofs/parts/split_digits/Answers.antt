@@ -12,7 +12,7 @@ split_at-requires c = subst (λ n. n ≤ length c.args.text.now) (sym c.digit_co
 pub returns : goal.returns
 returns c =
     let text = c.args.text.now in
-    subst₂ (λ (front back : List ℕ). SplitsDigits text front back)
+    subst₂ (λ (prefix back : List ℕ). SplitsDigits text prefix back)
     (sym (c.split_at.ensures.front ∙ ap (λ n. take n text) c.digit_count.ensures))
     (sym (c.split_at.ensures.back ∙ ap (λ n. drop n text) c.digit_count.ensures))
     (counted_digits text)

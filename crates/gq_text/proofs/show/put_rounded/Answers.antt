@@ -25,9 +25,9 @@ returns g c =
     let sign = sign_text c.if-numerator-lt0.push_sign in
     let numeral = c.push_numeral.ensures.numeral.numeral in
     let decimals = c.push_decimals.ensures.decimals in
-    let front : c.push_sign.new.self ≡ sign = c.push_sign.ensures ∙ ap (λ (l : List ℕ). l ++ sign) c.clear.ensures in
+    let prefix : c.push_sign.new.self ≡ sign = c.push_sign.ensures ∙ ap (λ (l : List ℕ). l ++ sign) c.clear.ensures in
     let layout : c.push_decimals.new.self ≡ sign ++ (numeral ++ with_decimal_point decimals) =
-    c.push_decimals.ensures.appended ∙ ap (λ (l : List ℕ). l ++ with_decimal_point decimals) (c.push_numeral.ensures.numeral.appended ∙ ap (λ (l : List ℕ). l ++ numeral) front) ∙ append_assoc sign numeral (with_decimal_point decimals) in
+    c.push_decimals.ensures.appended ∙ ap (λ (l : List ℕ). l ++ with_decimal_point decimals) (c.push_numeral.ensures.numeral.appended ∙ ap (λ (l : List ℕ). l ++ numeral) prefix) ∙ append_assoc sign numeral (with_decimal_point decimals) in
     let negative : c.if-numerator-lt0.push_sign ≡ (int_lt x.numerator (pos 0) && nat_lt 0 k) = elim c.if-numerator-lt0.branch [
       | then-numerator-lt0 w ↦
           let below : int_lt x.numerator (pos 0) ≡ true = ap (λ z. int_lt z (pos 0)) (sym same) ∙ w.if-numerator-lt0.true in

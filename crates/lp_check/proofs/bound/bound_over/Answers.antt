@@ -7,23 +7,23 @@ use Rattle.lp_check.specs.Partials.{costs_of, reduced_costs, Took, Reaches}
 use Rattle.lp_check.proofs.Fits.{reaches_behind, stops_before, stops_behind, took_both}
 use Rattle.lp_check.proofs.bound.bound_over.Goals as goal
 
-pub reduced_costs_fit-requires-clause-room : goal.reduced_costs_fit-requires-clause-room
-reduced_costs_fit-requires-clause-room g c = omega (arith, c.requires.room, length-append ((all_reduced_steps g.F.ExactField.value g.F.ExactField.limit (costs_of c.args.objective) c.args.rows.now (map g.F.ExactField.value c.args.duals.now) 0 c.args.columns.now) ++ (row_bound_steps g.F.ExactField.value g.F.ExactField.limit c.args.above (whole (pos 0)) c.args.rows.now (map g.F.ExactField.value c.args.duals.now))) (columns_steps g.F.ExactField.value g.F.ExactField.limit c.args.above (reduced_costs g.F.ExactField.value (costs_of c.args.objective) c.args.rows.now (map g.F.ExactField.value c.args.duals.now)) (rows_sum g.F.ExactField.value c.args.above (whole (pos 0)) c.args.rows.now (map g.F.ExactField.value c.args.duals.now)) 0 c.args.columns.now), length-append (all_reduced_steps g.F.ExactField.value g.F.ExactField.limit (costs_of c.args.objective) c.args.rows.now (map g.F.ExactField.value c.args.duals.now) 0 c.args.columns.now) (row_bound_steps g.F.ExactField.value g.F.ExactField.limit c.args.above (whole (pos 0)) c.args.rows.now (map g.F.ExactField.value c.args.duals.now)))
+pub reduced_costs_fit-requires-clause-within_bound : goal.reduced_costs_fit-requires-clause-within_bound
+reduced_costs_fit-requires-clause-within_bound g c = omega (arith, c.requires.within_bound, length-append ((all_reduced_steps g.F.ExactField.value g.F.ExactField.limit (costs_of c.args.objective) c.args.rows.now (map g.F.ExactField.value c.args.duals.now) 0 c.args.columns.now) ++ (row_bound_steps g.F.ExactField.value g.F.ExactField.limit c.args.above (whole (pos 0)) c.args.rows.now (map g.F.ExactField.value c.args.duals.now))) (columns_steps g.F.ExactField.value g.F.ExactField.limit c.args.above (reduced_costs g.F.ExactField.value (costs_of c.args.objective) c.args.rows.now (map g.F.ExactField.value c.args.duals.now)) (rows_sum g.F.ExactField.value c.args.above (whole (pos 0)) c.args.rows.now (map g.F.ExactField.value c.args.duals.now)) 0 c.args.columns.now), length-append (all_reduced_steps g.F.ExactField.value g.F.ExactField.limit (costs_of c.args.objective) c.args.rows.now (map g.F.ExactField.value c.args.duals.now) 0 c.args.columns.now) (row_bound_steps g.F.ExactField.value g.F.ExactField.limit c.args.above (whole (pos 0)) c.args.rows.now (map g.F.ExactField.value c.args.duals.now)))
 
-pub rows_part-requires-clause-room : goal.rows_part-requires-clause-room
-rows_part-requires-clause-room g c = rw c.zero-sum.ensures (omega (arith, c.requires.room, c.in_ok-taken.ensures.1, length-append ((all_reduced_steps g.F.ExactField.value g.F.ExactField.limit (costs_of c.args.objective) c.args.rows.now (map g.F.ExactField.value c.args.duals.now) 0 c.args.columns.now) ++ (row_bound_steps g.F.ExactField.value g.F.ExactField.limit c.args.above (whole (pos 0)) c.args.rows.now (map g.F.ExactField.value c.args.duals.now))) (columns_steps g.F.ExactField.value g.F.ExactField.limit c.args.above (reduced_costs g.F.ExactField.value (costs_of c.args.objective) c.args.rows.now (map g.F.ExactField.value c.args.duals.now)) (rows_sum g.F.ExactField.value c.args.above (whole (pos 0)) c.args.rows.now (map g.F.ExactField.value c.args.duals.now)) 0 c.args.columns.now), length-append (all_reduced_steps g.F.ExactField.value g.F.ExactField.limit (costs_of c.args.objective) c.args.rows.now (map g.F.ExactField.value c.args.duals.now) 0 c.args.columns.now) (row_bound_steps g.F.ExactField.value g.F.ExactField.limit c.args.above (whole (pos 0)) c.args.rows.now (map g.F.ExactField.value c.args.duals.now))))
+pub rows_part-requires-clause-within_bound : goal.rows_part-requires-clause-within_bound
+rows_part-requires-clause-within_bound g c = rw c.zero-sum.ensures (omega (arith, c.requires.within_bound, c.in_ok-taken.ensures.1, length-append ((all_reduced_steps g.F.ExactField.value g.F.ExactField.limit (costs_of c.args.objective) c.args.rows.now (map g.F.ExactField.value c.args.duals.now) 0 c.args.columns.now) ++ (row_bound_steps g.F.ExactField.value g.F.ExactField.limit c.args.above (whole (pos 0)) c.args.rows.now (map g.F.ExactField.value c.args.duals.now))) (columns_steps g.F.ExactField.value g.F.ExactField.limit c.args.above (reduced_costs g.F.ExactField.value (costs_of c.args.objective) c.args.rows.now (map g.F.ExactField.value c.args.duals.now)) (rows_sum g.F.ExactField.value c.args.above (whole (pos 0)) c.args.rows.now (map g.F.ExactField.value c.args.duals.now)) 0 c.args.columns.now), length-append (all_reduced_steps g.F.ExactField.value g.F.ExactField.limit (costs_of c.args.objective) c.args.rows.now (map g.F.ExactField.value c.args.duals.now) 0 c.args.columns.now) (row_bound_steps g.F.ExactField.value g.F.ExactField.limit c.args.above (whole (pos 0)) c.args.rows.now (map g.F.ExactField.value c.args.duals.now))))
 
 pub columns_part-requires-clause-bounded : goal.columns_part-requires-clause-bounded
-columns_part-requires-clause-bounded g c = omega (arith, c.requires.room, length-append ((all_reduced_steps g.F.ExactField.value g.F.ExactField.limit (costs_of c.args.objective) c.args.rows.now (map g.F.ExactField.value c.args.duals.now) 0 c.args.columns.now) ++ (row_bound_steps g.F.ExactField.value g.F.ExactField.limit c.args.above (whole (pos 0)) c.args.rows.now (map g.F.ExactField.value c.args.duals.now))) (columns_steps g.F.ExactField.value g.F.ExactField.limit c.args.above (reduced_costs g.F.ExactField.value (costs_of c.args.objective) c.args.rows.now (map g.F.ExactField.value c.args.duals.now)) (rows_sum g.F.ExactField.value c.args.above (whole (pos 0)) c.args.rows.now (map g.F.ExactField.value c.args.duals.now)) 0 c.args.columns.now), length-append (all_reduced_steps g.F.ExactField.value g.F.ExactField.limit (costs_of c.args.objective) c.args.rows.now (map g.F.ExactField.value c.args.duals.now) 0 c.args.columns.now) (row_bound_steps g.F.ExactField.value g.F.ExactField.limit c.args.above (whole (pos 0)) c.args.rows.now (map g.F.ExactField.value c.args.duals.now)))
+columns_part-requires-clause-bounded g c = omega (arith, c.requires.within_bound, length-append ((all_reduced_steps g.F.ExactField.value g.F.ExactField.limit (costs_of c.args.objective) c.args.rows.now (map g.F.ExactField.value c.args.duals.now) 0 c.args.columns.now) ++ (row_bound_steps g.F.ExactField.value g.F.ExactField.limit c.args.above (whole (pos 0)) c.args.rows.now (map g.F.ExactField.value c.args.duals.now))) (columns_steps g.F.ExactField.value g.F.ExactField.limit c.args.above (reduced_costs g.F.ExactField.value (costs_of c.args.objective) c.args.rows.now (map g.F.ExactField.value c.args.duals.now)) (rows_sum g.F.ExactField.value c.args.above (whole (pos 0)) c.args.rows.now (map g.F.ExactField.value c.args.duals.now)) 0 c.args.columns.now), length-append (all_reduced_steps g.F.ExactField.value g.F.ExactField.limit (costs_of c.args.objective) c.args.rows.now (map g.F.ExactField.value c.args.duals.now) 0 c.args.columns.now) (row_bound_steps g.F.ExactField.value g.F.ExactField.limit c.args.above (whole (pos 0)) c.args.rows.now (map g.F.ExactField.value c.args.duals.now)))
 
 pub columns_part-requires-clause-fit : goal.columns_part-requires-clause-fit
 columns_part-requires-clause-fit g c = c.in_ok-taken.ensures.0
 
-pub columns_part-requires-clause-room : goal.columns_part-requires-clause-room
-columns_part-requires-clause-room g c =
+pub columns_part-requires-clause-within_bound : goal.columns_part-requires-clause-within_bound
+columns_part-requires-clause-within_bound g c =
     let sum : g.F.ExactField.value c.in_ok-part.part.sum ≡ rows_sum g.F.ExactField.value c.args.above (whole (pos 0)) c.args.rows.now (map g.F.ExactField.value c.args.duals.now) = rw c.zero-sum.ensures at c.in_ok-part.ensures.1 in
     let took : Took c.in_ok-taken.taken (row_bound_steps g.F.ExactField.value g.F.ExactField.limit c.args.above (whole (pos 0)) c.args.rows.now (map g.F.ExactField.value c.args.duals.now)) c.in_ok-part.part.taken = rw c.zero-sum.ensures at c.in_ok-part.ensures.0 in
-    rw sum (omega (arith, c.requires.room, c.in_ok-taken.ensures.1, took.1, length-append ((all_reduced_steps g.F.ExactField.value g.F.ExactField.limit (costs_of c.args.objective) c.args.rows.now (map g.F.ExactField.value c.args.duals.now) 0 c.args.columns.now) ++ (row_bound_steps g.F.ExactField.value g.F.ExactField.limit c.args.above (whole (pos 0)) c.args.rows.now (map g.F.ExactField.value c.args.duals.now))) (columns_steps g.F.ExactField.value g.F.ExactField.limit c.args.above (reduced_costs g.F.ExactField.value (costs_of c.args.objective) c.args.rows.now (map g.F.ExactField.value c.args.duals.now)) (rows_sum g.F.ExactField.value c.args.above (whole (pos 0)) c.args.rows.now (map g.F.ExactField.value c.args.duals.now)) 0 c.args.columns.now), length-append (all_reduced_steps g.F.ExactField.value g.F.ExactField.limit (costs_of c.args.objective) c.args.rows.now (map g.F.ExactField.value c.args.duals.now) 0 c.args.columns.now) (row_bound_steps g.F.ExactField.value g.F.ExactField.limit c.args.above (whole (pos 0)) c.args.rows.now (map g.F.ExactField.value c.args.duals.now))))
+    rw sum (omega (arith, c.requires.within_bound, c.in_ok-taken.ensures.1, took.1, length-append ((all_reduced_steps g.F.ExactField.value g.F.ExactField.limit (costs_of c.args.objective) c.args.rows.now (map g.F.ExactField.value c.args.duals.now) 0 c.args.columns.now) ++ (row_bound_steps g.F.ExactField.value g.F.ExactField.limit c.args.above (whole (pos 0)) c.args.rows.now (map g.F.ExactField.value c.args.duals.now))) (columns_steps g.F.ExactField.value g.F.ExactField.limit c.args.above (reduced_costs g.F.ExactField.value (costs_of c.args.objective) c.args.rows.now (map g.F.ExactField.value c.args.duals.now)) (rows_sum g.F.ExactField.value c.args.above (whole (pos 0)) c.args.rows.now (map g.F.ExactField.value c.args.duals.now)) 0 c.args.columns.now), length-append (all_reduced_steps g.F.ExactField.value g.F.ExactField.limit (costs_of c.args.objective) c.args.rows.now (map g.F.ExactField.value c.args.duals.now) 0 c.args.columns.now) (row_bound_steps g.F.ExactField.value g.F.ExactField.limit c.args.above (whole (pos 0)) c.args.rows.now (map g.F.ExactField.value c.args.duals.now))))
 
 pub returns-in_err-taken : goal.returns-in_err-taken
 returns-in_err-taken g c =

@@ -17,8 +17,8 @@ pub bound_over-requires-clause-few : goal.bound_over-requires-clause-few
 bound_over-requires-clause-few g c =
     rw c.as_slice-columns.ensures (few_columns g.F.ExactField.value g.F.ExactField.limit c.args.lp.now c.requires.formed)
 
-pub bound_over-requires-clause-room : goal.bound_over-requires-clause-room
-bound_over-requires-clause-room g c =
+pub bound_over-requires-clause-within_bound : goal.bound_over-requires-clause-within_bound
+bound_over-requires-clause-within_bound g c =
     rw (same_steps g.F.ExactField.value g.F.ExactField.limit c.args.lp.now (map g.F.ExactField.value c.args.duals.now) c.args.with_objective c.requires.formed c.requires.there c.as_slice-rows.result.now c.as_slice-columns.result.now c.then_some-objective.result c.is_above-above.result c.as_slice-rows.ensures c.as_slice-columns.ensures c.then_some-objective.ensures c.is_above-above.ensures) (few_steps g.F.ExactField.value g.F.ExactField.limit c.args.lp.now (map g.F.ExactField.value c.args.duals.now) c.args.with_objective c.requires.formed c.requires.there)
 
 pub returns-in_err-bound-clause-value : goal.returns-in_err-bound-clause-value
@@ -60,8 +60,8 @@ pub bound_at_once-requires-clause-objective : goal.bound_at_once-requires-clause
 bound_at_once-requires-clause-objective g c =
     rw (c.then_some-objective.ensures, c.as_slice-columns.ensures) (objective_there g.F.ExactField.value c.args.lp.now c.args.with_objective c.requires.formed)
 
-pub bound_at_once-requires-clause-room : goal.bound_at_once-requires-clause-room
-bound_at_once-requires-clause-room g c =
+pub bound_at_once-requires-clause-within_bound : goal.bound_at_once-requires-clause-within_bound
+bound_at_once-requires-clause-within_bound g c =
     rw (same_steps g.F.ExactField.value g.F.ExactField.limit c.args.lp.now (map g.F.ExactField.value c.args.duals.now) c.args.with_objective c.requires.formed c.requires.there c.as_slice-rows.result.now c.as_slice-columns.result.now c.then_some-objective.result c.is_above-above.result c.as_slice-rows.ensures c.as_slice-columns.ensures c.then_some-objective.ensures c.is_above-above.ensures) (few_steps g.F.ExactField.value g.F.ExactField.limit c.args.lp.now (map g.F.ExactField.value c.args.duals.now) c.args.with_objective c.requires.formed c.requires.there)
 
 pub returns-in-Some-clause-value : goal.returns-in-Some-clause-value

@@ -14,8 +14,8 @@ pub keep_rows-requires-clause-there : goal.keep_rows-requires-clause-there
 keep_rows-requires-clause-there g c =
     rw c.as_slice-2.ensures (entries_within g.F.ExactField.value c.args.lp.now (length c.args.x.now) c.requires.well_formed c.requires.sized)
 
-pub keep_rows-requires-clause-room : goal.keep_rows-requires-clause-room
-keep_rows-requires-clause-room g c =
+pub keep_rows-requires-clause-within_bound : goal.keep_rows-requires-clause-within_bound
+keep_rows-requires-clause-within_bound g c =
     let few = steps_few g.F.ExactField.value c.args.lp.now c.requires.well_formed in
     omega (arith, few, ap steps_of_rows c.as_slice-2.ensures)
 

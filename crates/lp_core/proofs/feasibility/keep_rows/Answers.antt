@@ -4,16 +4,16 @@ use Rattle.lp_core.specs.Steps.{checked_rows, checked_sum}
 use Rattle.lp_core.proofs.Checks.{steps_go, row_goes}
 use Rattle.lp_core.proofs.feasibility.keep_rows.Goals as goal
 
-pub sum_of-requires-clause-room : goal.sum_of-requires-clause-room
-sum_of-requires-clause-room g c =
+pub sum_of-requires-clause-within_bound : goal.sum_of-requires-clause-within_bound
+sum_of-requires-clause-within_bound g c =
     let left = steps_go g.F.ExactField.value g.F.ExactField.limit (map g.F.ExactField.value c.args.x.now) c.args.rows.now c.loop-row.row-index c.loop-row.step c.row-item.result c.loop-row-test.true c.row-item.is (sym c.if-asks_nothing_of.ensures) in
     let same = ap length c.as_slice.ensures in
-    omega (arith, left, same, c.loop-row.invariant.counted, c.requires.room)
+    omega (arith, left, same, c.loop-row.invariant.counted, c.requires.within_bound)
 
 pub overflow_add-step : goal.overflow_add-step
 overflow_add-step g c =
     let left = steps_go g.F.ExactField.value g.F.ExactField.limit (map g.F.ExactField.value c.args.x.now) c.args.rows.now c.loop-row.row-index c.loop-row.step c.row-item.result c.loop-row-test.true c.row-item.is (sym c.if-asks_nothing_of.ensures) in
-    omega (arith, left, c.len.ensures, c.loop-row.invariant.counted, c.requires.room)
+    omega (arith, left, c.len.ensures, c.loop-row.invariant.counted, c.requires.within_bound)
 
 pub loop-row-preserved : goal.loop-row-preserved
 loop-row-preserved g c =

@@ -2,7 +2,7 @@ use Rattle.std.proofs.Common.{◌≡◌, ◌<◌, ◌≤◌, ◌-◌, ◌^◌, l
 use Rattle.std.specs.Prelude.{slice_get, MatchOption}
 use Rattle.lp_integer_rows.specs.declared.line.Line.{Line}
 use Rattle.lp_integer_rows.specs.Form.{AreLines, ArePlanned, IsPlan, IsSomeCrowded, AreTurned, AreSameLines}
-use Rattle.lp_integer_dict.specs.WithinBound.{HaveRoomAfter, AreMade, AreTurnedInRoom}
+use Rattle.lp_integer_dict.specs.WithinBound.{ExchangedStayWithin, AreMade, AreExchangedWithin}
 use Rattle.lp_integer_rows.proofs.Plans.{index_get}
 use Rattle.lp_integer_dict.proofs.Sameness.{line_above, plan_of, same_are}
 use Rattle.lp_integer_dict.proofs.Arriving.{by_copies, made_so}
@@ -49,13 +49,13 @@ pub settle_lines-requires : goal.settle_lines-requires
 settle_lines-requires c =
     (c.requires.lines.0, c.in_ok-exchange_lines.ensures.are_lines c.requires.lines.0 (subst (AreLines c.requires.lines.0) (sym c.in_ok-made.ensures) c.requires.lines.1))
 
-pub have_room-requires-clause-lines : goal.have_room-requires-clause-lines
-have_room-requires-clause-lines c =
+pub exchanged_stay_within-requires-clause-lines : goal.exchanged_stay_within-requires-clause-lines
+exchanged_stay_within-requires-clause-lines c =
     let before : AreLines c.requires.lines.0 c.exchange_lines.new.lines.items = c.in_ok-exchange_lines.ensures.are_lines c.requires.lines.0 (subst (AreLines c.requires.lines.0) (sym c.in_ok-made.ensures) c.requires.lines.1) in
     (c.requires.lines.0, subst (AreLines c.requires.lines.0) (sym c.as_slice-2.ensures.value) (same_are c.exchange_lines.new.lines.items c.settle_lines.new.lines.items c.in_ok-settle_lines.ensures.same c.requires.lines.0 before), c.requires.lines.2)
 
-pub have_room-requires-clause-within : goal.have_room-requires-clause-within
-have_room-requires-clause-within c =
+pub exchanged_stay_within-requires-clause-within : goal.exchanged_stay_within-requires-clause-within
+exchanged_stay_within-requires-clause-within c =
     let sized : length c.settle_lines.new.lines.items ≡ length c.args.lines.now = c.in_ok-settle_lines.ensures.same.sized ∙ c.in_ok-exchange_lines.ensures.sized ∙ ap length c.in_ok-made.ensures in
     subst (λ (ls : List Line). c.args.leaving < length ls) (sym c.as_slice-2.ensures.value) (let within = c.requires.within.1 in omega arith)
 
@@ -63,13 +63,13 @@ pub returns : goal.returns
 returns c =
     let turned : AreTurned c.args.column c.args.place c.as_slice.result.now c.args.lines.now c.exchange_lines.new.lines.items = subst (λ (ls : List Line). AreTurned c.args.column c.args.place c.as_slice.result.now ls c.exchange_lines.new.lines.items) c.in_ok-made.ensures c.in_ok-exchange_lines.ensures in
     by_copies c.args.bound c.args.column c.args.place c.args.leaving c.args.lines.now c.exchange_lines.new.lines.items c.settle_lines.new.lines.items c.as_slice.result.now turned c.in_ok-settle_lines.ensures.same
-    (subst (HaveRoomAfter c.args.bound c.args.place c.args.leaving) c.as_slice-2.ensures.value (c.have_room.ensures.0 c.if-not-have_room.false))
+    (subst (ExchangedStayWithin c.args.bound c.args.place c.args.leaving) c.as_slice-2.ensures.value (c.exchanged_stay_within.ensures.0 c.if-not-exchanged_stay_within.false))
 
-pub returns-then-not-have_room : goal.returns-then-not-have_room
-returns-then-not-have_room c =
+pub returns-then-not-exchanged_stay_within : goal.returns-then-not-exchanged_stay_within
+returns-then-not-exchanged_stay_within c =
     let turned : AreTurned c.args.column c.args.place c.as_slice.result.now c.args.lines.now c.exchange_lines.new.lines.items = subst (λ (ls : List Line). AreTurned c.args.column c.args.place c.as_slice.result.now ls c.exchange_lines.new.lines.items) c.in_ok-made.ensures c.in_ok-exchange_lines.ensures in
     inr (
       c.settle_lines.new.lines.items,
       made_so c.args.bound c.args.column c.args.place c.args.leaving c.args.lines.now c.exchange_lines.new.lines.items c.settle_lines.new.lines.items c.as_slice.result.now turned c.in_ok-settle_lines.ensures.same c.in_ok-settle_lines.ensures.lowest,
-      λ h. true≢false (sym (c.have_room.ensures.1 (subst (HaveRoomAfter c.args.bound c.args.place c.args.leaving) (sym c.as_slice-2.ensures.value) h)) ∙ c.if-not-have_room.true),
+      λ h. true≢false (sym (c.exchanged_stay_within.ensures.1 (subst (ExchangedStayWithin c.args.bound c.args.place c.args.leaving) (sym c.as_slice-2.ensures.value) h)) ∙ c.if-not-exchanged_stay_within.true),
     )

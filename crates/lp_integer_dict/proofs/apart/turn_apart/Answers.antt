@@ -3,7 +3,7 @@ use Rattle.std.specs.Prelude.{MatchOption}
 use Rattle.gq_number.specs.Number.{whole}
 use Rattle.gq_number.specs.Order.{◌<ℚ◌}
 use Rattle.lp_integer_rows.specs.Form.{AreLines, lines_number}
-use Rattle.lp_integer_dict.specs.WithinBound.{AreTurnedInRoom, HaveNoRoomMade}
+use Rattle.lp_integer_dict.specs.WithinBound.{AreExchangedWithin, MadeRowsExceed}
 use Rattle.lp_integer_dict.proofs.apart.turn_apart.Goals as goal
 
 pub made_apart-requires-clause-lines : goal.made_apart-requires-clause-lines
@@ -16,10 +16,10 @@ made_apart-requires-clause-above c =
 
 pub returns-clause-turned : goal.returns-clause-turned
 returns-clause-turned c = λ yes.
-    subst (λ ls. AreTurnedInRoom c.args.bound c.args.column c.args.place c.args.leaving ls c.in-Some.made.items) c.as_slice.ensures.value
-    (subst (λ o. MatchOption o (HaveNoRoomMade c.args.bound c.args.column c.args.place c.args.leaving c.as_slice.result.now) (λ made. AreTurnedInRoom c.args.bound c.args.column c.args.place c.args.leaving c.as_slice.result.now made.items)) c.in-Some.is c.in_ok-made.ensures)
+    subst (λ ls. AreExchangedWithin c.args.bound c.args.column c.args.place c.args.leaving ls c.in-Some.made.items) c.as_slice.ensures.value
+    (subst (λ o. MatchOption o (MadeRowsExceed c.args.bound c.args.column c.args.place c.args.leaving c.as_slice.result.now) (λ made. AreExchangedWithin c.args.bound c.args.column c.args.place c.args.leaving c.as_slice.result.now made.items)) c.in-Some.is c.in_ok-made.ensures)
 
 pub returns-in_default-clause-none : goal.returns-in_default-clause-none
 returns-in_default-clause-none c = λ _.
-    subst (HaveNoRoomMade c.args.bound c.args.column c.args.place c.args.leaving) c.as_slice.ensures.value
-    (subst (λ o. MatchOption o (HaveNoRoomMade c.args.bound c.args.column c.args.place c.args.leaving c.as_slice.result.now) (λ made. AreTurnedInRoom c.args.bound c.args.column c.args.place c.args.leaving c.as_slice.result.now made.items)) c.in_default.is c.in_ok-made.ensures)
+    subst (MadeRowsExceed c.args.bound c.args.column c.args.place c.args.leaving) c.as_slice.ensures.value
+    (subst (λ o. MatchOption o (MadeRowsExceed c.args.bound c.args.column c.args.place c.args.leaving c.as_slice.result.now) (λ made. AreExchangedWithin c.args.bound c.args.column c.args.place c.args.leaving c.as_slice.result.now made.items)) c.in_default.is c.in_ok-made.ensures)

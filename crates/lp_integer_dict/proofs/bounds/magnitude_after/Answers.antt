@@ -21,7 +21,7 @@ cross_difference-left-requires c =
     let x_is : to_z w128 (of_z w128 c.marked_number_at-2.result) ≡ x = to_z-of_z w128 c.marked_number_at-2.result fits_x ∙ c.marked_number_at-2.ensures in
     let first : nat_abs a * nat_abs n ≤ nat_abs a * c.args.line.now.most = mul-le-mul_left (nat_abs a) (c.requires.line.numbers_within 1) in
     let second : nat_abs b * nat_abs x ≤ nat_abs b * c.args.pivot.now.most = mul-le-mul_left (nat_abs b) (c.requires.pivot.numbers_within 1) in
-    let room = c.requires.room in
+    let within_bound = c.requires.within_bound in
     let small : nat_abs a * nat_abs n + nat_abs b * nat_abs x < 2 ^ 127 = omega arith in
     subst₂ (λ s t. s + t < 2 ^ 127) (sym (ap₂ (λ s t. nat_abs s * nat_abs t) (to_z-of_z w128 c.args.factors.line fits_a) n_is)) (sym (ap₂ (λ s t. nat_abs s * nat_abs t) (to_z-of_z w128 c.args.factors.pivot fits_b) x_is)) small
 
@@ -51,6 +51,6 @@ returns-clause-small c =
     ∙ ap₂ (λ s t. s -ℤ t) (ap₂ (λ s t. s *ℤ t) (to_z-of_z w128 c.args.factors.line fits_a) n_is) (ap₂ (λ s t. s *ℤ t) (to_z-of_z w128 c.args.factors.pivot fits_b) x_is)) in
     let first : nat_abs c.args.factors.line * nat_abs (whole_at (wholes c.args.line.now) 1) ≤ nat_abs c.args.factors.line * c.args.line.now.most = mul-le-mul_left (nat_abs c.args.factors.line) (c.requires.line.numbers_within 1) in
     let second : nat_abs c.args.factors.pivot * nat_abs (whole_at (wholes c.args.pivot.now) 1) ≤ nat_abs c.args.factors.pivot * c.args.pivot.now.most = mul-le-mul_left (nat_abs c.args.factors.pivot) (c.requires.pivot.numbers_within 1) in
-    let room = c.requires.room in
+    let within_bound = c.requires.within_bound in
     let within = left_within c.args.factors.line c.args.factors.pivot (whole_at (wholes c.args.line.now) 1) (whole_at (wholes c.args.pivot.now) 1) (2 ^ 127 - 1) (omega arith) in
     omega arith

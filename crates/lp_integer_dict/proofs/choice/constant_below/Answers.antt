@@ -14,7 +14,7 @@ returns-then-constant-lt0 c =
     let below : c.read-constant.result.numerator <ℤ pos 0 = omega (arith, ints) in
     let w = c.requires.lines.2 in
     let small = w.small in
-    let within = (c.read-constant.ensures.within c.requires.lines.1 w.room).1 in (
+    let within = (c.read-constant.ensures.within c.requires.lines.1 w.within_bound).1 in (
       (c.read-constant.ensures.positive, omega arith),
       subst (λ x. x <ℚ whole (pos 0)) c.read-constant.ensures.number (below_number c.read-constant.result.numerator c.read-constant.result.denominator c.read-constant.ensures.positive below),
       c.read-constant.ensures.number,

@@ -28,7 +28,7 @@ returns c =
     let above : pos 0 <ℤ n = omega (arith, ints) in
     let w = c.requires.lines.2 in
     let small = w.small in
-    let within = (c.read-number.ensures.within c.requires.lines.1 w.room).0 in
+    let within = (c.read-number.ensures.within c.requires.lines.1 w.within_bound).0 in
     let some : 0 < nat_abs n = omega (arith, ints) in
     let low : nat_abs n < 2 ^ 127 = omega arith in (
       (subst (λ z. 0 < nat_abs z) (sym is) some, subst (λ z. nat_abs z < 2 ^ 127) (sym is) low),

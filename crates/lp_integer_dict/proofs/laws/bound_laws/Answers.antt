@@ -4,7 +4,7 @@ use Rattle.lp_integer_dict.proofs.Above.{bounded_above}
 use Rattle.lp_integer_dict.proofs.laws.bound_laws.Goals as goal
 
 pub returns-clause-ratios : goal.returns-clause-ratios
-returns-clause-ratios c = λ limit bound d pivot q room h. every_ratio_fits limit bound d room h pivot q
+returns-clause-ratios c = λ limit bound d pivot q within_bound h. every_ratio_fits limit bound d within_bound h pivot q
 
 pub returns-clause-pairs : goal.returns-clause-pairs
 returns-clause-pairs c = λ limit ni nk f p di dk mi mk above_i above_k some top_i low_i top_k h. (

@@ -29,21 +29,21 @@ magnitude_at-requires-2-clause-within c = (ready c.args.lines.now c.args.deferre
 
 pub overflow_mul-result : goal.overflow_mul-result
 overflow_mul-result c =
-    let room = (ready c.args.lines.now c.args.deferred c.in-Some.k c.requires.lines.0 c.requires.lines.1 c.in-Some.is c.requires.lines.2 c.args.place 1 c.index-lines-place.result c.index-lines-k.result c.if-place-k.false c.requires.within c.requires.lines.2.wide c.index-lines-place.is c.index-lines-k.is).room in
+    let within_bound = (ready c.args.lines.now c.args.deferred c.in-Some.k c.requires.lines.0 c.requires.lines.1 c.in-Some.is c.requires.lines.2 c.args.place 1 c.index-lines-place.result c.index-lines-k.result c.if-place-k.false c.requires.within c.requires.lines.2.wide c.index-lines-place.is c.index-lines-k.is).within_bound in
     let is : c.index-lines-place.result.most * c.magnitude_at.result ≡ c.index-lines-place.result.most * nat_abs (whole_at (wholes c.index-lines-k.result) 1) = ap (λ m. c.index-lines-place.result.most * m) c.magnitude_at.ensures.value in
     let small : c.index-lines-place.result.most * c.magnitude_at.result < 2 ^ 128 = omega arith in
     search rules
 
 pub overflow_mul-result-2 : goal.overflow_mul-result-2
 overflow_mul-result-2 c =
-    let room = (ready c.args.lines.now c.args.deferred c.in-Some.k c.requires.lines.0 c.requires.lines.1 c.in-Some.is c.requires.lines.2 c.args.place 1 c.index-lines-place.result c.index-lines-k.result c.if-place-k.false c.requires.within c.requires.lines.2.wide c.index-lines-place.is c.index-lines-k.is).room in
+    let within_bound = (ready c.args.lines.now c.args.deferred c.in-Some.k c.requires.lines.0 c.requires.lines.1 c.in-Some.is c.requires.lines.2 c.args.place 1 c.index-lines-place.result c.index-lines-k.result c.if-place-k.false c.requires.within c.requires.lines.2.wide c.index-lines-place.is c.index-lines-k.is).within_bound in
     let is : c.magnitude_at-2.result * c.index-lines-k.result.most ≡ nat_abs (whole_at (wholes c.index-lines-place.result) 1) * c.index-lines-k.result.most = ap (λ m. m * c.index-lines-k.result.most) c.magnitude_at-2.ensures.value in
     let small : c.magnitude_at-2.result * c.index-lines-k.result.most < 2 ^ 128 = omega arith in
     search rules
 
 pub overflow_add-result : goal.overflow_add-result
 overflow_add-result c =
-    let room = (ready c.args.lines.now c.args.deferred c.in-Some.k c.requires.lines.0 c.requires.lines.1 c.in-Some.is c.requires.lines.2 c.args.place 1 c.index-lines-place.result c.index-lines-k.result c.if-place-k.false c.requires.within c.requires.lines.2.wide c.index-lines-place.is c.index-lines-k.is).room in
+    let within_bound = (ready c.args.lines.now c.args.deferred c.in-Some.k c.requires.lines.0 c.requires.lines.1 c.in-Some.is c.requires.lines.2 c.args.place 1 c.index-lines-place.result c.index-lines-k.result c.if-place-k.false c.requires.within c.requires.lines.2.wide c.index-lines-place.is c.index-lines-k.is).within_bound in
     let first : c.index-lines-place.result.most * c.magnitude_at.result ≡ c.index-lines-place.result.most * nat_abs (whole_at (wholes c.index-lines-k.result) 1) = ap (λ m. c.index-lines-place.result.most * m) c.magnitude_at.ensures.value in
     let second : c.magnitude_at-2.result * c.index-lines-k.result.most ≡ nat_abs (whole_at (wholes c.index-lines-place.result) 1) * c.index-lines-k.result.most = ap (λ m. m * c.index-lines-k.result.most) c.magnitude_at-2.ensures.value in
     let small : c.index-lines-place.result.most * c.magnitude_at.result + c.magnitude_at-2.result * c.index-lines-k.result.most < 2 ^ 128 = omega arith in

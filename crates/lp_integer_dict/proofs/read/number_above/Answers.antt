@@ -21,7 +21,7 @@ cross_difference-requires c =
     let f_is : to_z w128 (of_z w128 c.marked_number_at-3.result) ≡ f = to_z-of_z w128 c.marked_number_at-3.result fits_f ∙ c.marked_number_at-3.ensures in
     let x_is : to_z w128 (of_z w128 c.marked_number_at-4.result) ≡ x = to_z-of_z w128 c.marked_number_at-4.result fits_x ∙ c.marked_number_at-4.ensures in
     let both = steps_within c.args.line.now c.args.pivot.now c.requires.line c.requires.pivot c.args.column in
-    let room = c.requires.room in
+    let within_bound = c.requires.within_bound in
     let small : nat_abs u * nat_abs n + nat_abs f * nat_abs x < 2 ^ 127 = omega arith in
     subst₂ (λ s t. s + t < 2 ^ 127) (sym (ap₂ (λ s t. nat_abs s * nat_abs t) u_is n_is)) (sym (ap₂ (λ s t. nat_abs s * nat_abs t) f_is x_is)) small
 

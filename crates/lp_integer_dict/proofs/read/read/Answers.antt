@@ -30,8 +30,8 @@ read_above-requires-clause-sized c = (ready c.args.lines.now c.args.deferred c.i
 pub read_above-requires-clause-zero : goal.read_above-requires-clause-zero
 read_above-requires-clause-zero c = (ready c.args.lines.now c.args.deferred c.in-Some.k c.requires.lines.0 c.requires.lines.1 c.in-Some.is c.requires.lines.2 c.args.place c.args.column c.index-lines-place.result c.index-lines-k.result c.if-place-k.false c.requires.within c.requires.lines.3 c.index-lines-place.is c.index-lines-k.is).zero
 
-pub read_above-requires-clause-room : goal.read_above-requires-clause-room
-read_above-requires-clause-room c = (ready c.args.lines.now c.args.deferred c.in-Some.k c.requires.lines.0 c.requires.lines.1 c.in-Some.is c.requires.lines.2 c.args.place c.args.column c.index-lines-place.result c.index-lines-k.result c.if-place-k.false c.requires.within c.requires.lines.3 c.index-lines-place.is c.index-lines-k.is).room
+pub read_above-requires-clause-within_bound : goal.read_above-requires-clause-within_bound
+read_above-requires-clause-within_bound c = (ready c.args.lines.now c.args.deferred c.in-Some.k c.requires.lines.0 c.requires.lines.1 c.in-Some.is c.requires.lines.2 c.args.place c.args.column c.index-lines-place.result c.index-lines-k.result c.if-place-k.false c.requires.within c.requires.lines.3 c.index-lines-place.is c.index-lines-k.is).within_bound
 
 pub returns-clause-positive : goal.returns-clause-positive
 returns-clause-positive c = (read_at_other c.args.lines.now c.args.deferred c.in-Some.k c.requires.lines.0 c.requires.lines.1 c.in-Some.is c.requires.lines.2 c.args.place c.args.column c.index-lines-place.result c.index-lines-k.result _ _ c.if-place-k.false c.requires.within c.index-lines-place.is c.index-lines-k.is c.read_above.ensures.numerator c.read_above.ensures.denominator).positive

@@ -3,7 +3,7 @@ use Rattle.std.specs.Prelude.{IfOk, MatchOption}
 use Rattle.gq_number.specs.Number.{whole}
 use Rattle.gq_number.specs.Order.{◌<ℚ◌}
 use Rattle.lp_integer_rows.specs.Form.{AreLines, AreBounded, AreSameLines, lines_number}
-use Rattle.lp_integer_dict.specs.WithinBound.{IsRoomyPlan, FactorsHaveNoRoom}
+use Rattle.lp_integer_dict.specs.WithinBound.{IsRoomyPlan, FactorsExceed}
 use Rattle.lp_integer_dict.proofs.Sameness.{same_are, same_bounded, same_lines, same_numbers}
 use Rattle.lp_integer_rows.proofs.Results.{ok_anyway}
 use Rattle.lp_integer_dict.proofs.step.plan_exchange.Goals as goal
@@ -25,7 +25,7 @@ returns-clause-same c = ok_anyway (AreSameLines c.args.lines.now.items c.reduce_
 
 pub returns-clause-planned : goal.returns-clause-planned
 returns-clause-planned c =
-    subst (λ ls. IfOk c.plan_once-2.result (λ o. MatchOption o (FactorsHaveNoRoom c.args.bound c.args.column c.args.place c.args.leaving ls) (λ plans. IsRoomyPlan c.args.bound c.args.column c.args.place c.args.leaving ls plans.items))) c.as_slice-2.ensures.value c.plan_once-2.ensures
+    subst (λ ls. IfOk c.plan_once-2.result (λ o. MatchOption o (FactorsExceed c.args.bound c.args.column c.args.place c.args.leaving ls) (λ plans. IsRoomyPlan c.args.bound c.args.column c.args.place c.args.leaving ls plans.items))) c.as_slice-2.ensures.value c.plan_once-2.ensures
 
 pub plan_once-requires-clause-lines : goal.plan_once-requires-clause-lines
 plan_once-requires-clause-lines c =

@@ -1,7 +1,7 @@
 use Rattle.std.proofs.Common.{◌≡◌, length, inl, inr, true≢false, Some, sym, ◌∙◌, subst, arith}
 use Rattle.std.specs.Prelude.{slice_get, MatchOption}
 use Rattle.lp_integer_rows.specs.Form.{ArePlanned, IsPlan, IsSomeCrowded}
-use Rattle.lp_integer_dict.specs.WithinBound.{KeepsRoom}
+use Rattle.lp_integer_dict.specs.WithinBound.{DeferredStaysWithinAfter}
 use Rattle.lp_integer_rows.proofs.Plans.{index_get, some_at}
 use Rattle.lp_integer_dict.proofs.Sameness.{line_above, plan_of}
 use Rattle.lp_integer_dict.proofs.step.plan_once.Goals as goal
@@ -26,11 +26,11 @@ returns-then-leaving-place c =
     subst (λ o. MatchOption o (IsSomeCrowded c.args.bound c.args.column c.args.place c.args.lines.now c.index-lines-place.result) (λ ps. ArePlanned c.args.bound c.args.column c.args.place c.args.lines.now c.index-lines-place.result ps.items (length c.args.lines.now))) c.in-Some.is c.in_ok-plans.ensures in
     record {
       planned = plan_of c.args.bound c.args.column c.args.place c.requires.lines.0 c.args.lines.now c.in-Some.plans.items c.index-lines-place.result c.requires.lines.1 there c.requires.small c.requires.above planned;
-      room = λ p l g other. absurd (other c.if-leaving-place.true);
+      within_bound = λ p l g other. absurd (other c.if-leaving-place.true);
     }
 
-pub keeps_room-requires-clause-planned : goal.keeps_room-requires-clause-planned
-keeps_room-requires-clause-planned c =
+pub deferred_stays_within_after-requires-clause-planned : goal.deferred_stays_within_after-requires-clause-planned
+deferred_stays_within_after-requires-clause-planned c =
     let there : slice_get c.args.lines.now c.args.place ≡ Some c.index-lines-place.result = index_get c.args.lines.now c.args.place c.index-lines-place.result c.index-lines-place.result c.requires.within.0 (sym c.index-lines-place.is) in
     let planned : ArePlanned c.args.bound c.args.column c.args.place c.args.lines.now c.index-lines-place.result c.in-Some.plans.items (length c.args.lines.now) =
     subst (λ o. MatchOption o (IsSomeCrowded c.args.bound c.args.column c.args.place c.args.lines.now c.index-lines-place.result) (λ ps. ArePlanned c.args.bound c.args.column c.args.place c.args.lines.now c.index-lines-place.result ps.items (length c.args.lines.now))) c.in-Some.is c.in_ok-plans.ensures in
@@ -43,9 +43,9 @@ returns c =
     subst (λ o. MatchOption o (IsSomeCrowded c.args.bound c.args.column c.args.place c.args.lines.now c.index-lines-place.result) (λ ps. ArePlanned c.args.bound c.args.column c.args.place c.args.lines.now c.index-lines-place.result ps.items (length c.args.lines.now))) c.in-Some.is c.in_ok-plans.ensures in
     record {
       planned = plan_of c.args.bound c.args.column c.args.place c.requires.lines.0 c.args.lines.now c.in-Some.plans.items c.index-lines-place.result c.requires.lines.1 there c.requires.small c.requires.above planned;
-      room = λ p l g other p_at l_at g_at.
-          subst (λ ps. KeepsRoom c.args.leaving p l g c.args.lines.now ps c.args.bound) c.as_slice.ensures.value
-          ((c.keeps_room.ensures p l g p_at l_at (subst (λ ps. slice_get ps c.args.leaving ≡ Some g) (sym c.as_slice.ensures.value) g_at)).0 c.if-not-keeps_room.false);
+      within_bound = λ p l g other p_at l_at g_at.
+          subst (λ ps. DeferredStaysWithinAfter c.args.leaving p l g c.args.lines.now ps c.args.bound) c.as_slice.ensures.value
+          ((c.deferred_stays_within_after.ensures p l g p_at l_at (subst (λ ps. slice_get ps c.args.leaving ≡ Some g) (sym c.as_slice.ensures.value) g_at)).0 c.if-not-deferred_stays_within_after.false);
     }
 
 pub returns-in_default : goal.returns-in_default
@@ -53,14 +53,14 @@ returns-in_default c =
     let there : slice_get c.args.lines.now c.args.place ≡ Some c.index-lines-place.result = index_get c.args.lines.now c.args.place c.index-lines-place.result c.index-lines-place.result c.requires.within.0 (sym c.index-lines-place.is) in
     inl (c.index-lines-place.result, there, subst (λ o. MatchOption o (IsSomeCrowded c.args.bound c.args.column c.args.place c.args.lines.now c.index-lines-place.result) (λ ps. ArePlanned c.args.bound c.args.column c.args.place c.args.lines.now c.index-lines-place.result ps.items (length c.args.lines.now))) c.in_default.is c.in_ok-plans.ensures)
 
-pub returns-then-not-keeps_room : goal.returns-then-not-keeps_room
-returns-then-not-keeps_room c =
+pub returns-then-not-deferred_stays_within_after : goal.returns-then-not-deferred_stays_within_after
+returns-then-not-deferred_stays_within_after c =
     let there : slice_get c.args.lines.now c.args.place ≡ Some c.index-lines-place.result = index_get c.args.lines.now c.args.place c.index-lines-place.result c.index-lines-place.result c.requires.within.0 (sym c.index-lines-place.is) in
     let planned : ArePlanned c.args.bound c.args.column c.args.place c.args.lines.now c.index-lines-place.result c.in-Some.plans.items (length c.args.lines.now) =
     subst (λ o. MatchOption o (IsSomeCrowded c.args.bound c.args.column c.args.place c.args.lines.now c.index-lines-place.result) (λ ps. ArePlanned c.args.bound c.args.column c.args.place c.args.lines.now c.index-lines-place.result ps.items (length c.args.lines.now))) c.in-Some.is c.in_ok-plans.ensures in
     let l = some_at c.args.lines.now c.args.leaving c.requires.within.1 in
     let g = some_at c.in-Some.plans.items c.args.leaving (let sized = planned.sized in let within = c.requires.within.1 in omega arith) in
-    let keeps = c.keeps_room.ensures c.index-lines-place.result l.0 g.0 there l.1 (subst (λ ps. slice_get ps c.args.leaving ≡ Some g.0) (sym c.as_slice.ensures.value) g.1) in
+    let keeps = c.deferred_stays_within_after.ensures c.index-lines-place.result l.0 g.0 there l.1 (subst (λ ps. slice_get ps c.args.leaving ≡ Some g.0) (sym c.as_slice.ensures.value) g.1) in
     inr (record {
       plans = c.in-Some.plans.items;
       pivot = c.index-lines-place.result;
@@ -71,5 +71,5 @@ returns-then-not-keeps_room c =
       line_there = l.1;
       factors_there = g.1;
       planned = plan_of c.args.bound c.args.column c.args.place c.requires.lines.0 c.args.lines.now c.in-Some.plans.items c.index-lines-place.result c.requires.lines.1 there c.requires.small c.requires.above planned c.index-lines-place.result there;
-      crowded = λ h. true≢false (sym (keeps.1 (subst (λ ps. KeepsRoom c.args.leaving c.index-lines-place.result l.0 g.0 c.args.lines.now ps c.args.bound) (sym c.as_slice.ensures.value) h)) ∙ c.if-not-keeps_room.true);
+      crowded = λ h. true≢false (sym (keeps.1 (subst (λ ps. DeferredStaysWithinAfter c.args.leaving c.index-lines-place.result l.0 g.0 c.args.lines.now ps c.args.bound) (sym c.as_slice.ensures.value) h)) ∙ c.if-not-deferred_stays_within_after.true);
     })

@@ -2,7 +2,7 @@ use Rattle.std.proofs.Common.{◌≡◌, ◌<◌, true, false, true≢false, len
 use Rattle.gq_number.specs.Number.{whole}
 use Rattle.gq_number.specs.Order.{◌<ℚ◌}
 use Rattle.lp_integer_rows.specs.Form.{AreLines, AreSameLines, lines_number}
-use Rattle.lp_integer_dict.specs.WithinBound.{AreTurnedInRoom, FactorsHaveNoRoom, HaveNoRoomMade, LinesHaveNoRoom}
+use Rattle.lp_integer_dict.specs.WithinBound.{AreExchangedWithin, FactorsExceed, MadeRowsExceed, ExchangeExceeds}
 use Rattle.lp_integer_dict.proofs.Sameness.{same_are, same_numbers}
 use Rattle.lp_integer_dict.proofs.Arriving.{same_turned}
 use Rattle.lp_integer_rows.proofs.Results.{if_ok, if_both}
@@ -28,7 +28,7 @@ turn_apart-requires-clause-above c =
 
 pub returns-clause-turned : goal.returns-clause-turned
 returns-clause-turned c =
-    if_ok (λ done. done ≡ true → AreTurnedInRoom c.args.bound c.args.column c.args.place c.args.leaving c.turn_planned.new.lines.items c.turn_apart.new.lines.items) (λ done. done ≡ true → AreTurnedInRoom c.args.bound c.args.column c.args.place c.args.leaving c.args.lines.now.items c.turn_apart.new.lines.items) c.turn_apart.result
+    if_ok (λ done. done ≡ true → AreExchangedWithin c.args.bound c.args.column c.args.place c.args.leaving c.turn_planned.new.lines.items c.turn_apart.new.lines.items) (λ done. done ≡ true → AreExchangedWithin c.args.bound c.args.column c.args.place c.args.leaving c.args.lines.now.items c.turn_apart.new.lines.items) c.turn_apart.result
     (λ _ turned yes. same_turned c.args.bound c.args.column c.args.place c.args.leaving c.args.lines.now.items c.turn_planned.new.lines.items c.turn_apart.new.lines.items (c.in_ok-planned.ensures.same c.if-planned.false) (turned yes)) c.turn_apart.ensures.turned
 
 pub returns-clause-same : goal.returns-clause-same
@@ -38,5 +38,5 @@ returns-clause-same c =
 
 pub returns-clause-none : goal.returns-clause-none
 returns-clause-none c =
-    if_both (λ done. done ≡ false → c.turn_apart.new.lines.items ≡ c.turn_planned.new.lines.items) (λ done. done ≡ false → HaveNoRoomMade c.args.bound c.args.column c.args.place c.args.leaving c.turn_planned.new.lines.items) (λ done. done ≡ false → LinesHaveNoRoom c.args.bound c.args.column c.args.place c.args.leaving c.turn_apart.new.lines.items) c.turn_apart.result
-    (λ _ same none no. subst (LinesHaveNoRoom c.args.bound c.args.column c.args.place c.args.leaving) (sym (same no)) (record { factors = c.in_ok-planned.ensures.none c.if-planned.false; made = none no })) c.turn_apart.ensures.same c.turn_apart.ensures.none
+    if_both (λ done. done ≡ false → c.turn_apart.new.lines.items ≡ c.turn_planned.new.lines.items) (λ done. done ≡ false → MadeRowsExceed c.args.bound c.args.column c.args.place c.args.leaving c.turn_planned.new.lines.items) (λ done. done ≡ false → ExchangeExceeds c.args.bound c.args.column c.args.place c.args.leaving c.turn_apart.new.lines.items) c.turn_apart.result
+    (λ _ same none no. subst (ExchangeExceeds c.args.bound c.args.column c.args.place c.args.leaving) (sym (same no)) (record { factors = c.in_ok-planned.ensures.none c.if-planned.false; made = none no })) c.turn_apart.ensures.same c.turn_apart.ensures.none

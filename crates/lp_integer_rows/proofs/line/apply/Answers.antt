@@ -13,13 +13,13 @@ returns-then-factors-eq0 c = λ bound column limited above planned.
     let none : c.args.factors.pivot ≡ pos 0 = sym (to_z-of_z w128 c.args.factors.pivot fits) ∙ ap (to_z w128) c.if-factors-eq0.true in
     untouched_line bound column c.args.line.now c.args.pivot.now c.args.factors c.requires.line none planned
 
-pub reduce_due-requires : goal.reduce_due-requires
-reduce_due-requires c = (c.in_ok-lessen.ensures c.requires.planned.0 c.requires.planned.1 c.requires.planned.2 c.requires.planned.4 c.requires.planned.3).is_line
+pub reduce_if_useful-requires : goal.reduce_if_useful-requires
+reduce_if_useful-requires c = (c.in_ok-lessen.ensures c.requires.planned.0 c.requires.planned.1 c.requires.planned.2 c.requires.planned.4 c.requires.planned.3).is_line
 
 pub returns : goal.returns
 returns c =
-    if_ok (λ _. IsSameLine c.lessen.new.line c.reduce_due.new.line)
-    (λ _. (bound column : ℕ) → bound < 2 ^ 127 → pos 0 <ℤ whole_at (wholes c.args.pivot.now) column → IsPlanned bound column c.args.line.now c.args.pivot.now c.args.factors → IsLessenedLine column c.args.line.now c.args.pivot.now c.reduce_due.new.line c.args.factors)
-    c.reduce_due.result
+    if_ok (λ _. IsSameLine c.lessen.new.line c.reduce_if_useful.new.line)
+    (λ _. (bound column : ℕ) → bound < 2 ^ 127 → pos 0 <ℤ whole_at (wholes c.args.pivot.now) column → IsPlanned bound column c.args.line.now c.args.pivot.now c.args.factors → IsLessenedLine column c.args.line.now c.args.pivot.now c.reduce_if_useful.new.line c.args.factors)
+    c.reduce_if_useful.result
     (λ _ s. λ bound column limited above planned. reduced_line column c.args.line.now c.args.pivot.now _ _ c.args.factors (c.in_ok-lessen.ensures bound column limited above planned) s)
-    c.reduce_due.ensures
+    c.reduce_if_useful.ensures

@@ -25,8 +25,8 @@ lessen-requires-clause-small c =
     let small = c.requires.planned.2 in
     omega arith
 
-pub lessen-requires-clause-room : goal.lessen-requires-clause-room
-lessen-requires-clause-room c = λ k.
+pub lessen-requires-clause-within_bound : goal.lessen-requires-clause-within_bound
+lessen-requires-clause-within_bound c = λ k.
     let a : ℤ = to_z w128 (of_z w128 c.args.factors.line) in
     let b : ℤ = to_z w128 (of_z w128 c.args.factors.pivot) in
     let fits_a : FitsSigned w128 c.args.factors.line = search rules in
@@ -56,7 +56,7 @@ returns c = λ bound column limited above planned.
     let first : nat_abs a * nat_abs (whole_at (wholes c.args.line.now) k) ≤ nat_abs a * c.args.line.now.most = mul-le-mul_left (nat_abs a) (c.requires.line.numbers_within k) in
     let second : nat_abs b * nat_abs (whole_at (wholes c.args.pivot.now) k) ≤ nat_abs b * c.args.pivot.now.most = mul-le-mul_left (nat_abs b) (c.requires.pivot.numbers_within k) in
     omega arith) in
-    let grown : c.args.line.now.denominator * nat_abs a ≤ c.args.line.now.most * nat_abs a = mul-le-mul_right (nat_abs a) c.requires.line.denominator_within in
+    let extended : c.args.line.now.denominator * nat_abs a ≤ c.args.line.now.most * nat_abs a = mul-le-mul_right (nat_abs a) c.requires.line.denominator_within in
     let turned = mul_comm c.args.line.now.most (nat_abs a) in
     let after : Line = record { numbers = c.lessen.new.self; denominator = c.args.line.now.denominator * nat_abs a; most = c.max-line.result; marks = c.joined-line.result; leading = c.of-line.result } in
     let all_most : c.max-line.result ≤ most = omega arith in

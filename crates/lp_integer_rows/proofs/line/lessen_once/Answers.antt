@@ -10,8 +10,8 @@ use Rattle.lp_integer_rows.specs.Form.{wholes, AreFactors}
 use Rattle.lp_integer_rows.proofs.Updating.{lessened_line}
 use Rattle.lp_integer_rows.proofs.line.lessen_once.Goals as goal
 
-pub lessen_at-requires-clause-room : goal.lessen_at-requires-clause-room
-lessen_at-requires-clause-room c = λ k.
+pub lessen_at-requires-clause-within_bound : goal.lessen_at-requires-clause-within_bound
+lessen_at-requires-clause-within_bound c = λ k.
     let b : ℤ = to_z w128 (of_z w128 c.args.factors.pivot) in
     let fits_b : FitsSigned w128 c.args.factors.pivot = search rules in
     let most_is : nat_abs (pos 1) * c.args.line.now.most + nat_abs b * c.args.pivot.now.most ≡ c.args.factors.most =
@@ -42,7 +42,7 @@ returns-clause-lessened c = λ _ bound column limited above planned.
     let first : nat_abs (pos 1) * nat_abs (whole_at (wholes c.args.line.now) k) ≤ nat_abs (pos 1) * c.args.line.now.most = mul-le-mul_left (nat_abs (pos 1)) (c.requires.line.numbers_within k) in
     let second : nat_abs b * nat_abs (whole_at (wholes c.args.pivot.now) k) ≤ nat_abs b * c.args.pivot.now.most = mul-le-mul_left (nat_abs b) (c.requires.pivot.numbers_within k) in
     omega arith) (omega arith) in
-    let above_least : c.args.line.now.most ≤ c.in-Some.most = lessened.grown in
+    let above_least : c.args.line.now.most ≤ c.in-Some.most = lessened.extended in
     let low = c.requires.line.denominator_within in
     let after : Line = record { numbers = c.lessen_at.new.self; denominator = c.args.line.now.denominator; most = c.in-Some.most; marks = c.joined-line.result; leading = c.of-line.result } in
     lessened_line c.args.line.now c.args.pivot.now after column (pos 1) b c.args.factors c.requires.line c.requires.pivot c.requires.sized above factors

@@ -12,7 +12,7 @@ loop-n-preserved c =
     let number_is = to_z-of_z w64 number fits_number in
     let old = c.loop-n.invariant in
     let above = c.greater-most.ensures.above in
-    let grown = above.0 in
+    let extended = above.0 in
     let high : nat_abs number ≤ c.greater-most.result = subst (λ z. nat_abs z ≤ c.greater-most.result) number_is above.1 in (
       below_more _ _ (λ k less. let low = old.0 k less in omega arith) high,
       λ m within. elim c.greater-most.ensures.one [

@@ -3,7 +3,7 @@ use Rattle.std.specs.Prelude.{slice_get}
 use Rattle.std.proofs.lemmas.Int.{ints, to_z-of_z}
 use Rattle.std.proofs.lemmas.Option.{slice_get-get_or}
 use Rattle.gq_number.proofs.Whole.{nat_abs-*ℤ}
-use Rattle.lp_integers.specs.Lines.{whole_at, HaveRoom}
+use Rattle.lp_integers.specs.Lines.{whole_at, CombinationsStayWithin}
 use Rattle.lp_integers.proofs.Lines.{left_within}
 use Rattle.lp_integers.proofs.Places.{place_within, lessened_none, place_left, once_less, lessened_at_more, lessened_at_all, same_lessened_from}
 use Rattle.lp_integers.proofs.narrow.lessen_at.Goals as goal
@@ -31,7 +31,7 @@ product-second-requires c =
     let fits_other : FitsSigned w64 other = search rules in
     let b_is = to_z-of_z w64 c.args.b c.ranges.b in
     let other_is = to_z-of_z w64 other fits_other in
-    let room = c.requires.room place in
+    let within_bound = c.requires.within_bound place in
     let e = nat_abs-*ℤ c.args.b other in
     subst (λ z. nat_abs z < 2 ^ 63) (sym (ap₂ (λ x y. x *ℤ y) b_is other_is)) (omega arith)
 
@@ -82,11 +82,11 @@ difference-left-requires c =
     let fits_other : FitsSigned w64 other = search rules in
     let b_is = to_z-of_z w64 c.args.b c.ranges.b in
     let other_is = to_z-of_z w64 other fits_other in
-    let room = c.requires.room place in
+    let within_bound = c.requires.within_bound place in
     let there : slice_get c.args.places.now c.loop-i.i ≡ Some place = slice_get-get_or c.args.places.now c.loop-i.i 0 c.loop-i-test.true in
     let fits_second : FitsSigned w64 c.product-second.result = search rules in
     let before = place_left b c.args.numbers.now c.args.others.now c.loop-i.numbers c.args.places.now c.loop-i.i (length c.args.others.now) c.args.least c.loop-i.most place c.requires.places c.loop-i.invariant there in
-    let low = left_within (pos 1) c.args.b (whole_at c.args.numbers.now place) other (2 ^ 63 - 1) room in
+    let low = left_within (pos 1) c.args.b (whole_at c.args.numbers.now place) other (2 ^ 63 - 1) within_bound in
     let second_is : to_z w64 (of_z w64 c.product-second.result) ≡ c.args.b *ℤ other = to_z-of_z w64 c.product-second.result fits_second ∙ c.product-second.ensures ∙ ap₂ (λ x y. x *ℤ y) b_is other_is in
     let is : to_z w64 (of_z w64 number) -ℤ to_z w64 (of_z w64 c.product-second.result) ≡ pos 1 *ℤ whole_at c.args.numbers.now place -ℤ c.args.b *ℤ other =
     ap₂ (λ x y. x -ℤ y) (to_z-of_z w64 number fits_number ∙ before) second_is ∙ once_less (whole_at c.args.numbers.now place) (c.args.b *ℤ other) in
@@ -115,7 +115,7 @@ loop-i-preserved c =
     let once = once_less (whole_at c.args.numbers.now place) (b *ℤ other) in
     let is : v ≡ pos 1 *ℤ whole_at c.args.numbers.now place -ℤ b *ℤ other = cc in
     let high : nat_abs v ≤ c.greater-most.result = omega (arith, ints, c.greater-most.ensures.above.1) in
-    let small : (m : ℕ) → HaveRoom m (pos 1) b c.args.numbers.now c.args.others.now → c.args.least ≤ m → c.greater-most.result ≤ m =
+    let small : (m : ℕ) → CombinationsStayWithin m (pos 1) b c.args.numbers.now c.args.others.now → c.args.least ≤ m → c.greater-most.result ≤ m =
     λ m h more. let low : nat_abs v ≤ m = subst (λ z. nat_abs z ≤ m) (sym is) (left_within (pos 1) b (whole_at c.args.numbers.now place) other m (h place)) in
     let most = c.loop-i.invariant.small m h more in
     elim c.greater-most.ensures.one [ inl e ↦ omega arith | inr e ↦ omega (arith, ints) ] in

@@ -1,7 +1,7 @@
 use Rattle.std.proofs.Common.{rules, ℕ, ℤ, pos, nat_abs, ◌≡◌, ◌-ℤ◌, ◌*ℤ◌, ◌≤◌, slice_index_or, FitsSigned, to_z, of_z, inl, inr, sym, subst, subst₂, arith}
 use Rattle.std.specs.Int.{w128}
 use Rattle.std.proofs.lemmas.Int.{ints, to_z-of_z}
-use Rattle.lp_integers.specs.Lines.{HaveRoom, AreLessenedTo}
+use Rattle.lp_integers.specs.Lines.{CombinationsStayWithin, AreLessenedTo}
 use Rattle.lp_integers.proofs.Lines.{left_within, lessened_more, lessened_all}
 use Rattle.lp_integers.proofs.wide.lessen.Goals as goal
 
@@ -26,7 +26,7 @@ loop-c-preserved c =
     let is : v ≡ to_z w128 (of_z w128 c.args.a) *ℤ slice_index_or c.args.numbers.now c.loop-c.c (pos 0) -ℤ to_z w128 (of_z w128 c.args.b) *ℤ other = cc in
     let high : nat_abs v ≤ c.greater-most.result = omega (arith, ints, c.greater-most.ensures.above.1) in
     let plain : v ≡ c.args.a *ℤ slice_index_or c.args.numbers.now c.loop-c.c (pos 0) -ℤ c.args.b *ℤ other = cc in
-    let small : (m : ℕ) → HaveRoom m (to_z w128 (of_z w128 c.args.a)) (to_z w128 (of_z w128 c.args.b)) c.args.numbers.now c.args.others.now → c.greater-most.result ≤ m =
+    let small : (m : ℕ) → CombinationsStayWithin m (to_z w128 (of_z w128 c.args.a)) (to_z w128 (of_z w128 c.args.b)) c.args.numbers.now c.args.others.now → c.greater-most.result ≤ m =
     λ m h. let low : nat_abs v ≤ m = subst (λ z. nat_abs z ≤ m) (sym is) (left_within (to_z w128 (of_z w128 c.args.a)) (to_z w128 (of_z w128 c.args.b)) (slice_index_or c.args.numbers.now c.loop-c.c (pos 0)) other m (h c.loop-c.c)) in
     let most = c.loop-c.invariant.small m h in
     elim c.greater-most.ensures.one [ inl e ↦ omega arith | inr e ↦ omega (arith, ints) ] in

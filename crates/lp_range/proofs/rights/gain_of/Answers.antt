@@ -5,16 +5,16 @@ use Rattle.lp_range.proofs.Loops.{pair_fits, pair_gains}
 use Rattle.lp_range.proofs.rights.gain_of.Goals as goal
 
 pub overflow_add-slack : goal.overflow_add-slack
-overflow_add-slack g c = omega (arith, c.keeps.ensures.sized, c.requires.room)
+overflow_add-slack g c = omega (arith, c.keeps.ensures.sized, c.requires.within_bound)
 
 pub overflow_add-slack-in-E : goal.overflow_add-slack-in-E
-overflow_add-slack-in-E g c = omega (arith, c.keeps.ensures.sized, c.requires.room)
+overflow_add-slack-in-E g c = omega (arith, c.keeps.ensures.sized, c.requires.within_bound)
 
 pub overflow_add-slack-in-L : goal.overflow_add-slack-in-L
-overflow_add-slack-in-L g c = omega (arith, c.keeps.ensures.sized, c.requires.room)
+overflow_add-slack-in-L g c = omega (arith, c.keeps.ensures.sized, c.requires.within_bound)
 
 pub overflow_add-slack-in-G : goal.overflow_add-slack-in-G
-overflow_add-slack-in-G g c = omega (arith, c.keeps.ensures.sized, c.requires.room)
+overflow_add-slack-in-G g c = omega (arith, c.keeps.ensures.sized, c.requires.within_bound)
 
 pub returns-in-Ok : goal.returns-in-Ok
 returns-in-Ok g c =

@@ -13,9 +13,9 @@ pub ranges_of-requires : goal.ranges_of-requires
 ranges_of-requires g c =
     let d = dictionary g.F.ExactField.value c.args.dict.now in
     let same = first_slack g.F.ExactField.value c.args.lp.now c.requires.well_formed d c.requires.of_form c.variables.result c.len.result c.variables.ensures c.len.ensures in
-    let room = slack_room g.F.ExactField.value c.args.lp.now c.requires.well_formed d c.requires.of_form in
+    let within_bound = slack_room g.F.ExactField.value c.args.lp.now c.requires.well_formed d c.requires.of_form in
     let rows = ap count_of_rows c.as_slice.ensures in
-    omega (arith, same, room, rows)
+    omega (arith, same, within_bound, rows)
 
 pub returns : goal.returns
 returns g c =

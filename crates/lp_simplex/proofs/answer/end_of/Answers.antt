@@ -16,8 +16,8 @@ returns-in-Ended g c = subst (λ h. IfOk c.led_back.result (EndsHalted g.F.Exact
 pub interrupted-requires-clause-of_form : goal.interrupted-requires-clause-of_form
 interrupted-requires-clause-of_form g c = (subst (CanEnd g.F.ExactField.value (standard_value g.F.ExactField.value c.args.s.now)) c.in-Interrupted.is c.requires.halted).0
 
-pub interrupted-requires-clause-goes_on : goal.interrupted-requires-clause-goes_on
-interrupted-requires-clause-goes_on g c = (subst (CanEnd g.F.ExactField.value (standard_value g.F.ExactField.value c.args.s.now)) c.in-Interrupted.is c.requires.halted).1
+pub interrupted-requires-clause-continues : goal.interrupted-requires-clause-continues
+interrupted-requires-clause-continues g c = (subst (CanEnd g.F.ExactField.value (standard_value g.F.ExactField.value c.args.s.now)) c.in-Interrupted.is c.requires.halted).1
 
 pub returns-in-Interrupted : goal.returns-in-Interrupted
 returns-in-Interrupted g c = subst (λ h. IfOk c.interrupted.result (EndsHalted g.F.ExactField.value g.F.ExactField.limit c.args.lp.now h)) (sym c.in-Interrupted.is) c.interrupted.ensures

@@ -6,7 +6,7 @@ use Rattle.lp_simplex.proofs.answer.interrupted.Goals as goal
 
 pub led_back-requires-clause-done : goal.led_back-requires-clause-done
 led_back-requires-clause-done g c =
-    broken_off_done (dictionary g.F.ExactField.value c.args.dict.now) c.requires.goes_on (phase_two (dictionary g.F.ExactField.value c.args.dict.now) c.phase.result c.phase.ensures c.if-phase-eq2.true)
+    broken_off_done (dictionary g.F.ExactField.value c.args.dict.now) c.requires.continues (phase_two (dictionary g.F.ExactField.value c.args.dict.now) c.phase.result c.phase.ensures c.if-phase-eq2.true)
 
 pub returns-then-phase-eq2 : goal.returns-then-phase-eq2
 returns-then-phase-eq2 g c =

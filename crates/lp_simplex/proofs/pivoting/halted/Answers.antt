@@ -5,8 +5,8 @@ use Rattle.lp_simplex.proofs.pivoting.halted.Goals as goal
 
 pub returns-in-Pivot : goal.returns-in-Pivot
 returns-in-Pivot g c first pivots known =
-    let due = c.in-Pivot.ensures.chosen first pivots known in
-    (refl, goes_on_by_pivot (g.C.Choosing.chooses (g.C.Choosing.rule c.args.choice.now) first pivots (dictionary g.F.ExactField.value c.args.dict)) (dictionary g.F.ExactField.value c.args.dict) c.in-Pivot.field-0 due.0 due.1)
+    let required = c.in-Pivot.ensures.chosen first pivots known in
+    (refl, goes_on_by_pivot (g.C.Choosing.chooses (g.C.Choosing.rule c.args.choice.now) first pivots (dictionary g.F.ExactField.value c.args.dict)) (dictionary g.F.ExactField.value c.args.dict) c.in-Pivot.field-0 required.0 required.1)
 
 pub returns-in-Stop : goal.returns-in-Stop
 returns-in-Stop g c first pivots known =

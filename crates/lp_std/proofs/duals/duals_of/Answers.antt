@@ -8,7 +8,7 @@ use Rattle.lp_std.proofs.duals.duals_of.Goals as goal
 
 pub dual_of-requires : goal.dual_of-requires
 dual_of-requires g c =
-    omega (arith, c.requires.room, c.loop-i.invariant.counted, count_here g.F.ExactField.value g.F.ExactField.limit (slack_multiplier g.F.ExactField.value c.args.slacks.now) c.args.maximize c.args.rows.now c.loop-i.i c.index-rows-i.result (omega arith) c.index-rows-i.is)
+    omega (arith, c.requires.within_bound, c.loop-i.invariant.counted, count_here g.F.ExactField.value g.F.ExactField.limit (slack_multiplier g.F.ExactField.value c.args.slacks.now) c.args.maximize c.args.rows.now c.loop-i.i c.index-rows-i.result (omega arith) c.index-rows-i.is)
 
 pub overflow_add-place : goal.overflow_add-place
 overflow_add-place g c =

@@ -11,9 +11,9 @@ pub reduced_of-requires-clause-there : goal.reduced_of-requires-clause-there
 reduced_of-requires-clause-there g c =
     subst (λ p. p.0 < length c.args.costs.now) (sym c.index-columns-j.is) (All-get_or (λ p. p.0 < length c.args.costs.now) c.args.columns.now c.loop-j.j c.index-columns-j.result (omega (arith, c.requires.sized)) c.requires.there)
 
-pub reduced_of-requires-clause-room : goal.reduced_of-requires-clause-room
-reduced_of-requires-clause-room g c =
-    omega (arith, c.requires.room, c.loop-j.invariant.counted, own_count g.F.ExactField.value g.F.ExactField.limit (map g.F.ExactField.value c.args.costs.now) (slack_multiplier g.F.ExactField.value c.args.slacks.now) c.args.maximize c.args.columns.now c.args.bounded.now c.loop-j.j c.index-bounded-j.result c.index-columns-j.result (omega arith) c.index-bounded-j.is (omega (arith, c.requires.sized)) c.index-columns-j.is)
+pub reduced_of-requires-clause-within_bound : goal.reduced_of-requires-clause-within_bound
+reduced_of-requires-clause-within_bound g c =
+    omega (arith, c.requires.within_bound, c.loop-j.invariant.counted, own_count g.F.ExactField.value g.F.ExactField.limit (map g.F.ExactField.value c.args.costs.now) (slack_multiplier g.F.ExactField.value c.args.slacks.now) c.args.maximize c.args.columns.now c.args.bounded.now c.loop-j.j c.index-bounded-j.result c.index-columns-j.result (omega arith) c.index-bounded-j.is (omega (arith, c.requires.sized)) c.index-columns-j.is)
 
 pub overflow_add-place : goal.overflow_add-place
 overflow_add-place g c =

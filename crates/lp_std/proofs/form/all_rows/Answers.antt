@@ -8,8 +8,8 @@ use Rattle.lp_std.proofs.Shapes.{rows_few, columns_few, placed_sized, placed_low
 use Rattle.lp_std.proofs.Formed.{rows_stopped, room_left, bounds_stopped, all_made}
 use Rattle.lp_std.proofs.form.all_rows.Goals as goal
 
-pub rows_of-requires-clause-room : goal.rows_of-requires-clause-room
-rows_of-requires-clause-room g c =
+pub rows_of-requires-clause-within_bound : goal.rows_of-requires-clause-within_bound
+rows_of-requires-clause-within_bound g c =
     omega (arith, ap count_of_rows c.as_slice.ensures, rows_few g.F.ExactField.value c.args.lp.now c.requires.well_formed)
 
 pub rows_of-requires-clause-few : goal.rows_of-requires-clause-few
@@ -28,8 +28,8 @@ returns-in_err-made-clause-err g c =
     let p = err_from_is_err_and c.from_residual.result c.from_residual.ensures.1 in
     rw (p.1, p.2) (rows_stopped g.F.ExactField.value g.F.ExactField.limit c.args.lp.now c.args.columns.now c.requires.numbered c.as_slice.result.now c.as_slice.ensures c.in_err-made.field-0.0 c.in_err-made.ensures.err)
 
-pub with_bound_rows-requires-clause-room : goal.with_bound_rows-requires-clause-room
-with_bound_rows-requires-clause-room g c =
+pub with_bound_rows-requires-clause-within_bound : goal.with_bound_rows-requires-clause-within_bound
+with_bound_rows-requires-clause-within_bound g c =
     room_left g.F.ExactField.value g.F.ExactField.limit c.args.lp.now c.args.columns.now c.requires.numbered c.as_slice.result.now c.as_slice.ensures c.in_ok-made.made.items c.in_ok-made.ensures.ok.0 c.in_ok-made.ensures.ok.1 c.in_ok-made.ensures.ok.2 c.as_slice-2.result.now c.as_slice-2.ensures c.requires.well_formed
 
 pub with_bound_rows-requires-clause-few : goal.with_bound_rows-requires-clause-few

@@ -26,8 +26,8 @@ pub reduced_costs_of-requires-clause-few : goal.reduced_costs_of-requires-clause
 reduced_costs_of-requires-clause-few g c =
     omega (arith, c.count_rows-first.ensures, ap count_of_rows c.as_slice.ensures, ap (sum_by (λ (column : Column _). form.rows_of_bounds column.lower column.upper)) c.as_slice-2.ensures, rows_few g.F.ExactField.value c.args.lp.now c.requires.well_formed)
 
-pub reduced_costs_of-requires-clause-room : goal.reduced_costs_of-requires-clause-room
-reduced_costs_of-requires-clause-room g c =
+pub reduced_costs_of-requires-clause-within_bound : goal.reduced_costs_of-requires-clause-within_bound
+reduced_costs_of-requires-clause-within_bound g c =
     omega (arith, c.count_rows-first.ensures, ap count_of_rows c.as_slice.ensures, ap (sum_by (λ (column : Column _). form.rows_of_bounds column.lower column.upper)) c.as_slice-2.ensures, ap length (take_rest c.as_slice-costs.result.now (c.args.variables + 1)), length-drop (c.args.variables + 1) c.as_slice-costs.result.now, ap length c.as_slice-costs.ensures, c.requires.sized, c.requires.variables)
 
 pub returns : goal.returns

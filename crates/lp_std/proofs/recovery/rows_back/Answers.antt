@@ -10,8 +10,8 @@ pub duals_of-requires-clause-few : goal.duals_of-requires-clause-few
 duals_of-requires-clause-few g c =
     omega (arith, ap count_of_rows c.as_slice.ensures, rows_few g.F.ExactField.value c.args.lp.now c.requires.well_formed)
 
-pub duals_of-requires-clause-room : goal.duals_of-requires-clause-room
-duals_of-requires-clause-room g c =
+pub duals_of-requires-clause-within_bound : goal.duals_of-requires-clause-within_bound
+duals_of-requires-clause-within_bound g c =
     omega (arith, ap length (take_rest c.as_slice-costs.result.now (c.args.variables + 1)), length-drop (c.args.variables + 1) c.as_slice-costs.result.now, ap length c.as_slice-costs.ensures, c.requires.sized, c.requires.variables, ap count_of_rows c.as_slice.ensures)
 
 pub returns : goal.returns

@@ -7,8 +7,8 @@ use Rattle.lp_std.proofs.RowSteps.{stops_on}
 use Rattle.lp_std.proofs.BoundSteps.{bounds_stop, bounds_go, bounds_count, bounds_length, bounds_made}
 use Rattle.lp_std.proofs.rows.with_bound_rows.Goals as goal
 
-pub push_bound_row-requires-clause-room : goal.push_bound_row-requires-clause-room
-push_bound_row-requires-clause-room g c = omega (arith, c.loop-j.invariant.counted, c.requires.room)
+pub push_bound_row-requires-clause-within_bound : goal.push_bound_row-requires-clause-within_bound
+push_bound_row-requires-clause-within_bound g c = omega (arith, c.loop-j.invariant.counted, c.requires.within_bound)
 
 pub returns-in_err-push_bound_row-clause-err : goal.returns-in_err-push_bound_row-clause-err
 returns-in_err-push_bound_row-clause-err g c =

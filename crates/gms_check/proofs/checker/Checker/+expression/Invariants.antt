@@ -16,7 +16,7 @@ use Rattle.gms_check.proofs.checker.Checker.+expression.Given as goal
 
 abbrev pub invariant-expressions-loop-part : goal.invariant-expressions-loop-part
 invariant-expressions-loop-part g l = record {
-  noted : seen l.self ≡ noted g.F.ExactField.value (seen l.fn.self) (flat_map (λ (part : Expr _). uses l.standing l.around (seen l.fn.self).controlled (tree_of part)) (take l.part-index l.parts));
+  noted : seen l.self ≡ noted g.F.ExactField.value (seen l.fn.self) (flat_map (λ (part : Expr _). uses l.context l.around (seen l.fn.self).controlled (tree_of part)) (take l.part-index l.parts));
   variable : l.variable ≡ list_any (λ (part : Expr _). has_variable (known_of g.F.ExactField.value (seen l.fn.self)) (tree_of part)) (take l.part-index l.parts);
 }
 
@@ -26,26 +26,26 @@ invariant-amounts-loop-index g l =
 
 abbrev pub invariant-sum-loop-at : goal.invariant-sum-loop-at
 invariant-sum-loop-at g l = record {
-  noted : seen l.self ≡ noted g.F.ExactField.value (seen l.fn.self) (flat_map (λ (part : Place × Bool × Expr _). uses (as_part l.standing) part.0 (seen l.fn.self).controlled (tree_of part.2)) (take l.at-index l.parts));
+  noted : seen l.self ≡ noted g.F.ExactField.value (seen l.fn.self) (flat_map (λ (part : Place × Bool × Expr _). uses (as_part l.context) part.0 (seen l.fn.self).controlled (tree_of part.2)) (take l.at-index l.parts));
   variable : l.variable ≡ list_any (λ (part : Place × Bool × Expr _). has_variable (known_of g.F.ExactField.value (seen l.fn.self)) (tree_of part.2)) (take l.at-index l.parts);
 }
 
 abbrev pub invariant-product-loop-i : goal.invariant-product-loop-i
 invariant-product-loop-i g l = record {
-  noted : seen l.self ≡ noted g.F.ExactField.value (seen l.fn.self) (flat_map (λ (part : Place × Bool × Expr _). uses (as_part l.standing) part.0 (seen l.fn.self).controlled (tree_of part.2)) (take l.i l.parts) ++ steps l.standing in_no_place (signed_list (take l.i l.parts)));
+  noted : seen l.self ≡ noted g.F.ExactField.value (seen l.fn.self) (flat_map (λ (part : Place × Bool × Expr _). uses (as_part l.context) part.0 (seen l.fn.self).controlled (tree_of part.2)) (take l.i l.parts) ++ steps l.context in_no_place (signed_list (take l.i l.parts)));
   variable : l.earlier ≡ list_any (λ (part : Place × Bool × Expr _). has_variable (known_of g.F.ExactField.value (seen l.fn.self)) (tree_of part.2)) (take l.i l.parts);
 }
 
 abbrev pub invariant-power-loop-i : goal.invariant-power-loop-i
 invariant-power-loop-i g l = record {
-  noted : seen l.self ≡ noted g.F.ExactField.value (seen l.fn.self) (flat_map (λ (part : Place × Expr _). uses (as_part l.standing) part.0 (seen l.fn.self).controlled (tree_of part.1)) (take l.i l.parts) ++ steps l.standing in_no_place (placed_list (take l.i l.parts)));
+  noted : seen l.self ≡ noted g.F.ExactField.value (seen l.fn.self) (flat_map (λ (part : Place × Expr _). uses (as_part l.context) part.0 (seen l.fn.self).controlled (tree_of part.1)) (take l.i l.parts) ++ steps l.context in_no_place (placed_list (take l.i l.parts)));
   variable : l.earlier ≡ list_any (λ (part : Place × Expr _). has_variable (known_of g.F.ExactField.value (seen l.fn.self)) (tree_of part.1)) (take l.i l.parts);
 }
 
 abbrev pub invariant-relations-loop-part : goal.invariant-relations-loop-part
 invariant-relations-loop-part g l =
-    seen l.self ≡ noted g.F.ExactField.value (faulted (seen l.fn.self) l.around ((not l.fn.standing.numbers, WrongKind) ∷ [])) (flat_map (λ (part : RelOp × Expr _). uses as_number l.around (seen l.fn.self).controlled (tree_of part.1)) (take l.part-index l.parts))
+    seen l.self ≡ noted g.F.ExactField.value (faulted (seen l.fn.self) l.around ((not l.fn.context.numbers, WrongKind) ∷ [])) (flat_map (λ (part : RelOp × Expr _). uses as_number l.around (seen l.fn.self).controlled (tree_of part.1)) (take l.part-index l.parts))
 
 abbrev pub invariant-choice-loop-part : goal.invariant-choice-loop-part
 invariant-choice-loop-part g l =
-    seen l.self ≡ noted g.F.ExactField.value (faulted (seen l.fn.self) l.around ((not l.fn.standing.numbers, WrongKind) ∷ [])) (flat_map (λ (part : Bool × Expr _). uses as_condition l.around (seen l.fn.self).controlled (tree_of part.1)) (take l.part-index l.parts))
+    seen l.self ≡ noted g.F.ExactField.value (faulted (seen l.fn.self) l.around ((not l.fn.context.numbers, WrongKind) ∷ [])) (flat_map (λ (part : Bool × Expr _). uses as_condition l.around (seen l.fn.self).controlled (tree_of part.1)) (take l.part-index l.parts))

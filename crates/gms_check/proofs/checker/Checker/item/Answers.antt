@@ -27,14 +27,14 @@ returns-clause-noted g c =
     let vector = c.in_ok-positions.positions in
     let found : vector.items ≡ positions = c.in_ok-positions.ensures ∙ ap (λ (d : List (Option Named)). positions_of kind (names_of d)) c.as_slice.ensures in
     let counted : vec_len vector ≡ length vector.items = omega (arith, vector.ok.0) in
-    let due : c.len-2.result ≡ length positions = c.len-2.ensures ∙ counted ∙ ap length found in
+    let expected : c.len-2.result ≡ length positions = c.len-2.ensures ∙ counted ∙ ap length found in
     let used : Uses g.row.F.Denot = (item.named.at, naming kind item.named.name domain) ∷ [] in
     let sets : Uses g.row.F.Denot = flat_map domain_use item.domain in
     let places : Uses g.row.F.Denot = map (λ (item : Item _). (item.at, placing (length positions) (length item.parts))) item.items in
     let elements : Uses g.row.F.Denot = expansion_uses (known_of value s) positions item.items in
     let one : seen c.naming.new.self ≡ noted value s used = c.naming.ensures ∙ ap (λ (d : List (Option Named)). noted value s ((item.named.at, naming kind item.named.name (names_of d)) ∷ [])) c.as_slice-2.ensures in
     let two : seen c.domain_sets.new.self ≡ noted value s (used ++ sets) = noted-then value s (seen c.naming.new.self) (seen c.domain_sets.new.self) used sets one (c.domain_sets.ensures ∙ ap (λ (d : List (Option Named)). noted value (seen c.naming.new.self) (flat_map domain_use d)) c.as_slice-3.ensures) in
-    let three : seen c.parts.new.self ≡ noted value s ((used ++ sets) ++ places) = noted-then value s (seen c.domain_sets.new.self) (seen c.parts.new.self) (used ++ sets) places two (c.parts.ensures ∙ ap (λ n. noted value (seen c.domain_sets.new.self) (map (λ (item : Item _). (item.at, placing n (length item.parts))) c.as_slice-4.result.now)) due ∙ ap (λ (xs : List (Item _)). noted value (seen c.domain_sets.new.self) (map (λ (item : Item _). (item.at, placing (length positions) (length item.parts))) xs)) c.as_slice-4.ensures) in
+    let three : seen c.parts.new.self ≡ noted value s ((used ++ sets) ++ places) = noted-then value s (seen c.domain_sets.new.self) (seen c.parts.new.self) (used ++ sets) places two (c.parts.ensures ∙ ap (λ n. noted value (seen c.domain_sets.new.self) (map (λ (item : Item _). (item.at, placing n (length item.parts))) c.as_slice-4.result.now)) expected ∙ ap (λ (xs : List (Item _)). noted value (seen c.domain_sets.new.self) (map (λ (item : Item _). (item.at, placing (length positions) (length item.parts))) xs)) c.as_slice-4.ensures) in
     let last : noted value (seen c.parts.new.self) (expansion_uses (known_of value (seen c.parts.new.self)) c.deref.result.now c.as_slice-5.result.now) ≡ noted value (seen c.parts.new.self) elements = ap (λ (ps : List (Option _)). noted value (seen c.parts.new.self) (expansion_uses (known_of value (seen c.parts.new.self)) ps c.as_slice-5.result.now)) (c.deref.ensures.value ∙ found) ∙ ap (λ (xs : List (Item _)). noted value (seen c.parts.new.self) (expansion_uses (known_of value (seen c.parts.new.self)) positions xs)) c.as_slice-5.ensures ∙ ap (λ (u : Checking). noted value (seen c.parts.new.self) (expansion_uses (known_of value u) positions item.items)) three in
     on_ok_weaker c.data.result (λ e. noted-then value s (seen c.parts.new.self) (seen c.data.new.self) ((used ++ sets) ++ places) elements three (e ∙ last) ∙ ap (noted value s) (append_assoc (used ++ sets) places elements)) c.data.ensures.noted
 

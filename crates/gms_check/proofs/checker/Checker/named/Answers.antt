@@ -31,7 +31,7 @@ returns g c =
       | then-not-stands w ↦ or-true _ _ _ w.wrong-is (ap not w.if-not-stands.true)
       | else-not-stands w ↦ or-right _ _ _ (w.wrong-is ∙ w.has_wrong_set-wrong.ensures ∙ ap (list_any (λ (set : ℕ). not (is_index_set facts.state set))) (w.deref-else-not-stands.ensures.value ∙ sets)) (ap not w.if-not-stands.false)
     ] in
-    let miscounted : c.is_wrong_count-miscounted.result ≡ is_wrong_count (length domain) (index_count xs) = c.is_wrong_count-miscounted.ensures ∙ ap (λ due. is_wrong_count due (length c.args.indices.now)) c.position_count.ensures ∙ ap (is_wrong_count (length domain)) (sym (count-indices c.args.indices.now)) in
+    let miscounted : c.is_wrong_count-miscounted.result ≡ is_wrong_count (length domain) (index_count xs) = c.is_wrong_count-miscounted.ensures ∙ ap (λ expected. is_wrong_count expected (length c.args.indices.now)) c.position_count.ensures ∙ ap (is_wrong_count (length domain)) (sym (count-indices c.args.indices.now)) in
     let unordered : c.has_unordered-unordered.result ≡ list_any (λ (set : ℕ). not (is_known_ordered facts set)) (lagged_sets xs) = c.has_unordered-unordered.ensures ∙ ap (list_any (λ (set : ℕ). not (is_known_ordered facts set))) (c.deref-2.ensures.value ∙ lagged) in
     chain-6 at s _ _ _ _ _ _ _ _ _ _ _ _
     (c.require.ensures ∙ ap (λ b. faulted s at ((b, UnknownName) ∷ [])) (not-not c.if-is_unknown.unknown ∙ unknown))

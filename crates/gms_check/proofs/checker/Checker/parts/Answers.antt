@@ -12,7 +12,7 @@ loop-item-preserved g c =
     let value = g.F.ExactField.value in
     let s = seen c.loop-item.self in
     let item = c.item-item.result in
-    let due = c.args.due in
-    noted-mapped value [] (λ (item : Item _). (item.at, placing due (length item.parts))) c.args.items.now c.loop-item.item-index item (seen c.args.self.now) s (seen c.require.new.self) c.loop-item-test.true c.item-item.is c.loop-item.invariant
-    (noted-by value s _ item.at (placing due (length item.parts)) ((is_wrong_count due (length item.parts), WrongArity) ∷ []) refl
-    (c.require.ensures ∙ ap (λ b. faulted s item.at ((b, WrongArity) ∷ [])) (not-not c.is_wrong_count-miscounted.result ∙ c.is_wrong_count-miscounted.ensures ∙ ap (is_wrong_count due) c.len.ensures)))
+    let expected = c.args.expected in
+    noted-mapped value [] (λ (item : Item _). (item.at, placing expected (length item.parts))) c.args.items.now c.loop-item.item-index item (seen c.args.self.now) s (seen c.require.new.self) c.loop-item-test.true c.item-item.is c.loop-item.invariant
+    (noted-by value s _ item.at (placing expected (length item.parts)) ((is_wrong_count expected (length item.parts), WrongArity) ∷ []) refl
+    (c.require.ensures ∙ ap (λ b. faulted s item.at ((b, WrongArity) ∷ [])) (not-not c.is_wrong_count-miscounted.result ∙ c.is_wrong_count-miscounted.ensures ∙ ap (is_wrong_count expected) c.len.ensures)))

@@ -30,20 +30,20 @@ returns-in_err-first g c = handed_on _ _ c.from_residual-in_err-first.result _ c
 pub returns-in_err-push : goal.returns-in_err-push
 returns-in_err-push g c = handed_on _ _ c.from_residual-in_err-push.result _ c.from_residual-in_err-push.ensures.1 (refuses_memory (went_by (reads_inside c.requires c.in_ok-inner.ensures c.in_ok-first.ensures).gives) refl)
 
-pub loop-behind-init : goal.loop-behind-init
-loop-behind-init g c = arguments_start (reads_inside c.requires c.in_ok-inner.ensures c.in_ok-first.ensures) _ (ap (plain_views g.F.ExactField.value) (pushed (c.in_ok-first.first ∷ []) c.new-args.ensures.items c.in_ok-push.was c.push.ensures.items))
+pub loop-following-init : goal.loop-following-init
+loop-following-init g c = arguments_start (reads_inside c.requires c.in_ok-inner.ensures c.in_ok-first.ensures) _ (ap (plain_views g.F.ExactField.value) (pushed (c.in_ok-first.first ∷ []) c.new-args.ensures.items c.in_ok-push.was c.push.ensures.items))
 
 pub returns-in_err-argument : goal.returns-in_err-argument
-returns-in_err-argument g c = handed_on _ _ c.from_residual-in_err-argument.result _ c.from_residual-in_err-argument.ensures.1 (refuses_inside c.in_ok-inner.ensures (arguments_refuses c.loop-behind.invariant (next_inside (c.args.self.now.reader.unclosed + 1) c.in-Some.ensures) (reads_inside c.requires c.in_ok-inner.ensures c.in_err-argument.ensures)))
+returns-in_err-argument g c = handed_on _ _ c.from_residual-in_err-argument.result _ c.from_residual-in_err-argument.ensures.1 (refuses_inside c.in_ok-inner.ensures (arguments_refuses c.loop-following.invariant (next_inside (c.args.self.now.reader.unclosed + 1) c.in-Some.ensures) (reads_inside c.requires c.in_ok-inner.ensures c.in_err-argument.ensures)))
 
 pub returns-in_err-push-2 : goal.returns-in_err-push-2
-returns-in_err-push-2 g c = handed_on _ _ c.from_residual-in_err-push-2.result _ c.from_residual-in_err-push-2.ensures.1 (refuses_inside c.in_ok-inner.ensures (loop_memory c.loop-behind.invariant.looping (reads_inside c.requires c.in_ok-inner.ensures c.in_ok-argument.ensures).gives refl))
+returns-in_err-push-2 g c = handed_on _ _ c.from_residual-in_err-push-2.result _ c.from_residual-in_err-push-2.ensures.1 (refuses_inside c.in_ok-inner.ensures (loop_memory c.loop-following.invariant.looping (reads_inside c.requires c.in_ok-inner.ensures c.in_ok-argument.ensures).gives refl))
 
-pub loop-behind-smaller : goal.loop-behind-smaller
-loop-behind-smaller g c = falls c.in-Some.ensures _ (reads_inside c.requires c.in_ok-inner.ensures c.in_ok-argument.ensures).further
+pub loop-following-smaller : goal.loop-following-smaller
+loop-following-smaller g c = falls c.in-Some.ensures _ (reads_inside c.requires c.in_ok-inner.ensures c.in_ok-argument.ensures).further
 
-pub loop-behind-preserved : goal.loop-behind-preserved
-loop-behind-preserved g c = arguments_on c.loop-behind.invariant (next_inside (c.args.self.now.reader.unclosed + 1) c.in-Some.ensures) (reads_inside c.requires c.in_ok-inner.ensures c.in_ok-argument.ensures) _ (views_push (λ e. (plain, view g.F.ExactField.value e)) _ _ c.in_ok-push-2.ensures.items)
+pub loop-following-preserved : goal.loop-following-preserved
+loop-following-preserved g c = arguments_on c.loop-following.invariant (next_inside (c.args.self.now.reader.unclosed + 1) c.in-Some.ensures) (reads_inside c.requires c.in_ok-inner.ensures c.in_ok-argument.ensures) _ (views_push (λ e. (plain, view g.F.ExactField.value e)) _ _ c.in_ok-push-2.ensures.items)
 
 pub returns : goal.returns
-returns g c = closing_answer c.before-2.result c.in_ok-inner.ensures (arguments_got g.F.ExactField.value c.loop-behind.args c.loop-behind.invariant c.in_default.ensures) c.before-2.ensures _ (λ sense tree l m k. k)
+returns g c = closing_answer c.before-2.result c.in_ok-inner.ensures (arguments_got g.F.ExactField.value c.loop-following.args c.loop-following.invariant c.in_default.ensures) c.before-2.ensures _ (λ sense tree l m k. k)

@@ -30,20 +30,20 @@ returns-then-not-is_next g c = chain_alone {others = conjuncts} {make = all_of} 
 pub returns-in_err-push : goal.returns-in_err-push
 returns-in_err-push g c = handed_on _ _ c.from_residual-in_err-push.result _ c.from_residual-in_err-push.ensures.1 (refuses_memory (went_by c.in_ok-first.ensures.gives) refl)
 
-pub loop-behind-init : goal.loop-behind-init
-loop-behind-init g c = chain_start (chain_first Conjunction plain refl c.in_ok-first.ensures (λ sense b. refl)) (some_led (is And) (the Negation) (seen_from c.args.self.now.reader c.in_ok-first.next) c.is_next.ensures c.if-not-is_next.false) _ (ap (plain_views g.F.ExactField.value) (pushed (c.in_ok-first.first ∷ []) c.new-parts.ensures.items c.in_ok-push.was c.push.ensures.items))
+pub loop-following-init : goal.loop-following-init
+loop-following-init g c = chain_start (chain_first Conjunction plain refl c.in_ok-first.ensures (λ sense b. refl)) (some_led (is And) (the Negation) (seen_from c.args.self.now.reader c.in_ok-first.next) c.is_next.ensures c.if-not-is_next.false) _ (ap (plain_views g.F.ExactField.value) (pushed (c.in_ok-first.first ∷ []) c.new-parts.ensures.items c.in_ok-push.was c.push.ensures.items))
 
 pub returns-in_err-part : goal.returns-in_err-part
-returns-in_err-part g c = handed_on _ _ c.from_residual-in_err-part.result _ c.from_residual-in_err-part.ensures.1 (chain_refuses c.loop-behind.invariant c.in-Some.ensures refl c.in_err-part.ensures)
+returns-in_err-part g c = handed_on _ _ c.from_residual-in_err-part.result _ c.from_residual-in_err-part.ensures.1 (chain_refuses c.loop-following.invariant c.in-Some.ensures refl c.in_err-part.ensures)
 
 pub returns-in_err-push-2 : goal.returns-in_err-push-2
-returns-in_err-push-2 g c = handed_on _ _ c.from_residual-in_err-push-2.result _ c.from_residual-in_err-push-2.ensures.1 (loop_memory c.loop-behind.invariant.looping c.in_ok-part.ensures.gives refl)
+returns-in_err-push-2 g c = handed_on _ _ c.from_residual-in_err-push-2.result _ c.from_residual-in_err-push-2.ensures.1 (loop_memory c.loop-following.invariant.looping c.in_ok-part.ensures.gives refl)
 
-pub loop-behind-smaller : goal.loop-behind-smaller
-loop-behind-smaller g c = falls c.in-Some.ensures _ c.in_ok-part.ensures.further
+pub loop-following-smaller : goal.loop-following-smaller
+loop-following-smaller g c = falls c.in-Some.ensures _ c.in_ok-part.ensures.further
 
-pub loop-behind-preserved : goal.loop-behind-preserved
-loop-behind-preserved g c = chain_on c.loop-behind.invariant c.in-Some.ensures refl c.in_ok-part.ensures plain (λ sense b. refl) _ (views_push (λ e. (plain, view g.F.ExactField.value e)) _ _ c.in_ok-push-2.ensures.items)
+pub loop-following-preserved : goal.loop-following-preserved
+loop-following-preserved g c = chain_on c.loop-following.invariant c.in-Some.ensures refl c.in_ok-part.ensures plain (λ sense b. refl) _ (views_push (λ e. (plain, view g.F.ExactField.value e)) _ _ c.in_ok-push-2.ensures.items)
 
 pub returns : goal.returns
-returns g c = chain_got c.loop-behind.invariant c.in_default.ensures (λ sense. refl) (ap (in_numbers g.F.ExactField.value) (tree_of-And c.loop-behind.parts) ∙ ap all_of (numbers_in_parts g.F.ExactField.value (λ p. plain) tree_of c.loop-behind.parts.items))
+returns g c = chain_got c.loop-following.invariant c.in_default.ensures (λ sense. refl) (ap (in_numbers g.F.ExactField.value) (tree_of-And c.loop-following.parts) ∙ ap all_of (numbers_in_parts g.F.ExactField.value (λ p. plain) tree_of c.loop-following.parts.items))

@@ -35,8 +35,8 @@ returns-in_err-first g c = handed_on _ _ c.from_residual-in_err-first.result _ c
 pub returns-in_err-push : goal.returns-in_err-push
 returns-in_err-push g c = handed_on _ _ c.from_residual-in_err-push.result _ c.from_residual-in_err-push.ensures.1 (refuses_memory (went_by c.in_ok-first.ensures.gives) refl)
 
-pub loop-behind-init : goal.loop-behind-init
-loop-behind-init g c = indices_start (at_inside (λ r. IsIndex g.F.ExactField.value r.source.now) c.in_ok-inner.ensures c.in_ok-first.ensures) _ (pushed (c.in_ok-first.first ∷ []) c.new-indices.ensures.items c.in_ok-push.was c.push.ensures.items)
+pub loop-following-init : goal.loop-following-init
+loop-following-init g c = indices_start (at_inside (λ r. IsIndex g.F.ExactField.value r.source.now) c.in_ok-inner.ensures c.in_ok-first.ensures) _ (pushed (c.in_ok-first.first ∷ []) c.new-indices.ensures.items c.in_ok-push.was c.push.ensures.items)
 
 pub index-requires-in-Some : goal.index-requires-in-Some
 index-requires-in-Some g c = deeper_inside c.requires c.in_ok-inner.ensures
@@ -44,22 +44,22 @@ index-requires-in-Some g c = deeper_inside c.requires c.in_ok-inner.ensures
 pub returns-in_err-index : goal.returns-in_err-index
 returns-in_err-index g c = handed_on _ _ c.from_residual-in_err-index.result _ c.from_residual-in_err-index.ensures.1
     (refuses_some (some_led (is LeftParen) (the IndexList · token RightParen) (seen_from c.args.self.now.reader c.args.at) c.is_next.ensures c.if-not-is_next.false)
-    (refuses_inside c.in_ok-inner.ensures (indices_refuses c.loop-behind.invariant (next_inside (c.args.self.now.reader.unclosed + 1) c.in-Some.ensures) (refused_inside c.in_ok-inner.ensures _ c.in_err-index.ensures))))
+    (refuses_inside c.in_ok-inner.ensures (indices_refuses c.loop-following.invariant (next_inside (c.args.self.now.reader.unclosed + 1) c.in-Some.ensures) (refused_inside c.in_ok-inner.ensures _ c.in_err-index.ensures))))
 
 pub returns-in_err-push-2 : goal.returns-in_err-push-2
 returns-in_err-push-2 g c = handed_on _ _ c.from_residual-in_err-push-2.result _ c.from_residual-in_err-push-2.ensures.1
     (refuses_some (some_led (is LeftParen) (the IndexList · token RightParen) (seen_from c.args.self.now.reader c.args.at) c.is_next.ensures c.if-not-is_next.false)
-    (refuses_inside c.in_ok-inner.ensures (c.loop-behind.invariant.within.refuses _ _ (refuses_memory (went_by (at_inside (λ r. IsIndex g.F.ExactField.value r.source.now) c.in_ok-inner.ensures c.in_ok-index.ensures).gives) refl))))
+    (refuses_inside c.in_ok-inner.ensures (c.loop-following.invariant.within.refuses _ _ (refuses_memory (went_by (at_inside (λ r. IsIndex g.F.ExactField.value r.source.now) c.in_ok-inner.ensures c.in_ok-index.ensures).gives) refl))))
 
-pub loop-behind-smaller : goal.loop-behind-smaller
-loop-behind-smaller g c = falls c.in-Some.ensures _ c.in_ok-index.ensures.further
+pub loop-following-smaller : goal.loop-following-smaller
+loop-following-smaller g c = falls c.in-Some.ensures _ c.in_ok-index.ensures.further
 
-pub loop-behind-preserved : goal.loop-behind-preserved
-loop-behind-preserved g c = indices_on c.loop-behind.invariant (next_inside (c.args.self.now.reader.unclosed + 1) c.in-Some.ensures)
+pub loop-following-preserved : goal.loop-following-preserved
+loop-following-preserved g c = indices_on c.loop-following.invariant (next_inside (c.args.self.now.reader.unclosed + 1) c.in-Some.ensures)
     (at_inside (λ r. IsIndex g.F.ExactField.value r.source.now) c.in_ok-inner.ensures c.in_ok-index.ensures) _ c.in_ok-push-2.ensures.items
 
 pub returns : goal.returns
 returns g c = some_answer g.F.ExactField.limit (bracketed (the IndexList)) c.args.self.now.reader c.args.at c.args.tables.now _ c.before-2.result
     (some_led (is LeftParen) (the IndexList · token RightParen) (seen_from c.args.self.now.reader c.args.at) c.is_next.ensures c.if-not-is_next.false)
-    (closing_answer c.before-2.result c.in_ok-inner.ensures (indices_got c.loop-behind.indices c.loop-behind.invariant c.in_default.ensures) c.before-2.ensures
+    (closing_answer c.before-2.result c.in_ok-inner.ensures (indices_got c.loop-following.indices c.loop-following.invariant c.in_default.ensures) c.before-2.ensures
     _ (λ sense tree l m k. k)) (AreIndices g.F.ExactField.value c.args.self.now.reader.source.now) (λ sense tree x k. k)

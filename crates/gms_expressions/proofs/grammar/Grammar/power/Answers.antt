@@ -30,20 +30,20 @@ returns-then-not-is_next g c = chain_alone {others = exponents} {make = power} (
 pub returns-in_err-push : goal.returns-in_err-push
 returns-in_err-push g c = handed_on _ _ c.from_residual-in_err-push.result _ c.from_residual-in_err-push.ensures.1 (refuses_memory (went_by c.in_ok-first.ensures.gives) refl)
 
-pub loop-behind-init : goal.loop-behind-init
-loop-behind-init g c = chain_start (chain_first PowerTerm (placed (place_in c.in_ok-first.ensures.tree)) refl c.in_ok-first.ensures (λ sense b. refl)) (some_led (is Power) (opt (token Sign) · the Guarded) (seen_from c.args.self.now.reader c.in_ok-first.next) c.is_next.ensures c.if-not-is_next.false) _ (ap (placed_views g.F.ExactField.value) (pushed ((c.place.result, c.in_ok-first.first) ∷ []) c.new-parts.ensures.items c.in_ok-push.was c.push.ensures.items) ∙ ap (λ p. (placed p, view g.F.ExactField.value c.in_ok-first.first) ∷ []) (c.place.ensures ∙ sym (place_read (the Guarded) refl c.in_ok-first.ensures.gives)))
+pub loop-following-init : goal.loop-following-init
+loop-following-init g c = chain_start (chain_first PowerTerm (placed (place_in c.in_ok-first.ensures.tree)) refl c.in_ok-first.ensures (λ sense b. refl)) (some_led (is Power) (opt (token Sign) · the Guarded) (seen_from c.args.self.now.reader c.in_ok-first.next) c.is_next.ensures c.if-not-is_next.false) _ (ap (placed_views g.F.ExactField.value) (pushed ((c.place.result, c.in_ok-first.first) ∷ []) c.new-parts.ensures.items c.in_ok-push.was c.push.ensures.items) ∙ ap (λ p. (placed p, view g.F.ExactField.value c.in_ok-first.first) ∷ []) (c.place.ensures ∙ sym (place_read (the Guarded) refl c.in_ok-first.ensures.gives)))
 
 pub returns-in_err-part : goal.returns-in_err-part
-returns-in_err-part g c = handed_on _ _ c.from_residual-in_err-part.result _ c.from_residual-in_err-part.ensures.1 (chain_refuses c.loop-behind.invariant c.in-Some.ensures refl c.in_err-part.ensures)
+returns-in_err-part g c = handed_on _ _ c.from_residual-in_err-part.result _ c.from_residual-in_err-part.ensures.1 (chain_refuses c.loop-following.invariant c.in-Some.ensures refl c.in_err-part.ensures)
 
 pub returns-in_err-push-2 : goal.returns-in_err-push-2
-returns-in_err-push-2 g c = handed_on _ _ c.from_residual-in_err-push-2.result _ c.from_residual-in_err-push-2.ensures.1 (loop_memory c.loop-behind.invariant.looping c.in_ok-part.ensures.gives refl)
+returns-in_err-push-2 g c = handed_on _ _ c.from_residual-in_err-push-2.result _ c.from_residual-in_err-push-2.ensures.1 (loop_memory c.loop-following.invariant.looping c.in_ok-part.ensures.gives refl)
 
-pub loop-behind-smaller : goal.loop-behind-smaller
-loop-behind-smaller g c = falls c.in-Some.ensures _ c.in_ok-part.ensures.further
+pub loop-following-smaller : goal.loop-following-smaller
+loop-following-smaller g c = falls c.in-Some.ensures _ c.in_ok-part.ensures.further
 
-pub loop-behind-preserved : goal.loop-behind-preserved
-loop-behind-preserved g c = chain_on c.loop-behind.invariant c.in-Some.ensures refl c.in_ok-part.ensures (placed c.place-in-Some.result) (λ sense b. ap (λ p. part (placed p) (in_sense c.args.self.now.reader.source.now signed_guarded sense c.in_ok-part.ensures.tree) (in_sense c.args.self.now.reader.source.now exponents sense b)) (place_read (opt (token Sign) · the Guarded) refl c.in_ok-part.ensures.gives ∙ sym c.place-in-Some.ensures)) _ (views_push (λ p. (placed p.0, view g.F.ExactField.value p.1)) _ _ c.in_ok-push-2.ensures.items)
+pub loop-following-preserved : goal.loop-following-preserved
+loop-following-preserved g c = chain_on c.loop-following.invariant c.in-Some.ensures refl c.in_ok-part.ensures (placed c.place-in-Some.result) (λ sense b. ap (λ p. part (placed p) (in_sense c.args.self.now.reader.source.now signed_guarded sense c.in_ok-part.ensures.tree) (in_sense c.args.self.now.reader.source.now exponents sense b)) (place_read (opt (token Sign) · the Guarded) refl c.in_ok-part.ensures.gives ∙ sym c.place-in-Some.ensures)) _ (views_push (λ p. (placed p.0, view g.F.ExactField.value p.1)) _ _ c.in_ok-push-2.ensures.items)
 
 pub returns : goal.returns
-returns g c = chain_got c.loop-behind.invariant c.in_default.ensures (λ sense. refl) (ap (in_numbers g.F.ExactField.value) (tree_of-Power c.loop-behind.parts) ∙ ap power (numbers_in_parts g.F.ExactField.value (λ p. placed p.0) (λ p. tree_of p.1) c.loop-behind.parts.items))
+returns g c = chain_got c.loop-following.invariant c.in_default.ensures (λ sense. refl) (ap (in_numbers g.F.ExactField.value) (tree_of-Power c.loop-following.parts) ∙ ap power (numbers_in_parts g.F.ExactField.value (λ p. placed p.0) (λ p. tree_of p.1) c.loop-following.parts.items))

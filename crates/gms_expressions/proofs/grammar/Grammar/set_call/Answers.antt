@@ -24,11 +24,11 @@ returns-in_err-inner g c = handed_on _ _ c.from_residual-in_err-inner.result _ c
 pub returns-in_err-set : goal.returns-in_err-set
 returns-in_err-set g c = handed_on _ _ c.from_residual-in_err-set.result _ c.from_residual-in_err-set.ensures.1 (refuses_second (gives_next _ c.in_ok-word.ensures refl) (refuses_inside c.in_ok-inner.ensures (refused_inside c.in_ok-inner.ensures c.in_ok-inner.start (c.in_err-set.ensures g.F.ExactField.limit))))
 
-pub returns-in_err-behind : goal.returns-in_err-behind
-returns-in_err-behind g c = handed_on _ _ c.from_residual-in_err-behind.result _ c.from_residual-in_err-behind.ensures.1 (refuses_second (gives_next _ c.in_ok-word.ensures refl) (refuses_unclosed c.in_ok-inner.ensures (at_inside (λ r. IsName r.source.now) c.in_ok-inner.ensures (c.in_ok-set.ensures g.F.ExactField.limit)).gives c.in_err-behind.ensures))
+pub returns-in_err-following : goal.returns-in_err-following
+returns-in_err-following g c = handed_on _ _ c.from_residual-in_err-following.result _ c.from_residual-in_err-following.ensures.1 (refuses_second (gives_next _ c.in_ok-word.ensures refl) (refuses_unclosed c.in_ok-inner.ensures (at_inside (λ r. IsName r.source.now) c.in_ok-inner.ensures (c.in_ok-set.ensures g.F.ExactField.limit)).gives c.in_err-following.ensures))
 
 pub returns-then-is_ord : goal.returns-then-is_ord
-returns-then-is_ord g c = set_call_got c.in_ok-word.ensures c.in_ok-inner.ensures (at_inside (λ r. IsName r.source.now) c.in_ok-inner.ensures (c.in_ok-set.ensures g.F.ExactField.limit)) c.in_ok-behind.ensures (ap (in_numbers g.F.ExactField.value) (tree_of-Ord c.in_ok-word.word.at c.in_ok-set.set) ∙ ap (λ b. if b then place_in_set c.in_ok-word.word.at c.in_ok-set.set else size_of_set c.in_ok-word.word.at c.in_ok-set.set) (sym (sym (c.is_ord.ensures ∙ ap (λ t. is_word t (codes "ord")) c.text.ensures) ∙ c.if-is_ord.true)))
+returns-then-is_ord g c = set_call_got c.in_ok-word.ensures c.in_ok-inner.ensures (at_inside (λ r. IsName r.source.now) c.in_ok-inner.ensures (c.in_ok-set.ensures g.F.ExactField.limit)) c.in_ok-following.ensures (ap (in_numbers g.F.ExactField.value) (tree_of-Ord c.in_ok-word.word.at c.in_ok-set.set) ∙ ap (λ b. if b then place_in_set c.in_ok-word.word.at c.in_ok-set.set else size_of_set c.in_ok-word.word.at c.in_ok-set.set) (sym (sym (c.is_ord.ensures ∙ ap (λ t. is_word t (codes "ord")) c.text.ensures) ∙ c.if-is_ord.true)))
 
 pub returns : goal.returns
-returns g c = set_call_got c.in_ok-word.ensures c.in_ok-inner.ensures (at_inside (λ r. IsName r.source.now) c.in_ok-inner.ensures (c.in_ok-set.ensures g.F.ExactField.limit)) c.in_ok-behind.ensures (ap (in_numbers g.F.ExactField.value) (tree_of-Card c.in_ok-word.word.at c.in_ok-set.set) ∙ ap (λ b. if b then place_in_set c.in_ok-word.word.at c.in_ok-set.set else size_of_set c.in_ok-word.word.at c.in_ok-set.set) (sym (sym (c.is_ord.ensures ∙ ap (λ t. is_word t (codes "ord")) c.text.ensures) ∙ c.if-is_ord.false)))
+returns g c = set_call_got c.in_ok-word.ensures c.in_ok-inner.ensures (at_inside (λ r. IsName r.source.now) c.in_ok-inner.ensures (c.in_ok-set.ensures g.F.ExactField.limit)) c.in_ok-following.ensures (ap (in_numbers g.F.ExactField.value) (tree_of-Card c.in_ok-word.word.at c.in_ok-set.set) ∙ ap (λ b. if b then place_in_set c.in_ok-word.word.at c.in_ok-set.set else size_of_set c.in_ok-word.word.at c.in_ok-set.set) (sym (sym (c.is_ord.ensures ∙ ap (λ t. is_word t (codes "ord")) c.text.ensures) ∙ c.if-is_ord.false)))

@@ -11,7 +11,7 @@ pub returns-in_err-token : goal.returns-in_err-token
 returns-in_err-token g c tables = handed_on _ _ c.from_residual.result _ c.from_residual.ensures.1 (refuses_lacking c.in_err-token.ensures)
 
 pub returns-in_err-value : goal.returns-in_err-value
-returns-in_err-value g c tables = handed_on _ _ c.from_residual-in_err-value.result _ c.from_residual-in_err-value.ensures.1 (number_refused c.args.self.now c.args.at c.in_ok-token.behind tables (exact c.in_ok-token.ensures) refl c.in_err-value.ensures)
+returns-in_err-value g c tables = handed_on _ _ c.from_residual-in_err-value.result _ c.from_residual-in_err-value.ensures.1 (number_refused c.args.self.now c.args.at c.in_ok-token.following tables (exact c.in_ok-token.ensures) refl c.in_err-value.ensures)
 
 pub returns : goal.returns
-returns g c tables = number_got {value = g.F.ExactField.value} c.args.self.now c.args.at c.in_ok-token.behind tables c.in_ok-value.value c.in_ok-token.ensures c.in_ok-value.ensures (Number c.in_ok-value.value) (ap (in_numbers g.F.ExactField.value) (tree_of-Number c.in_ok-value.value))
+returns g c tables = number_got {value = g.F.ExactField.value} c.args.self.now c.args.at c.in_ok-token.following tables c.in_ok-value.value c.in_ok-token.ensures c.in_ok-value.ensures (Number c.in_ok-value.value) (ap (in_numbers g.F.ExactField.value) (tree_of-Number c.in_ok-value.value))

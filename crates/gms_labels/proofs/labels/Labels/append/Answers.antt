@@ -17,8 +17,8 @@ pub invariant_of-self-2 : goal.invariant_of-self-2
 invariant_of-self-2 c =
     let entries : List Entry = c.self.inside.texts.entries in
     let none : place_of (texts_of entries) c.args.text.now ≡ None = rw c.self.view_is c.requires.new in
-    let room : length (texts_of entries) < 65536 = rw c.self.view_is c.requires.room in
-    rw (entries-are c) (IsKept-push entries c.in_ok-written.written c.args.text.now c.self.invariant none room c.requires.short c.in_ok-written.ensures.ok)
+    let within_bound : length (texts_of entries) < 65536 = rw c.self.view_is c.requires.within_bound in
+    rw (entries-are c) (IsKept-push entries c.in_ok-written.written c.args.text.now c.self.invariant none within_bound c.requires.short c.in_ok-written.ensures.ok)
 
 pub returns-clause-ok : goal.returns-clause-ok
 returns-clause-ok c =

@@ -3,15 +3,15 @@ use Rattle.gms_lines.specs.Lines.{lines, content}
 use Rattle.gms_list.specs.ListingText.{numbered_line, numbered_from}
 use Rattle.std.proofs.lemmas.Bool.Decides.{nat_tests}
 use Rattle.gms_list.proofs.Echoes.{next_line, no_lines}
-use Rattle.gms_list.proofs.AppendedPieces.{Walked, walk, step, broke, all, rest_is}
+use Rattle.gms_list.proofs.AppendedPieces.{Walked, traversal, step, broke, all, rest_is}
 use Rattle.gms_list.proofs.listing.Listing.echo_from.Goals as goal
 
 pub loop-number-init : goal.loop-number-init
-loop-number-init c = (walk _ refl, omega arith)
+loop-number-init c = (traversal _ refl, omega arith)
 
 pub loop-number-preserved : goal.loop-number-preserved
 loop-number-preserved c =
-    (step _ _ (rest_is _ (ap (numbered_from c.loop-number.number) c.behind_line-rest.ensures.lines) c.loop-number.invariant.0) c.in_ok-push_line.ensures, omega (arith, c.behind_line-rest.ensures.shorter, c.loop-number.invariant.1))
+    (step _ _ (rest_is _ (ap (numbered_from c.loop-number.number) c.text_after_line-rest.ensures.lines) c.loop-number.invariant.0) c.in_ok-push_line.ensures, omega (arith, c.text_after_line-rest.ensures.shorter, c.loop-number.invariant.1))
 
 pub returns-in_err-push_line : goal.returns-in_err-push_line
 returns-in_err-push_line c =

@@ -1,10 +1,10 @@
 use Rattle.std.proofs.Common.{arith, ap, flat_map, get_or}
-use Rattle.gms_list.proofs.AppendedPieces.{walk, loop_step, loop_broke, loop_done, map_same, same_at}
+use Rattle.gms_list.proofs.AppendedPieces.{traversal, loop_step, loop_broke, loop_done, map_same, same_at}
 use Rattle.gms_list.specs.ListingText.{compile_error_text}
 use Rattle.gms_list.proofs.listing.Listing.errors.Goals as goal
 
 pub loop-error-init : goal.loop-error-init
-loop-error-init c = walk _ (ap (λ es. flat_map compile_error_text es) (map_same c.args.e.now))
+loop-error-init c = traversal _ (ap (λ es. flat_map compile_error_text es) (map_same c.args.e.now))
 
 pub loop-error-preserved : goal.loop-error-preserved
 loop-error-preserved c =

@@ -1,4 +1,4 @@
-use Rattle.gms_list.proofs.AppendedPieces.{walk, step, broke, stop, last, untouched}
+use Rattle.gms_list.proofs.AppendedPieces.{traversal, step, broke, stop, last, untouched}
 use Rattle.std.proofs.Common.{◌∙◌, ◌++◌, codes, decimal, ap, sym}
 use Rattle.lp_core.specs.Numbers.{lp_numbers, row_numbers, column_numbers, entries_numbers}
 use Rattle.std.proofs.Common.{flat_map}
@@ -14,8 +14,8 @@ returns-in_err-line g c = untouched _ _ c.from_residual-in_err-line.result c.fro
 
 pub returns-in_err-push : goal.returns-in_err-push
 returns-in_err-push g c =
-    broke c.from_residual-in_err-push.result c.from_residual-in_err-push.ensures.0 _ _ (walk _ (ap (λ t. t ++ flat_map (column_entry_line c.args.p.now.names c.args.p.now.labels g.F.ExactField.limit (lp_numbers g.F.ExactField.value c.args.lp.now) c.args.j) (placed_rows c.args.p.now.names c.args.p.now.labels g.F.ExactField.limit (lp_numbers g.F.ExactField.value c.args.lp.now))) (column_line _ _ _ _ _ _ _ (c.as_str.ensures.value ∙ c.in_ok-line.ensures.ok) c.in_ok-key.ensures c.bound-lower.ensures c.bound-upper.ensures))) c.in_err-push.ensures
+    broke c.from_residual-in_err-push.result c.from_residual-in_err-push.ensures.0 _ _ (traversal _ (ap (λ t. t ++ flat_map (column_entry_line c.args.p.now.names c.args.p.now.labels g.F.ExactField.limit (lp_numbers g.F.ExactField.value c.args.lp.now) c.args.j) (placed_rows c.args.p.now.names c.args.p.now.labels g.F.ExactField.limit (lp_numbers g.F.ExactField.value c.args.lp.now))) (column_line _ _ _ _ _ _ _ (c.as_str.ensures.value ∙ c.in_ok-line.ensures.ok) c.in_ok-key.ensures c.bound-lower.ensures c.bound-upper.ensures))) c.in_err-push.ensures
 
 pub returns : goal.returns
 returns g c =
-    last _ _ c.push_column_entries.result (step _ _ (walk _ (ap (λ t. t ++ flat_map (column_entry_line c.args.p.now.names c.args.p.now.labels g.F.ExactField.limit (lp_numbers g.F.ExactField.value c.args.lp.now) c.args.j) (placed_rows c.args.p.now.names c.args.p.now.labels g.F.ExactField.limit (lp_numbers g.F.ExactField.value c.args.lp.now))) (column_line _ _ _ _ _ _ _ (c.as_str.ensures.value ∙ c.in_ok-line.ensures.ok) c.in_ok-key.ensures c.bound-lower.ensures c.bound-upper.ensures))) c.in_ok-push.ensures) c.push_column_entries.ensures
+    last _ _ c.push_column_entries.result (step _ _ (traversal _ (ap (λ t. t ++ flat_map (column_entry_line c.args.p.now.names c.args.p.now.labels g.F.ExactField.limit (lp_numbers g.F.ExactField.value c.args.lp.now) c.args.j) (placed_rows c.args.p.now.names c.args.p.now.labels g.F.ExactField.limit (lp_numbers g.F.ExactField.value c.args.lp.now))) (column_line _ _ _ _ _ _ _ (c.as_str.ensures.value ∙ c.in_ok-line.ensures.ok) c.in_ok-key.ensures c.bound-lower.ensures c.bound-upper.ensures))) c.in_ok-push.ensures) c.push_column_entries.ensures

@@ -1,6 +1,6 @@
 use Rattle.std.proofs.Common.{arith, refl, ap, flat_map}
 use Rattle.std.specs.List.{enumerate_from}
-use Rattle.gms_list.proofs.AppendedPieces.{walk, placed, placed_step, placed_broke, placed_end}
+use Rattle.gms_list.proofs.AppendedPieces.{traversal, placed, placed_step, placed_broke, placed_end}
 use Rattle.std.proofs.Common.{ℕ, map}
 use Rattle.gq_number.specs.Number.{Number}
 use Rattle.lp_core.specs.declared.program.Column.{Column}
@@ -11,7 +11,7 @@ use Rattle.gms_list.specs.SolveText.{number_line, number_at_place}
 use Rattle.gms_list.proofs.listing.Listing.push_column_numbers.Goals as goal
 
 pub loop-j-init : goal.loop-j-init
-loop-j-init g c = walk _ (ap (λ xs. flat_map (λ (q : ℕ × Column Number). number_line c.args.p.now.names c.args.p.now.labels g.F.ExactField.limit (lp_numbers g.F.ExactField.value c.args.lp.now) c.args.word.now q.1.key (number_at_place (map g.F.ExactField.value c.args.numbers.now) q.0)) (placed (column_numbers g.F.ExactField.value) 0 xs)) c.as_slice-columns.ensures)
+loop-j-init g c = traversal _ (ap (λ xs. flat_map (λ (q : ℕ × Column Number). number_line c.args.p.now.names c.args.p.now.labels g.F.ExactField.limit (lp_numbers g.F.ExactField.value c.args.lp.now) c.args.word.now q.1.key (number_at_place (map g.F.ExactField.value c.args.numbers.now) q.0)) (placed (column_numbers g.F.ExactField.value) 0 xs)) c.as_slice-columns.ensures)
 
 pub loop-j-preserved : goal.loop-j-preserved
 loop-j-preserved g c = placed_step (λ (q : ℕ × Column Number). number_line c.args.p.now.names c.args.p.now.labels g.F.ExactField.limit (lp_numbers g.F.ExactField.value c.args.lp.now) c.args.word.now q.1.key (number_at_place (map g.F.ExactField.value c.args.numbers.now) q.0)) (column_numbers g.F.ExactField.value) c.as_slice-columns.result.now c.loop-j.j (c.index-columns-j.result) (omega arith) (c.index-columns-j.is) c.loop-j.invariant (c.in_ok-push_number.ensures ∙ ap (λ x. c.loop-j.self ++ number_line c.args.p.now.names c.args.p.now.labels g.F.ExactField.limit (lp_numbers g.F.ExactField.value c.args.lp.now) c.args.word.now c.index-columns-j.result.key x) c.number_at.ensures)

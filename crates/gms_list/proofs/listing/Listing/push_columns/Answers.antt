@@ -2,12 +2,12 @@ use Rattle.std.proofs.Common.{arith, ap, ℕ, ◌==◌, flat_map, filter, take}
 use Rattle.gq_number.specs.Number.{Number}
 use Rattle.lp_core.specs.declared.program.Column.{Column}
 use Rattle.lp_core.specs.Numbers.{lp_numbers, column_numbers}
-use Rattle.gms_list.proofs.AppendedPieces.{walk, placed, taken_step, taken_broke, taken_end}
+use Rattle.gms_list.proofs.AppendedPieces.{traversal, placed, taken_step, taken_broke, taken_end}
 use Rattle.gms_list.specs.SolveText.{column_lines}
 use Rattle.gms_list.proofs.listing.Listing.push_columns.Goals as goal
 
 pub loop-j-init : goal.loop-j-init
-loop-j-init g c = walk _ (ap (λ xs. flat_map (column_lines c.args.p.now.names c.args.p.now.labels g.F.ExactField.limit (lp_numbers g.F.ExactField.value c.args.lp.now)) (take c.args.most (filter (λ (q : ℕ × Column Number). q.1.key.symbol == c.args.variable) (placed (column_numbers g.F.ExactField.value) 0 xs)))) c.as_slice-columns.ensures)
+loop-j-init g c = traversal _ (ap (λ xs. flat_map (column_lines c.args.p.now.names c.args.p.now.labels g.F.ExactField.limit (lp_numbers g.F.ExactField.value c.args.lp.now)) (take c.args.most (filter (λ (q : ℕ × Column Number). q.1.key.symbol == c.args.variable) (placed (column_numbers g.F.ExactField.value) 0 xs)))) c.as_slice-columns.ensures)
 
 pub loop-j-preserved : goal.loop-j-preserved
 loop-j-preserved g c =

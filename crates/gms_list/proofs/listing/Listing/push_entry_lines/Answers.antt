@@ -1,11 +1,11 @@
 use Rattle.std.proofs.Common.{arith, refl, get_or}
-use Rattle.gms_list.proofs.AppendedPieces.{walk, loop_step, loop_broke, loop_done, untouched}
+use Rattle.gms_list.proofs.AppendedPieces.{traversal, loop_step, loop_broke, loop_done, untouched}
 use Rattle.gq_extended.specs.Meaning.{extended}
 use Rattle.gms_list.specs.ListingText.{entry_text}
 use Rattle.gms_list.proofs.listing.Listing.push_entry_lines.Goals as goal
 
 pub loop-t-init : goal.loop-t-init
-loop-t-init g c = walk _ refl
+loop-t-init g c = traversal _ refl
 
 pub loop-t-preserved : goal.loop-t-preserved
 loop-t-preserved g c =

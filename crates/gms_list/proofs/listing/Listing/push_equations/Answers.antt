@@ -2,13 +2,13 @@ use Rattle.std.proofs.Common.{◌≡◌, ◌==◌, ◌∙◌, ◌++◌, arith, g
 use Rattle.std.proofs.lemmas.Bool.Decides.{nat_tests}
 use Rattle.std.proofs.lemmas.List.{append-nil}
 use Rattle.lp_core.specs.Numbers.{lp_numbers}
-use Rattle.gms_list.proofs.AppendedPieces.{walk, loop_step, loop_broke, loop_done, untouched, reshaped, map_same, same_at}
+use Rattle.gms_list.proofs.AppendedPieces.{traversal, loop_step, loop_broke, loop_done, untouched, reshaped, map_same, same_at}
 use Rattle.gms_list.specs.SolveText.{equation_text}
 use Rattle.gms_list.proofs.Listed.{no_rows, some_rows}
 use Rattle.gms_list.proofs.listing.Listing.push_equations.Goals as goal
 
 pub loop-equation-init : goal.loop-equation-init
-loop-equation-init g c = walk _ (ap (λ ns. flat_map (equation_text c.args.p.now.names c.args.p.now.labels g.F.ExactField.limit (lp_numbers g.F.ExactField.value c.args.lp.now) c.args.most) ns) (map_same c.args.equations.now))
+loop-equation-init g c = traversal _ (ap (λ ns. flat_map (equation_text c.args.p.now.names c.args.p.now.labels g.F.ExactField.limit (lp_numbers g.F.ExactField.value c.args.lp.now) c.args.most) ns) (map_same c.args.equations.now))
 
 pub loop-equation-preserved : goal.loop-equation-preserved
 loop-equation-preserved g c =

@@ -1,11 +1,11 @@
 use Rattle.std.proofs.Common.{arith, refl, get_or, ap, flat_map}
-use Rattle.gms_list.proofs.AppendedPieces.{walk, map_same, same_at, loop_step, loop_broke, loop_done, untouched}
+use Rattle.gms_list.proofs.AppendedPieces.{traversal, map_same, same_at, loop_step, loop_broke, loop_done, untouched}
 use Rattle.std.proofs.Common.{ℕ, codes, ◌++◌}
 use Rattle.gms_list.specs.ListingText.{pair_text}
 use Rattle.gms_list.proofs.listing.Listing.push_further.Goals as goal
 
 pub loop-set-init : goal.loop-set-init
-loop-set-init g c = walk _ (ap (flat_map (λ (pair : ℕ × ℕ). codes "," ++ pair_text c.args.p.now.names c.args.p.now.labels pair)) (map_same c.args.pairs.now))
+loop-set-init g c = traversal _ (ap (flat_map (λ (pair : ℕ × ℕ). codes "," ++ pair_text c.args.p.now.names c.args.p.now.labels pair)) (map_same c.args.pairs.now))
 
 pub loop-set-preserved : goal.loop-set-preserved
 loop-set-preserved g c =

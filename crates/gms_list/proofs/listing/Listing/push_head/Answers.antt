@@ -8,4 +8,4 @@ returns-in_err-line g c = untouched _ _ c.from_residual.result c.from_residual.e
 
 pub returns : goal.returns
 returns g c =
-    reshaped _ _ c.as_str.result.now _ c.push.result (head_of _ c.args.word.now _ c.args.behind.now _ (c.as_str.ensures.value ∙ c.in_ok-line.ensures.ok) c.text_of-text.ensures) c.push.ensures
+    reshaped _ _ c.as_str.result.now _ c.push.result (head_of _ c.args.word.now _ c.args.following.now _ (c.as_str.ensures.value ∙ c.in_ok-line.ensures.ok) c.text_of-text.ensures) c.push.ensures

@@ -3,7 +3,7 @@ use Rattle.std.specs.Prelude.{slice_get}
 use Rattle.std.proofs.lemmas.List.{append-nil}
 use Rattle.std.proofs.lemmas.Option.{slice_get_read, slice_get_past}
 use Rattle.lp_core.specs.Numbers.{lp_numbers}
-use Rattle.gms_list.proofs.AppendedPieces.{walk, step, broke, last, reshaped}
+use Rattle.gms_list.proofs.AppendedPieces.{traversal, step, broke, last, reshaped}
 use Rattle.gms_list.proofs.ProofLines.{rows_are, crossed_is, crossed_nowhere}
 use Rattle.gms_list.proofs.listing.Listing.push_infeasible.Goals as goal
 
@@ -25,8 +25,8 @@ returns-in-None-get g c =
 
 pub returns-in_err-push_row_numbers-in-None : goal.returns-in_err-push_row_numbers-in-None
 returns-in_err-push_row_numbers-in-None g c =
-    broke c.from_residual.result c.from_residual.ensures.0 _ _ (walk _ (rows_are c.args.p.now.names c.args.p.now.labels g.F.ExactField.limit (lp_numbers g.F.ExactField.value c.args.lp.now) (map g.F.ExactField.value c.args.duals.now) c.args.crossed c.in-None.is)) c.in_err-push_row_numbers-in-None.ensures
+    broke c.from_residual.result c.from_residual.ensures.0 _ _ (traversal _ (rows_are c.args.p.now.names c.args.p.now.labels g.F.ExactField.limit (lp_numbers g.F.ExactField.value c.args.lp.now) (map g.F.ExactField.value c.args.duals.now) c.args.crossed c.in-None.is)) c.in_err-push_row_numbers-in-None.ensures
 
 pub returns-in_ok-push_row_numbers-in-None : goal.returns-in_ok-push_row_numbers-in-None
 returns-in_ok-push_row_numbers-in-None g c =
-    last _ _ c.push_dual_bound.result (step _ _ (walk _ (rows_are c.args.p.now.names c.args.p.now.labels g.F.ExactField.limit (lp_numbers g.F.ExactField.value c.args.lp.now) (map g.F.ExactField.value c.args.duals.now) c.args.crossed c.in-None.is)) c.in_ok-push_row_numbers-in-None.ensures) c.push_dual_bound.ensures
+    last _ _ c.push_dual_bound.result (step _ _ (traversal _ (rows_are c.args.p.now.names c.args.p.now.labels g.F.ExactField.limit (lp_numbers g.F.ExactField.value c.args.lp.now) (map g.F.ExactField.value c.args.duals.now) c.args.crossed c.in-None.is)) c.in_ok-push_row_numbers-in-None.ensures) c.push_dual_bound.ensures

@@ -1,11 +1,11 @@
 use Rattle.std.proofs.Common.{arith, refl, get_or}
-use Rattle.gms_list.proofs.AppendedPieces.{walk, loop_step, loop_broke, loop_done, untouched}
+use Rattle.gms_list.proofs.AppendedPieces.{traversal, loop_step, loop_broke, loop_done, untouched}
 use Rattle.gms_event.specs.EventView.{shown_in}
 use Rattle.gms_list.specs.ListingText.{item_text}
 use Rattle.gms_list.proofs.listing.Listing.push_items.Goals as goal
 
 pub loop-item-init : goal.loop-item-init
-loop-item-init g c = walk _ refl
+loop-item-init g c = traversal _ refl
 
 pub loop-item-preserved : goal.loop-item-preserved
 loop-item-preserved g c =

@@ -1,12 +1,12 @@
 use Rattle.std.proofs.Common.{arith, refl, get_or, ap, ◌∙◌, ◌++◌, subst}
 use Rattle.gms_fmt.specs.Columns.{IsExtendedByPrefix}
-use Rattle.gms_list.proofs.AppendedPieces.{walk, loop_step, loop_broke, loop_done, untouched}
+use Rattle.gms_list.proofs.AppendedPieces.{traversal, loop_step, loop_broke, loop_done, untouched}
 use Rattle.gq_extended.specs.Meaning.{extended}
 use Rattle.gms_list.specs.ListingText.{number_text}
 use Rattle.gms_list.proofs.listing.Listing.push_numbers.Goals as goal
 
 pub loop-value-init : goal.loop-value-init
-loop-value-init g c = walk _ refl
+loop-value-init g c = traversal _ refl
 
 pub loop-value-preserved : goal.loop-value-preserved
 loop-value-preserved g c =

@@ -1,7 +1,7 @@
 use Rattle.std.proofs.Common.{◌≡◌, ◌<◌, ◌∙◌, ◌++◌, ap, refl, arith, length}
 use Rattle.std.proofs.lemmas.Bool.Decides.{nat_tests}
 use Rattle.lp_core.specs.Numbers.{lp_numbers}
-use Rattle.gms_list.proofs.AppendedPieces.{walk, loop_step, loop_broke, loop_done, reshaped}
+use Rattle.gms_list.proofs.AppendedPieces.{traversal, loop_step, loop_broke, loop_done, reshaped}
 use Rattle.gms_list.proofs.Terms.{no_terms, some_terms}
 use Rattle.gms_list.specs.SolveText.{term_text}
 use Rattle.gms_list.proofs.listing.Listing.push_terms.Goals as goal
@@ -12,7 +12,7 @@ returns-then-is_empty g c =
     reshaped _ _ _ _ c.push.result (no_terms c.args.p.now.names c.args.p.now.labels g.F.ExactField.limit (lp_numbers g.F.ExactField.value c.args.lp.now) g.F.ExactField.value c.args.entries.now none) c.push.ensures
 
 pub loop-j-init : goal.loop-j-init
-loop-j-init g c = walk _ refl
+loop-j-init g c = traversal _ refl
 
 pub loop-j-preserved : goal.loop-j-preserved
 loop-j-preserved g c = loop_step (term_text c.args.p.now.names c.args.p.now.labels g.F.ExactField.limit (lp_numbers g.F.ExactField.value c.args.lp.now)) (λ e. (e.0, g.F.ExactField.value e.1)) c.args.entries.now c.loop-j.j-index c.loop-j-item.result (omega arith) c.loop-j-item.is c.loop-j.invariant c.in_ok-push_term.ensures

@@ -1,4 +1,4 @@
-use Rattle.gms_list.proofs.AppendedPieces.{walk, step, broke, stop, last, untouched}
+use Rattle.gms_list.proofs.AppendedPieces.{traversal, step, broke, stop, last, untouched}
 use Rattle.std.proofs.Common.{◌∙◌, ◌++◌, codes, decimal, ap, sym}
 use Rattle.gms_list.proofs.Shapes.{text_item}
 use Rattle.gms_list.proofs.listing.Listing.push_text.Goals as goal
@@ -8,12 +8,12 @@ returns-in_err-head c = untouched _ _ c.from_residual.result c.from_residual.ens
 
 pub returns-in_err-push : goal.returns-in_err-push
 returns-in_err-push c =
-    broke c.from_residual-in_err-push.result c.from_residual-in_err-push.ensures.0 _ _ (walk _ (text_item _ c.args.text.now c.args.line (c.as_str.ensures.value ∙ c.in_ok-head.ensures.ok))) c.in_err-push.ensures
+    broke c.from_residual-in_err-push.result c.from_residual-in_err-push.ensures.0 _ _ (traversal _ (text_item _ c.args.text.now c.args.line (c.as_str.ensures.value ∙ c.in_ok-head.ensures.ok))) c.in_err-push.ensures
 
 pub returns-in_err-push_bytes : goal.returns-in_err-push_bytes
 returns-in_err-push_bytes c =
-    broke c.from_residual-in_err-push_bytes.result c.from_residual-in_err-push_bytes.ensures.0 _ _ (step _ _ (walk _ (text_item _ c.args.text.now c.args.line (c.as_str.ensures.value ∙ c.in_ok-head.ensures.ok))) c.in_ok-push.ensures) c.in_err-push_bytes.ensures
+    broke c.from_residual-in_err-push_bytes.result c.from_residual-in_err-push_bytes.ensures.0 _ _ (step _ _ (traversal _ (text_item _ c.args.text.now c.args.line (c.as_str.ensures.value ∙ c.in_ok-head.ensures.ok))) c.in_ok-push.ensures) c.in_err-push_bytes.ensures
 
 pub returns : goal.returns
 returns c =
-    last _ _ c.push-2.result (step _ _ (step _ _ (walk _ (text_item _ c.args.text.now c.args.line (c.as_str.ensures.value ∙ c.in_ok-head.ensures.ok))) c.in_ok-push.ensures) c.in_ok-push_bytes.ensures) c.push-2.ensures
+    last _ _ c.push-2.result (step _ _ (step _ _ (traversal _ (text_item _ c.args.text.now c.args.line (c.as_str.ensures.value ∙ c.in_ok-head.ensures.ok))) c.in_ok-push.ensures) c.in_ok-push_bytes.ensures) c.push-2.ensures

@@ -19,8 +19,8 @@ decreases-inner_statement g l = (100 - l.self.now.unclosed) * 5 + 3
 abbrev pub decreases-loop_body : goal.decreases-loop_body
 decreases-loop_body g l = (100 - l.self.now.unclosed) * 5 + 4
 
-abbrev pub invariant-loop_body-loop-behind : goal.invariant-loop_body-loop-behind
-invariant-loop_body-loop-behind g l = (walk : ReaderState) → Starts l.self l.fn.tables walk → Tableless walk → Bodying g.F.ExactField.limit g.F.ExactField.value l.self l.at walk l.tables l.body.items l.next
+abbrev pub invariant-loop_body-loop-following : goal.invariant-loop_body-loop-following
+invariant-loop_body-loop-following g l = (read_state : ReaderState) → Starts l.self l.fn.tables read_state → Tableless read_state → Bodying g.F.ExactField.limit g.F.ExactField.value l.self l.at read_state l.tables l.body.items l.next
 
-abbrev pub decreases-loop_body-loop-behind : goal.decreases-loop_body-loop-behind
-decreases-loop_body-loop-behind g l = length l.self.tokens.now - l.next
+abbrev pub decreases-loop_body-loop-following : goal.decreases-loop_body-loop-following
+decreases-loop_body-loop-following g l = length l.self.tokens.now - l.next

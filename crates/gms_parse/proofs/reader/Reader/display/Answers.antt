@@ -8,14 +8,14 @@ use Rattle.gms_parse.proofs.Acts.{display_got}
 use Rattle.gms_parse.proofs.reader.Reader.display.Goals as goal
 
 pub returns-in_err-next : goal.returns-in_err-next
-returns-in_err-next g c walk h = handed_on _ _ c.from_residual.result _ c.from_residual.ensures.1 (refuses_the DisplayStatement (refuses_first (refuses_lacking c.in_err-next.ensures)))
+returns-in_err-next g c read_state h = handed_on _ _ c.from_residual.result _ c.from_residual.ensures.1 (refuses_the DisplayStatement (refuses_first (refuses_lacking c.in_err-next.ensures)))
 
 pub returns-in_err-items : goal.returns-in_err-items
-returns-in_err-items g c walk h =
+returns-in_err-items g c read_state h =
     let n = c.in_ok-next.ensures.next in
     handed_on _ _ c.from_residual-in_err-items.result _ c.from_residual-in_err-items.ensures.1
-    (refuses_the DisplayStatement (refuses_second (gives_exact n refl) (c.in_err-items.ensures g.F.ExactField.limit _ (begun_starts c.args.self.now walk Display c.in_ok-next.ensures.token c.in_ok-next.next refl refl refl refl h) refl refl)))
+    (refuses_the DisplayStatement (refuses_second (gives_exact n refl) (c.in_err-items.ensures g.F.ExactField.limit _ (begun_starts c.args.self.now read_state Display c.in_ok-next.ensures.token c.in_ok-next.next refl refl refl refl h) refl refl)))
 
 pub returns : goal.returns
-returns g c walk h =
-    display_got g.F.ExactField.value c.in_ok-next.ensures.next (c.in_ok-items.ensures g.F.ExactField.limit _ (begun_starts c.args.self.now walk Display c.in_ok-next.ensures.token c.in_ok-next.next refl refl refl refl h) refl refl)
+returns g c read_state h =
+    display_got g.F.ExactField.value c.in_ok-next.ensures.next (c.in_ok-items.ensures g.F.ExactField.limit _ (begun_starts c.args.self.now read_state Display c.in_ok-next.ensures.token c.in_ok-next.next refl refl refl refl h) refl refl)

@@ -9,8 +9,8 @@ use Rattle.gms_parse.specs.InnerMeanings.{IsPosition}
 use Rattle.gms_parse.proofs.Listing.{Listing}
 use Rattle.gms_parse.proofs.reader.Reader.domain.Given as goal
 
-abbrev pub invariant-loop-behind : goal.invariant-loop-behind
-invariant-loop-behind l = (limit : ℕ) (walk : ReaderState) → Starts l.inner l.fn.tables walk → Listing limit (IsPosition l.inner.source.now) (is Comma) (the DomainPosition) l.inner l.start walk l.tables l.positions.items l.next
+abbrev pub invariant-loop-following : goal.invariant-loop-following
+invariant-loop-following l = (limit : ℕ) (read_state : ReaderState) → Starts l.inner l.fn.tables read_state → Listing limit (IsPosition l.inner.source.now) (is Comma) (the DomainPosition) l.inner l.start read_state l.tables l.positions.items l.next
 
-abbrev pub decreases-loop-behind : goal.decreases-loop-behind
-decreases-loop-behind l = length l.inner.tokens.now - l.next
+abbrev pub decreases-loop-following : goal.decreases-loop-following
+decreases-loop-following l = length l.inner.tokens.now - l.next

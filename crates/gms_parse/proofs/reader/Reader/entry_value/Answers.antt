@@ -6,7 +6,7 @@ use Rattle.gms_parse.proofs.Nexts.{kind_stays}
 use Rattle.gms_parse.proofs.reader.Reader.entry_value.Goals as goal
 
 pub returns-in-Some : goal.returns-in-Some
-returns-in-Some g c tables walk h = answered c.value.result (c.value.ensures tables _ (kind_stays Equals c.in-Some.ensures refl h).has) (λ r got. equals_got g.F.ExactField.value h c.in-Some.ensures got) (λ e r. equals_refused c.in-Some.ensures r)
+returns-in-Some g c tables read_state h = answered c.value.result (c.value.ensures tables _ (kind_stays Equals c.in-Some.ensures refl h).has) (λ r got. equals_got g.F.ExactField.value h c.in-Some.ensures got) (λ e r. equals_refused c.in-Some.ensures r)
 
 pub returns-in-None : goal.returns-in-None
-returns-in-None g c tables walk h = answered c.value-in-None.result (c.value-in-None.ensures tables walk h) (λ r got. no_equals_got g.F.ExactField.value c.in-None.ensures got) (λ e r. no_equals_refused c.in-None.ensures r)
+returns-in-None g c tables read_state h = answered c.value-in-None.result (c.value-in-None.ensures tables read_state h) (λ r got. no_equals_got g.F.ExactField.value c.in-None.ensures got) (λ e r. no_equals_refused c.in-None.ensures r)

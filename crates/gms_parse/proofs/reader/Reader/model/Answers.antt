@@ -8,15 +8,15 @@ use Rattle.gms_parse.proofs.Models.{model_got}
 use Rattle.gms_parse.proofs.reader.Reader.model.Goals as goal
 
 pub returns-in_err-named : goal.returns-in_err-named
-returns-in_err-named c limit walk s = handed_on _ _ c.from_residual.result _ c.from_residual.ensures.1 (refuses_the ModelItem (refuses_first (c.in_err-named.ensures limit walk s)))
+returns-in_err-named c limit read_state s = handed_on _ _ c.from_residual.result _ c.from_residual.ensures.1 (refuses_the ModelItem (refuses_first (c.in_err-named.ensures limit read_state s)))
 
 pub returns-in_err-all : goal.returns-in_err-all
-returns-in_err-all c limit walk s =
-    let n = c.in_ok-named.ensures limit walk s in
+returns-in_err-all c limit read_state s =
+    let n = c.in_ok-named.ensures limit read_state s in
     handed_on _ _ c.from_residual-in_err-all.result _ c.from_residual-in_err-all.ensures.1
-    (refuses_the ModelItem (refuses_second n.gives (c.in_err-all.ensures limit n.behind n.leaves.has (ap (is Option) n.leaves.keyword ∙ s.optionless))))
+    (refuses_the ModelItem (refuses_second n.gives (c.in_err-all.ensures limit n.following n.leaves.has (ap (is Option) n.leaves.keyword ∙ s.optionless))))
 
 pub returns : goal.returns
-returns c limit walk s =
-    let n = c.in_ok-named.ensures limit walk s in
-    rw c.new.ensures (model_got n (c.in_ok-all.ensures limit n.behind n.leaves.has (ap (is Option) n.leaves.keyword ∙ s.optionless)))
+returns c limit read_state s =
+    let n = c.in_ok-named.ensures limit read_state s in
+    rw c.new.ensures (model_got n (c.in_ok-all.ensures limit n.following n.leaves.has (ap (is Option) n.leaves.keyword ∙ s.optionless)))

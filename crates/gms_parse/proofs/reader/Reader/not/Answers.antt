@@ -8,7 +8,7 @@ pub returns-in-Some-clause-within : goal.returns-in-Some-clause-within
 returns-in-Some-clause-within c = behind_within Not c.requires.ready c.in-Some.ensures refl
 
 pub returns-in-Some-clause-read : goal.returns-in-Some-clause-read
-returns-in-Some-clause-read c limit tables walk s = not_got s c.in-Some.ensures
+returns-in-Some-clause-read c limit tables read_state s = not_got s c.in-Some.ensures
 
 pub returns-in-None-clause-read : goal.returns-in-None-clause-read
-returns-in-None-clause-read c limit tables walk s = not_none s c.in-None.ensures
+returns-in-None-clause-read c limit tables read_state s = not_none s c.in-None.ensures

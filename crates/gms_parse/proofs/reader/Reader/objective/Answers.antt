@@ -8,14 +8,14 @@ use Rattle.gms_parse.proofs.Acts.{objective_got}
 use Rattle.gms_parse.proofs.reader.Reader.objective.Goals as goal
 
 pub returns-in_err-direction : goal.returns-in_err-direction
-returns-in_err-direction c limit walk h o = handed_on _ _ c.from_residual.result _ c.from_residual.ensures.1 (refuses_first (refuses_lacking c.in_err-direction.ensures))
+returns-in_err-direction c limit read_state h o = handed_on _ _ c.from_residual.result _ c.from_residual.ensures.1 (refuses_first (refuses_lacking c.in_err-direction.ensures))
 
 pub returns-in_err-objective : goal.returns-in_err-objective
-returns-in_err-objective c limit walk h o =
+returns-in_err-objective c limit read_state h o =
     let n = c.in_ok-direction.ensures in
     handed_on _ _ c.from_residual-in_err-objective.result _ c.from_residual-in_err-objective.ensures.1
-    (refuses_second (gives_exact n refl) (c.in_err-objective.ensures limit _ (plain_starts c.args.self.now walk Direction c.in_ok-direction.direction c.in_ok-direction.next refl refl h o)))
+    (refuses_second (gives_exact n refl) (c.in_err-objective.ensures limit _ (plain_starts c.args.self.now read_state Direction c.in_ok-direction.direction c.in_ok-direction.next refl refl h o)))
 
 pub returns : goal.returns
-returns c limit walk h o =
-    objective_got c.in_ok-direction.ensures h (c.is_maximizing.ensures ∙ ap is_maximizing c.text.ensures) (c.in_ok-objective.ensures limit _ (plain_starts c.args.self.now walk Direction c.in_ok-direction.direction c.in_ok-direction.next refl refl h o))
+returns c limit read_state h o =
+    objective_got c.in_ok-direction.ensures h (c.is_maximizing.ensures ∙ ap is_maximizing c.text.ensures) (c.in_ok-objective.ensures limit _ (plain_starts c.args.self.now read_state Direction c.in_ok-direction.direction c.in_ok-direction.next refl refl h o))

@@ -10,8 +10,8 @@ use Rattle.gms_parse.specs.InnerMeanings.{IsSetting}
 use Rattle.gms_parse.proofs.Listing.{Listing}
 use Rattle.gms_parse.proofs.reader.Reader.options.Given as goal
 
-abbrev pub invariant-loop-behind : goal.invariant-loop-behind
-invariant-loop-behind g l = (tables : Tables) (walk : ReaderState) → Has l.self tables walk → is Option walk.keyword ≡ true → Listing g.F.ExactField.limit (IsSetting g.F.ExactField.value l.self.source.now) (is Comma) (the Setting) l.self l.start walk tables l.settings.items l.next
+abbrev pub invariant-loop-following : goal.invariant-loop-following
+invariant-loop-following g l = (tables : Tables) (read_state : ReaderState) → Has l.self tables read_state → is Option read_state.keyword ≡ true → Listing g.F.ExactField.limit (IsSetting g.F.ExactField.value l.self.source.now) (is Comma) (the Setting) l.self l.start read_state tables l.settings.items l.next
 
-abbrev pub decreases-loop-behind : goal.decreases-loop-behind
-decreases-loop-behind g l = length l.self.tokens.now - l.next
+abbrev pub decreases-loop-following : goal.decreases-loop-following
+decreases-loop-following g l = length l.self.tokens.now - l.next

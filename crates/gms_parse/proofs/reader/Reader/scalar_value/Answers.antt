@@ -8,16 +8,16 @@ use Rattle.gms_parse.proofs.Values.{no_value, some_value, slash_stays, value_unc
 use Rattle.gms_parse.proofs.reader.Reader.scalar_value.Goals as goal
 
 pub returns-in_default : goal.returns-in_default
-returns-in_default g c tables walk h = no_value g.F.ExactField.value c.new-items.result c.new-items.ensures.items c.in_default.ensures h
+returns-in_default g c tables read_state h = no_value g.F.ExactField.value c.new-items.result c.new-items.ensures.items c.in_default.ensures h
 
 pub returns-in_err-value : goal.returns-in_err-value
-returns-in_err-value g c tables walk h = handed_on _ _ c.from_residual.result _ c.from_residual.ensures.1 (slashed_refused c.in-Some.ensures (c.in_err-value.ensures tables _ (slash_stays h c.in-Some.ensures).has))
+returns-in_err-value g c tables read_state h = handed_on _ _ c.from_residual.result _ c.from_residual.ensures.1 (slashed_refused c.in-Some.ensures (c.in_err-value.ensures tables _ (slash_stays h c.in-Some.ensures).has))
 
 pub returns-in_err-push : goal.returns-in_err-push
-returns-in_err-push g c tables walk h = handed_on _ _ c.from_residual-in_err-push.result _ c.from_residual-in_err-push.ensures.1 (refuses_memory refl)
+returns-in_err-push g c tables read_state h = handed_on _ _ c.from_residual-in_err-push.result _ c.from_residual-in_err-push.ensures.1 (refuses_memory refl)
 
-pub returns-in_err-behind : goal.returns-in_err-behind
-returns-in_err-behind g c tables walk h = handed_on _ _ c.from_residual-in_err-behind.result _ c.from_residual-in_err-behind.ensures.1 (value_unclosed h c.in-Some.ensures g.F.ExactField.value (c.in_ok-value.ensures tables _ (slash_stays h c.in-Some.ensures).has) c.in_err-behind.ensures)
+pub returns-in_err-following : goal.returns-in_err-following
+returns-in_err-following g c tables read_state h = handed_on _ _ c.from_residual-in_err-following.result _ c.from_residual-in_err-following.ensures.1 (value_unclosed h c.in-Some.ensures g.F.ExactField.value (c.in_ok-value.ensures tables _ (slash_stays h c.in-Some.ensures).has) c.in_err-following.ensures)
 
 pub returns : goal.returns
-returns g c tables walk h = some_value h c.in-Some.ensures g.F.ExactField.value _ _ (pushed (_ ∷ []) c.new-items.ensures.items c.in_ok-push.was c.push.ensures.items) (ap₂ (λ (p : Place) (xs : List (List ℕ)). record { at = p; parts = xs; value = Some (extended_in g.F.ExactField.value c.in_ok-value.value); bad_range = false }) c.place.ensures (c.new-2.ensures ∙ c.new.ensures.items)) (c.in_ok-value.ensures tables _ (slash_stays h c.in-Some.ensures).has) c.in_ok-behind.ensures.next
+returns g c tables read_state h = some_value h c.in-Some.ensures g.F.ExactField.value _ _ (pushed (_ ∷ []) c.new-items.ensures.items c.in_ok-push.was c.push.ensures.items) (ap₂ (λ (p : Place) (xs : List (List ℕ)). record { at = p; parts = xs; value = Some (extended_in g.F.ExactField.value c.in_ok-value.value); bad_range = false }) c.place.ensures (c.new-2.ensures ∙ c.new.ensures.items)) (c.in_ok-value.ensures tables _ (slash_stays h c.in-Some.ensures).has) c.in_ok-following.ensures.next

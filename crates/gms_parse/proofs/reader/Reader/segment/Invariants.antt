@@ -5,7 +5,7 @@ use Rattle.gms_parse.proofs.Segments.{Segmenting}
 use Rattle.gms_parse.proofs.reader.Reader.segment.Given as goal
 
 abbrev pub invariant-loop-tables : goal.invariant-loop-tables
-invariant-loop-tables g l = (walk : ReaderState) → Starts l.self l.fn.tables walk → Tableless walk → Segmenting g.F.ExactField.limit g.F.ExactField.value l.self l.at walk l.fn.statements.items l.tables l.statements.items l.next
+invariant-loop-tables g l = (read_state : ReaderState) → Starts l.self l.fn.tables read_state → Tableless read_state → Segmenting g.F.ExactField.limit g.F.ExactField.value l.self l.at read_state l.fn.statements.items l.tables l.statements.items l.next
 
 abbrev pub decreases-loop-tables : goal.decreases-loop-tables
 decreases-loop-tables g l = length l.self.tokens.now - l.next

@@ -9,8 +9,8 @@ use Rattle.gms_parse.specs.InnerMeanings.{IsShown}
 use Rattle.gms_parse.proofs.Listing.{Listing}
 use Rattle.gms_parse.proofs.reader.Reader.shown_list.Given as goal
 
-abbrev pub invariant-loop-behind : goal.invariant-loop-behind
-invariant-loop-behind l = (limit : ℕ) (walk : ReaderState) → Starts l.self l.fn.tables walk → is_terminal_among (Display ∷ Abort ∷ []) walk.keyword ≡ true → walk.level ≡ walk.open_count → Listing limit (IsShown l.self.source.now) (is Comma) (the Shown) l.self l.at walk l.tables l.items.items l.next
+abbrev pub invariant-loop-following : goal.invariant-loop-following
+invariant-loop-following l = (limit : ℕ) (read_state : ReaderState) → Starts l.self l.fn.tables read_state → is_terminal_among (Display ∷ Abort ∷ []) read_state.keyword ≡ true → read_state.level ≡ read_state.open_count → Listing limit (IsShown l.self.source.now) (is Comma) (the Shown) l.self l.at read_state l.tables l.items.items l.next
 
-abbrev pub decreases-loop-behind : goal.decreases-loop-behind
-decreases-loop-behind l = length l.self.tokens.now - l.next
+abbrev pub decreases-loop-following : goal.decreases-loop-following
+decreases-loop-following l = length l.self.tokens.now - l.next

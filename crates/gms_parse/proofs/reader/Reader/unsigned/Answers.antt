@@ -5,13 +5,13 @@ use Rattle.gms_parse.proofs.Values.{infinity_got, numeral_got, numeral_lacking}
 use Rattle.gms_parse.proofs.reader.Reader.unsigned.Goals as goal
 
 pub returns-in-Some : goal.returns-in-Some
-returns-in-Some g c tables walk h = infinity_got g.F.ExactField.value c.in-Some.ensures h
+returns-in-Some g c tables read_state h = infinity_got g.F.ExactField.value c.in-Some.ensures h
 
 pub returns-in_err-token : goal.returns-in_err-token
-returns-in_err-token g c tables walk h = handed_on _ _ c.from_residual.result _ c.from_residual.ensures.1 (numeral_lacking c.in_default.ensures c.in_err-token.ensures)
+returns-in_err-token g c tables read_state h = handed_on _ _ c.from_residual.result _ c.from_residual.ensures.1 (numeral_lacking c.in_default.ensures c.in_err-token.ensures)
 
 pub returns-in_err-number : goal.returns-in_err-number
-returns-in_err-number g c tables walk h = handed_on _ _ c.from_residual-in_err-number.result _ c.from_residual-in_err-number.ensures.1 (number_refused c.in_ok-token.ensures refl c.in_err-number.ensures)
+returns-in_err-number g c tables read_state h = handed_on _ _ c.from_residual-in_err-number.result _ c.from_residual-in_err-number.ensures.1 (number_refused c.in_ok-token.ensures refl c.in_err-number.ensures)
 
 pub returns : goal.returns
-returns g c tables walk h = numeral_got g.F.ExactField.value c.in_ok-number.number c.in_ok-token.ensures c.in_ok-number.ensures h
+returns g c tables read_state h = numeral_got g.F.ExactField.value c.in_ok-number.number c.in_ok-token.ensures c.in_ok-number.ensures h

@@ -23,7 +23,7 @@ pub show-requires : goal.show-requires
 show-requires g c =
     let rules = map (λ b. (goal.LpSolver-dyn g (b.vtable, b.value)).rule b.value) c.args.solvers.now.items in
     rw c.as_slice-answers.ensures.value
-    (all_listable rules c.step_alone-stepped.new.answers.items c.step_alone-stepped.new.events.items (all_stand rules c.step_alone-stepped.new.answers.items c.new-events.result.items c.step_alone-stepped.new.events.items c.new-events.ensures.items c.in-Ok.ensures.standing))
+    (all_listable rules c.step_alone-stepped.new.answers.items c.step_alone-stepped.new.events.items (all_stand rules c.step_alone-stepped.new.answers.items c.new-events.result.items c.step_alone-stepped.new.events.items c.new-events.ensures.items c.in-Ok.ensures.valid))
 
 pub returns-in_ok-show-in-Ok-clause-listed : goal.returns-in_ok-show-in-Ok-clause-listed
 returns-in_ok-show-in-Ok-clause-listed g c =
@@ -35,10 +35,10 @@ returns-in_ok-show-in-Ok-clause-listed g c =
     let before = c.args.self.now.outlet.listing in
     listed_on program rules (of_statement frac_value frac_limit (record { program = program; solvers = names }) c.args.s.now []) (between (solver_views (λ b. (goal.LpSolver-dyn g (b.vtable, b.value)).name b.value) (λ b. (goal.LpSolver-dyn g (b.vtable, b.value)).rule b.value) (λ b. (goal.LpSolver-dyn g (b.vtable, b.value)).paths b.value) c.args.solvers.now.items) c.args.self.now)
     (record { state = c.step_alone-stepped.new.store; answers = answers; programs = c.show.new.solved.items; solvers = (solver_views (λ b. (goal.LpSolver-dyn g (b.vtable, b.value)).name b.value) (λ b. (goal.LpSolver-dyn g (b.vtable, b.value)).rule b.value) (λ b. (goal.LpSolver-dyn g (b.vtable, b.value)).paths b.value) c.step_alone-stepped.new.solvers.items) }) events
-    (λ front course. behind_statement frac_value frac_limit (record { program = program; solvers = names }) c.args.s.now front [] course)
+    (λ beginning course. behind_statement frac_value frac_limit (record { program = program; solvers = names }) c.args.s.now beginning [] course)
     c.in-Ok.field-0 c.new-events.result.items before c.show.new.listing c.new-events.ensures.items
     c.in-Ok.ensures.runs
-    (all_stand rules answers c.new-events.result.items events c.new-events.ensures.items c.in-Ok.ensures.standing)
+    (all_stand rules answers c.new-events.result.items events c.new-events.ensures.items c.in-Ok.ensures.valid)
     (grown_answered (λ b. (goal.LpSolver-dyn g (b.vtable, b.value)).name b.value) (λ b. (goal.LpSolver-dyn g (b.vtable, b.value)).rule b.value) (λ b. (goal.LpSolver-dyn g (b.vtable, b.value)).paths b.value) c.args.solvers.now.items c.step_alone-stepped.new.solvers.items answers
     c.new-events.result.items events c.new-events.ensures.items c.in-Ok.ensures.solvers)
     c.in_ok-show-in-Ok.ensures.kept
@@ -51,7 +51,7 @@ pub show-requires-in-Err-Fault : goal.show-requires-in-Err-Fault
 show-requires-in-Err-Fault g c =
     let rules = map (λ b. (goal.LpSolver-dyn g (b.vtable, b.value)).rule b.value) c.args.solvers.now.items in
     rw c.as_slice-answers.ensures.value
-    (all_listable rules c.step_alone-stepped.new.answers.items c.step_alone-stepped.new.events.items (all_stand rules c.step_alone-stepped.new.answers.items c.new-events.result.items c.step_alone-stepped.new.events.items c.new-events.ensures.items (rw c.in-Err-Fault.field-0-is at c.in-Err-Fault.ensures.standing)))
+    (all_listable rules c.step_alone-stepped.new.answers.items c.step_alone-stepped.new.events.items (all_stand rules c.step_alone-stepped.new.answers.items c.new-events.result.items c.step_alone-stepped.new.events.items c.new-events.ensures.items (rw c.in-Err-Fault.field-0-is at c.in-Err-Fault.ensures.valid)))
 
 pub returns-in_ok-list_fault-in-Err-Fault-clause-listed : goal.returns-in_ok-list_fault-in-Err-Fault-clause-listed
 returns-in_ok-list_fault-in-Err-Fault-clause-listed g c =
@@ -63,10 +63,10 @@ returns-in_ok-list_fault-in-Err-Fault-clause-listed g c =
     let before = c.args.self.now.outlet.listing in
     listed_stop program rules (of_statement frac_value frac_limit (record { program = program; solvers = names }) c.args.s.now []) (between (solver_views (λ b. (goal.LpSolver-dyn g (b.vtable, b.value)).name b.value) (λ b. (goal.LpSolver-dyn g (b.vtable, b.value)).rule b.value) (λ b. (goal.LpSolver-dyn g (b.vtable, b.value)).paths b.value) c.args.solvers.now.items) c.args.self.now)
     (record { state = c.step_alone-stepped.new.store; answers = answers; programs = c.show-in-Err-Fault.new.solved.items; solvers = (solver_views (λ b. (goal.LpSolver-dyn g (b.vtable, b.value)).name b.value) (λ b. (goal.LpSolver-dyn g (b.vtable, b.value)).rule b.value) (λ b. (goal.LpSolver-dyn g (b.vtable, b.value)).paths b.value) c.step_alone-stepped.new.solvers.items) }) events
-    (λ front course. behind_statement frac_value frac_limit (record { program = program; solvers = names }) c.args.s.now front [] course)
+    (λ beginning course. behind_statement frac_value frac_limit (record { program = program; solvers = names }) c.args.s.now beginning [] course)
     c.in-Err-Fault.stop c.new-events.result.items before c.show-in-Err-Fault.new.listing c.list_fault.new.listing c.new-events.ensures.items
     (rw c.in-Err-Fault.field-0-is at c.in-Err-Fault.ensures.runs)
-    (all_stand rules answers c.new-events.result.items events c.new-events.ensures.items (rw c.in-Err-Fault.field-0-is at c.in-Err-Fault.ensures.standing))
+    (all_stand rules answers c.new-events.result.items events c.new-events.ensures.items (rw c.in-Err-Fault.field-0-is at c.in-Err-Fault.ensures.valid))
     (grown_answered (λ b. (goal.LpSolver-dyn g (b.vtable, b.value)).name b.value) (λ b. (goal.LpSolver-dyn g (b.vtable, b.value)).rule b.value) (λ b. (goal.LpSolver-dyn g (b.vtable, b.value)).paths b.value) c.args.solvers.now.items c.step_alone-stepped.new.solvers.items answers
     c.new-events.result.items events c.new-events.ensures.items (rw c.in-Err-Fault.field-0-is at c.in-Err-Fault.ensures.solvers))
     c.in_ok-show-in-Err-Fault.ensures.kept

@@ -20,9 +20,9 @@ loop-place-preserved g c =
     let given : c.given-given.result.now ≡ tuples = c.given-given.ensures.value ∙ ap (λ (s : Symbol). given_in s.content) (own_symbol store c.args.name (not_alias content c.args.kind c.requires)) in
     let within : k < length tuples = subst (λ n. k < n) (c.len-place-end.ensures.len ∙ ap length given) c.loop-place-test.true in
     let got : c.get.result.now ≡ get_or tuples k [] = sym (get_or_from_slice_get _ k _ [] c.get.ensures) ∙ ap (λ (ts : List (List ℕ)). get_or ts k []) given in
-    let front = flat_map (entry_line content) (take k tuples) in
-    let more = ap (λ (t : List ℕ). front ++ entry_line content t) got ∙ sym (pieces_more (entry_line content) tuples k [] within) in
-    past_as (front ++ entry_line content c.get.result.now) (flat_map (entry_line content) (take (k + 1) tuples)) c.args.self.now.left c.entry.new.self.left more (past_both front (entry_line content c.get.result.now) c.args.self.now.left c.loop-place.self.left c.entry.new.self.left c.loop-place.invariant c.in_ok-entry.ensures)
+    let prefix = flat_map (entry_line content) (take k tuples) in
+    let more = ap (λ (t : List ℕ). prefix ++ entry_line content t) got ∙ sym (pieces_more (entry_line content) tuples k [] within) in
+    past_as (prefix ++ entry_line content c.get.result.now) (flat_map (entry_line content) (take (k + 1) tuples)) c.args.self.now.left c.entry.new.self.left more (past_both prefix (entry_line content c.get.result.now) c.args.self.now.left c.loop-place.self.left c.entry.new.self.left c.loop-place.invariant c.in_ok-entry.ensures)
 
 pub returns : goal.returns
 returns g c =
@@ -31,5 +31,5 @@ returns g c =
     let tuples = given_in content in
     let k = c.loop-place.place in
     let given : c.given-given.result.now ≡ tuples = c.given-given.ensures.value ∙ ap (λ (s : Symbol). given_in s.content) (own_symbol store c.args.name (not_alias content c.args.kind c.requires)) in
-    let behind : length tuples ≤ k = subst (λ n. n ≤ k) (c.len-place-end.ensures.len ∙ ap length given) c.loop-place-test.false in
-    past_as (flat_map (entry_line content) (take k tuples)) (flat_map (entry_line content) tuples) c.args.self.now.left c.loop-place.self.left (ap (flat_map (entry_line content)) (take_all k tuples behind)) c.loop-place.invariant
+    let following : length tuples ≤ k = subst (λ n. n ≤ k) (c.len-place-end.ensures.len ∙ ap length given) c.loop-place-test.false in
+    past_as (flat_map (entry_line content) (take k tuples)) (flat_map (entry_line content) tuples) c.args.self.now.left c.loop-place.self.left (ap (flat_map (entry_line content)) (take_all k tuples following)) c.loop-place.invariant

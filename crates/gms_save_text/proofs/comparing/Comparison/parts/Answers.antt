@@ -15,13 +15,13 @@ loop-number-preserved g c =
     let names = c.args.names.now in
     let k = c.loop-number.number in
     let last = part c.text.result.now (symbol_at store k).content in
-    let front = parts_from store 0 (take k names) in
-    past_as (front ++ last) (parts_from store 0 (take (k + 1) names)) c.args.self.now.left c.part.new.self.left (sym (parts_more store names k c.text.result.now c.text.ensures.value)) (past_both front last c.args.self.now.left c.loop-number.self.left c.part.new.self.left c.loop-number.invariant c.in_ok-part.ensures)
+    let prefix = parts_from store 0 (take k names) in
+    past_as (prefix ++ last) (parts_from store 0 (take (k + 1) names)) c.args.self.now.left c.part.new.self.left (sym (parts_more store names k c.text.result.now c.text.ensures.value)) (past_both prefix last c.args.self.now.left c.loop-number.self.left c.part.new.self.left c.loop-number.invariant c.in_ok-part.ensures)
 
 pub returns : goal.returns
 returns g c =
     let store = c.args.store.now in
     let names = c.args.names.now in
     let k = c.loop-number.number in
-    let behind : length names ≤ k = subst (λ n. n ≤ k) c.len-number-end.ensures.len c.loop-number-test.false in
-    past_as (parts_from store 0 (take k names)) (parts_from store 0 names) c.args.self.now.left c.loop-number.self.left (ap (parts_from store 0) (take_all k names behind)) c.loop-number.invariant
+    let following : length names ≤ k = subst (λ n. n ≤ k) c.len-number-end.ensures.len c.loop-number-test.false in
+    past_as (parts_from store 0 (take k names)) (parts_from store 0 names) c.args.self.now.left c.loop-number.self.left (ap (parts_from store 0) (take_all k names following)) c.loop-number.invariant

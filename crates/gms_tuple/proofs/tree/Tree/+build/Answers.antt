@@ -6,8 +6,8 @@ use Rattle.gms_tuple.proofs.tree.Tree.+build.Goals as goal
 
 -- a list from which the last part, then a block before it, then the part before that are taken
 parted : (all first before rest left own right : List (List ℕ)) (n : ℕ) → all ≡ first ++ right → before ≡ take n first → own ≡ drop n first → before ≡ rest ++ left → all ≡ rest ++ (left ++ (own ++ right))
-parted all first before rest left own right n whole front back again =
-    whole ∙ ap (λ xs. xs ++ right) (sym (take-append-drop n first) ∙ ap (λ xs. xs ++ drop n first) (sym front ∙ again) ∙ ap (λ xs. (rest ++ left) ++ xs) (sym back))
+parted all first before rest left own right n whole beginning back again =
+    whole ∙ ap (λ xs. xs ++ right) (sym (take-append-drop n first) ∙ ap (λ xs. xs ++ drop n first) (sym beginning ∙ again) ∙ ap (λ xs. (rest ++ left) ++ xs) (sym back))
     ∙ append_assoc (rest ++ left) own right ∙ append_assoc rest left (own ++ right)
 
 pub returns : goal.returns

@@ -32,7 +32,7 @@ made-requires t c =
     ]
     in
     let fewer = length-removed c.args.self.now c.args.place c.requires.place in
-    omega (arith, ap length rest, ap (λ xs. length (remove xs c.args.place)) is, fewer, c.requires.room)
+    omega (arith, ap length rest, ap (λ xs. length (remove xs c.args.place)) is, fewer, c.requires.within_bound)
 
 pub returns : goal.returns
 returns t c =

@@ -8,7 +8,7 @@ pub push_word-requires : goal.push_word-requires
 push_word-requires t c =
     let other = c.if-places-eq0.false in
     let some : 0 < c.args.places = omega (arith, other) in
-    (omega (arith, c.decreases, some), (tenth_small c.args.n c.args.places some c.requires.small, omega (arith, c.requires.room, some)))
+    (omega (arith, c.decreases, some), (tenth_small c.args.n c.args.places some c.requires.small, omega (arith, c.requires.within_bound, some)))
 
 pub returns : goal.returns
 returns t c =

@@ -31,9 +31,9 @@ push-requires-clause-ascii c =
     let d = digit_small c.loop-place.rest c.loop-place.place (c.loop-place.place - 1) c.pow-unit.result (omega arith) c.pow-unit.ensures c.loop-place.invariant.small in
     omega arith
 
-pub push-requires-clause-room : goal.push-requires-clause-room
-push-requires-clause-room c =
-    let room = c.requires.room in
+pub push-requires-clause-within_bound : goal.push-requires-clause-within_bound
+push-requires-clause-within_bound c =
+    let within_bound = c.requires.within_bound in
     let length_is = length-append c.args.self.now c.loop-place.invariant.digits in
     let now = ap length c.loop-place.invariant.appended in
     omega (arith, c.loop-place.invariant.places_are)

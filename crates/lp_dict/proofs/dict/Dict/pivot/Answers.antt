@@ -44,8 +44,8 @@ returns-clause-of_form g c =
     subst (λ (t : Tableau _). (s : Standard) → IsDictionaryOf s (dictionary g.F.ExactField.value t) → IsDictionaryOf s (kept g.F.ExactField.value c.in_ok-body.body)) c.self.view_is
     (stays_of_form (kept g.F.ExactField.value c.self.inside.body) c.args.p c.self.invariant.proper legal (kept g.F.ExactField.value c.in_ok-body.body) c.in_ok-body.ensures.follows.is_exchanged)
 
-pub returns-clause-not_due : goal.returns-clause-not_due
-returns-clause-not_due g c =
+pub returns-clause-not_required : goal.returns-clause-not_required
+returns-clause-not_required g c =
     let legal = subst (λ (t : Tableau _). (k : ℕ) × IsLegal (dictionary g.F.ExactField.value t) c.args.p k) (sym c.self.view_is) c.requires in
     is_not_due (kept g.F.ExactField.value c.self.inside.body) c.args.p c.self.invariant.proper legal (kept g.F.ExactField.value c.in_ok-body.body) c.in_ok-body.ensures.follows.is_exchanged
 

@@ -23,8 +23,8 @@ numbers_from-requires g c = let few = code_few g.F.ExactField.value c.args.s.now
 pub rows_with_slacks-requires-clause-in_order : goal.rows_with_slacks-requires-clause-in_order
 rows_with_slacks-requires-clause-in_order g c = code_in_order g.F.ExactField.value c.args.s.now (subst IsInForm (sym c.requires.2) (form_in_order g.F.ExactField.value c.requires.0 c.requires.1)) c.as_slice-rows.result.now c.as_slice-rows.ensures c.len.result c.len.ensures
 
-pub rows_with_slacks-requires-clause-room : goal.rows_with_slacks-requires-clause-room
-rows_with_slacks-requires-clause-room g c = let few = code_few g.F.ExactField.value c.args.s.now (subst IsInForm (sym c.requires.2) (form_in_order g.F.ExactField.value c.requires.0 c.requires.1)) c.as_slice-rows.result.now c.as_slice-rows.ensures c.len.result c.len.ensures in omega arith
+pub rows_with_slacks-requires-clause-within_bound : goal.rows_with_slacks-requires-clause-within_bound
+rows_with_slacks-requires-clause-within_bound g c = let few = code_few g.F.ExactField.value c.args.s.now (subst IsInForm (sym c.requires.2) (form_in_order g.F.ExactField.value c.requires.0 c.requires.1)) c.as_slice-rows.result.now c.as_slice-rows.ensures c.len.result c.len.ensures in omega arith
 
 pub objective_row-requires : goal.objective_row-requires
 objective_row-requires g c = let few = code_few g.F.ExactField.value c.args.s.now (subst IsInForm (sym c.requires.2) (form_in_order g.F.ExactField.value c.requires.0 c.requires.1)) c.as_slice-rows.result.now c.as_slice-rows.ensures c.len.result c.len.ensures in omega (arith, c.len.ensures)

@@ -60,5 +60,5 @@ returns-clause-of_form g c =
     subst (λ (t : FractionTableau _). (s : Standard) → IsDictionaryOf s (fraction_dictionary g.F.ExactField.value t) → IsDictionaryOf s (fraction_dictionary g.F.ExactField.value (record { variables = c.self.inside.variables; basic = slice_set c.self.inside.basic.items c.in-Some.place c.args.p.enter; rows = entries_of_rows c.forget_leaving.new.rows.items; objective = c.forget_leaving.new.objective.items; upcoming = c.saturating_add.result }))) c.self.view_is
     (stays_of_form g.F.ExactField.value g.F.ExactField.limit (record { variables = c.self.inside.variables; basic = c.self.inside.basic.items; rows = entries_of_rows c.self.inside.rows.items; objective = c.self.inside.objective.items; upcoming = c.self.inside.upcoming }) c.args.p c.self.invariant (subst (λ (t : FractionTableau _). (k : ℕ) × IsLegal (fraction_dictionary g.F.ExactField.value t) c.args.p k) (sym c.self.view_is) c.requires) c.in-Some.place (subst (λ b. slice_get b c.in-Some.place ≡ Some c.args.p.leave) c.as_slice.ensures.value c.in-Some.ensures) (entries_of_rows c.turn.new.rows.items) c.turn.new.objective.items ((c.in_default-turn.ensures (c.self.inside.variables + 2) c.self.invariant.rows c.self.invariant.objective).0) (record { variables = c.self.inside.variables; basic = slice_set c.self.inside.basic.items c.in-Some.place c.args.p.enter; rows = entries_of_rows c.forget_leaving.new.rows.items; objective = c.forget_leaving.new.objective.items; upcoming = c.saturating_add.result }) refl refl c.forget_leaving.ensures.rows c.forget_leaving.ensures.objective)
 
-pub returns-clause-not_due : goal.returns-clause-not_due
-returns-clause-not_due g c = is_not_due g.F.ExactField.value g.F.ExactField.limit (record { variables = c.self.inside.variables; basic = c.self.inside.basic.items; rows = entries_of_rows c.self.inside.rows.items; objective = c.self.inside.objective.items; upcoming = c.self.inside.upcoming }) c.args.p c.self.invariant (subst (λ (t : FractionTableau _). (k : ℕ) × IsLegal (fraction_dictionary g.F.ExactField.value t) c.args.p k) (sym c.self.view_is) c.requires) c.in-Some.place (subst (λ b. slice_get b c.in-Some.place ≡ Some c.args.p.leave) c.as_slice.ensures.value c.in-Some.ensures) (entries_of_rows c.turn.new.rows.items) c.turn.new.objective.items ((c.in_default-turn.ensures (c.self.inside.variables + 2) c.self.invariant.rows c.self.invariant.objective).0) (record { variables = c.self.inside.variables; basic = slice_set c.self.inside.basic.items c.in-Some.place c.args.p.enter; rows = entries_of_rows c.forget_leaving.new.rows.items; objective = c.forget_leaving.new.objective.items; upcoming = c.saturating_add.result }) refl refl c.forget_leaving.ensures.rows c.forget_leaving.ensures.objective
+pub returns-clause-not_required : goal.returns-clause-not_required
+returns-clause-not_required g c = is_not_due g.F.ExactField.value g.F.ExactField.limit (record { variables = c.self.inside.variables; basic = c.self.inside.basic.items; rows = entries_of_rows c.self.inside.rows.items; objective = c.self.inside.objective.items; upcoming = c.self.inside.upcoming }) c.args.p c.self.invariant (subst (λ (t : FractionTableau _). (k : ℕ) × IsLegal (fraction_dictionary g.F.ExactField.value t) c.args.p k) (sym c.self.view_is) c.requires) c.in-Some.place (subst (λ b. slice_get b c.in-Some.place ≡ Some c.args.p.leave) c.as_slice.ensures.value c.in-Some.ensures) (entries_of_rows c.turn.new.rows.items) c.turn.new.objective.items ((c.in_default-turn.ensures (c.self.inside.variables + 2) c.self.invariant.rows c.self.invariant.objective).0) (record { variables = c.self.inside.variables; basic = slice_set c.self.inside.basic.items c.in-Some.place c.args.p.enter; rows = entries_of_rows c.forget_leaving.new.rows.items; objective = c.forget_leaving.new.objective.items; upcoming = c.saturating_add.result }) refl refl c.forget_leaving.ensures.rows c.forget_leaving.ensures.objective

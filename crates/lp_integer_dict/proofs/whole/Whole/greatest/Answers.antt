@@ -10,13 +10,13 @@ use Rattle.lp_integer_dict.proofs.whole.Whole.greatest.Goals as goal
 pub index-requires : goal.index-requires
 index-requires c =
     let w : AreWhole c.self.inside.lines.items (Some c.in-Some.k) (c.self.inside.variables + 2) c.self.inside.bound = subst (λ o. AreWhole c.self.inside.lines.items o (c.self.inside.variables + 2) c.self.inside.bound) c.in-Some.is c.self.invariant.are_whole in
-    let within = get_within c.self.inside.lines.items c.in-Some.k w.room.pivot w.room.there in
+    let within = get_within c.self.inside.lines.items c.in-Some.k w.within_bound.pivot w.within_bound.there in
     omega (arith, c.self.inside.lines.ok.0)
 
 pub greatest_above-requires : goal.greatest_above-requires
 greatest_above-requires c =
     let w : AreWhole c.self.inside.lines.items (Some c.in-Some.k) (c.self.inside.variables + 2) c.self.inside.bound = subst (λ o. AreWhole c.self.inside.lines.items o (c.self.inside.variables + 2) c.self.inside.bound) c.in-Some.is c.self.invariant.are_whole in
-    let within = get_within c.self.inside.lines.items c.in-Some.k w.room.pivot w.room.there in
+    let within = get_within c.self.inside.lines.items c.in-Some.k w.within_bound.pivot w.within_bound.there in
     let there : slice_get c.self.inside.lines.items c.in-Some.k ≡ Some c.index.result.now = index_get c.self.inside.lines.items c.in-Some.k c.index.result.now c.index.result.now within (sym c.index.ensures) in
     let wide = (c.self.invariant.are_whole.are_lines c.in-Some.k c.index.result.now there).1 in
     let sized = c.self.invariant.sized in
@@ -25,10 +25,10 @@ greatest_above-requires c =
 pub returns-in-Some : goal.returns-in-Some
 returns-in-Some c =
     let w : AreWhole c.self.inside.lines.items (Some c.in-Some.k) (c.self.inside.variables + 2) c.self.inside.bound = subst (λ o. AreWhole c.self.inside.lines.items o (c.self.inside.variables + 2) c.self.inside.bound) c.in-Some.is c.self.invariant.are_whole in
-    let within = get_within c.self.inside.lines.items c.in-Some.k w.room.pivot w.room.there in
+    let within = get_within c.self.inside.lines.items c.in-Some.k w.within_bound.pivot w.within_bound.there in
     let there : slice_get c.args.self.now.lines c.in-Some.k ≡ Some c.index.result.now = subst (λ ls. slice_get ls c.in-Some.k ≡ Some c.index.result.now) (ap (λ (t : WholeTableau). t.lines) c.self.view_is) (index_get c.self.inside.lines.items c.in-Some.k c.index.result.now c.index.result.now within (sym c.index.ensures)) in
     let is : c.args.self.now.deferred ≡ Some c.in-Some.k = sym (ap (λ (t : WholeTableau). t.deferred) c.self.view_is) ∙ c.in-Some.is in
-    let at : slice_get c.args.self.now.basic c.in-Some.k ≡ Some 0 = subst (λ o. IsPlace c.args.self.now.basic 0 o) is (subst IsWhole c.self.view_is c.self.invariant).put_off in
+    let at : slice_get c.args.self.now.basic c.in-Some.k ≡ Some 0 = subst (λ o. IsPlace c.args.self.now.basic 0 o) is (subst IsWhole c.self.view_is c.self.invariant).is_deferred in
     let kept = subst IsWhole c.self.view_is c.self.invariant in
     let over = number_off c.args.self.now kept c.in-Some.k is c.index.result.now there in
     coefficients_tell c.args.self.now kept c.in-Some.k (inl at) c.index.result.now there (sign_off c.args.self.now kept c.in-Some.k is c.index.result.now there) over.0 over.1 over.2 c.greatest_above.result c.greatest_above.ensures
@@ -42,7 +42,7 @@ returns-in-None c =
     let there : slice_get t.lines (length t.basic) ≡ Some c.index-in-None.result.now =
     subst (λ n. slice_get t.lines n ≡ Some c.index-in-None.result.now) row (subst (λ ls. slice_get ls c.len.result ≡ Some c.index-in-None.result.now) (ap (λ (t : WholeTableau). t.lines) c.self.view_is) (index_get c.self.inside.lines.items c.len.result c.index-in-None.result.now c.index-in-None.result.now within (sym c.index-in-None.ensures))) in
     let is : t.deferred ≡ None = sym (ap (λ (t : WholeTableau). t.deferred) c.self.view_is) ∙ c.in-None.is in
-    let none : ¬ (Contains t.basic 0) = subst (λ o. IsPlace t.basic 0 o) is (subst IsWhole c.self.view_is c.self.invariant).put_off in
+    let none : ¬ (Contains t.basic 0) = subst (λ o. IsPlace t.basic 0 o) is (subst IsWhole c.self.view_is c.self.invariant).is_deferred in
     let kept = subst IsWhole c.self.view_is c.self.invariant in
     let of_line = (kept.are_whole.are_lines (length t.basic) c.index-in-None.result.now there).0 in
     coefficients_tell t kept (length t.basic) (inr (none, refl)) c.index-in-None.result.now there (sign_plain t kept is c.index-in-None.result.now there) c.index-in-None.result.now.denominator of_line.positive (number_plain t is c.index-in-None.result.now there) c.greatest_above-in-None.result c.greatest_above-in-None.ensures

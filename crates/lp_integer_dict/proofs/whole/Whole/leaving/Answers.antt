@@ -28,7 +28,7 @@ returns-in-None-clause-choice c =
     none_limits (integer_dictionary c.args.self.now) c.args.enter (kept_ratio c.args.self.now c.self.inside.deferred c.as_slice.result.now c.as_slice-2.result.now c.args.enter (ap (λ (t : WholeTableau). t.deferred) c.self.view_is) (c.as_slice.ensures.value ∙ (ap (λ (t : WholeTableau). t.lines) c.self.view_is)) (c.as_slice-2.ensures.value ∙ (ap (λ (t : WholeTableau). t.basic) c.self.view_is)) None c.in-None.ensures)
 
 pub returns-in-Some-clause-fits : goal.returns-in-Some-clause-fits
-returns-in-Some-clause-fits c = λ limit pivot room. every_ratio_fits limit c.args.self.now.bound (integer_dictionary c.args.self.now) room (bounded c.args.self.now (subst IsWhole c.self.view_is c.self.invariant)) pivot c.args.enter
+returns-in-Some-clause-fits c = λ limit pivot within_bound. every_ratio_fits limit c.args.self.now.bound (integer_dictionary c.args.self.now) within_bound (bounded c.args.self.now (subst IsWhole c.self.view_is c.self.invariant)) pivot c.args.enter
 
 pub returns-in-None-clause-fits : goal.returns-in-None-clause-fits
-returns-in-None-clause-fits c = λ limit pivot room. every_ratio_fits limit c.args.self.now.bound (integer_dictionary c.args.self.now) room (bounded c.args.self.now (subst IsWhole c.self.view_is c.self.invariant)) pivot c.args.enter
+returns-in-None-clause-fits c = λ limit pivot within_bound. every_ratio_fits limit c.args.self.now.bound (integer_dictionary c.args.self.now) within_bound (bounded c.args.self.now (subst IsWhole c.self.view_is c.self.invariant)) pivot c.args.enter

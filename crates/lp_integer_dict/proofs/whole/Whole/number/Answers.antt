@@ -25,4 +25,4 @@ returns-clause-number c =
 
 pub returns-clause-within : goal.returns-clause-within
 returns-clause-within c =
-    subst (λ b. (nat_abs c.read.result.numerator ≤ b) × (c.read.result.denominator ≤ b)) (ap (λ (t : WholeTableau). t.bound) c.self.view_is) (c.read.ensures.within c.self.inside.bound (subst (λ ls. AreWhole ls c.self.inside.deferred (c.self.inside.variables + 2) c.self.inside.bound) (sym c.as_slice.ensures.value) c.self.invariant.are_whole).room)
+    subst (λ b. (nat_abs c.read.result.numerator ≤ b) × (c.read.result.denominator ≤ b)) (ap (λ (t : WholeTableau). t.bound) c.self.view_is) (c.read.ensures.within c.self.inside.bound (subst (λ ls. AreWhole ls c.self.inside.deferred (c.self.inside.variables + 2) c.self.inside.bound) (sym c.as_slice.ensures.value) c.self.invariant.are_whole).within_bound)

@@ -12,9 +12,9 @@ invariant_of-whole c =
         are_lines = c.requires.lines;
         wide = wide c.args.variables;
         small = c.requires.small;
-        room = subst (AreBounded c.args.bound) c.as_slice.ensures.value (c.all_within.ensures.within c.if-not-all_within.false);
+        within_bound = subst (AreBounded c.args.bound) c.as_slice.ensures.value (c.all_within.ensures.within c.if-not-all_within.false);
       };
-      put_off = c.requires.phase;
+      is_deferred = c.requires.phase;
       proper = c.requires.proper;
     }
   where

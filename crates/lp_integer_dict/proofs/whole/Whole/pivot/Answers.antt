@@ -14,9 +14,9 @@ returns-then-fits-clause-fits c =
 pub returns-then-fits-2-clause-fits : goal.returns-then-fits-2-clause-fits
 returns-then-fits-2-clause-fits c =
     ok_ok_anyway ((limit pivot k : ℕ) → c.args.self.bound ≤ limit → slice_get c.args.self.basic k ≡ Some c.args.p.leave → AllFit (exchange_steps limit pivot (integer_dictionary c.args.self) c.args.p.enter k)) c.turned-then-fits-2.result
-    (λ limit pivot k room at.
+    (λ limit pivot k within_bound at.
     subst (λ d. AllFit (exchange_steps limit pivot d c.args.p.enter k)) c.in_ok-same.ensures.same
-    (c.fits-2.ensures.fits c.if-fits-2.true limit pivot k (subst (λ b. b ≤ limit) (sym c.in_ok-same.ensures.bound) room)
+    (c.fits-2.ensures.fits c.if-fits-2.true limit pivot k (subst (λ b. b ≤ limit) (sym c.in_ok-same.ensures.bound) within_bound)
     (subst (λ (d : Dictionary). slice_get d.basic k ≡ Some c.args.p.leave) (sym c.in_ok-same.ensures.same) at)))
 
 pub returns-then-fits-clause-none : goal.returns-then-fits-clause-none

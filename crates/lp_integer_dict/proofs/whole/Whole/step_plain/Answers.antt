@@ -1,6 +1,6 @@
 use Rattle.std.proofs.Common.{◌≡◌, ◌+◌, inr, None, sym, ap, ◌∙◌, subst, arith}
 use Rattle.lp_core.specs.Dictionary.{IsLegal, exchanged}
-use Rattle.lp_integer_dict.specs.WithinBound.{LinesHaveNoRoom, HasRoom}
+use Rattle.lp_integer_dict.specs.WithinBound.{ExchangeExceeds, RowsStayWithin}
 use Rattle.lp_integer_dict.specs.Whole.{WholeTableau, integer_dictionary, kept_place}
 use Rattle.lp_integer_dict.proofs.Crowding.{tableau_same, whole_same, dictionary_same}
 use Rattle.lp_integer_dict.proofs.Pivoting.{tableau_after, k_in, column_in, after_plain, plain_above}
@@ -20,7 +20,7 @@ turn_lines-requires-clause-small c =
 
 pub turn_lines-requires-clause-bounded : goal.turn_lines-requires-clause-bounded
 turn_lines-requires-clause-bounded c =
-    subst (λ o. HasRoom o c.self.inside.lines.items c.self.inside.bound) ((ap (λ (t : WholeTableau). t.deferred) c.self.view_is) ∙ c.requires.plain) c.self.invariant.are_whole.room
+    subst (λ o. RowsStayWithin o c.self.inside.lines.items c.self.inside.bound) ((ap (λ (t : WholeTableau). t.deferred) c.self.view_is) ∙ c.requires.plain) c.self.invariant.are_whole.within_bound
 
 pub turn_lines-requires-clause-above : goal.turn_lines-requires-clause-above
 turn_lines-requires-clause-above c =
@@ -36,7 +36,7 @@ returns-then-not-done c = (
   (
     subst (λ (t : WholeTableau). integer_dictionary (tableau_same (record { variables = c.self.inside.variables; basic = c.self.inside.basic.items; lines = c.self.inside.lines.items; deferred = c.self.inside.deferred; bound = c.self.inside.bound }) c.self.invariant c.turn_lines.new.lines.items (c.in_ok-done.ensures.same c.if-not-done.true)) ≡ integer_dictionary t) c.self.view_is (dictionary_same (record { variables = c.self.inside.variables; basic = c.self.inside.basic.items; lines = c.self.inside.lines.items; deferred = c.self.inside.deferred; bound = c.self.inside.bound }) c.self.invariant c.turn_lines.new.lines.items (c.in_ok-done.ensures.same c.if-not-done.true)),
     (ap (λ (t : WholeTableau). t.bound) c.self.view_is),
-    inr (c.requires.later, subst (λ o. LinesHaveNoRoom c.self.inside.bound (c.args.p.enter + 1) (kept_place o c.args.place) c.args.place c.turn_lines.new.lines.items) (sym ((ap (λ (t : WholeTableau). t.deferred) c.self.view_is) ∙ c.requires.plain)) (c.in_ok-done.ensures.none c.if-not-done.true)),
+    inr (c.requires.later, subst (λ o. ExchangeExceeds c.self.inside.bound (c.args.p.enter + 1) (kept_place o c.args.place) c.args.place c.turn_lines.new.lines.items) (sym ((ap (λ (t : WholeTableau). t.deferred) c.self.view_is) ∙ c.requires.plain)) (c.in_ok-done.ensures.none c.if-not-done.true)),
   ),
 )
 

@@ -19,7 +19,7 @@ invariant_of-self c = elim c.match-self.branch [
       same_lessened (to_z-of_z w64 c.args.a c.ranges.a) (to_z-of_z w64 c.args.b c.ranges.b) own_is other_is refl w.lessen-most.ensures in
       subst (λ s. the_invariant s) (sym w.self-inside-is)
       (subst (λ l. AreWithin l (2 ^ 63 - 1)) (sym (with_items_is w.in-Narrow-kept.own w.lessen-most.new.numbers sized))
-      (lessened_within c.args.a c.args.b c.args.self.now c.args.others.now w.lessen-most.new.numbers w.lessen-most.result (2 ^ 63 - 1) lessened c.requires.room))
+      (lessened_within c.args.a c.args.b c.args.self.now c.args.others.now w.lessen-most.new.numbers w.lessen-most.result (2 ^ 63 - 1) lessened c.requires.within_bound))
   | in-Wide w ↦ subst (λ s. the_invariant s) (sym w.self-inside-is) c.self.invariant
 ]
 

@@ -19,7 +19,7 @@ invariant_of-self c = elim c.match-self.branch [
       same_lessened_from (to_z-of_z w64 c.args.b c.ranges.b) own_is other_is refl w.lessen_at-most.ensures in
       subst (λ s. the_invariant s) (sym w.self-inside-is)
       (subst (λ l. AreWithin l (2 ^ 63 - 1)) (sym (with_items_is w.in-Narrow-kept.own w.lessen_at-most.new.numbers sized))
-      (lessened_from_within c.args.least c.args.b c.args.self.now c.args.others.now w.lessen_at-most.new.numbers w.lessen_at-most.result (2 ^ 63 - 1) lessened c.requires.room (let small = c.requires.small in omega arith)))
+      (lessened_from_within c.args.least c.args.b c.args.self.now c.args.others.now w.lessen_at-most.new.numbers w.lessen_at-most.result (2 ^ 63 - 1) lessened c.requires.within_bound (let small = c.requires.small in omega arith)))
   | in-Wide w ↦ subst (λ s. the_invariant s) (sym w.self-inside-is) c.self.invariant
 ]
 

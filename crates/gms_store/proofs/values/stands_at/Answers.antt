@@ -1,9 +1,0 @@
-use Rattle.std.proofs.Common.{◌∙◌, length, sym}
-use Rattle.std.proofs.lemmas.Bool.{ltb-true}
-use Rattle.gms_tuple.proofs.Ordered.{same_tuple-Decides}
-use Rattle.gms_store.proofs.Parts.{stands_read}
-use Rattle.gms_store.proofs.values.stands_at.Goals as goal
-
-pub returns-in-Some : goal.returns-in-Some
-returns-in-Some g c = λ same.
-    stands_read c.args.behind.now c.args.place c.args.t.now c.in-Some.entry.now (ltb-true c.args.place (length c.args.behind.now) (sym c.in-Some.ensures.lookup.0)) c.in-Some.ensures.lookup.1 ((same_tuple-Decides c.in-Some.entry.now.0 c.args.t.now).0 (sym c.eq.ensures ∙ same))
